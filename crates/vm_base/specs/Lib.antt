@@ -1,0 +1,4 @@
+pub mod Code
+pub mod Entries
+pub mod Listing
+pub mod Pages

@@ -1,0 +1,22 @@
+//! Names, page sizes, page bytes, entries and lists, on which every other crate stands.
+#![tactic(auto)]
+
+mod code;
+mod entry;
+mod failure;
+mod ids;
+mod listing;
+mod pages;
+
+pub use code::Code;
+pub use entry::Entry;
+pub use failure::{Failed, NoMemory, WriteStop};
+pub use ids::{
+    Access, ChannelId, FrameNo, HostId, Inherit, Lock, ObjectId, ObjectKind, PageKey, PageNo, Prot,
+    RegionId, TaskId,
+};
+pub use listing::Listing;
+pub use pages::{PageBytes, PageSize};
+
+/// The entries of a task, by rising address.
+pub type Entries = Listing<Entry>;

@@ -1,0 +1,94 @@
+// A list that grows at its end, and is seen with its newest item first.
+ghost use Rattle.std.specs.Prelude.{◌≡◌, ◌+◌, ◌≤◌, ◌<◌, ◌∷◌, [], ◌++◌, length, reverse, slice_get, IsOk, OnOk, OnErr, MatchOption};
+
+use crate::NoMemory;
+use std::alloc::Global;
+use std::collections::VecDeque;
+use std::marker::Model;
+
+const MOST: usize = 0xffff_ffff;
+
+/// A list of at most 4,294,967,295 items, which grows at its end and shrinks at its front.
+///
+/// Contracts see its items with the newest first, and its room: the number of items that can be
+/// added without memory.
+#[derive(Drop)]
+pub struct Listing<T> {
+    items: VecDeque<T>,
+}
+
+impl<T> Model for Listing<T> {
+    ghost use Rattle.std.specs.Prelude.{reverse, length, min, ◌-◌, ◌≤◌, ◌^◌};
+    ghost use Rattle.std.specs.VecDeque.{deque_capacity};
+    ghost use Rattle.vm_base.specs.Listing.{Listed};
+
+    ghost Value = { Listed T };
+
+    ghost view = { λ s. record { items = reverse s.items.items; room = min (deque_capacity s.items) (2 ^ 32 - 1) - length s.items.items } };
+
+    ghost invariant = { λ s. length s.items.items ≤ 2 ^ 32 - 1 };
+}
+
+impl<T> Listing<T> {
+    /// An empty list, which takes no memory.
+    pub fn new(alloc: Global) -> Self
+        ensures { result.items ≡ [] }
+    {
+        Listing {
+            items: VecDeque::new(alloc),
+        }
+    }
+
+    /// The number of items.
+    pub fn len(&self) -> u32
+        ensures { result ≡ length self.now.items }
+    {
+        self.items.len() as u32
+    }
+
+    /// Makes room for so many further items; it fails for want of memory alone.
+    pub fn reserve(&mut self, n: u32) -> Result<(), NoMemory>
+        ensures same { self.new.items ≡ self.old.items }
+        ensures room { OnOk result (n ≤ self.new.room) }
+        ensures kept { self.old.room ≤ self.new.room }
+        ensures succeeds { n ≤ self.old.room → IsOk result }
+    {
+        if MOST - self.items.len() < n as usize {
+            return Err(NoMemory);
+        }
+        self.items.reserve(n as usize)?;
+        Ok(())
+    }
+
+    /// Adds an item at the end; it fails for want of memory alone.
+    pub fn push(&mut self, item: T) -> Result<(), NoMemory>
+    where
+        T: Drop,
+        ensures ok { OnOk result (self.new.items ≡ item ∷ self.old.items) }
+        ensures err { OnErr result (self.new.items ≡ self.old.items) }
+        ensures succeeds { 0 < self.old.room → IsOk result }
+        ensures room { self.old.room ≤ self.new.room + 1 }
+    {
+        if self.items.len() >= MOST {
+            return Err(NoMemory);
+        }
+        self.items.push_back(item)?;
+        Ok(())
+    }
+
+    /// The item at an index, counted from the oldest.
+    pub fn at(&self, i: u32) -> &T
+        requires { i < length self.now.items }
+        ensures { slice_get (reverse self.now.items) i ≡ Some result.now }
+    {
+        &self.items[i as usize]
+    }
+
+    /// Takes the oldest item out.
+    pub fn take_first(&mut self) -> Option<T>
+        ensures taken { MatchOption result ((self.old.items ≡ []) × (self.new.items ≡ [])) (λ item. self.old.items ≡ self.new.items ++ item ∷ []) }
+        ensures room { self.old.room ≤ self.new.room }
+    {
+        self.items.pop_front()
+    }
+}
