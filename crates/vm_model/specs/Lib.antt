@@ -1,2 +1,14 @@
+pub mod Bytes
+pub mod Chains
+pub mod Follows
+pub mod Frames
+pub mod Legal
+pub mod Licences
+pub mod Local
+pub mod Moments
 pub mod Name
+pub mod Refusal
+pub mod Regions
+pub mod Tasks
 pub mod Text
+pub mod Waiting
