@@ -1,6 +1,7 @@
 -- Named areas of bytes.
-use Rattle.std.specs.Prelude.{ℕ, ◌≡◌, ◌≢◌, ◌+◌, ◌<◌, ◌≤◌, ◌⊎◌, max, List, [], ◌++◌, length, take, drop, replicate, slice_index, Option, Some, None, unwrap_or, Result, IfOk, OnOk, IsErrOf, MatchOption}
+use Rattle.std.specs.Prelude.{ℕ, ◌≡◌, ◌≢◌, ◌+◌, ◌-◌, ◌<◌, ◌≤◌, ◌⊎◌, max, List, [], ◌++◌, length, take, drop, replicate, slice_index, Option, Some, None, unwrap_or, Result, IfOk, OnOk, IsErrOf, MatchOption}
 use Rattle.std.specs.Option.{option_map}
+use Rattle.vm_base.specs.Pages.{with_bytes}
 use Rattle.vm_base.specs.declared.failure.Failed.{Failed}
 use Rattle.vm_base.specs.declared.failure.WriteStop.{WriteStop}
 use Rattle.vm_base.specs.declared.failure.WriteStop.TheVariants as stop
@@ -9,9 +10,13 @@ use Rattle.vm_base.specs.declared.failure.WriteStop.TheVariants as stop
 abbrev pub read_at : List ℕ → ℕ → ℕ → List ℕ
 read_at bytes at n = take n (drop at bytes ++ replicate n 0)
 
--- an area with these bytes from a place on, lengthened with zeros where it is shorter
+-- an area of at least so many bytes, with zeros where it grew
+abbrev pub lengthened : List ℕ → ℕ → List ℕ
+lengthened old n = old ++ replicate (n - length old) 0
+
+-- an area with these bytes from a place on, made or lengthened to hold them
 abbrev pub write_at : List ℕ → ℕ → List ℕ → List ℕ
-write_at old at bytes = take at (old ++ replicate at 0) ++ bytes ++ drop (at + length bytes) old
+write_at old at bytes = with_bytes at bytes (lengthened old (at + length bytes))
 
 -- what is told of a name, None where nothing is: the bytes of its area, or that there is none
 abbrev pub Told : Type 0

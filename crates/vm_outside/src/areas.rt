@@ -86,9 +86,13 @@ impl Areas {
         if at >= MOST || bytes.len() as u64 >= MOST {
             return Err(NoMemory);
         }
-        let old = self.find(name).unwrap_or(b"");
-        let new = written(self.alloc, old, at as usize, bytes)?;
-        self.set(name, new)
+        if let Some(area) = self.areas.get_mut(name) {
+            overwrite(area, at as usize, bytes)?;
+            return Ok(());
+        }
+        let mut area = Vec::new(self.alloc);
+        overwrite(&mut area, at as usize, bytes)?;
+        self.set(name, area)
     }
 }
 
@@ -108,29 +112,16 @@ fn fill_from(bytes: &[u8], at: u64, buf: &mut [u8])
     buf[..count].copy_from_slice(&rest[..count]);
 }
 
-// The first bytes of an area, with zeros where it is shorter.
-fn front(alloc: Global, old: &[u8], at: usize) -> Result<Vec<u8>, NoMemory>
-    ensures { IfOk result (λ new. new.items ≡ take at (old.now ++ replicate at 0)) }
-{
-    if at <= old.len() {
-        let new = old[..at].to_vec(alloc)?;
-        return Ok(new);
-    }
-    let mut new = old.to_vec(alloc)?;
-    new.resize(at, 0)?;
-    Ok(new)
-}
-
-// The bytes of an area after a write.
-fn written(alloc: Global, old: &[u8], at: usize, bytes: &[u8]) -> Result<Vec<u8>, NoMemory>
+// Writes to an area, and lengthens it.
+fn overwrite(area: &mut Vec<u8>, at: usize, bytes: &[u8]) -> Result<(), NoMemory>
     requires { at + length bytes.now < 2 ^ 63 }
-    ensures { IfOk result (λ new. new.items ≡ write_at old.now at bytes.now) }
+    ensures ok { OnOk result (area.new.items ≡ write_at area.old.items at bytes.now) }
+    ensures err { OnErr result (area.new.items ≡ area.old.items) }
 {
-    let mut new = front(alloc, old, at)?;
-    new.extend_from_slice(bytes)?;
-    if at + bytes.len() < old.len() {
-        new.extend_from_slice(&old[at + bytes.len()..])?;
-        return Ok(new);
+    let end = at + bytes.len();
+    if area.len() < end {
+        area.resize(end, 0)?;
     }
-    Ok(new)
+    area[at..end].copy_from_slice(bytes);
+    Ok(())
 }

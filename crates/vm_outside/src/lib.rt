@@ -14,6 +14,9 @@ mod source;
 mod std_sink;
 mod std_source;
 
+#[cfg(test)]
+mod tests;
+
 pub use armed::Armed;
 pub use backing::Backing;
 pub use memory_backing::SureBacking;
