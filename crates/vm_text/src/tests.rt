@@ -1,6 +1,7 @@
 // The texts, as the manual of the line format shows them.
 ghost use Rattle.std.specs.Prelude.{◌≤◌, length};
 
+use crate::messages::message_text;
 use crate::write_event;
 use std::alloc::Global;
 use std::test::Fail;
@@ -26,21 +27,6 @@ fn page(alloc: Global, bytes: &[u8]) -> Result<PageBytes, Fail>
     let mut page = PageBytes::zero(alloc, size)?;
     page.fill(bytes);
     Ok(page)
-}
-
-fn up(host: u32, object: u32) -> Channel {
-    Channel::Up {
-        host: HostId(host),
-        object: ObjectId(object),
-    }
-}
-
-fn down(host: u32, object: u32, control: u32) -> Channel {
-    Channel::Down {
-        host: HostId(host),
-        object: ObjectId(object),
-        control,
-    }
 }
 
 #[test]
@@ -188,6 +174,27 @@ fn events_as_text(rt: HostRuntime) -> Result<(), Fail> {
             "failed 2 3 5\n",
         ),
         (
+            Event::Sent {
+                channel: Channel::Up {
+                    host: HOST,
+                    object: OBJECT,
+                },
+                message: Message::Terminate { control: 6 },
+            },
+            "sent u1.3 terminate 6\n",
+        ),
+        (
+            Event::Taken {
+                channel: Channel::Down {
+                    host: HOST,
+                    object: OBJECT,
+                    control: 6,
+                },
+                message: Message::Unavailable { page: PAGE },
+            },
+            "taken d1.3.6 unavailable 5\n",
+        ),
+        (
             Event::Dropped {
                 host: HOST,
                 object: OBJECT,
@@ -263,119 +270,103 @@ fn events_as_text(rt: HostRuntime) -> Result<(), Fail> {
 
 #[test]
 fn messages_as_text(rt: HostRuntime) -> Result<(), Fail> {
+    let one = page(rt.alloc(), b"\x01")?;
+    let text = page(rt.alloc(), b"ABC")?;
+    let zeros = page(rt.alloc(), b"")?;
+    let inner = page(rt.alloc(), b"\x00\xaf\x00")?;
     let table = [
         (
-            up(0, 3),
             Message::Init {
                 control: 1,
                 size: 16,
             },
-            "u0.3 init 1 16",
+            "init 1 16",
         ),
         (
-            up(0, 2),
             Message::Create {
                 control: 1,
                 size: 16,
             },
-            "u0.2 create 1 16",
+            "create 1 16",
         ),
         (
-            up(1, 0),
             Message::Request {
                 control: 1,
                 page: PAGE,
                 access: 3,
             },
-            "u1.0 request 1 5 3",
+            "request 1 5 3",
         ),
         (
-            up(1, 0),
             Message::Unlock {
                 control: 1,
                 page: PAGE,
                 access: 3,
             },
-            "u1.0 unlock 1 5 3",
+            "unlock 1 5 3",
         ),
         (
-            up(0, 0),
             Message::Return {
                 control: 1,
                 page: PAGE,
                 dirty: true,
                 keep: false,
-                hex: page(rt.alloc(), b"\x01")?,
+                hex: one,
             },
-            "u0.0 return 1 5 1 0 01",
+            "return 1 5 1 0 01",
         ),
         (
-            up(1, 0),
             Message::Completed {
                 control: 1,
                 page: PAGE,
                 count: 7,
             },
-            "u1.0 completed 1 5 7",
+            "completed 1 5 7",
         ),
+        (Message::Terminate { control: 1 }, "terminate 1"),
         (
-            up(1, 0),
-            Message::Terminate { control: 1 },
-            "u1.0 terminate 1",
-        ),
-        (
-            down(0, 1, 2),
             Message::Ready {
                 cache: false,
                 strategy: 3,
             },
-            "d0.1.2 ready 0 3",
+            "ready 0 3",
         ),
         (
-            down(0, 0, 1),
             Message::Supply {
                 page: PAGE,
                 lock: 0,
                 precious: false,
-                hex: page(rt.alloc(), b"ABC")?,
+                hex: text,
             },
-            "d0.0.1 supply 5 0 0 414243",
+            "supply 5 0 0 414243",
         ),
         (
-            down(0, 0, 1),
             Message::Supply {
                 page: PAGE,
                 lock: 2,
                 precious: true,
-                hex: page(rt.alloc(), b"")?,
+                hex: zeros,
             },
-            "d0.0.1 supply 5 2 1 -",
+            "supply 5 2 1 -",
         ),
         (
-            down(0, 0, 1),
             Message::Supply {
                 page: PAGE,
                 lock: 3,
                 precious: false,
-                hex: page(rt.alloc(), b"\x00\xaf\x00")?,
+                hex: inner,
             },
-            "d0.0.1 supply 5 3 0 00af",
+            "supply 5 3 0 00af",
         ),
+        (Message::Unavailable { page: PAGE }, "unavailable 5"),
         (
-            down(0, 1, 1),
-            Message::Unavailable { page: PAGE },
-            "d0.1.1 unavailable 5",
-        ),
-        (
-            down(0, 1, 1),
             Message::Error {
                 page: PAGE,
                 reason: 2,
             },
-            "d0.1.1 error 5 2",
+            "error 5 2",
         ),
         (
-            down(1, 0, 1),
             Message::Lock {
                 page: PAGE,
                 count: 1,
@@ -384,47 +375,29 @@ fn messages_as_text(rt: HostRuntime) -> Result<(), Fail> {
                 lock: 8,
                 reply: false,
             },
-            "d1.0.1 lock 5 1 2 1 8 0",
+            "lock 5 1 2 1 8 0",
         ),
         (
-            down(1, 0, 1),
             Message::Attributes {
                 cache: true,
                 strategy: 2,
                 reply: false,
             },
-            "d1.0.1 attributes 1 2 0",
+            "attributes 1 2 0",
         ),
+        (Message::Destroy { reason: 2 }, "destroy 2"),
         (
-            down(1, 0, 1),
-            Message::Destroy { reason: 2 },
-            "d1.0.1 destroy 2",
-        ),
-        (
-            up(1, 0),
             Message::Changed {
                 control: 1,
                 cache: true,
                 strategy: 2,
             },
-            "u1.0 changed 1 1 2",
+            "changed 1 1 2",
         ),
     ];
-    for (channel, message, want) in table {
-        let sent = Event::Sent { channel, message };
-        let line = write_event(rt.alloc(), &sent)?;
-        assert_eq!(rt;
-            line.as_slice(),
-            format!(in rt.alloc(); "sent {want}\n")?.as_bytes()
-        );
-        let Event::Sent { channel, message } = sent else {
-            return Ok(());
-        };
-        let line = write_event(rt.alloc(), &Event::Taken { channel, message })?;
-        assert_eq!(rt;
-            line.as_slice(),
-            format!(in rt.alloc(); "taken {want}\n")?.as_bytes()
-        );
+    for (message, want) in &table {
+        let text = message_text(rt.alloc(), message)?;
+        assert_eq!(rt; text.as_slice(), want.as_bytes());
     }
     Ok(())
 }
