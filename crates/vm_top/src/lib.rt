@@ -1,0 +1,6 @@
+//! The top call.
+#![tactic(auto)]
+
+mod form;
+
+pub use form::{FormStop, read_form};
