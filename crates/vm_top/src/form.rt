@@ -225,10 +225,10 @@ fn read_loads(text: &[u8], commands: &mut Commands) -> Result<u32, FormStop>
     let mut rest = text;
     let mut at = 5u32;
     'lines: while !rest.is_empty() {
+        let (line, more) = next_line(rest);
         if at > MOST_LINES {
             return Err(FormStop::NotBuilt { line: MOST_LINES + 1 });
         }
-        let (line, more) = next_line(rest);
         let Some(load) = load(line, at) else {
             return Err(FormStop::NotBuilt { line: at });
         };

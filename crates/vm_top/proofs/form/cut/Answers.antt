@@ -1,4 +1,4 @@
-use Rattle.std.proofs.Common.{sym, ◌∙◌}
+use Rattle.std.proofs.Common.{sym}
 use Rattle.vm_top.proofs.Forms.{parts_at, parts_none}
 use Rattle.vm_top.proofs.form.cut.Goals as goal
 
