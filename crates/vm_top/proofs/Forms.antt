@@ -220,6 +220,13 @@ loads_is : (size frames address bytes : ℕ) (r : Result (List Numbered) ℕ) (f
 loads_is size frames address bytes (Ok loads) form is = (loads, refl, cc)
 loads_is size frames address bytes (Err line) form is = absurd (cc)
 
+fits_made : (size frames address bytes : ℕ) (loads : List Numbered) (form : Form)
+    → record { size = size; frames = frames; address = address; bytes = bytes; loads = loads } ≡ form
+    → IsPageSize size → (2 ≤ frames) × (frames ≤ 4096) → IsRange size frames address bytes → All IsFormLoad loads → Fits form
+fits_made size frames address bytes loads form is page bounds range all =
+    let P : Form → Type 0 = λ z. Fits z in
+    subst P is (record { page = page; least = bounds.0; most = bounds.1; start = range.start; pages = range.pages; range = range.range; loads = all })
+
 -- a form that was read fits
 pub fits_read : (text : List ℕ) (form : Form) → read_form text ≡ Formed form → Fits form
 fits_read text form is =
@@ -238,17 +245,8 @@ fits_read text form is =
     let frames = frames_is (numbers_of (codes "hosts") (words (first two))) hosts.0 hosts.1 in
     let parts = range_is page.0 hosts.0 (numbers_of (codes "allocate") (words (first four))) range.0 (page_positive page.0 size) range.1 in
     let none : All IsFormLoad [] = λ k d less. absurd (omega arith) in
-    let P : Form → Type 0 = λ z. Fits z in
-    subst P loads.2
-    (record {
-      page = size;
-      least = frames.0;
-      most = frames.1;
-      start = parts.start;
-      pages = parts.pages;
-      range = parts.range;
-      loads = loads_fit (others four) [] 5 loads.0 loads.1 none;
-    })
+    let all = loads_fit (others four) [] 5 loads.0 loads.1 none in
+    fits_made page.0 hosts.0 range.0.0 range.0.1 loads.0 form loads.2 size frames parts all
 
 -- a script of what was read
 pub read_as : (text : List ℕ) (reading : Reading) (result : Result Script FormStop) → read_form text ≡ reading

@@ -9,8 +9,11 @@ use vm_base::{HostId, Listing, NoMemory, PageSize, TaskId};
 use vm_model::{Command, Commands, Header, Numbered, Script};
 
 const MOST_BYTES: usize = 1_048_576;
+
 const MOST_LINES: u32 = 20_000;
+
 const SLOTS: u32 = 1024;
+
 const TOP: u64 = 0x1_0000_0000;
 
 /// Why a script was not read.
@@ -19,9 +22,7 @@ pub enum FormStop {
     /// The script is not of the small form. `line` is the number of its first line that isn't,
     /// from 1 on: one past the last where the script ends too early, 20,001 where it goes on
     /// behind 20,000 lines, and 0 where it has more than 1,048,576 bytes.
-    NotBuilt {
-        line: u32,
-    },
+    NotBuilt { line: u32 },
     /// No memory was there.
     NoMemory,
 }
@@ -227,7 +228,9 @@ fn read_loads(text: &[u8], commands: &mut Commands) -> Result<u32, FormStop>
     'lines: while !rest.is_empty() {
         let (line, more) = next_line(rest);
         if at > MOST_LINES {
-            return Err(FormStop::NotBuilt { line: MOST_LINES + 1 });
+            return Err(FormStop::NotBuilt {
+                line: MOST_LINES + 1,
+            });
         }
         let Some(load) = load(line, at) else {
             return Err(FormStop::NotBuilt { line: at });
@@ -313,4 +316,105 @@ pub fn read_form(alloc: Global, bytes: &[u8]) -> Result<Script, FormStop>
         return Err(FormStop::NotBuilt { line: 4 });
     };
     script_of(alloc, size, frames, address, bytes, rest)
+}
+
+#[cfg(test)]
+mod tests {
+    use super::*;
+    use std::test::Fail;
+
+    const FRONT: &str = "page 16\nhosts 1 4\ntask 0 0\nallocate 0 32 64\n";
+
+    // The number of lines of a script of the form, or its first line that is not of it.
+    fn read(alloc: Global, text: &str) -> Result<Result<u32, u32>, Fail> {
+        match read_form(alloc, text.as_bytes()) {
+            Ok(script) => Ok(Ok(script.lines)),
+            Err(FormStop::NotBuilt { line }) => Ok(Err(line)),
+            Err(FormStop::NoMemory) => Err(Fail::from(std::alloc::AllocError)),
+        }
+    }
+
+    #[test]
+    fn short_scripts(rt: HostRuntime) -> Result<(), Fail> {
+        let table = [
+            ("", Err(1)),
+            ("page 16", Err(2)),
+            ("page 16\n", Err(2)),
+            ("page 16\n\nhosts 1 4\n", Err(2)),
+            ("page 24\n", Err(1)),
+            ("page 8192\n", Err(1)),
+            ("page  16\n", Err(1)),
+            ("page 16 \n", Err(1)),
+            ("page 16\r\n", Err(1)),
+            ("page\t16\n", Err(1)),
+            ("page 1:\n", Err(1)),
+            (
+                "page 4096\nhosts 01 0002\ntask 0 00\nallocate 00 4294963200 4096",
+                Ok(4),
+            ),
+            ("page 4096\nhosts 01 4097\n", Err(2)),
+            ("page 16\nhosts 1 1\n", Err(2)),
+            ("page 16\nhosts 1 18446744073709551618\n", Err(2)),
+            ("page 16\nhosts 2 4\n", Err(2)),
+            ("page 16\nhosts 1 4\ntask 0 1\n", Err(3)),
+            ("page 16\nhosts 1 4\ntask 0\n", Err(3)),
+            ("page 16\nhosts 1 4\ntask 0 0\n", Err(4)),
+            ("page 16\nhosts 1 4\ntask 0 0\nallocate 0 0 0\n", Err(4)),
+            ("page 16\nhosts 1 4\ntask 0 0\nallocate 0 8 16\n", Err(4)),
+            ("page 16\nhosts 1 4\ntask 0 0\nallocate 0 0 80\n", Err(4)),
+            (
+                "page 16\nhosts 1 4\ntask 0 0\nallocate 0 4294967280 32\n",
+                Err(4),
+            ),
+            (
+                "page 16\nhosts 1 4\ntask 0 0\nallocate 0 4294967280 16\nload 0 4294967295 8",
+                Ok(5),
+            ),
+            (
+                "page 16\nhosts 1 4\ntask 0 0\nallocate 0 0 64\nload 0 5 2\nload 0 70 1\n",
+                Ok(6),
+            ),
+            (
+                "page 16\nhosts 1 4\ntask 0 0\nallocate 0 0 64\nload 0 4294967296 1\n",
+                Err(5),
+            ),
+            (
+                "page 16\nhosts 1 4\ntask 0 0\nallocate 0 0 64\nload 0 0 3\n",
+                Err(5),
+            ),
+            (
+                "page 16\nhosts 1 4\ntask 0 0\nallocate 0 0 64\nload 1 0 1\n",
+                Err(5),
+            ),
+            (
+                "page 16\nhosts 1 4\ntask 0 0\nallocate 0 0 64\nload 0 0 1 0\n",
+                Err(5),
+            ),
+            (
+                "page 16\nhosts 1 4\ntask 0 0\nallocate 0 0 64\nload 0 0 1\n\n",
+                Err(6),
+            ),
+        ];
+        for (text, expected) in table.iter() {
+            assert_eq!(rt; read(rt.alloc(), *text)?, *expected);
+        }
+        Ok(())
+    }
+
+    #[test]
+    fn long_scripts(rt: HostRuntime) -> Result<(), Fail> {
+        let alloc = rt.alloc();
+        let mut text = String::from_str(alloc, FRONT)?;
+        for _ in 4..20_000 {
+            text.push_str("load 0 0 1\n")?;
+        }
+        assert_eq!(rt; read(alloc, text.as_str())?, Ok(20_000));
+        text.push_str("load 0 0 1\n")?;
+        assert_eq!(rt; read(alloc, text.as_str())?, Err(20_001));
+        for _ in 0..100_000 {
+            text.push_str("load 0 0 1\n")?;
+        }
+        assert_eq!(rt; read(alloc, text.as_str())?, Err(0));
+        Ok(())
+    }
 }

@@ -7,7 +7,7 @@ invariant-lines l = record {
   least : 5 ≤ l.at;
   most : l.at ≤ 20001;
   count : l.at + length l.fn.commands.items ≡ 5 + length l.commands.items;
-  read : loads_behind l.commands.items l.at (lines l.rest) ≡ loads_behind l.fn.commands.items 5 (lines l.fn.text)
+  read : loads_behind l.commands.items l.at (lines l.rest) ≡ loads_behind l.fn.commands.items 5 (lines l.fn.text);
 }
 
 abbrev pub decreases-lines : goal.decreases-lines

@@ -23,14 +23,15 @@ returns-clause-read c =
     let same : c.push-3.new.self.items ≡ tail = c.in_ok-push-3.ensures.ok ∙ ap (λ z. range ∷ z) (c.in_ok-push-2.ensures.ok ∙ ap (λ z. task ∷ z) c.new-commands.ensures) in
     let top = loads_on_top (lines c.args.text.now) tail _ _ same c.in_ok-lines.ensures.loads in
     let before : length c.push-3.new.self.items ≡ 2 = ap length same in
-    let after : length c.read_loads.new.commands.items ≡ length top.loads + 2 = ap length top.whole ∙ length-append top.loads tail in
-    (record { size = c.args.size; frames = c.args.frames; address = c.args.address; bytes = c.args.bytes; loads = top.loads },
-    ap (read_loads c.args.size c.args.frames c.args.address c.args.bytes) top.is,
-    record {
-      size = refl;
-      slots = refl;
-      frames = c.in_ok-push.ensures.ok ∙ ap (λ z. c.args.frames ∷ z) c.new-counts.ensures;
-      objects = c.new.ensures;
-      commands = top.whole;
-      lines = omega (arith, c.in_ok-lines.ensures.lines);
-    })
+    let after : length c.read_loads.new.commands.items ≡ length top.loads + 2 = ap length top.whole ∙ length-append top.loads tail in (
+      record { size = c.args.size; frames = c.args.frames; address = c.args.address; bytes = c.args.bytes; loads = top.loads },
+      ap (read_loads c.args.size c.args.frames c.args.address c.args.bytes) top.is,
+      record {
+        size = refl;
+        slots = refl;
+        frames = c.in_ok-push.ensures.ok ∙ ap (λ z. c.args.frames ∷ z) c.new-counts.ensures;
+        objects = c.new.ensures;
+        commands = top.whole;
+        lines = omega (arith, c.in_ok-lines.ensures.lines);
+      },
+    )
