@@ -1,13 +1,12 @@
 -- The history stays legal over a load, and the parts stay as it says.
-use Rattle.std.proofs.Common.{◌≡◌, nat_le, nat_lt, ℕ, zero, suc, ◌+◌, ◌-◌, ◌*◌, ◌/◌, ◌%◌, ◌<◌, ◌≤◌, ◌==◌, ◌&&◌, Bool, true, false, not, List, [], ◌∷◌, length, take, get_or, set, replicate, slice_range, refl, ap, sym, ◌∙◌, arith, Some, None, Option, cond, inl, inr, ◌≢◌, zero-add, length-set}
+use Rattle.std.proofs.Common.{◌≡◌, nat_le, nat_lt, ℕ, zero, suc, ◌+◌, ◌-◌, ◌*◌, ◌/◌, ◌%◌, ◌<◌, ◌≤◌, ◌==◌, ◌&&◌, Bool, true, false, not, List, [], ◌∷◌, length, get_or, set, replicate, slice_range, refl, ap, sym, ◌∙◌, arith, Some, None, Option, cond, inl, inr, ◌≢◌, zero-add, length-set}
 use Rattle.std.proofs.lemmas.Bool.Decides.{nat_tests, eqb_tells}
-use Rattle.std.proofs.lemmas.List.{get_or-set_same, get_or-set_other, drop-replicate}
+use Rattle.std.proofs.lemmas.List.{get_or-set_same, get_or-set_other}
 use Rattle.std.proofs.Math.Nat.{div-lt_iff_lt-mul}
 use Rattle.std.specs.Prelude.{slice_get, IfSome, is_none, is_some}
 use Rattle.vm_model.specs.Tasks.{host_of, entries_of}
-use Rattle.vm_base.specs.Pages.{page_positive, little_endian, IsPageSize, IsAccessSize, access_fits}
+use Rattle.vm_base.specs.Pages.{page_positive, little_endian, IsPageSize}
 use Rattle.vm_base.specs.Entries.{entry_at}
-use Rattle.vm_base.specs.declared.code.Code.{Code}
 use Rattle.vm_base.specs.declared.code.Code.TheVariants as code
 use Rattle.vm_model.specs.declared.event.Event.{Event}
 use Rattle.vm_model.specs.declared.event.Event.TheVariants as event
@@ -15,12 +14,12 @@ use Rattle.vm_model.specs.declared.command.Command.TheVariants as command
 use Rattle.vm_model.specs.declared.script.Header.{Header}
 use Rattle.vm_model.specs.Refusal.{refusal, where_true, read_refusal}
 use Rattle.vm_model.specs.Frames.{FramesSuffice, frames_used}
-use Rattle.vm_model.specs.Regions.{flat_page, top_of}
+use Rattle.vm_model.specs.Regions.{top_of}
 use Rattle.vm_model.specs.Chains.{places, walk}
 use Rattle.vm_model.specs.Waiting.{Access, waiting}
 use Rattle.vm_model.specs.Local.{Local, local, moved, Zeroes, Elsewhere}
 use Rattle.vm_model.specs.Licences.{Loads, IsTop}
-use Rattle.vm_top.specs.Runner.{Parts, IsPlain, KeepsLegal, only_entry, rows_of, count_here, shown, at_page, the_task, the_host, the_region, the_object, loaded, zeroed}
+use Rattle.vm_top.specs.Runner.{Parts, IsPlain, KeepsLegal, only_entry, rows_of, count_here, shown, at_page, the_task, loaded, zeroed}
 use Rattle.vm_top.proofs.Steps.{moment_now, passed}
 
 -- what a load that isn't refused has
@@ -35,7 +34,8 @@ inside_rows from zero at none = absurd (let bad : Some code.InvalidAddress ≡ N
 inside_rows from (suc bytes) at none =
     let tests = elim (nat_le from at && nat_lt at (from + suc bytes)) as (λ b. read_refusal (cond b (Some (only_entry from (suc bytes))) None) ≡ None → b ≡ true) [
       | true ↦ λ fine. refl
-      | false ↦ λ fine. absurd (let bad : Some code.InvalidAddress ≡ None = fine in cc) ] in
+      | false ↦ λ fine. absurd (let bad : Some code.InvalidAddress ≡ None = fine in cc)
+    ] in
     let inside : (nat_le from at && nat_lt at (from + suc bytes)) ≡ true = tests none in
     (grind (arith, nat_tests), grind (arith, nat_tests))
 
@@ -170,12 +170,12 @@ room_left (Some y ∷ pages) zero inside absent = absurd (let bad : Some y ≡ N
 room_left (None ∷ pages) (suc i) inside absent = omega (arith, room_left pages i (omega arith) absent)
 room_left (Some y ∷ pages) (suc i) inside absent = omega (arith, room_left pages i (omega arith) absent)
 
-suffices : (header : Header) (frames : ℕ) (h : List Event) → IsPlain header frames → frames_used 0 h ≤ frames → FramesSuffice header h
+pub suffices : (header : Header) (frames : ℕ) (h : List Event) → IsPlain header frames → frames_used 0 h ≤ frames → FramesSuffice header h
 suffices header frames h plain le = λ host. rw plain.hosts (only_host frames host h le)
-    where
-      only_host : (frames host : ℕ) (h : List Event) → frames_used 0 h ≤ frames → IfSome (slice_get (frames ∷ []) host) (λ most. frames_used host h ≤ most)
-      only_host frames zero h le = le
-      only_host frames (suc host) h le = tt
+  where
+    only_host : (frames host : ℕ) (h : List Event) → frames_used 0 h ≤ frames → IfSome (slice_get (frames ∷ []) host) (λ most. frames_used host h ≤ most)
+    only_host frames zero h le = le
+    only_host frames (suc host) h le = tt
 
 -- a load from a page that comes now
 pub legal_miss : (header : Header) (lives : Bool) (from bytes frames : ℕ) (pages : List (Option (List ℕ))) (h : List Event) (line at n page : ℕ) (held : List ℕ)
@@ -197,10 +197,20 @@ legal_miss header lives from bytes frames pages h line at n page held plain enou
     let room : frames_used 0 h + 1 ≤ frames = omega (arith, p.used, room_left pages page inside absent) in
     let more = suffices header frames (zeros ∷ begun line at n h) plain room in
     record {
-      follows = (h, number ∷ zeros ∷ event.BegunLoad the_task at n ∷ [], refl,
-      rw fine (number ∷ zeros ∷ [], refl,
-      ((later, walk_found header.size _ page (replicate header.size 0) (zeros ∷ begun line at n h) (p.top some) at_that now_here),
-      ((0, load, refl, is_top _ page (begun line at n h) (p.top some) at_that, walk_missed header.size _ page (begun line at n h) (p.top some) at_that local_is), tt))), legal.follows);
+      follows = (
+        h,
+        number ∷ zeros ∷ event.BegunLoad the_task at n ∷ [],
+        refl,
+        rw fine (
+          number ∷ zeros ∷ [],
+          refl,
+          (
+            (later, walk_found header.size _ page (replicate header.size 0) (zeros ∷ begun line at n h) (p.top some) at_that now_here),
+            ((0, load, refl, is_top _ page (begun line at n h) (p.top some) at_that, walk_missed header.size _ page (begun line at n h) (p.top some) at_that local_is), tt),
+          ),
+        ),
+        legal.follows,
+      );
       own_bytes = ((later, rw now_here (record { here = refl; unlocked = inl refl }), rw (now_here, zero_page) refl), (tt, (tt, (tt, legal.own_bytes))));
       flat_bytes = ((later, rw (p.flat some (0 + (at - from) / header.size), zero_page) refl), (tt, (tt, (tt, legal.flat_bytes))));
       frames = (more, (more, (now, (now, legal.frames))));

@@ -1,9 +1,8 @@
 -- The history stays legal over a refused command, a new task and a new range, and the parts stay as it says.
-use Rattle.std.proofs.Common.{◌≡◌, nat_lt, ℕ, zero, suc, ◌+◌, ◌*◌, ◌/◌, ◌%◌, ◌<◌, ◌≤◌, ◌^◌, ◌==◌, ◌&&◌, ◌||◌, Bool, true, false, not, List, [], ◌∷◌, ◌++◌, length, get_or, replicate, reverse, slice_get, refl, ap, sym, ◌∙◌, subst, arith, Some, None, Option, IfSome, cond}
+use Rattle.std.proofs.Common.{◌≡◌, nat_lt, ℕ, zero, suc, ◌+◌, ◌*◌, ◌/◌, ◌<◌, ◌≤◌, ◌^◌, ◌||◌, Bool, true, false, not, List, [], ◌∷◌, length, get_or, replicate, refl, ap, sym, ◌∙◌, subst, arith, Some, None, Option, cond}
 use Rattle.std.proofs.lemmas.Bool.Decides.{nat_tests}
 use Rattle.std.proofs.lemmas.List.{length-replicate}
 use Rattle.std.proofs.Math.Nat.{div-le_of_le-mul, mul_comm}
-use Rattle.vm_base.specs.Pages.{page_positive}
 use Rattle.vm_base.specs.declared.code.Code.{Code}
 use Rattle.vm_base.specs.declared.code.Code.TheVariants as code
 use Rattle.vm_model.specs.declared.event.Event.{Event}
@@ -18,9 +17,9 @@ use Rattle.std.specs.Prelude.{is_none, is_some}
 use Rattle.vm_base.specs.Entries.{meets_range}
 use Rattle.vm_model.specs.Tasks.{host_of, entries_of}
 use Rattle.vm_model.specs.Waiting.{waiting}
-use Rattle.vm_model.specs.Frames.{FramesSuffice, frames_used}
-use Rattle.vm_model.specs.Legal.{LegalFor, Prompt}
-use Rattle.vm_top.specs.Runner.{Parts, IsPlain, KeepsLegal, rows_of, made_of, count_here, the_task, the_host, the_region, the_object, entered_whole}
+use Rattle.vm_model.specs.Frames.{FramesSuffice}
+use Rattle.vm_model.specs.Legal.{LegalFor}
+use Rattle.vm_top.specs.Runner.{Parts, KeepsLegal, count_here, the_task, the_host, the_region, the_object, entered_whole}
 
 pub moment_now : (P : List Event → Type 0) (h : List Event) → EachMoment P h → P h
 moment_now P [] each = each
@@ -191,9 +190,10 @@ accepted_range header lives had bytes address pages h page p fine =
     let first = passed (is_none (host_of 0 h)) code.NoSuchName (where_true (is_some (waiting 0 h)) code.Blocked third) fine in
     let second = passed (is_some (waiting 0 h)) code.Blocked third first.1 in
     let range = passed (not (is_range header.size address bytes) || nat_lt 4096 (bytes / header.size)) code.InvalidArgument last second.1 in
-    let hosted : is_none {T = ℕ} (cond lives (Some 0) None) ≡ false = ap (is_none {T = ℕ}) (sym p.host) ∙ first.0 in
-    (elim lives as (λ b. is_none {T = ℕ} (cond b (Some 0) None) ≡ false → b ≡ true) [ true ↦ λ e. refl | false ↦ λ e. absurd (let bad : true ≡ false = e in cc) ] hosted,
-    fits_of header address bytes page range.0)
+    let hosted : is_none {T = ℕ} (cond lives (Some 0) None) ≡ false = ap (is_none {T = ℕ}) (sym p.host) ∙ first.0 in (
+      elim lives as (λ b. is_none {T = ℕ} (cond b (Some 0) None) ≡ false → b ≡ true) [ true ↦ λ e. refl | false ↦ λ e. absurd (let bad : true ≡ false = e in cc) ] hosted,
+      fits_of header address bytes page range.0,
+    )
 
 -- a new task that isn't refused finds none
 pub accepted_task : (header : Header) (lives : Bool) (address bytes : ℕ) (pages : List (Option (List ℕ))) (h : List Event)

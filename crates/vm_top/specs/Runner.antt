@@ -1,5 +1,5 @@
 -- What the runner keeps: its parts are what its history says.
-use Rattle.std.specs.Prelude.{ℕ, zero, suc, ◌≡◌, ◌+◌, ◌*◌, ◌<◌, ◌≤◌, ◌^◌, Bool, true, false, List, [], ◌∷◌, length, get_or, replicate, if◌then◌else◌, Option, Some, None}
+use Rattle.std.specs.Prelude.{ℕ, zero, suc, ◌≡◌, ◌+◌, ◌*◌, ◌<◌, ◌≤◌, ◌^◌, Bool, true, false, List, [], ◌∷◌, ◌++◌, length, get_or, replicate, if◌then◌else◌, Option, Some, None}
 use Rattle.vm_base.specs.declared.ids.Inherit.TheVariants.{Copy}
 use Rattle.vm_base.specs.declared.ids.HostId.{HostId}
 use Rattle.vm_base.specs.declared.ids.ObjectId.{ObjectId}
@@ -14,6 +14,7 @@ use Rattle.vm_model.specs.declared.command.Command.{Command}
 use Rattle.vm_model.specs.declared.command.Command.TheVariants as command
 use Rattle.vm_model.specs.declared.command.Numbered.{Numbered}
 use Rattle.vm_model.specs.declared.script.Header.{Header}
+use Rattle.vm_model.specs.Moments.{before_last_line}
 use Rattle.vm_model.specs.Tasks.{host_of, entries_of}
 use Rattle.vm_model.specs.Regions.{next_region, next_object, top_of, flat_page}
 use Rattle.vm_model.specs.Local.{Place, Local, local}
@@ -108,6 +109,16 @@ IsBuilt header had (command.Task task host) = (task ≡ the_task) × (host ≡ t
 IsBuilt header had (command.Allocate task address bytes) = (task ≡ the_task) × (had ≡ 0) × ((frames : ℕ) → IsPlain header frames → bytes ≤ frames * header.size)
 IsBuilt header had (command.Load task address size) = (task ≡ the_task) × IsAccessSize size
 IsBuilt header had other = ⊥
+
+abbrev pub IsTask : Command → Type 0
+IsTask (command.Task task host) = Unit {0}
+IsTask other = ⊥
+
+-- the new history has one command's events more
+pub record IsStep (old new : List Event) : Type 0 where
+  pub more : List Event
+  pub longer : new ≡ more ++ old
+  pub front : before_last_line new ≡ old
 
 -- a history that is legal stays so with one command more
 abbrev pub KeepsLegal : Header → Numbered → List Event → List Event → Type 0

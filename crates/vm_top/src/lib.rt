@@ -1,4 +1,11 @@
 //! The call that does all that the program does: it reads a script, runs it, and writes its history.
 #![tactic(auto)]
 
+mod form;
+mod reading;
+mod render;
+mod run;
 mod runner;
+mod top;
+
+pub use top::{Outcome, Status, pagers_main};

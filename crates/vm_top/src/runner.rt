@@ -7,10 +7,12 @@ ghost use Rattle.vm_model.specs.declared.event.Event.{Event};
 ghost use Rattle.vm_model.specs.declared.event.Event.TheVariants as event;
 ghost use Rattle.vm_model.specs.declared.command.Command.TheVariants as command;
 ghost use Rattle.vm_model.specs.Refusal.{refusal, is_range, where_true, read_refusal};
-ghost use Rattle.vm_top.specs.Runner.{Agrees, IsBuilt, KeepsLegal, rows_of, the_task, the_host, the_region, the_object, entered_whole, loaded, zeroed};
+ghost use Rattle.vm_top.specs.Runner.{Agrees, IsBuilt, KeepsLegal, IsStep, IsTask, rows_of, the_task, the_host, the_region, the_object, entered_whole, loaded, zeroed};
 
 use std::alloc::Global;
-use vm_base::{Code, HostId, Inherit, NoMemory, ObjectId, PageBytes, PageNo, Prot, RegionId, TaskId};
+use vm_base::{
+    Code, HostId, Inherit, NoMemory, ObjectId, PageBytes, PageNo, Prot, RegionId, TaskId,
+};
 use vm_model::{Command, Event, Header, History, Numbered};
 
 const TASK: TaskId = TaskId(0);
@@ -36,7 +38,7 @@ pub struct Runner {
 impl Runner {
     /// Nothing has happened yet.
     pub fn new(alloc: Global) -> Runner
-        ensures { (result.lives ≡ false) × (result.bytes ≡ 0) × (result.pages.items ≡ []) × (result.history.items ≡ []) }
+        ensures { (result.lives ≡ false) × (result.address ≡ 0) × (result.bytes ≡ 0) × (result.pages.items ≡ []) × (result.history.items ≡ []) }
     {
         Runner {
             alloc,
@@ -116,7 +118,8 @@ impl Runner {
         requires built { IsBuilt header.now self.old.bytes numbered.now.command }
         ensures agrees { OnOk result (Agrees header.now self.new) }
         ensures legal { OnOk result (KeepsLegal header.now numbered.now self.old.history.items self.new.history.items) }
-        ensures longer { OnOk result ((more : List Event) × (self.new.history.items ≡ more ++ event.Line numbered.now.line ∷ self.old.history.items)) }
+        ensures step { OnOk result (IsStep self.old.history.items self.new.history.items) }
+        ensures bytes { IsTask numbered.now.command → self.new.bytes ≡ self.old.bytes }
         ensures err { OnErr result (self.new.history.items ≡ self.old.history.items) }
     {
         match self.refusal(header, &numbered.command) {
@@ -138,7 +141,8 @@ impl Runner {
         requires accepted { refusal header.now self.old.history.items numbered.now.command ≡ None }
         ensures agrees { OnOk result (Agrees header.now self.new) }
         ensures legal { OnOk result (KeepsLegal header.now numbered.now self.old.history.items self.new.history.items) }
-        ensures longer { OnOk result ((more : List Event) × (self.new.history.items ≡ more ++ event.Line numbered.now.line ∷ self.old.history.items)) }
+        ensures step { OnOk result (IsStep self.old.history.items self.new.history.items) }
+        ensures bytes { IsTask numbered.now.command → self.new.bytes ≡ self.old.bytes }
         ensures err { OnErr result (self.new.history.items ≡ self.old.history.items) }
     {
         let line = numbered.line;
@@ -226,19 +230,13 @@ impl Runner {
         Ok(())
     }
 
-    fn load(
-        &mut self,
-        header: &Header,
-        line: u32,
-        address: u64,
-        size: u32,
-    ) -> Result<(), NoMemory>
+    fn load(&mut self, header: &Header, line: u32, address: u64, size: u32) -> Result<(), NoMemory>
         requires agrees { Agrees header.now self.old }
         requires size { IsAccessSize size }
         requires accepted { refusal header.now self.old.history.items (command.Load the_task address size) ≡ None }
         ensures agrees { OnOk result (Agrees header.now self.new) }
         ensures legal { OnOk result (KeepsLegal header.now (record { line = line; command = command.Load the_task address size }) self.old.history.items self.new.history.items) }
-        ensures longer { OnOk result ((more : List Event) × (self.new.history.items ≡ more ++ event.Line line ∷ self.old.history.items)) }
+        ensures step { OnOk result (IsStep self.old.history.items self.new.history.items) }
         ensures err { OnErr result (self.new.history.items ≡ self.old.history.items) }
     {
         let page_size = u64::from(header.size.bytes());

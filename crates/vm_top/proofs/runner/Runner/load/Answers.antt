@@ -1,9 +1,10 @@
-use Rattle.std.proofs.Common.{[], get_or, replicate, Some, None, ◌-◌, ◌/◌, ◌%◌, ◌≡◌, ◌∷◌, ◌+◌, ◌<◌, length, ℕ, refl, length-set, ap, ◌∙◌, arith}
+use Rattle.std.proofs.Common.{[], get_or, replicate, Some, None, ◌-◌, ◌/◌, ◌≡◌, ◌∷◌, length, ℕ, refl, length-set, ap, ◌∙◌, arith}
 use Rattle.vm_base.specs.declared.ids.PageNo.{PageNo}
 use Rattle.std.proofs.lemmas.List.{length-replicate}
 use Rattle.vm_base.specs.Pages.{access_fits}
 use Rattle.vm_model.specs.declared.event.Event.{Event}
 use Rattle.vm_model.specs.declared.event.Event.TheVariants as event
+use Rattle.vm_model.specs.Moments.{before_last_line}
 use Rattle.vm_top.specs.Runner.{the_task, loaded, zeroed}
 use Rattle.vm_top.proofs.Loads.{accepted_load, page_inside, kept_at, not_some, legal_hit, parts_hit, legal_miss, parts_miss}
 use Rattle.vm_top.proofs.runner.Runner.load.Goals as goal
@@ -55,10 +56,10 @@ returns-in-Some-clause-legal c =
     let held : get_or s.pages.items index None ≡ Some c.in-Some.bytes = kept_at s.pages.items index c.index.result.now inside is ∙ c.in-Some.is in
     rw (c.in_ok-hit.ensures.ok, c.get-value.ensures, e) (legal_hit c.args.header.now s.lives s.address s.bytes s.pages.items s.history.items c.args.line c.args.address c.args.size index c.in-Some.bytes p hits refl held c.requires.accepted)
 
-pub returns-in-Some-clause-longer : goal.returns-in-Some-clause-longer
-returns-in-Some-clause-longer c =
+pub returns-in-Some-clause-step : goal.returns-in-Some-clause-step
+returns-in-Some-clause-step c =
     let last : Event = loaded (record { 0 = (c.args.address - c.args.self.now.address) / c.from-page_size.result }) c.get-value.result in
-    (last ∷ event.BegunLoad the_task c.args.address c.args.size ∷ [], c.in_ok-hit.ensures.ok)
+    record { more = last ∷ event.BegunLoad the_task c.args.address c.args.size ∷ event.Line c.args.line ∷ []; longer = c.in_ok-hit.ensures.ok; front = ap before_last_line c.in_ok-hit.ensures.ok }
 
 pub get-value-requires-2-clause-inside : goal.get-value-requires-2-clause-inside
 get-value-requires-2-clause-inside c =
@@ -112,7 +113,7 @@ returns-clause-legal c =
     let zeros : c.in_ok-bytes.bytes ≡ replicate c.args.header.now.size 0 = c.in_ok-bytes.ensures in
     rw (c.in_ok-miss.ensures.ok, c.get-value-2.ensures, e) (legal_miss c.args.header.now s.lives s.address s.bytes a.frames s.pages.items s.history.items c.args.line c.args.address c.args.size index c.in_ok-bytes.bytes a.plain a.enough p hits refl inside absent zeros c.requires.accepted)
 
-pub returns-clause-longer : goal.returns-clause-longer
-returns-clause-longer c =
+pub returns-clause-step : goal.returns-clause-step
+returns-clause-step c =
     let page : PageNo = record { 0 = (c.args.address - c.args.self.now.address) / c.from-page_size.result } in
-    (loaded page c.get-value-2.result ∷ zeroed page ∷ event.BegunLoad the_task c.args.address c.args.size ∷ [], c.in_ok-miss.ensures.ok)
+    record { more = loaded page c.get-value-2.result ∷ zeroed page ∷ event.BegunLoad the_task c.args.address c.args.size ∷ event.Line c.args.line ∷ []; longer = c.in_ok-miss.ensures.ok; front = ap before_last_line c.in_ok-miss.ensures.ok }

@@ -1,10 +1,10 @@
-use Rattle.std.proofs.Common.{[], ◌∷◌, ◌∙◌, ◌≡◌, ◌/◌, ◌*◌, ◌≤◌, ℕ, None, Option, List, length, replicate, ap, sym, subst, arith}
+use Rattle.std.proofs.Common.{[], ◌∷◌, ◌∙◌, ◌≡◌, ◌/◌, ℕ, None, Option, List, length, replicate, ap, sym, subst}
 use Rattle.std.proofs.lemmas.List.{length-replicate}
 use Rattle.vm_base.specs.Pages.{page_positive}
 use Rattle.vm_model.specs.Refusal.{refusal}
-use Rattle.vm_model.specs.declared.command.Command.{Command}
 use Rattle.vm_model.specs.declared.command.Command.TheVariants as command
 use Rattle.vm_model.specs.declared.event.Event.TheVariants as event
+use Rattle.vm_model.specs.Moments.{before_last_line}
 use Rattle.vm_top.specs.Runner.{the_task, the_host, the_region, the_object, entered_whole, Parts}
 use Rattle.vm_top.proofs.Steps.{keeps_as, legal_task, legal_range, parts_range, accepted_range, pages_fit}
 use Rattle.vm_top.proofs.runner.Runner.run.Goals as goal
@@ -18,8 +18,8 @@ returns-in_ok-make_task-in-Task-clause-legal c =
     keeps_as c.args.header.now c.args.numbered.now (command.Task the_task the_host) s.history.items _ is
     (rw c.in_ok-make_task-in-Task.ensures.ok (legal_task c.args.header.now s.lives s.address s.bytes s.pages.items s.history.items c.args.numbered.now.line accepted c.requires.agrees.parts))
 
-pub returns-in_ok-make_task-in-Task-clause-longer : goal.returns-in_ok-make_task-in-Task-clause-longer
-returns-in_ok-make_task-in-Task-clause-longer c = (event.TaskMade the_task the_host ∷ [], c.in_ok-make_task-in-Task.ensures.ok)
+pub returns-in_ok-make_task-in-Task-clause-step : goal.returns-in_ok-make_task-in-Task-clause-step
+returns-in_ok-make_task-in-Task-clause-step c = record { more = event.TaskMade the_task the_host ∷ event.Line c.args.numbered.now.line ∷ []; longer = c.in_ok-make_task-in-Task.ensures.ok; front = ap before_last_line c.in_ok-make_task-in-Task.ensures.ok }
 
 pub returns-in_ok-allocate-in-Allocate-clause-agrees : goal.returns-in_ok-allocate-in-Allocate-clause-agrees
 returns-in_ok-allocate-in-Allocate-clause-agrees c =
@@ -53,9 +53,9 @@ returns-in_ok-allocate-in-Allocate-clause-legal c =
     keeps_as c.args.header.now c.args.numbered.now (command.Allocate the_task c.in-Allocate.address bytes) s.history.items _ is
     (rw c.in_ok-allocate-in-Allocate.ensures.ok (legal_range c.args.header.now s.lives s.address bytes c.in-Allocate.address c.args.numbered.now.line s.pages.items s.history.items a.frames accepted empty))
 
-pub returns-in_ok-allocate-in-Allocate-clause-longer : goal.returns-in_ok-allocate-in-Allocate-clause-longer
-returns-in_ok-allocate-in-Allocate-clause-longer c =
-    (entered_whole c.in-Allocate.address c.in-Allocate.bytes ∷ event.RegionMade the_region the_object (c.in-Allocate.bytes / c.args.header.now.size) ∷ [], c.in_ok-allocate-in-Allocate.ensures.ok)
+pub returns-in_ok-allocate-in-Allocate-clause-step : goal.returns-in_ok-allocate-in-Allocate-clause-step
+returns-in_ok-allocate-in-Allocate-clause-step c =
+    record { more = entered_whole c.in-Allocate.address c.in-Allocate.bytes ∷ event.RegionMade the_region the_object (c.in-Allocate.bytes / c.args.header.now.size) ∷ event.Line c.args.numbered.now.line ∷ []; longer = c.in_ok-allocate-in-Allocate.ensures.ok; front = ap before_last_line c.in_ok-allocate-in-Allocate.ensures.ok }
 
 pub returns-in_ok-load-in-Load-clause-legal : goal.returns-in_ok-load-in-Load-clause-legal
 returns-in_ok-load-in-Load-clause-legal c =

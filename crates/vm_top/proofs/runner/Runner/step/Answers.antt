@@ -1,5 +1,6 @@
-use Rattle.std.proofs.Common.{[], ◌∷◌, ◌∙◌, ap, sym}
+use Rattle.std.proofs.Common.{[], ◌∷◌, ap, sym}
 use Rattle.vm_model.specs.declared.event.Event.TheVariants as event
+use Rattle.vm_model.specs.Moments.{before_last_line}
 use Rattle.vm_top.proofs.Steps.{legal_refused, parts_refused}
 use Rattle.vm_top.proofs.runner.Runner.step.Goals as goal
 
@@ -19,5 +20,5 @@ pub returns-in_ok-refuse-in-Some-clause-legal : goal.returns-in_ok-refuse-in-Som
 returns-in_ok-refuse-in-Some-clause-legal c =
     rw c.in_ok-refuse-in-Some.ensures.ok (legal_refused c.args.header.now c.args.numbered.now c.in-Some.code c.args.self.now.history.items (sym c.in-Some.ensures))
 
-pub returns-in_ok-refuse-in-Some-clause-longer : goal.returns-in_ok-refuse-in-Some-clause-longer
-returns-in_ok-refuse-in-Some-clause-longer c = (event.Refused c.in-Some.code ∷ [], c.in_ok-refuse-in-Some.ensures.ok)
+pub returns-in_ok-refuse-in-Some-clause-step : goal.returns-in_ok-refuse-in-Some-clause-step
+returns-in_ok-refuse-in-Some-clause-step c = record { more = event.Refused c.in-Some.code ∷ event.Line c.args.numbered.now.line ∷ []; longer = c.in_ok-refuse-in-Some.ensures.ok; front = ap before_last_line c.in_ok-refuse-in-Some.ensures.ok }
