@@ -5,12 +5,12 @@ ghost use Rattle.std.specs.Io.KnownBytes.{ReadConsumes};
 ghost use Rattle.vm_outside.specs.Causes.{next_count, HasCause};
 
 use crate::Source;
-use std::io::Read;
+use std::io::{ErrorKind, Read};
 use std::marker::Model;
 use vm_base::Failed;
 
-/// Any reader of std. It tells nothing of content, and counts the calls that failed. A call that was
-/// interrupted is a failed one.
+/// Any reader of std. It tells nothing of content, and counts the calls that failed. A read that was
+/// interrupted is made again.
 #[derive(Drop)]
 pub struct StdSource<R: Read> {
     inner: R,
@@ -47,12 +47,14 @@ impl<R: Read> Source for StdSource<R> {
         ensures none { OnOk result (self.new.faults ≡ self.old.faults) }
         ensures fault { OnErr result (self.new.faults ≡ next_count self.old.faults) }
     {
-        match self.inner.read(buf) {
-            Ok(count) => Ok(count),
-            Err(_) => {
-                self.faults = self.faults.saturating_add(1);
-                Err(Failed)
+        'tries: for _ in 0..u64::MAX {
+            match self.inner.read(buf) {
+                Ok(count) => return Ok(count),
+                Err(error) if error.kind() == ErrorKind::Interrupted => {}
+                Err(_) => break,
             }
         }
+        self.faults = self.faults.saturating_add(1);
+        Err(Failed)
     }
 }

@@ -4,7 +4,7 @@ use crate::{
 };
 use std::alloc::Global;
 use std::io;
-use std::io::{Read, Write};
+use std::io::{ErrorKind, Read, Write};
 use std::process::Abort;
 use std::test::Fail;
 use vm_base::{Failed, WriteStop};
@@ -15,13 +15,14 @@ struct Choppy {
     bytes: Vec<u8>,
     calls: u64,
     bad: u64,
+    kind: ErrorKind,
 }
 
 impl Choppy {
     fn next(&mut self) -> io::Result<()> {
         self.calls = self.calls.saturating_add(1);
         if self.calls == self.bad {
-            return Err(io::Error::from(io::ErrorKind::Other));
+            return Err(io::Error::from(self.kind));
         }
         Ok(())
     }
@@ -49,11 +50,12 @@ impl Write for Choppy {
     }
 }
 
-fn failing_at(alloc: Global, bad: u64) -> Choppy {
+fn failing_at(alloc: Global, bad: u64, kind: ErrorKind) -> Choppy {
     Choppy {
         bytes: Vec::new(alloc),
         calls: 0,
         bad,
+        kind,
     }
 }
 
@@ -110,8 +112,14 @@ fn sinks(rt: HostRuntime) -> Result<(), Fail> {
 
 #[test]
 fn adapters(rt: HostRuntime) -> Result<(), Fail> {
-    assert_eq!(rt; reads(&mut StdSource::new(b"seven c".as_slice())), [4, 3, 0, 0]);
-    assert_eq!(rt; reads(&mut StdSource::new(failing_at(rt.alloc(), 2))), [3, 9, 3, 3]);
+    assert_eq!(rt;
+        reads(&mut StdSource::new(b"seven c".as_slice())),
+        [4, 3, 0, 0]
+    );
+    let mut failing = StdSource::new(failing_at(rt.alloc(), 2, ErrorKind::Other));
+    assert_eq!(rt; reads(&mut failing), [3, 9, 3, 3]);
+    let mut interrupted = StdSource::new(failing_at(rt.alloc(), 2, ErrorKind::Interrupted));
+    assert_eq!(rt; reads(&mut interrupted), [3, 3, 3, 3]);
     let mut bytes: Vec<u8> = Vec::new(rt.alloc());
     assert_eq!(rt; StdSink::new(&mut bytes).write(b"four"), Ok(()));
     assert_eq!(rt; bytes.as_slice(), b"four".as_slice());
@@ -122,11 +130,14 @@ fn adapters(rt: HostRuntime) -> Result<(), Fail> {
         (4, Ok(())),
     ];
     for (bad, want) in table {
-        let mut sink = StdSink::new(failing_at(rt.alloc(), bad));
+        let mut sink = StdSink::new(failing_at(rt.alloc(), bad, ErrorKind::Other));
         assert_eq!(rt; sink.write(b"four"), want, "at {bad}");
     }
     let mut full = [0; 2];
-    assert_eq!(rt; StdSink::new(full.as_mut_slice()).write(b"four"), Err(WriteStop::Failed));
+    assert_eq!(rt;
+        StdSink::new(full.as_mut_slice()).write(b"four"),
+        Err(WriteStop::Failed)
+    );
     Ok(())
 }
 
