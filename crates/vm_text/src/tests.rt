@@ -1,4 +1,4 @@
-// The texts, as the manual of the line format shows them.
+// A line of each event, and the words of each message.
 ghost use Rattle.std.specs.Prelude.{◌≤◌, length};
 
 use crate::messages::message_text;
