@@ -1,8 +1,7 @@
 // Reads a script of the small form.
-ghost use Rattle.std.specs.Prelude.{◌≡◌, ◌+◌, ◌<◌, ◌≤◌, ℕ, ◌∷◌, [], ◌==◌, IfOk, IfErr, OnOk, MatchOption, length, option_map, codes, true};
+ghost use Rattle.std.specs.Prelude.{◌≡◌, ◌+◌, ◌<◌, ◌≤◌, ◌∷◌, [], ◌==◌, IfOk, IfErr, MatchOption, length, codes, true};
 ghost use Rattle.std.specs.List.{position};
-ghost use Rattle.vm_base.specs.Pages.{IsPageSize};
-ghost use Rattle.vm_top.specs.Form.{parts, words, lines, digits_behind, number_of, with_number, numbers_behind, numbers_of, size_of, frames_of, is_task, range_of, load_of, is_page_size, is_range, is_access_size, first, others, loads_behind, read_loads, Form, Formed, IsScriptOf, IsUnformed, IsLoadsRead, IsReadAs, IsUnread};
+ghost use Rattle.vm_top.specs.Form.{parts, words, lines, digits_behind, number_of, with_number, numbers_behind, numbers_of, size_of, frames_of, is_task, range_of, load_of, is_range, is_access_size, first, others, loads_behind, read_loads, Form, Formed, IsScriptOf, IsUnformed, IsLoadsRead, IsReadAs, IsUnread};
 
 use std::alloc::Global;
 use vm_base::{HostId, Listing, NoMemory, PageSize, TaskId};
@@ -291,7 +290,8 @@ fn script_of(
 /// The script of a text of the small form. A text is of the form if its lines are `page P`,
 /// `hosts 1 F`, `task 0 0`, `allocate 0 A N` and any number of `load 0 A S`, with one space
 /// between two words, P a page size, F from 2 to 4,096, a range of whole pages within 2^32 bytes
-/// that has no more pages than there are frames, and loads of 1, 2, 4 or 8 bytes.
+/// that has no more pages than there are frames, and loads of 1, 2, 4 or 8 bytes. The form is this
+/// profile's.
 pub fn read_form(alloc: Global, bytes: &[u8]) -> Result<Script, FormStop>
     ensures read { IfOk result (IsReadAs bytes.now) }
     ensures unread { IfErr result (IsUnread bytes.now) }
