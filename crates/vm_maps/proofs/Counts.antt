@@ -1,12 +1,11 @@
 -- How many entries there are after they are cut at the ends of a range.
-use Rattle.std.proofs.Common.{ℕ, zero, suc, ◌≡◌, ◌+◌, ◌-◌, ◌<◌, ◌≤◌, ◌^◌, Bool, true, false, List, [], ◌∷◌, ◌++◌, length, refl, sym, ◌∙◌, ap, arith, length-append}
+use Rattle.std.proofs.Common.{ℕ, ◌≡◌, ◌+◌, ◌<◌, ◌≤◌, ◌^◌, Bool, List, [], ◌∷◌, ◌++◌, length, refl, ◌∙◌, arith, length-append}
 use Rattle.std.proofs.lemmas.Bool.Decides.{nat_tests}
 use Rattle.std.specs.List.{flat_map}
 use Rattle.std.specs.Prelude.{nat_le, nat_lt, max, min, if◌then◌else◌, ◌&&◌}
 use Rattle.vm_base.specs.Entries.{InOrder, cut, removed, rewritten}
 use Rattle.vm_base.specs.declared.entry.Entry.{Entry}
 use Rattle.vm_maps.specs.Rows.{cuts_at, passed}
-use Rattle.vm_maps.proofs.Found.{none_cut}
 use Rattle.vm_maps.proofs.Order.{ends_rise}
 
 abbrev one_if : Bool → ℕ
@@ -18,7 +17,7 @@ length_cut size from to row = grind (arith, nat_tests)
 -- a range cuts an entry into one part and one more for each of its ends inside
 three_parts : (low high start end top : ℕ) → low < high → start < end → end ≤ top → high ≤ top
     → one_if (nat_lt (max 0 low) (min start high)) + (one_if (nat_lt (max start low) (min end high)) + one_if (nat_lt (max end low) (min top high)))
-        ≡ 1 + (one_if (nat_lt low start && nat_lt start high) + one_if (nat_lt low end && nat_lt end high))
+    ≡ 1 + (one_if (nat_lt low start && nat_lt start high) + one_if (nat_lt low end && nat_lt end high))
 three_parts low high start end top some range below inside = grind (arith, nat_tests)
 
 length_each : (becomes : Entry → List Entry) → ((row : Entry) → length (becomes row) ≡ 1) → (rows : List Entry) → length (flat_map becomes rows) ≡ length rows
@@ -50,7 +49,7 @@ passed_none address from to (row ∷ rows) order less = let high : address < row
 -- what a range in an entry leaves of it
 left_of : (low high start end top : ℕ) → low < high → start < end → end ≤ top → high ≤ top
     → one_if (nat_lt (max 0 low) (min start high)) + (0 + one_if (nat_lt (max end low) (min top high))) + one_if (nat_le high end)
-        ≡ one_if (nat_le high start) + (one_if (nat_lt low start && nat_lt start high) + 1)
+    ≡ one_if (nat_le high start) + (one_if (nat_lt low start && nat_lt start high) + 1)
 left_of low high start end top some range below inside = grind (arith, nat_tests)
 
 passed_one : (address from to : ℕ) (row : Entry) (rows : List Entry) → InOrder from to (row ∷ rows) → passed address (row ∷ rows) ≡ one_if (nat_le (row.address + row.bytes) address) + passed address rows

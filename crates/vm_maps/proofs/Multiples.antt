@@ -1,7 +1,7 @@
 -- Numbers that are whole pages.
-use Rattle.std.proofs.Common.{ℕ, ◌≡◌, ◌+◌, ◌-◌, ◌*◌, ◌/◌, ◌%◌, ◌<◌, ◌≤◌, sym, ◌∙◌, ap, zero-add, ⊎_elim, arith}
+use Rattle.std.proofs.Common.{ℕ, zero, suc, ◌≡◌, ◌+◌, ◌-◌, ◌*◌, ◌/◌, ◌%◌, ◌<◌, ◌≤◌, sym, ◌∙◌, ap, zero-add, ⊎_elim, arith}
 use Rattle.std.proofs.lemmas.Bool.{cases_lt}
-use Rattle.std.proofs.Math.Nat.{add-mod, mod-mod, mod-eq_of_lt, div-mul-le_self, div-add-mod', add-mod_right}
+use Rattle.std.proofs.Math.Nat.{div-zero, add-mod, mod-mod, mod-eq_of_lt, div-mul-le_self, div-add-mod', add-mod_right}
 use Rattle.std.proofs.lemmas.Nat.{le-div}
 
 pub whole_add : (size a b : ℕ) → a % size ≡ 0 → (a + b) % size ≡ b % size
@@ -25,8 +25,10 @@ whole_step size a whole = add-mod_right a size ∙ whole
 pub pages_of : (size bytes : ℕ) → bytes % size ≡ 0 → bytes / size * size ≡ bytes
 pages_of size bytes whole = omega (arith, div-add-mod' bytes size)
 
-pub div_grows : (size a b : ℕ) → 0 < size → a ≤ b → a / size ≤ b / size
-div_grows size a b some le = le-div (a / size) b size some (omega (arith, div-mul-le_self a size))
+pub div_grows : (size a b : ℕ) → a ≤ b → a / size ≤ b / size
+div_grows zero a b le = rw (div-zero a, div-zero b) (omega arith)
+div_grows (suc size) a b le = le-div (a / suc size) b (suc size) (omega arith) (omega (arith, div-mul-le_self a (suc size)))
 
-pub div_sum : (size a b : ℕ) → 0 < size → a / size + b / size ≤ (a + b) / size
-div_sum size a b some = le-div (a / size + b / size) (a + b) size some (omega (arith, div-mul-le_self a size, div-mul-le_self b size))
+pub div_sum : (size a b : ℕ) → a / size + b / size ≤ (a + b) / size
+div_sum zero a b = rw (div-zero a, div-zero b, div-zero (a + b)) (omega arith)
+div_sum (suc size) a b = le-div (a / suc size + b / suc size) (a + b) (suc size) (omega arith) (omega (arith, div-mul-le_self a (suc size), div-mul-le_self b (suc size)))

@@ -1,10 +1,9 @@
 -- The pages of an entry that holds an address.
-use Rattle.std.proofs.Common.{ℕ, zero, suc, ◌≡◌, ◌+◌, ◌-◌, ◌/◌, ◌<◌, ◌≤◌, ◌^◌, Bool, true, false, List, [], ◌∷◌, Option, Some, None, refl, sym, ◌∙◌, ap, subst, ⊎_elim, arith}
-use Rattle.std.proofs.Math.Nat.{div-zero}
+use Rattle.std.proofs.Common.{ℕ, zero, suc, ◌≡◌, ◌+◌, ◌-◌, ◌<◌, ◌≤◌, ◌^◌, true, false, List, [], ◌∷◌, Some, subst, ⊎_elim, arith}
 use Rattle.std.proofs.lemmas.Bool.{cases_lt}
 use Rattle.std.proofs.lemmas.Bool.Decides.{nat_tests}
 use Rattle.std.proofs.lemmas.Option.{none-some, same_Some}
-use Rattle.std.specs.Prelude.{nat_le, nat_lt, ◌&&◌}
+use Rattle.std.specs.Prelude.{slice_get, nat_le, nat_lt, ◌&&◌}
 use Rattle.vm_base.specs.Entries.{AllWholePages, HasWholePages, entry_at, page_at}
 use Rattle.vm_base.specs.declared.entry.Entry.{Entry}
 use Rattle.vm_maps.proofs.Multiples.{div_grows}
@@ -21,18 +20,19 @@ holds size address (x ∷ rows) row all is =
     let rest : entry_at address rows ≡ Some row → Holds size address row = λ e. holds size address rows row all.1 e in
     let out : (nat_le x.address address && nat_lt address (x.address + x.bytes)) ≡ false → Holds size address row = λ test. rest (rw test at is) in
     let found : x.address ≤ address → address < x.address + x.bytes → Holds size address row
-        = λ low high.
-            let yes : (nat_le x.address address && nat_lt address (x.address + x.bytes)) ≡ true = grind (arith, nat_tests) in
-            let same : Some x ≡ Some row = rw yes at is in
-            subst (Holds size address) (same_Some x row same) (record { low = low; high = high; whole = all.0 }) in
+    = λ low high.
+    let yes : (nat_le x.address address && nat_lt address (x.address + x.bytes)) ≡ true = grind (arith, nat_tests) in
+    let same : Some x ≡ Some row = rw yes at is in
+    subst (Holds size address) (same_Some x row same) (record { low = low; high = high; whole = all.0 }) in
     ⊎_elim (λ less. out (grind (arith, nat_tests))) (λ low. ⊎_elim (λ high. found low high) (λ le. out (grind (arith, nat_tests))) (cases_lt address (x.address + x.bytes))) (cases_lt address x.address)
-
-pages_grow : (size a b : ℕ) → a ≤ b → a / size ≤ b / size
-pages_grow zero a b le = rw (div-zero a, div-zero b) (omega arith)
-pages_grow (suc size) a b le = div_grows (suc size) a b (omega arith) le
 
 -- its page at the address is one of its region's
 pub page_fits : (size address : ℕ) (row : Entry) → Holds size address row → page_at size address row < 2 ^ 32
 page_fits size address row h =
-    let grows = pages_grow size (address - row.address) row.bytes (omega (arith, h.low, h.high)) in
+    let grows = div_grows size (address - row.address) row.bytes (omega (arith, h.low, h.high)) in
     omega (arith, grows, h.whole.pages)
+
+pub whole_at : (size i : ℕ) (rows : List Entry) (row : Entry) → AllWholePages size rows → slice_get rows i ≡ Some row → HasWholePages size row
+whole_at size i [] row all is = absurd (none-some row is)
+whole_at size zero (x ∷ rows) row all is = subst (HasWholePages size) (same_Some x row is) all.0
+whole_at size (suc i) (x ∷ rows) row all is = whole_at size i rows row all.1 is

@@ -1,5 +1,5 @@
 -- What the test of a range tells.
-use Rattle.std.proofs.Common.{ℕ, ◌≡◌, ◌+◌, ◌%◌, ◌<◌, ◌≤◌, ◌^◌, Bool, true, arith}
+use Rattle.std.proofs.Common.{ℕ, ◌≡◌, ◌+◌, ◌%◌, ◌<◌, ◌≤◌, ◌^◌, true, arith}
 use Rattle.std.proofs.lemmas.Bool.Decides.{nat_tests}
 use Rattle.vm_base.specs.Entries.{is_range}
 
@@ -11,8 +11,8 @@ pub record IsRange (size address bytes : ℕ) : Type 0 where
 
 pub range_is : (size address bytes : ℕ) → is_range size address bytes ≡ true → IsRange size address bytes
 range_is size address bytes test = record {
-    start = grind (arith, nat_tests);
-    whole = grind (arith, nat_tests);
-    some = grind (arith, nat_tests);
-    end = grind (arith, nat_tests)
-  }
+  start = grind (arith, nat_tests);
+  whole = grind (arith, nat_tests);
+  some = grind (arith, nat_tests);
+  end = grind (arith, nat_tests);
+}

@@ -1,6 +1,7 @@
 -- The address maps of tasks, as contracts see them.
-use Rattle.std.specs.Prelude.{ℕ, ◌≡◌, ◌≢◌, ◌==◌, List, [], ◌∷◌, Option, Some, None, unwrap_or, if◌then◌else◌}
+use Rattle.std.specs.Prelude.{ℕ, ◌+◌, ◌/◌, ◌^◌, ◌<◌, ◌≡◌, ◌≢◌, ◌==◌, List, [], ◌∷◌, Option, Some, None, unwrap_or, if◌then◌else◌}
 use Rattle.vm_base.specs.declared.entry.Entry.{Entry}
+use Rattle.vm_maps.specs.declared.change.MapChange.{MapChange}
 
 -- the page size, and each task with its entries by rising address
 pub record Mapped : Type 0 where
@@ -24,3 +25,9 @@ pub record ChangesOnly (old new : Mapped) (task : ℕ) (entries : Option (List E
   pub size : new.size ≡ old.size
   pub changed : entries_in task new ≡ entries
   pub others : (other : ℕ) → other ≢ task → entries_in other new ≡ entries_in other old
+
+-- an entry for the range of a change, whose region can number its pages
+pub record IsNewEntry (size : ℕ) (change : MapChange) (row : Entry) : Type 0 where
+  pub address : row.address ≡ change.address
+  pub bytes : row.bytes ≡ change.bytes
+  pub pages : row.offset + row.bytes / size < 2 ^ 32

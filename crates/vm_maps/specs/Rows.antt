@@ -1,5 +1,7 @@
 -- What the searches and cuts in a task's entries find.
-use Rattle.std.specs.Prelude.{ℕ, zero, suc, ◌+◌, Bool, ◌&&◌, ◌||◌, List, [], ◌∷◌, if◌then◌else◌, nat_lt, nat_le}
+use Rattle.std.specs.Prelude.{ℕ, suc, ◌+◌, ◌^◌, Bool, ◌&&◌, ◌||◌, List, [], ◌∷◌, ◌++◌, if◌then◌else◌, nat_lt, nat_le}
+use Rattle.std.specs.List.{flat_map}
+use Rattle.vm_base.specs.Entries.{cut}
 use Rattle.vm_base.specs.declared.entry.Entry.{Entry}
 use Rattle.vm_maps.specs.declared.change.MapChange.{MapChange}
 use Rattle.vm_maps.specs.declared.change.MapKind.{MapKind}
@@ -29,3 +31,10 @@ becomes change row = becomes_by change.kind change row
 abbrev pub cuts_at : ℕ → List Entry → ℕ
 cuts_at address [] = 0
 cuts_at address (row ∷ rows) = (if nat_lt row.address address && nat_lt address (row.address + row.bytes) then 1 else 0) + cuts_at address rows
+
+-- what a change leaves of one entry
+abbrev pub rewritten_one : ℕ → MapChange → Entry → List Entry
+rewritten_one size change row =
+    cut size 0 change.address row
+    ++ (flat_map (becomes change) (cut size change.address (change.address + change.bytes) row)
+    ++ cut size (change.address + change.bytes) (2 ^ 32) row)

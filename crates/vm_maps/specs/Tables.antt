@@ -24,11 +24,11 @@ abbrev pub ByTask : ℕ → List TaskMap → Type 0
 ByTask from [] = Unit {0}
 ByTask from (table ∷ tables) = (from ≤ table.task.0) × ByTask (suc table.task.0) tables
 
-pub record AreKept (size : ℕ) (kept : List TaskMap) : Type 0 where
-  pub by_task : ByTask 0 kept
-  pub tables : AllTables size kept
-
 -- how many tasks come in front of one
 abbrev pub rank : ℕ → List TaskMap → ℕ
 rank task [] = 0
 rank task (table ∷ tables) = if nat_lt table.task.0 task then suc (rank task tables) else 0
+
+pub record AreKept (size : ℕ) (tables : List TaskMap) : Type 0 where
+  pub by_task : ByTask 0 tables
+  pub whole : AllTables size tables

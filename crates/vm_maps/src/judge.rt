@@ -44,12 +44,7 @@ pub fn judge_change(size: PageSize, entries: &Entries, change: &MapChange) -> Op
 }
 
 // Where an access of an address leads, or why it is refused.
-pub fn look_up(
-    size: PageSize,
-    entries: &Entries,
-    address: u64,
-    need: Access,
-) -> Result<Place, Code>
+pub fn look_up(size: PageSize, entries: &Entries, address: u64, need: Access) -> Result<Place, Code>
     requires { AreEntries size (reverse entries.now.items) }
     ensures { result ≡ looked_up size address need (reverse entries.now.items) }
 {

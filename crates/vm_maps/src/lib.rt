@@ -3,9 +3,12 @@
 
 mod change;
 mod judge;
+mod maps;
 mod place;
+mod rewrite;
 mod search;
 mod task_map;
 
 pub use change::{MapChange, MapKind};
+pub use maps::Maps;
 pub use place::Place;

@@ -31,7 +31,11 @@ fn first_behind(entries: &Entries, address: u64) -> Option<Entry>
     ensures { result ≡ slice_get (reverse entries.now.items) (passed address (reverse entries.now.items)) }
 {
     let i = count_passed(entries, address);
-    if i < entries.len() { Some(*entries.at(i)) } else { None }
+    if i < entries.len() {
+        Some(*entries.at(i))
+    } else {
+        None
+    }
 }
 
 // The entry that holds an address.

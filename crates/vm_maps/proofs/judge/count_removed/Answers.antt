@@ -1,6 +1,5 @@
-use Rattle.std.proofs.Common.{◌^◌, length, reverse, arith}
+use Rattle.std.proofs.Common.{◌^◌, reverse, arith}
 use Rattle.std.proofs.lemmas.List.{length-reverse}
-use Rattle.vm_base.specs.declared.entry.Entry.{Entry}
 use Rattle.vm_maps.proofs.Counts.{length_removed}
 use Rattle.vm_maps.proofs.judge.count_removed.Goals as goal
 

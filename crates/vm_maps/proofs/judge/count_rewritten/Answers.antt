@@ -1,4 +1,4 @@
-use Rattle.std.proofs.Common.{◌^◌, ◌∷◌, [], length, refl, reverse, arith}
+use Rattle.std.proofs.Common.{◌^◌, ◌∷◌, [], refl, reverse, arith}
 use Rattle.std.proofs.lemmas.List.{length-reverse}
 use Rattle.vm_maps.proofs.Counts.{length_rewritten}
 use Rattle.vm_maps.proofs.judge.count_rewritten.Goals as goal

@@ -1,4 +1,4 @@
-use Rattle.std.proofs.Common.{◌≡◌, ◌<◌, true, reverse, sym, subst, arith}
+use Rattle.std.proofs.Common.{◌≡◌, ◌<◌, true, reverse, sym, arith}
 use Rattle.std.proofs.lemmas.Bool.Decides.{nat_tests}
 use Rattle.vm_base.specs.Entries.{is_range}
 use Rattle.vm_base.specs.Pages.{page_positive}
@@ -18,7 +18,7 @@ returns-then-not-is_covered c =
     grind (arith, nat_tests, walk, gap, test, c.in-Protect.is)
 
 pub returns-else-not-is_covered : goal.returns-else-not-is_covered
-returns-else-not-is_covered c = 
+returns-else-not-is_covered c =
     let rows = reverse c.args.entries.now.items in
     let change = c.args.change.now in
     let some : 0 < c.args.size = rw (← c.bytes.ensures.value) (page_positive _ c.bytes.ensures.size) in

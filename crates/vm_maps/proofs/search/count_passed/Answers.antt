@@ -1,6 +1,5 @@
-use Rattle.std.proofs.Common.{◌^◌, ◌≡◌, ℕ, List, length, reverse, arith}
+use Rattle.std.proofs.Common.{◌^◌, ◌≡◌, length, reverse, arith}
 use Rattle.std.proofs.lemmas.List.{length-reverse}
-use Rattle.vm_base.specs.declared.entry.Entry.{Entry}
 use Rattle.vm_maps.proofs.Order.{lies_in, passed_within, passed_above, passed_below}
 use Rattle.vm_maps.proofs.search.count_passed.Goals as goal
 

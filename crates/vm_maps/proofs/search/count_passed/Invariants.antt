@@ -6,7 +6,7 @@ abbrev pub invariant-search : goal.invariant-search
 invariant-search l = record {
   low : l.low ≤ passed l.address (reverse l.entries.items);
   high : passed l.address (reverse l.entries.items) ≤ l.high;
-  within : l.high ≤ length l.entries.items
+  within : l.high ≤ length l.entries.items;
 }
 
 abbrev pub decreases-search : goal.decreases-search

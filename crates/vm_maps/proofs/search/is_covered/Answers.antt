@@ -1,4 +1,4 @@
-use Rattle.std.proofs.Common.{◌^◌, ◌≡◌, ◌≤◌, ◌<◌, ℕ, List, length, reverse, sym, ◌∙◌, drop, arith}
+use Rattle.std.proofs.Common.{◌^◌, ◌≡◌, ◌≤◌, ◌<◌, length, reverse, sym, ◌∙◌, drop, arith}
 use Rattle.std.proofs.lemmas.Bool.Decides.{nat_tests}
 use Rattle.std.proofs.lemmas.List.{length-reverse}
 use Rattle.vm_maps.proofs.Order.{lies_in}
@@ -26,12 +26,14 @@ pub returns : goal.returns
 returns c =
     let rows = reverse c.args.entries.now.items in
     let same : length rows ≡ length c.args.entries.now.items = length-reverse c.args.entries.now.items in
-    elim c.walk-test.branch [ then-walk-test+else-i-len w ↦
-        (let past : length rows ≤ c.walk.i = omega arith in
-        let less : c.walk.reached < c.args.to = w.walk-test.true in
-        let none = reaches_past c.walk.i c.walk.reached c.args.to rows less past in
-        grind (arith, nat_tests, none, c.walk.invariant))
-    | else-walk-test w ↦
-        (let done : c.args.to ≤ c.walk.reached = w.walk-test.false in
-        let all = reaches_done c.walk.reached c.args.to (drop c.walk.i rows) done in
-        grind (arith, nat_tests, all, c.walk.invariant)) ]
+    elim c.walk-test.branch [
+      | then-walk-test+else-i-len w ↦
+          (let past : length rows ≤ c.walk.i = omega arith in
+          let less : c.walk.reached < c.args.to = w.walk-test.true in
+          let none = reaches_past c.walk.i c.walk.reached c.args.to rows less past in
+          grind (arith, nat_tests, none, c.walk.invariant))
+      | else-walk-test w ↦
+          (let done : c.args.to ≤ c.walk.reached = w.walk-test.false in
+          let all = reaches_done c.walk.reached c.args.to (drop c.walk.i rows) done in
+          grind (arith, nat_tests, all, c.walk.invariant))
+    ]
