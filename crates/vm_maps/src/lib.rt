@@ -12,3 +12,6 @@ mod task_map;
 pub use change::{MapChange, MapKind};
 pub use maps::Maps;
 pub use place::Place;
+
+#[cfg(test)]
+mod tests;
