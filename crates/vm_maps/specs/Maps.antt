@@ -1,6 +1,9 @@
 -- The address maps of tasks, as contracts see them.
 use Rattle.std.specs.Prelude.{ℕ, ◌+◌, ◌/◌, ◌^◌, ◌<◌, ◌≡◌, ◌≢◌, ◌==◌, List, [], ◌∷◌, Option, Some, None, unwrap_or, if◌then◌else◌}
+use Rattle.vm_base.specs.Entries.{Mapping, mapping_at}
 use Rattle.vm_base.specs.declared.entry.Entry.{Entry}
+use Rattle.vm_base.specs.declared.ids.Inherit.{Inherit}
+use Rattle.vm_base.specs.declared.ids.Prot.{Prot}
 use Rattle.vm_maps.specs.declared.change.MapChange.{MapChange}
 
 -- the page size, and each task with its entries by rising address
@@ -19,6 +22,16 @@ entries_in task maps = entries_among task maps.tasks
 -- the entries of a task that has a map
 abbrev pub rows_in : ℕ → Mapped → List Entry
 rows_in task maps = unwrap_or (entries_in task maps) []
+
+-- what an address of a task is mapped to
+abbrev pub mapping_in : ℕ → ℕ → Mapped → Option Mapping
+mapping_in task at maps = mapping_at maps.size at (rows_in task maps)
+
+abbrev pub with_prot : Prot → Mapping → Mapping
+with_prot prot old = record old { prot = prot }
+
+abbrev pub with_inherit : Inherit → Mapping → Mapping
+with_inherit inherit old = record old { inherit = inherit }
 
 -- one task has these entries now, or no map, and all else is as it was
 pub record ChangesOnly (old new : Mapped) (task : ℕ) (entries : Option (List Entry)) : Type 0 where

@@ -1,9 +1,10 @@
 // The maps of all tasks.
-ghost use Rattle.std.specs.Prelude.{◌≡◌, ◌≤◌, [], Some, None, IfOk, IfSome, IsOk, IsSome, IsSomeAnd, IsTrue, OnErr, OnOk, length, reverse};
-ghost use Rattle.vm_base.specs.Entries.{AreEntries, entered, inherited, is_range, most_entries, parts_in, protected, removed, rewritten};
+ghost use Rattle.std.specs.Prelude.{ℕ, ◌≡◌, ◌≤◌, [], Some, None, IfOk, IfSome, IsOk, IsSome, IsSomeAnd, IsTrue, OnErr, OnOk, if◌then◌else◌, length, reverse};
+ghost use Rattle.std.specs.Option.{option_map};
+ghost use Rattle.vm_base.specs.Entries.{AreEntries, entered, inherited, is_range, is_within, mapping, most_entries, parts_in, protected, removed, rewritten};
 ghost use Rattle.vm_maps.specs.Judge.{judged, looked_up};
-ghost use Rattle.vm_maps.specs.Maps.{ChangesOnly, IsNewEntry, entries_in, rows_in};
-ghost use Rattle.vm_maps.specs.Rows.{becomes};
+ghost use Rattle.vm_maps.specs.Maps.{ChangesOnly, IsNewEntry, entries_in, mapping_in, rows_in, with_inherit, with_prot};
+ghost use Rattle.vm_maps.specs.Rows.{becomes, remapped};
 ghost use Rattle.vm_maps.specs.declared.change.MapKind.TheVariants as kind;
 
 use crate::judge::{MOST_ENTRIES, judge_change, look_up};
@@ -117,7 +118,11 @@ impl Maps {
         requires entry { IsSomeAnd change.now.entry (IsNewEntry self.old.size change.now) }
         ensures succeeds { IsOk result }
         ensures taken { IfOk result (λ taken. taken.items ≡ []) }
-        ensures changes { IfSome change.now.entry (λ row. ChangesOnly self.old self.new task.0 (Some (entered row (rows_in task.0 self.old)))) }
+        ensures changes { IfSome change.now.entry (λ row. ChangesOnly self.old self.new task.0
+            (Some (entered row (rows_in task.0 self.old)))) }
+        ensures mapped { IfSome change.now.entry (λ row. (at : ℕ) → mapping_in task.0 at self.new
+            ≡ (if is_within change.now.address change.now.bytes at then Some (mapping self.old.size at row)
+            else mapping_in task.0 at self.old)) }
     {
         let Some(entry) = change.entry else {
             unreachable!()
@@ -135,8 +140,13 @@ impl Maps {
         requires there { IsSome (entries_in task.0 self.old) }
         requires kind { change.now.kind ≡ kind.Remove }
         requires judged { judged self.old.size change.now (rows_in task.0 self.old) ≡ None }
-        ensures changes { OnOk result (ChangesOnly self.old self.new task.0 (Some (removed self.old.size change.now.address change.now.bytes (rows_in task.0 self.old)))) }
-        ensures taken { IfOk result (λ taken. reverse taken.items ≡ parts_in self.old.size change.now.address change.now.bytes (rows_in task.0 self.old)) }
+        ensures changes { OnOk result (ChangesOnly self.old self.new task.0 (Some
+            (removed self.old.size change.now.address change.now.bytes (rows_in task.0 self.old)))) }
+        ensures mapped { OnOk result ((at : ℕ) → mapping_in task.0 at self.new
+            ≡ (if is_within change.now.address change.now.bytes at then None
+            else mapping_in task.0 at self.old)) }
+        ensures taken { IfOk result (λ taken. reverse taken.items ≡ parts_in self.old.size
+            change.now.address change.now.bytes (rows_in task.0 self.old)) }
         ensures err { OnErr result (self.new ≡ self.old) }
     {
         self.rewrite(task, change)
@@ -149,8 +159,13 @@ impl Maps {
         requires there { IsSome (entries_in task.0 self.old) }
         requires kind { change.now.kind ≡ kind.Protect }
         requires judged { judged self.old.size change.now (rows_in task.0 self.old) ≡ None }
-        ensures changes { OnOk result (ChangesOnly self.old self.new task.0 (Some (protected self.old.size change.now.address change.now.bytes change.now.prot (rows_in task.0 self.old)))) }
-        ensures taken { IfOk result (λ taken. reverse taken.items ≡ parts_in self.old.size change.now.address change.now.bytes (rows_in task.0 self.old)) }
+        ensures changes { OnOk result (ChangesOnly self.old self.new task.0 (Some
+            (protected self.old.size change.now.address change.now.bytes change.now.prot (rows_in task.0 self.old)))) }
+        ensures mapped { OnOk result ((at : ℕ) → mapping_in task.0 at self.new
+            ≡ (if is_within change.now.address change.now.bytes at then option_map (with_prot change.now.prot) (mapping_in task.0 at self.old)
+            else mapping_in task.0 at self.old)) }
+        ensures taken { IfOk result (λ taken. reverse taken.items ≡ parts_in self.old.size
+            change.now.address change.now.bytes (rows_in task.0 self.old)) }
         ensures err { OnErr result (self.new ≡ self.old) }
     {
         self.rewrite(task, change)
@@ -163,8 +178,13 @@ impl Maps {
         requires there { IsSome (entries_in task.0 self.old) }
         requires kind { change.now.kind ≡ kind.Inherit }
         requires judged { judged self.old.size change.now (rows_in task.0 self.old) ≡ None }
-        ensures changes { OnOk result (ChangesOnly self.old self.new task.0 (Some (inherited self.old.size change.now.address change.now.bytes change.now.inherit (rows_in task.0 self.old)))) }
-        ensures taken { IfOk result (λ taken. reverse taken.items ≡ parts_in self.old.size change.now.address change.now.bytes (rows_in task.0 self.old)) }
+        ensures changes { OnOk result (ChangesOnly self.old self.new task.0 (Some
+            (inherited self.old.size change.now.address change.now.bytes change.now.inherit (rows_in task.0 self.old)))) }
+        ensures mapped { OnOk result ((at : ℕ) → mapping_in task.0 at self.new
+            ≡ (if is_within change.now.address change.now.bytes at then option_map (with_inherit change.now.inherit) (mapping_in task.0 at self.old)
+            else mapping_in task.0 at self.old)) }
+        ensures taken { IfOk result (λ taken. reverse taken.items ≡ parts_in self.old.size
+            change.now.address change.now.bytes (rows_in task.0 self.old)) }
         ensures err { OnErr result (self.new ≡ self.old) }
     {
         self.rewrite(task, change)
@@ -185,9 +205,15 @@ impl Maps {
     fn rewrite(&mut self, task: TaskId, change: &MapChange) -> Result<Entries, NoMemory>
         requires there { IsSome (entries_in task.0 self.old) }
         requires range { IsTrue (is_range self.old.size change.now.address change.now.bytes) }
-        requires few { length (rewritten (becomes change.now) self.old.size change.now.address change.now.bytes (rows_in task.0 self.old)) ≤ most_entries }
-        ensures changes { OnOk result (ChangesOnly self.old self.new task.0 (Some (rewritten (becomes change.now) self.old.size change.now.address change.now.bytes (rows_in task.0 self.old)))) }
-        ensures taken { IfOk result (λ taken. reverse taken.items ≡ parts_in self.old.size change.now.address change.now.bytes (rows_in task.0 self.old)) }
+        requires few { length (rewritten (becomes change.now) self.old.size
+            change.now.address change.now.bytes (rows_in task.0 self.old)) ≤ most_entries }
+        ensures changes { OnOk result (ChangesOnly self.old self.new task.0 (Some
+            (rewritten (becomes change.now) self.old.size
+            change.now.address change.now.bytes (rows_in task.0 self.old)))) }
+        ensures mapped { OnOk result ((at : ℕ) → mapping_in task.0 at self.new
+            ≡ remapped change.now change.now.address change.now.bytes at (mapping_in task.0 at self.old)) }
+        ensures taken { IfOk result (λ taken. reverse taken.items ≡ parts_in self.old.size
+            change.now.address change.now.bytes (rows_in task.0 self.old)) }
         ensures err { OnErr result (self.new ≡ self.old) }
     {
         let i = find(&self.tables, task);
