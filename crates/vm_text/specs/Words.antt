@@ -1,5 +1,5 @@
 -- The lines and words of a script, and what a word can be. What is read is a value or a fault.
-use Rattle.std.specs.Prelude.{ℕ, ◌+◌, ◌-◌, ◌*◌, ◌^◌, ◌==◌, ◌&&◌, ◌||◌, Bool, true, false, nat_le, nat_lt, List, [], ◌∷◌, ◌++◌, length, replicate, Option, Some, None, Result, Ok, Err, if◌then◌else◌}
+use Rattle.std.specs.Prelude.{ℕ, ◌≡◌, ◌+◌, ◌-◌, ◌*◌, ◌^◌, ◌==◌, ◌&&◌, ◌||◌, Bool, true, false, nat_le, nat_lt, List, [], ◌∷◌, ◌++◌, length, replicate, Option, Some, None, Result, Ok, Err, if◌then◌else◌}
 use Rattle.std.specs.Str.{bytes_eq}
 use Rattle.vm_model.specs.Name.{is_digit}
 use Rattle.vm_model.specs.declared.fault.ScriptFault.{ScriptFault}
@@ -10,6 +10,11 @@ infixl 10 ◌>>=◌
 abbrev pub ◌>>=◌ : {A B : Type 0} → Result A ScriptFault → (A → Result B ScriptFault) → Result B ScriptFault
 (Ok x) >>= f = f x
 (Err fault) >>= f = Err fault
+
+-- what a call returned, seen as the definitions see it, is what was read
+abbrev pub Sees : {X Y : Type 0} → (X → Y) → Result X ScriptFault → Result Y ScriptFault → Type 0
+Sees view (Ok x) read = read ≡ Ok (view x)
+Sees view (Err fault) read = read ≡ Err fault
 
 -- ---- lines and words
 
@@ -49,6 +54,11 @@ filled (piece ∷ pieces) = piece ∷ filled pieces
 
 abbrev pub words_of : List ℕ → List (List ℕ)
 words_of line = filled (pieces is_space line)
+
+-- no space stands in front
+abbrev pub Leads : List ℕ → Type 0
+Leads [] = Unit {0}
+Leads (byte ∷ bytes) = is_space byte ≡ false
 
 -- a line whose first word begins with # is a comment
 abbrev pub is_comment : List ℕ → Bool
