@@ -1,4 +1,8 @@
 //! The text of scripts and of histories: scripts are read, events are written.
 #![tactic(auto)]
 
+mod error;
+mod meaning;
 mod words;
+
+pub use error::ScriptError;
