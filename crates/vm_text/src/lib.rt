@@ -3,6 +3,8 @@
 
 mod error;
 mod meaning;
+mod names;
+mod numbers;
 mod words;
 
 pub use error::ScriptError;

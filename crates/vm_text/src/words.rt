@@ -1,6 +1,6 @@
-// The lines and words of a script, and what a word can be.
+// The lines and words of a script.
 ghost use Rattle.std.specs.Prelude.{◌≡◌, ◌==◌, ◌<◌, ◌∷◌, [], length, not, position, MatchOption};
-ghost use Rattle.vm_text.specs.Words.{Leads, Sees, one_word, two_words, three_words, is_space, pieces, lines_of, words_of, digits_behind, number_of};
+ghost use Rattle.vm_text.specs.Words.{Leads, Sees, one_word, two_words, three_words, four_words, five_words, six_words, is_space, pieces, lines_of, words_of};
 
 use vm_model::ScriptFault;
 
@@ -77,36 +77,8 @@ pub fn word_at(line: &[u8]) -> Option<(&[u8], &[u8])>
     }
 }
 
-fn digit_behind(front: u64, digit: u8) -> Result<u64, ScriptFault>
-    ensures { result ≡ digits_behind front (digit ∷ []) }
-{
-    if digit < b'0' || digit > b'9' {
-        return Err(ScriptFault::BadNumber);
-    }
-    match front.checked_mul(10) {
-        Some(tens) => match tens.checked_add(u64::from(digit - b'0')) {
-            Some(number) => Ok(number),
-            None => Err(ScriptFault::BadNumber),
-        },
-        None => Err(ScriptFault::BadNumber),
-    }
-}
-
-/// The number that the digits of a word spell.
-pub fn number_of(word: &[u8]) -> Result<u64, ScriptFault>
-    ensures { result ≡ number_of word.now }
-{
-    if word.is_empty() {
-        return Err(ScriptFault::BadNumber);
-    }
-    let mut number = 0u64;
-    for digit in word {
-        number = digit_behind(number, *digit)?;
-    }
-    Ok(number)
-}
-
-fn last_word(line: &[u8]) -> Result<&[u8], ScriptFault>
+/// The word of a line of one word.
+pub fn one_word(line: &[u8]) -> Result<&[u8], ScriptFault>
     ensures { Sees (λ word. word.now) result (one_word (words_of line.now)) }
 {
     let Some((word, rest)) = word_at(line) else {
@@ -125,7 +97,7 @@ pub fn two_words(line: &[u8]) -> Result<(&[u8], &[u8]), ScriptFault>
     let Some((first, rest)) = word_at(line) else {
         return Err(ScriptFault::WrongCount);
     };
-    let second = last_word(rest)?;
+    let second = one_word(rest)?;
     Ok((first, second))
 }
 
@@ -138,4 +110,37 @@ pub fn three_words(line: &[u8]) -> Result<(&[u8], &[u8], &[u8]), ScriptFault>
     };
     let (second, third) = two_words(rest)?;
     Ok((first, second, third))
+}
+
+/// The words of a line of four words.
+pub fn four_words(line: &[u8]) -> Result<(&[u8], &[u8], &[u8], &[u8]), ScriptFault>
+    ensures { Sees (λ words. (words.0.now, words.1.now, words.2.now, words.3.now)) result (four_words (words_of line.now)) }
+{
+    let Some((first, rest)) = word_at(line) else {
+        return Err(ScriptFault::WrongCount);
+    };
+    let (second, third, fourth) = three_words(rest)?;
+    Ok((first, second, third, fourth))
+}
+
+/// The words of a line of five words.
+pub fn five_words(line: &[u8]) -> Result<(&[u8], &[u8], &[u8], &[u8], &[u8]), ScriptFault>
+    ensures { Sees (λ words. (words.0.now, words.1.now, words.2.now, words.3.now, words.4.now)) result (five_words (words_of line.now)) }
+{
+    let Some((first, rest)) = word_at(line) else {
+        return Err(ScriptFault::WrongCount);
+    };
+    let (second, third, fourth, fifth) = four_words(rest)?;
+    Ok((first, second, third, fourth, fifth))
+}
+
+/// The words of a line of six words.
+pub fn six_words(line: &[u8]) -> Result<(&[u8], &[u8], &[u8], &[u8], &[u8], &[u8]), ScriptFault>
+    ensures { Sees (λ words. (words.0.now, words.1.now, words.2.now, words.3.now, words.4.now, words.5.now)) result (six_words (words_of line.now)) }
+{
+    let Some((first, rest)) = word_at(line) else {
+        return Err(ScriptFault::WrongCount);
+    };
+    let (second, third, fourth, fifth, sixth) = five_words(rest)?;
+    Ok((first, second, third, fourth, fifth, sixth))
 }
