@@ -60,7 +60,7 @@ page_number most word = do
 -- the number of the object that has this name
 abbrev pub declared_at : List ℕ → List Declared → Option ℕ
 declared_at name [] = None
-declared_at name (object ∷ objects) = if bytes_eq name object.name then Some (length objects) else declared_at name objects
+declared_at name (object ∷ objects) = if bytes_eq object.name name then Some (length objects) else declared_at name objects
 
 abbrev pub object_of : Heading → List ℕ → Result ObjectId ScriptFault
 object_of heading word = elim (declared_at word heading.objects) [

@@ -1,12 +1,12 @@
 // The declared objects, found by their names.
-ghost use Rattle.std.specs.Prelude.{◌≡◌, ◌∷◌, [], OnOk, OnErr};
+ghost use Rattle.std.specs.Prelude.{◌≡◌, ◌∷◌, [], length, OnOk, OnErr};
 ghost use Rattle.vm_text.specs.Forms.{declared_at};
 
 use std::alloc::Global;
 use std::collections::BTreeMap;
 use std::marker::Model;
-use vm_base::{NoMemory, ObjectKind};
-use vm_model::{Declarations, Declared, Name};
+use vm_base::NoMemory;
+use vm_model::{Declarations, Declared};
 
 /// The declared objects. Contracts see the list of them, the newest first.
 #[derive(Drop)]
@@ -45,5 +45,32 @@ impl<'a> Names<'a> {
         ensures { result ≡ declared_at name.now self.now }
     {
         self.places.get(name).copied()
+    }
+
+    /// Declares the next object, by the text of its name.
+    pub fn declare(&mut self, text: &'a [u8], object: Declared) -> Result<(), NoMemory>
+        requires { object.name ≡ text.now }
+        ensures ok { OnOk result (self.new ≡ object ∷ self.old) }
+        ensures err { OnErr result (self.new ≡ self.old) }
+    {
+        self.objects.reserve(1)?;
+        let place = self.objects.len();
+        self.places.insert(text, place)?;
+        self.objects.push(object)?;
+        Ok(())
+    }
+
+    /// The list of the objects.
+    pub fn into_objects(self) -> Declarations
+        ensures { result.items ≡ self.entry }
+    {
+        self.objects
+    }
+
+    /// The number of objects.
+    pub fn len(&self) -> u32
+        ensures { result ≡ length self.now }
+    {
+        self.objects.len()
     }
 }
