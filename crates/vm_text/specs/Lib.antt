@@ -1,3 +1,4 @@
 pub mod Forms
 pub mod Script
+pub mod Stops
 pub mod Words

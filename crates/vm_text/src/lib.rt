@@ -2,6 +2,7 @@
 #![tactic(auto)]
 
 mod error;
+mod heading;
 mod meaning;
 mod names;
 mod numbers;
