@@ -1,3 +1,4 @@
 mod Pieces
 mod Counts
 mod Named
+mod Sizes

@@ -85,6 +85,10 @@ page_size word = number_of word >>= one_of (16 ∷ 32 ∷ 64 ∷ 128 ∷ 256 ∷
 abbrev pub access_size : List ℕ → Result ℕ ScriptFault
 access_size word = number_of word >>= one_of (1 ∷ 2 ∷ 4 ∷ 8 ∷ [])
 
+-- the lock of a lock_request, where 8 leaves the lock as it is
+abbrev pub lock_of : List ℕ → Result ℕ ScriptFault
+lock_of word = number_of word >>= one_of (0 ∷ 1 ∷ 2 ∷ 3 ∷ 8 ∷ [])
+
 -- 1 to read, 2 to write
 abbrev pub prot_of : List ℕ → Result Prot ScriptFault
 prot_of word = do
@@ -382,7 +386,7 @@ lock_said heading host name line = do
   count ← number_in 0 4096 w.1
   returns ← number_in 0 2 w.2
   flush ← flag_of w.3
-  lock ← number_of w.4 >>= one_of (0 ∷ 1 ∷ 2 ∷ 3 ∷ 8 ∷ [])
+  lock ← lock_of w.4
   reply ← flag_of w.5
   Ok (commands.Say to.0 to.1 (messages.Lock page count returns flush lock reply))
 

@@ -6,6 +6,7 @@ mod heading;
 mod meaning;
 mod names;
 mod numbers;
+mod terms;
 mod words;
 
 pub use error::ScriptError;
