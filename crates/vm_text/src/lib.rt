@@ -3,6 +3,7 @@
 
 mod error;
 mod heading;
+mod lookup;
 mod meaning;
 mod names;
 mod numbers;
