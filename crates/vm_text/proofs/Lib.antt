@@ -2,3 +2,4 @@ mod Pieces
 mod Counts
 mod Named
 mod Sizes
+mod Parts

@@ -94,7 +94,7 @@ some_onto : (b : ℕ) (rest : List (List ℕ)) → 0 < length (onto b rest)
 some_onto b [] = omega arith
 some_onto b (piece ∷ rest) = omega arith
 
-some_piece : (parts : ℕ → Bool) (bytes : List ℕ) → 0 < length (pieces parts bytes)
+pub some_piece : (parts : ℕ → Bool) (bytes : List ℕ) → 0 < length (pieces parts bytes)
 some_piece parts [] = omega arith
 some_piece parts (b ∷ bs) = elim (parts b) as (λ t. 0 < length (cond t ([] ∷ pieces parts bs) (onto b (pieces parts bs)))) [ true ↦ omega arith | false ↦ some_onto b (pieces parts bs) ]
 

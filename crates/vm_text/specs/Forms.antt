@@ -109,27 +109,39 @@ range_of task address bytes = do
   size ← number_in 0 (2 ^ 32) bytes
   Ok (owner, start, size)
 
+abbrev pub one_part : List (List ℕ) → Result (List ℕ) ScriptFault
+one_part (a ∷ []) = Ok a
+one_part _ = Err UnknownWord
+
+abbrev pub two_parts : List (List ℕ) → Result (List ℕ × List ℕ) ScriptFault
+two_parts (a ∷ b ∷ []) = Ok (a, b)
+two_parts _ = Err UnknownWord
+
+abbrev pub three_parts : List (List ℕ) → Result (List ℕ × List ℕ × List ℕ) ScriptFault
+three_parts (a ∷ b ∷ c ∷ []) = Ok (a, b, c)
+three_parts _ = Err UnknownWord
+
+-- H.O
+abbrev pub up_of : Heading → List ℕ → Result Channel ScriptFault
+up_of heading word = do
+  p ← two_parts (pieces is_dot word)
+  host ← host_of heading p.0
+  object ← number_below 8192 p.1
+  Ok (channels.Up host (record { 0 = object }))
+
+-- H.O.K
+abbrev pub down_of : Heading → List ℕ → Result Channel ScriptFault
+down_of heading word = do
+  p ← three_parts (pieces is_dot word)
+  host ← host_of heading p.0
+  object ← number_below 8192 p.1
+  control ← number_below (2 ^ 32) p.2
+  Ok (channels.Down host (record { 0 = object }) control)
+
 -- uH.O or dH.O.K
-abbrev pub up_of : Heading → List (List ℕ) → Result Channel ScriptFault
-up_of heading (host ∷ object ∷ []) = do
-  h ← host_of heading host
-  o ← number_below 8192 object
-  Ok (channels.Up h (record { 0 = o }))
-up_of heading _ = Err UnknownWord
-
-abbrev pub down_of : Heading → List (List ℕ) → Result Channel ScriptFault
-down_of heading (host ∷ object ∷ control ∷ []) = do
-  h ← host_of heading host
-  o ← number_below 8192 object
-  k ← number_below (2 ^ 32) control
-  Ok (channels.Down h (record { 0 = o }) k)
-down_of heading _ = Err UnknownWord
-
 abbrev pub channel_of : Heading → List ℕ → Result Channel ScriptFault
 channel_of heading [] = Err UnknownWord
-channel_of heading (letter ∷ parts) =
-    if letter == 117 then up_of heading (pieces is_dot parts)
-    else (if letter == 100 then down_of heading (pieces is_dot parts) else Err UnknownWord)
+channel_of heading (letter ∷ word) = if letter == 117 then up_of heading word else (if letter == 100 then down_of heading word else Err UnknownWord)
 
 -- ---- header lines
 
@@ -190,13 +202,18 @@ header_form heading heads.Wild line = object_line kinds.Wild heading line
 
 -- ---- command lines
 
+-- those of the whole system
+abbrev pub system_words : List (List ℕ × CommandWord)
+system_words =
+    (codes "take", says.Take) ∷ (codes "settle", says.Settle) ∷ (codes "pageout", says.Pageout) ∷ (codes "clean", says.Clean)
+    ∷ (codes "wire", says.Wire) ∷ (codes "unwire", says.Unwire) ∷ (codes "fail", says.Fail) ∷ (codes "say", says.Say) ∷ []
+
+-- those of a task, and those of the whole system
 abbrev pub command_words : List (List ℕ × CommandWord)
 command_words =
     (codes "task", says.Task) ∷ (codes "fork", says.Fork) ∷ (codes "exit", says.Exit) ∷ (codes "allocate", says.Allocate)
     ∷ (codes "map", says.Map) ∷ (codes "deallocate", says.Deallocate) ∷ (codes "protect", says.Protect) ∷ (codes "inherit", says.Inherit)
-    ∷ (codes "load", says.Load) ∷ (codes "store", says.Store) ∷ (codes "copy", says.Copy) ∷ (codes "take", says.Take)
-    ∷ (codes "settle", says.Settle) ∷ (codes "pageout", says.Pageout) ∷ (codes "clean", says.Clean) ∷ (codes "wire", says.Wire)
-    ∷ (codes "unwire", says.Unwire) ∷ (codes "fail", says.Fail) ∷ (codes "say", says.Say) ∷ []
+    ∷ (codes "load", says.Load) ∷ (codes "store", says.Store) ∷ (codes "copy", says.Copy) ∷ system_words
 
 abbrev pub task_line : Heading → List (List ℕ) → Result Command ScriptFault
 task_line heading line = do

@@ -1,8 +1,10 @@
 //! The text of scripts and of histories: scripts are read, events are written.
 #![tactic(auto)]
 
+mod channel;
 mod error;
 mod heading;
+mod hex;
 mod lookup;
 mod meaning;
 mod names;

@@ -1,6 +1,6 @@
 // The words that a script may use, and what they stand for.
 ghost use Rattle.std.specs.Prelude.{◌≡◌};
-ghost use Rattle.vm_text.specs.Forms.{header_words, command_words, message_words};
+ghost use Rattle.vm_text.specs.Forms.{header_words, command_words, system_words, message_words};
 ghost use Rattle.vm_text.specs.Words.{word_in};
 
 use crate::meaning::{CommandWord, HeaderWord, MessageWord};
@@ -92,6 +92,12 @@ pub fn command_word(word: &[u8]) -> Option<CommandWord>
     if word == b"copy".as_slice() {
         return Some(CommandWord::Copy);
     }
+    system_word(word)
+}
+
+fn system_word(word: &[u8]) -> Option<CommandWord>
+    ensures { result ≡ word_in system_words word.now }
+{
     if word == b"take".as_slice() {
         return Some(CommandWord::Take);
     }
