@@ -3,3 +3,4 @@ mod Counts
 mod Named
 mod Sizes
 mod Parts
+mod Hexadecimal

@@ -140,6 +140,12 @@ pair_bytes [] = []
 pair_bytes (high ∷ []) = []
 pair_bytes (high ∷ low ∷ more) = (16 * hex_value high + hex_value low) ∷ pair_bytes more
 
+-- a word of pairs spells so many bytes
+pub record SpellsBytes (word : List ℕ) (count : ℕ) : Type 0 where
+  pub pairs : are_pairs word ≡ true
+  pub all : count ≡ length (pair_bytes word)
+  pub twice : length word ≡ 2 * count
+
 -- the page that begins with the bytes and goes on with zeros
 abbrev pub page_with : ℕ → List ℕ → List ℕ
 page_with size bytes = bytes ++ replicate (size - length bytes) 0

@@ -2,6 +2,7 @@
 #![tactic(auto)]
 
 mod channel;
+mod commands;
 mod error;
 mod heading;
 mod hex;
