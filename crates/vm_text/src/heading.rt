@@ -1,14 +1,20 @@
 // What the header lines of a script say.
 ghost use Rattle.std.specs.Prelude.{◌≡◌, [], None};
-ghost use Rattle.vm_text.specs.Forms.{task_of, host_of, object_of, page_number, page_size, access_size, prot_of, inherit_of, range_of, size_of};
-ghost use Rattle.vm_text.specs.Stops.{Gives, Goes};
+ghost use Rattle.vm_text.specs.Forms.{host_of, object_of, size_of, hosts_line, frames_line, page_line, slots_line, new_name, object_line};
+ghost use Rattle.vm_text.specs.Stops.{Goes};
+ghost use Rattle.vm_text.specs.Words.{words_of};
 
+use crate::error::LineStop;
 use crate::names::Names;
 use crate::numbers::{count_in, number_below};
+use crate::terms::page_size;
+use crate::words::{one_word, two_words};
 use std::alloc::Global;
 use std::marker::Model;
-use vm_base::{HostId, ObjectId, PageSize};
-use vm_model::ScriptFault;
+use vm_base::{HostId, ObjectId, ObjectKind, PageSize};
+use vm_model::{Declared, Name, ScriptFault};
+
+const MOST_OBJECTS: u32 = 8192;
 
 /// What the header lines have said so far.
 #[derive(Drop)]
@@ -58,5 +64,76 @@ impl<'a> Heading<'a> {
             Some(object) => Ok(ObjectId(object)),
             None => Err(ScriptFault::UnknownWord),
         }
+    }
+
+    /// The number of bytes of a page, 4,096 where no line gives it.
+    pub fn size(&self) -> PageSize
+        ensures { result ≡ size_of self.now }
+    {
+        match self.size {
+            Some(size) => size,
+            None => PageSize::of(4096).unwrap(),
+        }
+    }
+
+    fn hosts_line(&mut self, alloc: Global, line: &[u8]) -> Result<(), LineStop>
+        ensures { Goes result self.new (hosts_line self.old (words_of line.now)) }
+    {
+        let (hosts, frames) = two_words(line)?;
+        let hosts = count_in(hosts, 1, 8)?;
+        let frames = count_in(frames, 2, 4096)?;
+        self.frames = vec![in alloc; frames; hosts as usize]?;
+        Ok(())
+    }
+
+    fn frames_line(&mut self, line: &[u8]) -> Result<(), LineStop>
+        ensures { Goes result self.new (frames_line self.old (words_of line.now)) }
+    {
+        let (host, frames) = two_words(line)?;
+        let host = self.host_of(host)?;
+        let frames = count_in(frames, 2, 4096)?;
+        self.frames[host.0 as usize] = frames;
+        Ok(())
+    }
+
+    fn page_line(&mut self, line: &[u8]) -> Result<(), LineStop>
+        ensures { Goes result self.new (page_line self.old (words_of line.now)) }
+    {
+        let size = one_word(line)?;
+        let size = page_size(size)?;
+        self.size = Some(size);
+        Ok(())
+    }
+
+    fn slots_line(&mut self, line: &[u8]) -> Result<(), LineStop>
+        ensures { Goes result self.new (slots_line self.old (words_of line.now)) }
+    {
+        let slots = one_word(line)?;
+        let slots = count_in(slots, 0, 65_536)?;
+        self.slots = Some(slots);
+        Ok(())
+    }
+
+    // A name that may be declared next.
+    fn new_name(&self, word: &[u8]) -> Result<Name, ScriptFault>
+        ensures { result ≡ new_name self.now word.now }
+    {
+        let Some(name) = Name::new(word) else {
+            return Err(ScriptFault::UnknownWord);
+        };
+        if self.names.find(word).is_some() || self.names.len() >= MOST_OBJECTS {
+            return Err(ScriptFault::OutOfRange);
+        }
+        Ok(name)
+    }
+
+    fn object_line(&mut self, kind: ObjectKind, line: &'a [u8]) -> Result<(), LineStop>
+        ensures { Goes result self.new (object_line kind self.old (words_of line.now)) }
+    {
+        let (text, pages) = two_words(line)?;
+        let name = self.new_name(text)?;
+        let pages = count_in(pages, 1, 4096)?;
+        self.names.declare(text, Declared { name, kind, pages })?;
+        Ok(())
     }
 }

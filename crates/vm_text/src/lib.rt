@@ -10,6 +10,7 @@ mod lookup;
 mod meaning;
 mod names;
 mod numbers;
+mod say;
 mod terms;
 mod words;
 
