@@ -1,5 +1,5 @@
 -- The form of each line of a script: its words, from left to right.
-use Rattle.std.specs.Prelude.{ℕ, ◌+◌, ◌-◌, ◌*◌, ◌^◌, ◌%◌, ◌==◌, ◌&&◌, ◌||◌, Bool, true, false, nat_le, nat_lt, List, [], ◌∷◌, length, replicate, slice_set, codes, Option, Some, None, is_some, Result, Ok, Err, if◌then◌else◌}
+use Rattle.std.specs.Prelude.{ℕ, ◌≡◌, ◌+◌, ◌-◌, ◌*◌, ◌^◌, ◌%◌, ◌==◌, ◌&&◌, ◌||◌, Bool, true, false, nat_le, nat_lt, List, [], ◌∷◌, length, replicate, reverse, slice_set, codes, Option, Some, None, is_some, Result, Ok, Err, if◌then◌else◌}
 use Rattle.std.specs.Option.{unwrap_or}
 use Rattle.std.specs.Str.{bytes_eq}
 use Rattle.vm_base.specs.declared.ids.HostId.{HostId}
@@ -20,6 +20,7 @@ use Rattle.vm_model.specs.declared.message.Channel.TheVariants as channels
 use Rattle.vm_model.specs.declared.message.Message.{Message}
 use Rattle.vm_model.specs.declared.message.Message.TheVariants as messages
 use Rattle.vm_model.specs.declared.script.Declared.{Declared}
+use Rattle.vm_model.specs.declared.script.Header.{Header}
 use Rattle.vm_model.specs.Name.{is_name}
 use Rattle.vm_text.specs.declared.meaning.CommandWord.{CommandWord}
 use Rattle.vm_text.specs.declared.meaning.CommandWord.TheVariants as says
@@ -39,6 +40,13 @@ pub record Heading : Type 0 where
 
 abbrev pub size_of : Heading → ℕ
 size_of heading = unwrap_or heading.size 4096
+
+-- what the header lines have said, as a script has it
+pub record IsHeader (heading : Heading) (header : Header) : Type 0 where
+  pub size : header.size ≡ size_of heading
+  pub slots : header.slots ≡ unwrap_or heading.slots 1024
+  pub frames : header.frames.items ≡ reverse heading.frames
+  pub objects : header.objects.items ≡ heading.objects
 
 -- ---- fields
 

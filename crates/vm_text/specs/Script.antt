@@ -1,5 +1,5 @@
 -- A whole script: its lines one after the other, and the first fault with its line.
-use Rattle.std.specs.Prelude.{ℕ, ◌+◌, ◌-◌, ◌≡◌, ◌==◌, ◌||◌, Bool, nat_lt, List, [], ◌∷◌, length, Option, Some, None, Result, Ok, Err, if◌then◌else◌}
+use Rattle.std.specs.Prelude.{ℕ, ◌+◌, ◌-◌, ◌≡◌, ◌==◌, ◌||◌, Bool, nat_lt, List, [], ◌∷◌, length, reverse, Option, Some, None, Result, Ok, Err, if◌then◌else◌}
 use Rattle.std.specs.Option.{unwrap_or}
 use Rattle.vm_model.specs.declared.command.Numbered.{Numbered}
 use Rattle.vm_model.specs.declared.fault.ScriptFault.{ScriptFault}
@@ -8,6 +8,8 @@ use Rattle.vm_model.specs.declared.script.Declared.{Declared}
 use Rattle.vm_model.specs.declared.script.Script.{Script}
 use Rattle.vm_text.specs.declared.error.ScriptError.{ScriptError}
 use Rattle.vm_text.specs.declared.error.ScriptError.TheVariants as errors
+use Rattle.vm_text.specs.declared.error.LineStop.{LineStop}
+use Rattle.vm_text.specs.declared.error.LineStop.TheVariants as stops
 use Rattle.vm_text.specs.declared.meaning.HeaderWord.{HeaderWord}
 use Rattle.vm_text.specs.declared.meaning.CommandWord.{CommandWord}
 use Rattle.vm_text.specs.Forms.{Heading, size_of, header_words, again, header_form, command_words, command_form}
@@ -77,3 +79,25 @@ lines_read number reading (line ∷ lines) =
 -- the script that bytes spell, or their first fault with its line
 abbrev pub script_of : List ℕ → Result Whole (ℕ × ScriptFault)
 script_of bytes = if nat_lt 1048576 (length bytes) then Err (0, TooLong) else lines_read 1 nothing_read (lines_of bytes)
+
+-- a script, seen as one that was read
+abbrev pub seen : Script → Whole
+seen script = record {
+  size = script.header.size;
+  slots = script.header.slots;
+  frames = reverse script.header.frames.items;
+  objects = script.header.objects.items;
+  commands = script.commands.items;
+  lines = script.lines
+  }
+
+-- what reading returned, beside what the bytes spell, unless memory ran out
+abbrev pub IsRead : Result Script ScriptError → Result Whole (ℕ × ScriptFault) → Type 0
+IsRead (Ok script) read = read ≡ Ok (seen script)
+IsRead (Err errors.NoMemory) read = Unit {0}
+IsRead (Err (errors.Bad line kind)) read = read ≡ Err (line, kind)
+
+-- the stop of a line, as a script has it
+abbrev pub StopsAt : ℕ → LineStop → ScriptError → Type 0
+StopsAt line (stops.Fault kind) error = error ≡ errors.Bad line kind
+StopsAt line stops.NoMemory error = error ≡ errors.NoMemory

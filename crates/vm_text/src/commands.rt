@@ -1,13 +1,18 @@
 // The command that a line says.
 ghost use Rattle.std.specs.Prelude.{◌≡◌};
-ghost use Rattle.vm_text.specs.Forms.{task_line, fork_line, exit_line, allocate_line, map_line, deallocate_line, protect_line, inherit_line, load_line, store_line, copy_line, take_line, settle_line, host_count, pageout_line, clean_line, wire_line, unwire_line, is_files, fail_line};
+ghost use Rattle.vm_text.specs.Forms.{task_line, fork_line, exit_line, allocate_line, map_line, deallocate_line, protect_line, inherit_line, load_line, store_line, copy_line, take_line, settle_line, host_count, pageout_line, clean_line, wire_line, unwire_line, is_files, fail_line, command_form};
+ghost use Rattle.vm_text.specs.Stops.{Gives};
 ghost use Rattle.vm_text.specs.Words.{words_of};
 
 use crate::channel::channel_of;
+use crate::error::LineStop;
 use crate::heading::Heading;
+use crate::meaning::CommandWord;
 use crate::numbers::{count_in, flag_of, number_below};
+use crate::say::say_line;
 use crate::terms::{access_size, inherit_of, page_number, prot_of, range_of, task_of, value_of};
 use crate::words::{five_words, four_words, one_word, three_words, two_words};
+use std::alloc::Global;
 use vm_base::HostId;
 use vm_model::{Command, ScriptFault};
 
@@ -240,4 +245,32 @@ fn fail_line(line: &[u8]) -> Result<Command, ScriptFault>
     } else {
         Ok(Command::FailPaging { count })
     }
+}
+
+/// Reads the rest of a command line.
+pub fn command_form(alloc: Global, heading: &Heading, word: CommandWord, line: &[u8]) -> Result<Command, LineStop>
+    ensures { Gives result (command_form heading.now word (words_of line.now)) }
+{
+    let command = match word {
+        CommandWord::Task => task_line(heading, line)?,
+        CommandWord::Fork => fork_line(line)?,
+        CommandWord::Exit => exit_line(line)?,
+        CommandWord::Allocate => allocate_line(line)?,
+        CommandWord::Map => map_line(heading, line)?,
+        CommandWord::Deallocate => deallocate_line(line)?,
+        CommandWord::Protect => protect_line(line)?,
+        CommandWord::Inherit => inherit_line(line)?,
+        CommandWord::Load => load_line(line)?,
+        CommandWord::Store => store_line(line)?,
+        CommandWord::Copy => copy_line(line)?,
+        CommandWord::Take => take_line(heading, line)?,
+        CommandWord::Settle => settle_line(line)?,
+        CommandWord::Pageout => pageout_line(heading, line)?,
+        CommandWord::Clean => clean_line(heading, line)?,
+        CommandWord::Wire => wire_line(heading, line)?,
+        CommandWord::Unwire => unwire_line(heading, line)?,
+        CommandWord::Fail => fail_line(line)?,
+        CommandWord::Say => say_line(alloc, heading, line)?,
+    };
+    Ok(command)
 }

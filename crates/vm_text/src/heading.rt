@@ -1,18 +1,19 @@
 // What the header lines of a script say.
-ghost use Rattle.std.specs.Prelude.{◌≡◌, [], None};
-ghost use Rattle.vm_text.specs.Forms.{host_of, object_of, size_of, hosts_line, frames_line, page_line, slots_line, new_name, object_line};
+ghost use Rattle.std.specs.Prelude.{◌≡◌, [], None, nat_lt, length, reverse, IfOk};
+ghost use Rattle.vm_text.specs.Forms.{host_of, object_of, size_of, hosts_line, frames_line, page_line, slots_line, new_name, object_line, again, header_form, IsHeader};
 ghost use Rattle.vm_text.specs.Stops.{Goes};
 ghost use Rattle.vm_text.specs.Words.{words_of};
 
 use crate::error::LineStop;
+use crate::meaning::HeaderWord;
 use crate::names::Names;
 use crate::numbers::{count_in, number_below};
 use crate::terms::page_size;
 use crate::words::{one_word, two_words};
 use std::alloc::Global;
 use std::marker::Model;
-use vm_base::{HostId, ObjectId, ObjectKind, PageSize};
-use vm_model::{Declared, Name, ScriptFault};
+use vm_base::{HostId, NoMemory, ObjectId, ObjectKind, PageSize};
+use vm_model::{Counts, Declared, Header, Name, ScriptFault};
 
 const MOST_OBJECTS: u32 = 8192;
 
@@ -136,4 +137,69 @@ impl<'a> Heading<'a> {
         self.names.declare(text, Declared { name, kind, pages })?;
         Ok(())
     }
+
+    /// Whether the line with the hosts was read.
+    pub fn has_hosts(&self) -> bool
+        ensures { result ≡ nat_lt 0 (length self.now.frames) }
+    {
+        !self.frames.is_empty()
+    }
+
+    /// Whether the line stands already, where it may stand once.
+    pub fn again(&self, word: HeaderWord) -> bool
+        ensures { result ≡ again self.now word }
+    {
+        match word {
+            HeaderWord::Hosts => self.has_hosts(),
+            HeaderWord::Page => self.size.is_some(),
+            HeaderWord::Slots => self.slots.is_some(),
+            _ => false,
+        }
+    }
+
+    /// Reads the rest of a header line.
+    pub fn header_form(&mut self, alloc: Global, word: HeaderWord, line: &'a [u8]) -> Result<(), LineStop>
+        ensures { Goes result self.new (header_form self.old word (words_of line.now)) }
+    {
+        match word {
+            HeaderWord::Hosts => self.hosts_line(alloc, line),
+            HeaderWord::Frames => {
+                if !self.has_hosts() {
+                    return Err(LineStop::Fault(ScriptFault::NoHosts));
+                }
+                self.frames_line(line)
+            }
+            HeaderWord::Page => self.page_line(line),
+            HeaderWord::Slots => self.slots_line(line),
+            HeaderWord::File => self.object_line(ObjectKind::File, line),
+            HeaderWord::Shared => self.object_line(ObjectKind::Shared, line),
+            HeaderWord::Wild => self.object_line(ObjectKind::Wild, line),
+        }
+    }
+
+    /// What the lines said, as a script has it.
+    pub fn into_header(self, alloc: Global) -> Result<Header, NoMemory>
+        ensures { IfOk result (IsHeader self.entry) }
+    {
+        let size = self.size();
+        let slots = self.slots.unwrap_or(1024);
+        let frames = counts_of(alloc, &self.frames)?;
+        let objects = self.names.into_objects();
+        Ok(Header {
+            size,
+            slots,
+            frames,
+            objects,
+        })
+    }
+}
+
+fn counts_of(alloc: Global, numbers: &[u32]) -> Result<Counts, NoMemory>
+    ensures { IfOk result (λ counts. counts.items ≡ reverse numbers.now) }
+{
+    let mut counts = Counts::new(alloc);
+    for number in numbers {
+        counts.push(*number)?;
+    }
+    Ok(counts)
 }

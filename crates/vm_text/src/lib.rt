@@ -10,8 +10,10 @@ mod lookup;
 mod meaning;
 mod names;
 mod numbers;
+mod reader;
 mod say;
 mod terms;
 mod words;
 
 pub use error::ScriptError;
+pub use reader::read_script;
