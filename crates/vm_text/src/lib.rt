@@ -17,3 +17,6 @@ mod words;
 
 pub use error::ScriptError;
 pub use reader::read_script;
+
+#[cfg(test)]
+mod reader_tests;
