@@ -1,7 +1,8 @@
 -- The entries of a task, by rising address, and what each command does to them.
-use Rattle.std.specs.Prelude.{ℕ, zero, suc, ◌+◌, ◌-◌, ◌/◌, ◌%◌, ◌^◌, ◌<◌, ◌≤◌, ◌≡◌, ◌==◌, ◌&&◌, ◌||◌, Bool, true, false, List, [], ◌∷◌, ◌++◌, length, if◌then◌else◌, nat_lt, nat_le, max, min, Option, Some, None, is_some}
+use Rattle.std.specs.Prelude.{ℕ, zero, suc, ◌+◌, ◌-◌, ◌/◌, ◌%◌, ◌^◌, ◌<◌, ◌≤◌, ◌≡◌, ◌==◌, ◌&&◌, ◌||◌, Bool, true, false, List, [], ◌∷◌, ◌++◌, length, reverse, if◌then◌else◌, nat_lt, nat_le, max, min, Option, Some, None, is_some}
 use Rattle.std.specs.List.{flat_map}
 use Rattle.std.specs.Option.{option_map}
+use Rattle.vm_base.specs.Listing.{Listed}
 use Rattle.vm_base.specs.declared.entry.Entry.{Entry}
 use Rattle.vm_base.specs.declared.ids.Access.{Access}
 use Rattle.vm_base.specs.declared.ids.Access.TheVariants.{Load, Store}
@@ -12,6 +13,10 @@ use Rattle.vm_base.specs.declared.ids.RegionId.{RegionId}
 -- the most entries that a task may have
 abbrev pub most_entries : ℕ
 most_entries = 256
+
+-- the entries of a list that was made by rising address
+abbrev pub by_address : Listed Entry → List Entry
+by_address entries = reverse entries.items
 
 -- a range of whole pages, not empty, with all its addresses below 2^32; the first number is the page size
 abbrev pub is_range : ℕ → ℕ → ℕ → Bool

@@ -1,15 +1,15 @@
 -- What addresses are mapped to when entries are cut at the ends of a range.
-use Rattle.std.proofs.Common.{ℕ, zero, suc, ◌≡◌, ◌+◌, ◌-◌, ◌*◌, ◌/◌, ◌%◌, ◌<◌, ◌≤◌, ◌^◌, Bool, true, false, List, [], ◌∷◌, ◌++◌, length, Option, Some, None, refl, sym, ◌∙◌, ap, ⊎_elim, arith}
+use Rattle.std.proofs.Common.{ℕ, zero, suc, ◌≡◌, ◌+◌, ◌-◌, ◌*◌, ◌/◌, ◌%◌, ◌<◌, ◌≤◌, ◌^◌, true, false, List, [], ◌∷◌, ◌++◌, Option, Some, None, refl, sym, ◌∙◌, ap, ⊎_elim, arith}
 use Rattle.std.proofs.Math.Nat.{add-mul-div_right, div-zero, zero-mod}
 use Rattle.std.proofs.lemmas.Bool.{cases_lt}
 use Rattle.std.proofs.lemmas.Bool.Decides.{nat_tests}
 use Rattle.std.specs.List.{flat_map}
 use Rattle.std.specs.Option.{option_map}
 use Rattle.std.specs.Prelude.{nat_le, nat_lt, max, min, unwrap_or, if◌then◌else◌, ◌&&◌}
-use Rattle.vm_base.specs.Entries.{AllWholePages, AreEntries, HasWholePages, InOrder, entered, meets_range, Mapping, cut, entry_at, is_range, is_within, mapping, mapping_at, page_at, rewritten}
+use Rattle.vm_base.specs.Entries.{AllWholePages, AreEntries, InOrder, entered, meets_range, Mapping, cut, is_range, is_within, mapping, mapping_at, page_at, rewritten}
 use Rattle.vm_base.specs.declared.entry.Entry.{Entry}
-use Rattle.vm_maps.specs.Maps.{ChangesOnly, Mapped, mapping_in, rows_in}
-use Rattle.vm_maps.specs.Rows.{becomes, becomes_by, changed_by, remapped}
+use Rattle.vm_maps.specs.Maps.{ChangesOnly, Mapped, Remaps, mapping_in, rows_in}
+use Rattle.vm_maps.specs.Rows.{becomes, becomes_by, changed_by}
 use Rattle.vm_maps.specs.declared.change.MapChange.{MapChange}
 use Rattle.vm_maps.specs.declared.change.MapKind.{MapKind}
 use Rattle.vm_maps.specs.declared.change.MapKind.TheVariants as kind
@@ -107,6 +107,9 @@ changed_none kind.Remove change = refl
 changed_none kind.Protect change = refl
 changed_none kind.Inherit change = refl
 
+abbrev remapped : MapChange → ℕ → ℕ → ℕ → Option Mapping → Option Mapping
+remapped change start bytes at old = if is_within start bytes at then changed_by change.kind change old else old
+
 either_none : (one : Option Mapping) → either one None ≡ one
 either_none None = refl
 either_none (Some one) = refl
@@ -188,7 +191,7 @@ seen_after old new task at rows changes = ap (λ z. mapping_at z at (rows_in tas
 
 pub rewritten_map : (old new : Mapped) (task : ℕ) (change : MapChange) → is_range old.size change.address change.bytes ≡ true → AreEntries old.size (rows_in task old)
     → ChangesOnly old new task (Some (rewritten (becomes change) old.size change.address change.bytes (rows_in task old)))
-    → (at : ℕ) → mapping_in task at new ≡ remapped change change.address change.bytes at (mapping_in task at old)
+    → Remaps (λ at. changed_by change.kind change) old new task change
 rewritten_map old new task change test are changes at =
     let range = range_is old.size change.address change.bytes test in
     seen_after old new task at (rewritten (becomes change) old.size change.address change.bytes (rows_in task old)) changes
@@ -196,6 +199,6 @@ rewritten_map old new task change test are changes at =
 
 pub entered_map : (old new : Mapped) (task : ℕ) (change : MapChange) (row : Entry) → row.address ≡ change.address → row.bytes ≡ change.bytes → meets_range change.address change.bytes (rows_in task old) ≡ false
     → ChangesOnly old new task (Some (entered row (rows_in task old)))
-    → (at : ℕ) → mapping_in task at new ≡ (if is_within change.address change.bytes at then Some (mapping old.size at row) else mapping_in task at old)
+    → Remaps (λ at before. Some (mapping old.size at row)) old new task change
 entered_map old new task change row address bytes free changes at =
     rw (← address, ← bytes) (seen_after old new task at (entered row (rows_in task old)) changes ∙ maps_entered old.size at row (rows_in task old) (rw (address, bytes) free))

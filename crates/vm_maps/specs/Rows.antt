@@ -2,7 +2,7 @@
 use Rattle.std.specs.Prelude.{ℕ, suc, ◌+◌, ◌^◌, Bool, ◌&&◌, ◌||◌, List, [], ◌∷◌, ◌++◌, Option, None, if◌then◌else◌, nat_lt, nat_le}
 use Rattle.std.specs.List.{flat_map}
 use Rattle.std.specs.Option.{option_map}
-use Rattle.vm_base.specs.Entries.{Mapping, cut, is_within}
+use Rattle.vm_base.specs.Entries.{Mapping, cut}
 use Rattle.vm_maps.specs.Maps.{with_inherit, with_prot}
 use Rattle.vm_base.specs.declared.entry.Entry.{Entry}
 use Rattle.vm_maps.specs.declared.change.MapChange.{MapChange}
@@ -47,7 +47,3 @@ changed_by kind.Enter change old = old
 changed_by kind.Remove change old = None
 changed_by kind.Protect change old = option_map (with_prot change.prot) old
 changed_by kind.Inherit change old = option_map (with_inherit change.inherit) old
-
--- what an address is mapped to after a change of a range
-abbrev pub remapped : MapChange → ℕ → ℕ → ℕ → Option Mapping → Option Mapping
-remapped change start bytes at old = if is_within start bytes at then changed_by change.kind change old else old

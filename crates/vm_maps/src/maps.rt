@@ -1,10 +1,10 @@
 // The maps of all tasks.
-ghost use Rattle.std.specs.Prelude.{ℕ, ◌≡◌, ◌≤◌, [], Some, None, IfOk, IfSome, IsOk, IsSome, IsSomeAnd, IsTrue, OnErr, OnOk, if◌then◌else◌, length, reverse};
+ghost use Rattle.std.specs.Prelude.{◌≡◌, ◌≤◌, [], Some, None, IfOk, IfSome, IsOk, IsSome, IsSomeAnd, IsTrue, OnErr, OnOk, length};
 ghost use Rattle.std.specs.Option.{option_map};
-ghost use Rattle.vm_base.specs.Entries.{AreEntries, entered, inherited, is_range, is_within, mapping, most_entries, parts_in, protected, removed, rewritten};
+ghost use Rattle.vm_base.specs.Entries.{AreEntries, by_address, entered, inherited, is_range, mapping, most_entries, protected, removed, rewritten};
 ghost use Rattle.vm_maps.specs.Judge.{judged, looked_up};
-ghost use Rattle.vm_maps.specs.Maps.{ChangesOnly, IsNewEntry, entries_in, mapping_in, rows_in, with_inherit, with_prot};
-ghost use Rattle.vm_maps.specs.Rows.{becomes, remapped};
+ghost use Rattle.vm_maps.specs.Maps.{ChangesOnly, IsNewEntry, Remaps, entries_in, parts_for, rows_in, with_inherit, with_prot};
+ghost use Rattle.vm_maps.specs.Rows.{becomes, changed_by};
 ghost use Rattle.vm_maps.specs.declared.change.MapKind.TheVariants as kind;
 
 use crate::judge::{MOST_ENTRIES, judge_change, look_up};
@@ -15,10 +15,13 @@ use std::alloc::Global;
 use std::marker::Model;
 use vm_base::{Access, Code, Entries, NoMemory, PageSize, TaskId};
 
-/// The address maps of tasks, as the Mach 3 kernel interfaces have them.
+/// The address maps of tasks: what `vm_allocate`, `vm_map`, `vm_deallocate`, `vm_protect` and
+/// `vm_inherit` of the Mach 3 kernel interfaces do to a task's entries.
 ///
 /// Contracts see the page size, and each task with its entries by rising address. The entries of a
-/// task don't meet, are of whole pages, and are at most 256.
+/// task don't meet, are of whole pages, and are at most 256, which is this profile's limit. They
+/// are cut at the ends of a range and never joined. A change first passes `judge`; the calls that
+/// make it then fail for want of memory alone, and leave all as it was.
 #[derive(Drop)]
 pub struct Maps {
     alloc: Global,
@@ -52,16 +55,17 @@ impl Maps {
 
     /// Makes room for `n` further entries in each task.
     ///
-    /// A task's table is taken whole when its map is made, so there is nothing left to take.
+    /// There is nothing to do: `add_task` takes a task's whole table, of 256 entries, so that
+    /// `enter` never wants memory.
     pub fn reserve(&mut self, n: u32) -> Result<(), NoMemory>
         ensures same { self.new ≡ self.old }
-        ensures room { IsOk result }
+        ensures succeeds { IsOk result }
     {
         let _ = n;
         Ok(())
     }
 
-    /// Makes the map of a task, without entries.
+    /// Makes the map of a task, without entries; it fails for want of memory alone.
     pub fn add_task(&mut self, task: TaskId) -> Result<(), NoMemory>
         requires { entries_in task.0 self.old ≡ None }
         ensures ok { OnOk result (ChangesOnly self.old self.new task.0 (Some [])) }
@@ -77,7 +81,7 @@ impl Maps {
     /// Ends the map of a task, and gives its entries.
     pub fn end_task(&mut self, task: TaskId) -> Entries
         requires { IsSome (entries_in task.0 self.old) }
-        ensures entries { entries_in task.0 self.old ≡ Some (reverse result.items) }
+        ensures entries { entries_in task.0 self.old ≡ Some (by_address result) }
         ensures ended { ChangesOnly self.old self.new task.0 None }
     {
         let i = find(&self.tables, task);
@@ -88,8 +92,8 @@ impl Maps {
     /// The entries of a task.
     pub fn entries(&self, task: TaskId) -> &Entries
         requires { IsSome (entries_in task.0 self.now) }
-        ensures value { entries_in task.0 self.now ≡ Some (reverse result.now.items) }
-        ensures kept { AreEntries self.now.size (reverse result.now.items) }
+        ensures value { entries_in task.0 self.now ≡ Some (by_address result.now) }
+        ensures sound { AreEntries self.now.size (by_address result.now) }
     {
         let i = find(&self.tables, task);
         &self.tables[i].entries
@@ -108,9 +112,8 @@ impl Maps {
         judge_change(self.size, self.entries(task), change)
     }
 
-    /// Makes the entry of an Enter; the entries taken away are none.
-    ///
-    /// The task's table has room, so it doesn't fail.
+    /// Makes the entry of an Enter. No entries are taken away, and it doesn't fail, since the
+    /// task's table has room.
     pub fn enter(&mut self, task: TaskId, change: &MapChange) -> Result<Entries, NoMemory>
         requires there { IsSome (entries_in task.0 self.old) }
         requires kind { change.now.kind ≡ kind.Enter }
@@ -120,9 +123,8 @@ impl Maps {
         ensures taken { IfOk result (λ taken. taken.items ≡ []) }
         ensures changes { IfSome change.now.entry (λ row. ChangesOnly self.old self.new task.0
             (Some (entered row (rows_in task.0 self.old)))) }
-        ensures mapped { IfSome change.now.entry (λ row. (at : ℕ) → mapping_in task.0 at self.new
-            ≡ (if is_within change.now.address change.now.bytes at then Some (mapping self.old.size at row)
-            else mapping_in task.0 at self.old)) }
+        ensures mapped { IfSome change.now.entry (λ row. Remaps
+            (λ at was. Some (mapping self.old.size at row)) self.old self.new task.0 change.now) }
     {
         let Some(entry) = change.entry else {
             unreachable!()
@@ -142,11 +144,10 @@ impl Maps {
         requires judged { judged self.old.size change.now (rows_in task.0 self.old) ≡ None }
         ensures changes { OnOk result (ChangesOnly self.old self.new task.0 (Some
             (removed self.old.size change.now.address change.now.bytes (rows_in task.0 self.old)))) }
-        ensures mapped { OnOk result ((at : ℕ) → mapping_in task.0 at self.new
-            ≡ (if is_within change.now.address change.now.bytes at then None
-            else mapping_in task.0 at self.old)) }
-        ensures taken { IfOk result (λ taken. reverse taken.items ≡ parts_in self.old.size
-            change.now.address change.now.bytes (rows_in task.0 self.old)) }
+        ensures mapped { OnOk result (Remaps (λ at was. None)
+            self.old self.new task.0 change.now) }
+        ensures taken { IfOk result (λ taken.
+            by_address taken ≡ parts_for self.old task.0 change.now) }
         ensures err { OnErr result (self.new ≡ self.old) }
     {
         self.rewrite(task, change)
@@ -160,12 +161,12 @@ impl Maps {
         requires kind { change.now.kind ≡ kind.Protect }
         requires judged { judged self.old.size change.now (rows_in task.0 self.old) ≡ None }
         ensures changes { OnOk result (ChangesOnly self.old self.new task.0 (Some
-            (protected self.old.size change.now.address change.now.bytes change.now.prot (rows_in task.0 self.old)))) }
-        ensures mapped { OnOk result ((at : ℕ) → mapping_in task.0 at self.new
-            ≡ (if is_within change.now.address change.now.bytes at then option_map (with_prot change.now.prot) (mapping_in task.0 at self.old)
-            else mapping_in task.0 at self.old)) }
-        ensures taken { IfOk result (λ taken. reverse taken.items ≡ parts_in self.old.size
-            change.now.address change.now.bytes (rows_in task.0 self.old)) }
+            (protected self.old.size
+            change.now.address change.now.bytes change.now.prot (rows_in task.0 self.old)))) }
+        ensures mapped { OnOk result (Remaps (λ at. option_map (with_prot change.now.prot))
+            self.old self.new task.0 change.now) }
+        ensures taken { IfOk result (λ taken.
+            by_address taken ≡ parts_for self.old task.0 change.now) }
         ensures err { OnErr result (self.new ≡ self.old) }
     {
         self.rewrite(task, change)
@@ -179,12 +180,12 @@ impl Maps {
         requires kind { change.now.kind ≡ kind.Inherit }
         requires judged { judged self.old.size change.now (rows_in task.0 self.old) ≡ None }
         ensures changes { OnOk result (ChangesOnly self.old self.new task.0 (Some
-            (inherited self.old.size change.now.address change.now.bytes change.now.inherit (rows_in task.0 self.old)))) }
-        ensures mapped { OnOk result ((at : ℕ) → mapping_in task.0 at self.new
-            ≡ (if is_within change.now.address change.now.bytes at then option_map (with_inherit change.now.inherit) (mapping_in task.0 at self.old)
-            else mapping_in task.0 at self.old)) }
-        ensures taken { IfOk result (λ taken. reverse taken.items ≡ parts_in self.old.size
-            change.now.address change.now.bytes (rows_in task.0 self.old)) }
+            (inherited self.old.size
+            change.now.address change.now.bytes change.now.inherit (rows_in task.0 self.old)))) }
+        ensures mapped { OnOk result (Remaps (λ at. option_map (with_inherit change.now.inherit))
+            self.old self.new task.0 change.now) }
+        ensures taken { IfOk result (λ taken.
+            by_address taken ≡ parts_for self.old task.0 change.now) }
         ensures err { OnErr result (self.new ≡ self.old) }
     {
         self.rewrite(task, change)
@@ -210,10 +211,10 @@ impl Maps {
         ensures changes { OnOk result (ChangesOnly self.old self.new task.0 (Some
             (rewritten (becomes change.now) self.old.size
             change.now.address change.now.bytes (rows_in task.0 self.old)))) }
-        ensures mapped { OnOk result ((at : ℕ) → mapping_in task.0 at self.new
-            ≡ remapped change.now change.now.address change.now.bytes at (mapping_in task.0 at self.old)) }
-        ensures taken { IfOk result (λ taken. reverse taken.items ≡ parts_in self.old.size
-            change.now.address change.now.bytes (rows_in task.0 self.old)) }
+        ensures mapped { OnOk result (Remaps (λ at. changed_by change.now.kind change.now)
+            self.old self.new task.0 change.now) }
+        ensures taken { IfOk result (λ taken.
+            by_address taken ≡ parts_for self.old task.0 change.now) }
         ensures err { OnErr result (self.new ≡ self.old) }
     {
         let i = find(&self.tables, task);
