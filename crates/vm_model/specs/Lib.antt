@@ -1,2 +1,10 @@
 pub mod Name
 pub mod Text
+pub mod Words
+pub mod Side
+pub mod Waiters
+pub mod Server
+pub mod PageLicences
+pub mod Coherence
+pub mod TaskPlace
+pub mod PagePart

@@ -1,0 +1,11 @@
+pub mod Queues
+pub mod Sound
+pub mod Line
+pub mod Law
+pub mod Orderly
+pub mod Truth
+pub mod Settled
+pub mod Whole
+pub mod Ways
+pub mod Carried
+pub mod Still

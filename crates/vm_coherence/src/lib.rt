@@ -1,0 +1,27 @@
+//! The coherence of a page of shared memory, over every order of its messages and any number of hosts.
+//!
+//! The law is about lists of events alone, whatever program they come from. Its premise is that each
+//! event has its cause: a host sends and takes by the Mach 3 kernel interfaces, in the order of its
+//! channels, and the server of the page answers by its rows.
+#![tactic(auto)]
+
+ghost use Rattle.std.specs.Prelude.{ℕ, List};
+ghost use Rattle.vm_model.specs.Words.{Act};
+ghost use Rattle.vm_model.specs.PageLicences.{Licensed};
+ghost use Rattle.vm_model.specs.Coherence.{Throughout, OneWriter, SameBytes, EachLoadReads, StepsDone, Served, Prompt, Quiet, Answered, NobodyWaits};
+
+/// The law of one shared page, for any page size. It holds of the page's part of a history and of
+/// the page world alike, and for whatever host, also one that never appears.
+///
+/// One writer is the protocol's promise in Forin, Barrera and Sanzi 1989: while a host can write,
+/// no other can read, at every moment, also inside a step. A load therefore reads what the stores in
+/// front of it left. Where nothing is on its way and each step has paid what it owes, no page is
+/// asked for and no unlock is outstanding, so that no access waits.
+#[tactic(auto, using(crate::proofs::Law::throughout_writer, crate::proofs::Whole::throughout_bytes, crate::proofs::Whole::loads, crate::proofs::Still::answered, crate::proofs::Still::still))]
+pub fn coherence_law()
+    ensures one_writer { (size : ℕ) (acts : List Act) → Licensed size acts → Throughout OneWriter acts }
+    ensures same_bytes { (size : ℕ) (acts : List Act) → Licensed size acts → Throughout (SameBytes size) acts }
+    ensures loads { (size : ℕ) (acts : List Act) → Licensed size acts → EachLoadReads size acts }
+    ensures answered { (size : ℕ) (acts : List Act) → Licensed size acts → StepsDone acts → Served acts → Quiet acts → Answered acts }
+    ensures nobody_waits { (size : ℕ) (acts : List Act) → Licensed size acts → StepsDone acts → Served acts → Prompt acts → Quiet acts → NobodyWaits acts }
+{}
