@@ -9,3 +9,4 @@ pub mod Whole
 pub mod Ways
 pub mod Carried
 pub mod Still
+pub mod Crossing

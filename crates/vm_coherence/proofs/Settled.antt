@@ -72,6 +72,6 @@ settled_own (TakenUp OtherUp) ws s ok o may silent is = is
 settled_own (SentDown control w) ws s ok o may silent is = settled_answer w control s ok may is
 settled_own (TakesDown control w) ws s ok o may silent is = settled_takes w s (reaches s control) ok is
 settled_own (Puts bytes dirty) ws s ok o may silent is = absurd may
-settled_own Drops ws s ok o may silent is = settled_drops s may is
+settled_own Drops ws s ok o may silent is = settled_drops s may.1 is
 settled_own (Stores task at size value) ws s ok o may silent is = absurd silent
 settled_own e ws s ok o may silent is = is

@@ -8,6 +8,8 @@
 ghost use Rattle.std.specs.Prelude.{ℕ, List};
 ghost use Rattle.vm_model.specs.Words.{Act};
 ghost use Rattle.vm_model.specs.PageLicences.{Licensed};
+ghost use Rattle.vm_model.specs.PagePart.{world_part};
+ghost use Rattle.vm_coherence.specs.Crossing.{crossing};
 ghost use Rattle.vm_model.specs.Coherence.{Throughout, OneWriter, SameBytes, EachLoadReads, StepsDone, Served, Prompt, Quiet, Answered, NobodyWaits};
 
 /// The law of one shared page, for any page size. It holds of the page's part of a history and of
@@ -25,3 +27,17 @@ pub fn coherence_law()
     ensures answered { (size : ℕ) (acts : List Act) → Licensed size acts → StepsDone acts → Served acts → Quiet acts → Answered acts }
     ensures nobody_waits { (size : ℕ) (acts : List Act) → Licensed size acts → StepsDone acts → Served acts → Prompt acts → Quiet acts → NobodyWaits acts }
 {}
+
+/// A worked run of the page world, of 16-byte pages: two hosts read a page and then both store. The
+/// unlock of one and the flush for it cross the other's unlock. The run has a cause for each event,
+/// pays what its steps owe and ends quiet, so the law's premises are met by runs in which every kind
+/// of message but `terminate` appears.
+#[tactic(auto, using(crate::proofs::Crossing::crossing_licensed, crate::proofs::Crossing::crossing_done, crate::proofs::Crossing::crossing_quiet, crate::proofs::Crossing::crossing_served, crate::proofs::Crossing::crossing_prompt))]
+pub fn crossing_run()
+    ensures licensed { Licensed 16 (world_part 16 crossing) }
+    ensures done { StepsDone (world_part 16 crossing) }
+    ensures served { Served (world_part 16 crossing) }
+    ensures prompt { Prompt (world_part 16 crossing) }
+    ensures quiet { Quiet (world_part 16 crossing) }
+{
+}
