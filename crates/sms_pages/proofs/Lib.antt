@@ -1,0 +1,3 @@
+pub mod Recalls
+pub mod Pages
+pub mod Serving
