@@ -1,5 +1,5 @@
 -- What a recall leaves.
-use Rattle.std.proofs.Common.{◌≡◌, ◌≢◌, ◌<◌, ◌≤◌, ◌+◌, ℕ, zero, suc, List, [], ◌∷◌, ◌++◌, arith, refl, ◌∙◌, sym, Bool, true, false, if◌then◌else◌, length}
+use Rattle.std.proofs.Common.{◌≡◌, ◌≢◌, ◌≤◌, ◌+◌, ℕ, zero, suc, List, ◌∷◌, ◌++◌, arith, refl, ◌∙◌, Bool, true, false, if◌then◌else◌}
 use Rattle.std.specs.Prelude.{slice_index, slice_set, ◌||◌}
 use Rattle.std.proofs.lemmas.List.{get_or-set_other}
 use Rattle.vm_model.specs.Server.{Wanting}

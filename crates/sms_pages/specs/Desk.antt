@@ -1,5 +1,5 @@
 -- What holds of a directory's state.
-use Rattle.std.specs.Prelude.{ℕ, ◌≡◌, ◌+◌, ◌≤◌, Bool, true, false, List, [], ◌∷◌, length, if◌then◌else◌, slice_index, slice_set}
+use Rattle.std.specs.Prelude.{ℕ, ◌≡◌, ◌+◌, ◌≤◌, Bool, true, false, List, [], ◌∷◌, length, nat_lt, nat_le, ◌&&◌, if◌then◌else◌, slice_index, slice_set}
 use Rattle.vm_model.specs.Server.{Wanting}
 use Rattle.sms_pages.specs.declared.desk.Desk.{Desk}
 use Rattle.sms_pages.specs.declared.reply.Reply.{Reply}
@@ -35,3 +35,8 @@ Serves false old sent new replies = record { holds = new.holds; awaits = new.awa
 pub record HasRoom (d : Desk) (room : ℕ) : Type 0 where
   pub pages : length d.line.items ≤ length d.spare.items
   pub replies : length d.line.items + 8 ≤ room
+
+-- the memory that a call takes is at hand: a place in the line, a page for each that then waits, and room for replies
+abbrev pub is_prepared : ℕ → ℕ → ℕ → ℕ → Bool
+is_prepared waiting places pages room =
+    nat_lt waiting places && (nat_lt waiting pages && (nat_le (waiting + 9) room && nat_le waiting 4294967280))

@@ -1,5 +1,5 @@
 -- A page's directory, and the rules by which it answers.
-use Rattle.std.specs.Prelude.{ℕ, zero, suc, ◌≡◌, ◌+◌, ◌==◌, ◌&&◌, ◌||◌, ◌≤◌, ◌<◌, Bool, true, false, not, if◌then◌else◌, nat_lt, List, [], ◌∷◌, ◌++◌, length, slice_index, slice_set}
+use Rattle.std.specs.Prelude.{ℕ, zero, suc, ◌≡◌, ◌+◌, ◌==◌, ◌&&◌, ◌||◌, Bool, true, false, not, if◌then◌else◌, nat_lt, List, [], ◌∷◌, ◌++◌, length, replicate, slice_index, slice_set}
 use Rattle.std.specs.List.{list_all}
 use Rattle.vm_base.specs.declared.ids.Access.{Access}
 use Rattle.vm_base.specs.declared.ids.Access.TheVariants.{Load, Store}
@@ -136,6 +136,13 @@ pub record IsSame (before after : Directory) : Type 0 where
   pub line : after.line ≡ before.line
   pub bytes : after.bytes ≡ before.bytes
 
--- the most replies that the next call can give
+-- the most replies that the next call can give: one for each that then waits, and a recall of each host
 abbrev pub most_replies : Directory → ℕ
-most_replies d = length d.line + 8
+most_replies d = length d.line + 9
+
+-- of a page of so many zeros, which nobody holds or wants
+pub record IsNew (size : ℕ) (d : Directory) : Type 0 where
+  pub holds : d.holds ≡ replicate 8 0
+  pub awaits : d.awaits ≡ replicate 8 0
+  pub line : d.line ≡ []
+  pub bytes : d.bytes ≡ replicate size 0

@@ -5,9 +5,8 @@ ghost use Rattle.vm_base.specs.Listing.{Listed};
 ghost use Rattle.sms_pages.specs.Directory.{is_recalled, recall, recall_kind, recalls, recalled, grant, granted, served, turn, any_recalled};
 ghost use Rattle.sms_pages.specs.Desk.{AllLong, IsElsewhereSame, awaits_with, replies_with, Serves, HasRoom};
 
-use crate::Replies;
-use crate::Reply;
 use crate::holding::{Holding, Recall, Turn, Wish};
+use crate::{Replies, Reply};
 use std::collections::VecDeque;
 use vm_base::{HostId, Listing, Lock, NoMemory, PageBytes};
 
@@ -22,7 +21,11 @@ pub struct Desk {
 }
 
 /// Makes pages until there are so many, each as long as `like`.
-pub fn make_pages(pages: &mut Listing<PageBytes>, count: u32, like: &PageBytes) -> Result<(), NoMemory>
+pub fn make_pages(
+    pages: &mut Listing<PageBytes>,
+    count: u32,
+    like: &PageBytes,
+) -> Result<(), NoMemory>
     ensures long { AllLong (length like.now) pages.old.items → AllLong (length like.now) pages.new.items }
     ensures enough { OnOk result (count ≤ length pages.new.items) }
     ensures more { length pages.old.items ≤ length pages.new.items }
@@ -60,7 +63,12 @@ impl Desk {
     }
 
     // Recalls the page from the host, if the one in front wants that.
-    fn recall_host(&mut self, front: &Wish, host: u32, replies: &mut Replies) -> Result<(), NoMemory>
+    fn recall_host(
+        &mut self,
+        front: &Wish,
+        host: u32,
+        replies: &mut Replies,
+    ) -> Result<(), NoMemory>
         requires { host < 8 }
         ensures awaits { OnOk result (self.new.awaits ≡ awaits_with front.now host self.old.holds self.old.awaits self.old.awaits) }
         ensures sent { OnOk result (replies.new.items ≡ replies_with front.now host self.old.holds self.old.awaits replies.old.items) }
@@ -165,7 +173,11 @@ impl Desk {
         if self.is_any_recalled(front) {
             return Turn::Recalls;
         }
-        if self.is_nobody_awaited() { Turn::Grants } else { Turn::Waits }
+        if self.is_nobody_awaited() {
+            Turn::Grants
+        } else {
+            Turn::Waits
+        }
     }
 
     // Serves the one in front; answers whether it left and the next one is to be served.
@@ -196,6 +208,23 @@ impl Desk {
                 Ok(true)
             }
         }
+    }
+
+    /// Serves the line as far as it goes.
+    pub fn serve(&mut self, replies: &mut Replies) -> Result<(), NoMemory>
+        requires long { AllLong (length self.old.bytes) self.old.spare.items }
+        ensures exact { OnOk result (Serves false self.old replies.old.items self.new replies.new.items) }
+        ensures bytes { self.new.bytes ≡ self.old.bytes }
+        ensures long { AllLong (length self.new.bytes) self.new.spare.items }
+        ensures succeeds { HasRoom self.old replies.old.room → IsOk result }
+    {
+        'line: while let Some(front) = self.line.front() {
+            let front = *front;
+            if !self.serve_front(&front, replies)? {
+                return Ok(());
+            }
+        }
+        Ok(())
     }
 }
 

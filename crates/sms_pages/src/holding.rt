@@ -22,7 +22,9 @@ impl Model for Holding {
 
 impl Holding {
     pub const NOTHING: Holding = Holding(0);
+
     pub const READ: Holding = Holding(1);
+
     pub const WRITE: Holding = Holding(2);
 }
 
@@ -42,7 +44,9 @@ impl Model for Recall {
 
 impl Recall {
     pub const NONE: Recall = Recall(0);
+
     pub const CLEAN: Recall = Recall(1);
+
     pub const FLUSH: Recall = Recall(2);
 }
 

@@ -2,7 +2,9 @@
 #![tactic(auto)]
 
 mod desk;
+mod directory;
 mod holding;
 mod reply;
 
+pub use directory::PageDirectory;
 pub use reply::{Replies, Reply};
