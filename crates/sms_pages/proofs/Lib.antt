@@ -1,3 +1,5 @@
 pub mod Recalls
 pub mod Pages
 pub mod Serving
+pub mod Facts
+pub mod Following

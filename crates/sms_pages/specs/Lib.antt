@@ -1,2 +1,3 @@
 pub mod Directory
 pub mod Desk
+pub mod Stands

@@ -1,0 +1,209 @@
+-- Each reply of a directory that stands for its history has a cause, and the directory stands for the history with it.
+use Rattle.std.proofs.Common.{◌≡◌, ◌≢◌, ◌<◌, ◌≤◌, ◌+◌, ◌==◌, ◌&&◌, ◌||◌, ℕ, zero, suc, List, [], ◌∷◌, ◌++◌, length, arith, refl, ap, subst, sym, ◌∙◌, Bool, true, false, not, if◌then◌else◌, Some, Option, inl, inr, ◌⊎◌}
+use Rattle.std.specs.Prelude.{slice_index, slice_set, nat_lt}
+use Rattle.std.specs.List.{list_all}
+use Rattle.std.proofs.lemmas.Bool.Decides.{nat_tests}
+use Rattle.std.proofs.lemmas.List.{get_or-set_same, get_or-set_other, get_or_past, length-set}
+use native.Mathlib.Decide.{ℕ_discrete}
+use Rattle.vm_model.specs.Words.{Act, Effect, SentDown, Supplying, Locking}
+use Rattle.vm_model.specs.Side.{Side, side, move, right_of, kind_of}
+use Rattle.vm_model.specs.Server.{Wanting, wants_write, first, line, trimmed_line, without, kept}
+use Rattle.vm_model.specs.PageLicences.{Licensed, Cause, Answers, SupplyRow, UpgradeRow, RecallRow, NobodyAwaited, OthersHold}
+use Rattle.sms_pages.specs.declared.reply.Reply.{Reply}
+use Rattle.sms_pages.specs.declared.holding.Turn.{Turn}
+use Rattle.sms_pages.specs.declared.holding.Turn.TheVariants.{Leaves, Recalls, Waits, Grants}
+use Rattle.sms_pages.specs.Directory.{is_recalled, any_recalled, leaves, turn, recall, recall_kind, recalls, recalled, grant, granted, Served, served}
+use Rattle.sms_pages.specs.Stands.{counts, counted, NoUpgrade, NoRequest, InTurn, Stands, lock_number, reply_act, reply_acts, Hears, Follows}
+use Rattle.sms_pages.proofs.Facts.{own_side, holds_set, awaits_set, holds_kept, awaits_kept, heard_kept, counted_lost, counted_none, counted_same, all_none}
+
+-- what is known so far: each reply that was sent had its cause, and the lists stand for the history with them
+pub record State (size : ℕ) (heard : ℕ → ℕ) (bytes : List ℕ) (holds awaits : List ℕ) (wants : List Wanting) (past : List Act) : Type 0 where
+  pub licensed : Licensed size past
+  pub stands : Stands size holds awaits bytes wants past
+  pub hears : Hears heard past
+
+-- the turn's cases
+
+turn_leaves : (l r a : Bool) → (if l then Leaves else if r then Recalls else if a then Grants else Waits) ≡ Leaves → l ≡ true
+turn_leaves l r a is = grind arith
+
+turn_stays : (l r a : Bool) (t : Turn) → t ≢ Leaves → (if l then Leaves else if r then Recalls else if a then Grants else Waits) ≡ t → l ≡ false
+turn_stays l r a t apart is = grind arith
+
+turn_grants : (l r a : Bool) → (if l then Leaves else if r then Recalls else if a then Grants else Waits) ≡ Grants → (r ≡ false) × (a ≡ true)
+turn_grants true r a is = absurd (cc)
+turn_grants false true a is = absurd (cc)
+turn_grants false false true is = (refl, refl)
+turn_grants false false false is = absurd (cc)
+
+-- who leaves doesn't count, and who stays is the first of the line
+
+not_counted : (w : Wanting) (holds : List ℕ) (ws : List Wanting) → leaves w holds ≡ true → counted holds (w ∷ ws) ≡ counted holds ws
+not_counted w holds ws is = one w (slice_index holds w.host) (counted holds ws) is where
+  one : (w : Wanting) (a : ℕ) (cs : List Wanting) → (w.upgrade && not (a == 1)) ≡ true → (if (if w.upgrade then a == 1 else true) then w ∷ cs else cs) ≡ cs
+  one w a cs is = grind (arith, nat_tests)
+
+is_counted : (w : Wanting) (holds : List ℕ) (ws : List Wanting) → leaves w holds ≡ false → counted holds (w ∷ ws) ≡ w ∷ counted holds ws
+is_counted w holds ws is = one w (slice_index holds w.host) (counted holds ws) is where
+  one : (w : Wanting) (a : ℕ) (cs : List Wanting) → (w.upgrade && not (a == 1)) ≡ false → (if (if w.upgrade then a == 1 else true) then w ∷ cs else cs) ≡ w ∷ cs
+  one w a cs is = grind (arith, nat_tests)
+
+upgrade_reads : (w : Wanting) (holds : List ℕ) → leaves w holds ≡ false → w.upgrade ≡ true → slice_index holds w.host ≡ 1
+upgrade_reads w holds is up = grind (arith, nat_tests)
+
+-- how much the others may hold
+abbrev room_for : Bool → ℕ
+room_for writes = if writes then 0 else 1
+
+-- nobody else is recalled, so the others hold no more than the front allows
+
+any_none : (w : Wanting) (holds awaits : List ℕ) (n : ℕ) → any_recalled w holds awaits n ≡ false → (g : ℕ) → g < n → is_recalled w g (slice_index holds g) (slice_index awaits g) ≡ false
+any_none w holds awaits zero none g lt = absurd (omega arith)
+any_none w holds awaits (suc n) none g lt = elim (ℕ_discrete g n) [
+  | yes is ↦ subst (λ (k : ℕ). is_recalled w k (slice_index holds k) (slice_index awaits k) ≡ false) (sym is) (last (any_recalled w holds awaits n) (is_recalled w n (slice_index holds n) (slice_index awaits n)) none)
+  | no apart ↦ any_none w holds awaits n (front (any_recalled w holds awaits n) (is_recalled w n (slice_index holds n) (slice_index awaits n)) none) g (omega arith)
+] where
+  last : (b c : Bool) → (b || c) ≡ false → c ≡ false
+  last b c is = grind arith
+
+  front : (b c : Bool) → (b || c) ≡ false → b ≡ false
+  front b c is = grind arith
+
+allowed : (w : Wanting) (g hold await : ℕ) → is_recalled w g hold await ≡ false → await ≡ 0 → g ≢ w.host → hold ≤ 2 → hold ≤ room_for (wants_write w)
+allowed w g hold await none free apart le = grind (arith, nat_tests)
+
+others_allowed : (size : ℕ) (w : Wanting) (holds awaits bytes : List ℕ) (ws : List Wanting) (past : List Act) → Stands size holds awaits bytes ws past → any_recalled w holds awaits 8 ≡ false → list_all (λ kind. kind == 0) awaits ≡ true → OthersHold (room_for (wants_write w)) w.host past
+others_allowed size w holds awaits bytes ws past s none free g apart =
+    let same : (side g past).holds ≡ slice_index holds g = s.same_holds g in
+    rw same (elim (lt_or g) [
+      | inl lt ↦ allowed w g (slice_index holds g) (slice_index awaits g) (any_none w holds awaits 8 none g lt) (all_none awaits free g) apart (s.bounded g)
+      | inr ge ↦ let nothing : slice_index holds g ≡ 0 = get_or_past holds g 0 (omega (arith, s.eight_hold)) in omega arith
+    ]) where
+      lt_or : (g : ℕ) → (g < 8) ⊎ (8 ≤ g)
+      lt_or g = grind arith
+
+-- what is set at one host
+
+set_bounded : (holds : List ℕ) (k v : ℕ) → k < length holds → v ≤ 2 → ((g : ℕ) → slice_index holds g ≤ 2) → (g : ℕ) → slice_index (slice_set holds k v) g ≤ 2
+set_bounded holds k v lt small le g = elim (ℕ_discrete g k) [
+  | yes is ↦ let e : slice_index (slice_set holds k v) g ≡ v = subst (λ (h : ℕ). slice_index (slice_set holds k v) h ≡ v) (sym is) (get_or-set_same holds k v 0 lt) in omega arith
+  | no apart ↦ let e : slice_index (slice_set holds k v) g ≡ slice_index holds g = get_or-set_other holds k g v 0 apart in omega (arith, le g)
+]
+
+set_waiting : (holds : List ℕ) (k v : ℕ) (w : Wanting) (ws : List Wanting) → NoRequest k ws → ((g : ℕ) → 0 < slice_index holds g → NoRequest g (w ∷ ws)) → (g : ℕ) → 0 < slice_index (slice_set holds k v) g → NoRequest g ws
+set_waiting holds k v w ws none was g some = elim (ℕ_discrete g k) [
+  | yes is ↦ subst (λ (h : ℕ). NoRequest h ws) (sym is) none
+  | no apart ↦ let e : slice_index (slice_set holds k v) g ≡ slice_index holds g = get_or-set_other holds k g v 0 apart in (was g (omega arith)).1
+]
+
+set_writing : (holds : List ℕ) (k v : ℕ) (w : Wanting) (ws : List Wanting) → NoUpgrade k ws → ((g : ℕ) → slice_index holds g ≡ 2 → NoUpgrade g (w ∷ ws)) → (g : ℕ) → slice_index (slice_set holds k v) g ≡ 2 → NoUpgrade g ws
+set_writing holds k v w ws none was g two = elim (ℕ_discrete g k) [
+  | yes is ↦ subst (λ (h : ℕ). NoUpgrade h ws) (sym is) none
+  | no apart ↦ let e : slice_index (slice_set holds k v) g ≡ slice_index holds g = get_or-set_other holds k g v 0 apart in (was g (omega arith)).1
+]
+
+small_grant : (w : Wanting) → granted w ≤ 2
+small_grant w = grind arith
+
+-- a grant
+
+-- the supply of the front's request
+after_supply : (size lock : ℕ) (heard : ℕ → ℕ) (bytes holds awaits : List ℕ) (w : Wanting) (ws : List Wanting) (past : List Act)
+    → State size heard bytes holds awaits (w ∷ ws) past → leaves w holds ≡ false → any_recalled w holds awaits 8 ≡ false → list_all (λ kind. kind == 0) awaits ≡ true
+    → w.upgrade ≡ false → lock ≡ (if w.access == 3 then 0 else 2)
+    → State size heard bytes (slice_set holds w.host (granted w)) awaits ws (record { host = w.host; effect = SentDown (heard w.host) (Supplying lock false bytes) } ∷ past)
+after_supply size lock heard bytes holds awaits w ws past s stays none free request is =
+    record {
+      licensed = ((s.hears w.host, refl, (λ g. s.stands.same_awaits g ∙ all_none awaits free g), sym s.stands.same_bytes, row), s.licensed);
+      stands = record {
+        same_holds = same_holds;
+        same_awaits = awaits_kept w.host (SentDown (heard w.host) (Supplying lock false bytes)) awaits past refl s.stands.same_awaits;
+        same_line = ap (λ (l : List Wanting). trimmed_line w.host (side w.host (act ∷ past)).holds (without w.host l)) front ∙ (ap (λ (l : List Wanting). trimmed_line w.host (side w.host (act ∷ past)).holds l) (front_gone w (counted holds ws) request) ∙ counted_none w.host (side w.host (act ∷ past)).holds holds (slice_set holds w.host (granted w)) ws s.stands.in_turn.1 (λ g apart. get_or-set_other holds w.host g (granted w) 0 apart));
+        same_bytes = s.stands.same_bytes;
+        eight_hold = length-set holds w.host (granted w) ∙ s.stands.eight_hold;
+        eight_await = s.stands.eight_await;
+        bounded = set_bounded holds w.host (granted w) inside (small_grant w) s.stands.bounded;
+        in_turn = s.stands.in_turn.3;
+        waiting = set_waiting holds w.host (granted w) w ws (s.stands.in_turn.2 request) s.stands.waiting;
+        writing = set_writing holds w.host (granted w) w ws s.stands.in_turn.1 s.stands.writing;
+      };
+      hears = heard_kept heard w.host (heard w.host) (Supplying lock false bytes) past s.hears;
+    } where
+      act : Act
+      act = record { host = w.host; effect = SentDown (heard w.host) (Supplying lock false bytes) }
+
+      inside : w.host < length holds
+      inside = omega (arith, s.stands.eight_hold, s.stands.in_turn.0)
+
+      front : line past ≡ w ∷ counted holds ws
+      front = s.stands.same_line ∙ is_counted w holds ws stays
+
+      front_gone : (w : Wanting) (cs : List Wanting) → w.upgrade ≡ false → without w.host (w ∷ cs) ≡ cs
+      front_gone w cs request = grind (arith, nat_tests)
+
+      room : (w : Wanting) → w.upgrade ≡ false → room_for (wants_write w) ≡ room_for (w.access == 3)
+      room w request = grind arith
+
+      row : SupplyRow w.host lock past (first (line past))
+      row = subst (λ (l : List Wanting). SupplyRow w.host lock past (first l)) (sym front) (refl, request, is, subst (λ (n : ℕ). OthersHold n w.host past) (room w request) (others_allowed size w holds awaits bytes (w ∷ ws) past s.stands none free))
+
+      gives : (w : Wanting) (lock : ℕ) → w.upgrade ≡ false → lock ≡ (if w.access == 3 then 0 else 2) → right_of lock ≡ granted w
+      gives w lock request is = grind (arith, nat_tests)
+
+      same_holds : (g : ℕ) → (side g (act ∷ past)).holds ≡ slice_index (slice_set holds w.host (granted w)) g
+      same_holds = holds_set w.host (SentDown (heard w.host) (Supplying lock false bytes)) (granted w) holds past inside (gives w lock request is) s.stands.same_holds
+
+-- the unlock of the front's upgrade
+after_unlock : (size : ℕ) (heard : ℕ → ℕ) (bytes holds awaits : List ℕ) (w : Wanting) (ws : List Wanting) (past : List Act)
+    → State size heard bytes holds awaits (w ∷ ws) past → leaves w holds ≡ false → any_recalled w holds awaits 8 ≡ false → list_all (λ kind. kind == 0) awaits ≡ true
+    → w.upgrade ≡ true
+    → State size heard bytes (slice_set holds w.host (granted w)) awaits ws (record { host = w.host; effect = SentDown (heard w.host) (Locking 1 0 false 0 false) } ∷ past)
+after_unlock size heard bytes holds awaits w ws past s stays none free up =
+    record {
+      licensed = ((s.hears w.host, refl, refl, refl, refl, (λ g. s.stands.same_awaits g ∙ all_none awaits free g), alone, row), s.licensed);
+      stands = record {
+        same_holds = same_holds;
+        same_awaits = awaits_kept w.host (SentDown (heard w.host) (Locking 1 0 false 0 false)) awaits past refl s.stands.same_awaits;
+        same_line = ap (λ (l : List Wanting). trimmed_line w.host (side w.host (act ∷ past)).holds l) front ∙ (front_gone w (side w.host (act ∷ past)).holds (counted holds ws) up writes ∙ counted_none w.host (side w.host (act ∷ past)).holds holds (slice_set holds w.host (granted w)) ws s.stands.in_turn.1 (λ g apart. get_or-set_other holds w.host g (granted w) 0 apart));
+        same_bytes = s.stands.same_bytes;
+        eight_hold = length-set holds w.host (granted w) ∙ s.stands.eight_hold;
+        eight_await = s.stands.eight_await;
+        bounded = set_bounded holds w.host (granted w) inside (small_grant w) s.stands.bounded;
+        in_turn = s.stands.in_turn.3;
+        waiting = set_waiting holds w.host (granted w) w ws (s.stands.waiting w.host reads).1 s.stands.waiting;
+        writing = set_writing holds w.host (granted w) w ws s.stands.in_turn.1 s.stands.writing;
+      };
+      hears = heard_kept heard w.host (heard w.host) (Locking 1 0 false 0 false) past s.hears;
+    } where
+      act : Act
+      act = record { host = w.host; effect = SentDown (heard w.host) (Locking 1 0 false 0 false) }
+
+      inside : w.host < length holds
+      inside = omega (arith, s.stands.eight_hold, s.stands.in_turn.0)
+
+      reads : 0 < slice_index holds w.host
+      reads = omega (arith, upgrade_reads w holds stays up)
+
+      front : line past ≡ w ∷ counted holds ws
+      front = s.stands.same_line ∙ is_counted w holds ws stays
+
+      front_gone : (w : Wanting) (x : ℕ) (cs : List Wanting) → w.upgrade ≡ true → x ≡ 2 → trimmed_line w.host x (w ∷ cs) ≡ trimmed_line w.host x cs
+      front_gone w x cs up two = grind (arith, nat_tests)
+
+      none_room : (w : Wanting) → w.upgrade ≡ true → room_for (wants_write w) ≡ 0
+      none_room w up = grind arith
+
+      alone : OthersHold 0 w.host past
+      alone = subst (λ (n : ℕ). OthersHold n w.host past) (none_room w up) (others_allowed size w holds awaits bytes (w ∷ ws) past s.stands none free)
+
+      row : UpgradeRow w.host (first (line past))
+      row = subst (λ (l : List Wanting). UpgradeRow w.host (first l)) (sym front) (refl, up)
+
+      gives : (w : Wanting) → w.upgrade ≡ true → 2 ≡ granted w
+      gives w up = grind arith
+
+      writes : (side w.host (act ∷ past)).holds ≡ 2
+      writes = ap (λ (t : Side). t.holds) (own_side w.host (SentDown (heard w.host) (Locking 1 0 false 0 false)) past)
+
+      same_holds : (g : ℕ) → (side g (act ∷ past)).holds ≡ slice_index (slice_set holds w.host (granted w)) g
+      same_holds = holds_set w.host (SentDown (heard w.host) (Locking 1 0 false 0 false)) (granted w) holds past inside (gives w up) s.stands.same_holds
