@@ -10,11 +10,13 @@ use Rattle.vm_model.specs.Side.{Side, side, move, right_of, kind_of}
 use Rattle.vm_model.specs.Server.{Wanting, wants_write, first, line, trimmed_line, without, kept}
 use Rattle.vm_model.specs.PageLicences.{Licensed, Cause, Answers, SupplyRow, UpgradeRow, RecallRow, NobodyAwaited, OthersHold}
 use Rattle.sms_pages.specs.declared.reply.Reply.{Reply}
+use Rattle.sms_pages.specs.declared.reply.Reply.TheVariants.{Supply, Flush, CleanLock, Unlock}
 use Rattle.sms_pages.specs.declared.holding.Turn.{Turn}
 use Rattle.sms_pages.specs.declared.holding.Turn.TheVariants.{Leaves, Recalls, Waits, Grants}
 use Rattle.sms_pages.specs.Directory.{is_recalled, any_recalled, leaves, turn, recall, recall_kind, recalls, recalled, grant, granted, Served, served}
 use Rattle.sms_pages.specs.Stands.{counts, counted, NoUpgrade, NoRequest, InTurn, Stands, lock_number, reply_act, reply_acts, Hears, Follows}
 use Rattle.sms_pages.proofs.Facts.{own_side, holds_set, awaits_set, holds_kept, awaits_kept, heard_kept, counted_lost, counted_none, counted_same, all_none}
+use Rattle.sms_pages.proofs.Recalls.{recalled_above}
 
 -- what is known so far: each reply that was sent had its cause, and the lists stand for the history with them
 pub record State (size : ℕ) (heard : ℕ → ℕ) (bytes : List ℕ) (holds awaits : List ℕ) (wants : List Wanting) (past : List Act) : Type 0 where
@@ -207,3 +209,134 @@ after_unlock size heard bytes holds awaits w ws past s stays none free up =
 
       same_holds : (g : ℕ) → (side g (act ∷ past)).holds ≡ slice_index (slice_set holds w.host (granted w)) g
       same_holds = holds_set w.host (SentDown (heard w.host) (Locking 1 0 false 0 false)) (granted w) holds past inside (gives w up) s.stands.same_holds
+
+-- the recalls
+
+abbrev recall_act : (ℕ → ℕ) → ℕ → ℕ → Bool → Act
+recall_act heard n lock flush = record { host = n; effect = SentDown (heard n) (Locking 1 1 flush lock true) }
+
+-- one recall
+after_recall : (size n lock kind : ℕ) (flush : Bool) (heard : ℕ → ℕ) (bytes holds awaits : List ℕ) (w : Wanting) (ws : List Wanting) (past : List Act)
+    → State size heard bytes holds awaits (w ∷ ws) past → leaves w holds ≡ false → n < 8 → slice_index awaits n ≡ 0 → 0 < slice_index holds n
+    → RecallRow n flush lock (slice_index holds n) (Some w) → kind_of flush ≡ kind
+    → State size heard bytes holds (slice_set awaits n kind) (w ∷ ws) (recall_act heard n lock flush ∷ past)
+after_recall size n lock kind flush heard bytes holds awaits w ws past s stays lt free some row is =
+    record {
+      licensed = ((s.hears n, refl, refl, s.stands.same_awaits n ∙ free, subst (λ (m : ℕ). 0 < m) (sym (s.stands.same_holds n)) some, answers), s.licensed);
+      stands = record {
+        same_holds = same_holds;
+        same_awaits = awaits_set n (SentDown (heard n) (Locking 1 1 flush lock true)) kind awaits past (omega (arith, s.stands.eight_await)) is s.stands.same_awaits;
+        same_line = ap (λ (l : List Wanting). trimmed_line n (side n (recall_act heard n lock flush ∷ past)).holds l) s.stands.same_line ∙ counted_same n (side n (recall_act heard n lock flush ∷ past)).holds holds (w ∷ ws) (sym (same_holds n));
+        same_bytes = s.stands.same_bytes;
+        eight_hold = s.stands.eight_hold;
+        eight_await = length-set awaits n kind ∙ s.stands.eight_await;
+        bounded = s.stands.bounded;
+        in_turn = s.stands.in_turn;
+        waiting = s.stands.waiting;
+        writing = s.stands.writing;
+      };
+      hears = heard_kept heard n (heard n) (Locking 1 1 flush lock true) past s.hears;
+    } where
+      front : line past ≡ w ∷ counted holds ws
+      front = s.stands.same_line ∙ is_counted w holds ws stays
+
+      answers : RecallRow n flush lock (side n past).holds (first (line past))
+      answers = subst (λ (l : List Wanting). RecallRow n flush lock (side n past).holds (first l)) (sym front) (subst (λ (m : ℕ). RecallRow n flush lock m (Some w)) (sym (s.stands.same_holds n)) row)
+
+      same_holds : (g : ℕ) → (side g (recall_act heard n lock flush ∷ past)).holds ≡ slice_index holds g
+      same_holds = holds_kept n (SentDown (heard n) (Locking 1 1 flush lock true)) holds past refl s.stands.same_holds
+
+-- who is recalled
+
+recalled_facts : (w : Wanting) (n hold await : ℕ) → is_recalled w n hold await ≡ true → (w.host ≢ n) × (await ≡ 0) × (0 < hold) × (wants_write w ≡ false → hold ≡ 2)
+recalled_facts w n hold await is = (λ same. absurd (grind (arith, nat_tests)), grind (arith, nat_tests), grind (arith, nat_tests), λ reads. grind (arith, nat_tests))
+
+after_recall_of : (size n : ℕ) (b : Bool) (heard : ℕ → ℕ) (bytes holds awaits : List ℕ) (w : Wanting) (ws : List Wanting) (past : List Act)
+    → State size heard bytes holds awaits (w ∷ ws) past → leaves w holds ≡ false → n < 8 → is_recalled w n (slice_index holds n) (slice_index awaits n) ≡ true → wants_write w ≡ b
+    → State size heard bytes holds (slice_set awaits n (if b then 2 else 1)) (w ∷ ws) (reply_act heard (if b then Flush (record { 0 = n }) else CleanLock (record { 0 = n })) ∷ past)
+after_recall_of size n true heard bytes holds awaits w ws past s stays lt is writes =
+    let f = recalled_facts w n (slice_index holds n) (slice_index awaits n) is in
+    after_recall size n 8 2 true heard bytes holds awaits w ws past s stays lt f.1 f.2 (f.0, refl, writes) refl
+after_recall_of size n false heard bytes holds awaits w ws past s stays lt is reads =
+    let f = recalled_facts w n (slice_index holds n) (slice_index awaits n) is in
+    after_recall size n 2 1 false heard bytes holds awaits w ws past s stays lt f.1 f.2 (f.0, refl, reads, f.3 reads) refl
+
+recall_step : (size n : ℕ) (b : Bool) (heard : ℕ → ℕ) (bytes holds awaits : List ℕ) (w : Wanting) (ws : List Wanting) (rs : List Reply) (past : List Act)
+    → State size heard bytes holds awaits (w ∷ ws) (reply_acts heard rs ++ past) → leaves w holds ≡ false → n < 8 → is_recalled w n (slice_index holds n) (slice_index awaits n) ≡ b
+    → State size heard bytes holds (if b then slice_set awaits n (recall_kind w) else awaits) (w ∷ ws) (reply_acts heard (if b then recall w n ∷ rs else rs) ++ past)
+recall_step size n true heard bytes holds awaits w ws rs past s stays lt is = after_recall_of size n (wants_write w) heard bytes holds awaits w ws (reply_acts heard rs ++ past) s stays lt is refl
+recall_step size n false heard bytes holds awaits w ws rs past s stays lt is = s
+
+after_recalls : (size : ℕ) (heard : ℕ → ℕ) (bytes holds awaits : List ℕ) (w : Wanting) (ws : List Wanting) (past : List Act) (n : ℕ)
+    → State size heard bytes holds awaits (w ∷ ws) past → leaves w holds ≡ false → n ≤ 8
+    → State size heard bytes holds (recalled w holds awaits n) (w ∷ ws) (reply_acts heard (recalls w holds awaits n) ++ past)
+after_recalls size heard bytes holds awaits w ws past zero s stays le = s
+after_recalls size heard bytes holds awaits w ws past (suc n) s stays le =
+    let before = after_recalls size heard bytes holds awaits w ws past n s stays (omega arith) in
+    let same : slice_index (recalled w holds awaits n) n ≡ slice_index awaits n = recalled_above w holds awaits n n (omega arith) in
+    recall_step size n (is_recalled w n (slice_index holds n) (slice_index awaits n)) heard bytes holds (recalled w holds awaits n) w ws (recalls w holds awaits n) past before stays (omega arith)
+    (ap (λ (m : ℕ). is_recalled w n (slice_index holds n) m) same)
+
+-- the whole line
+
+acts_append : (heard : ℕ → ℕ) (rs qs : List Reply) (past : List Act) → reply_acts heard (rs ++ qs) ++ past ≡ reply_acts heard rs ++ (reply_acts heard qs ++ past)
+acts_append heard [] qs past = refl
+acts_append heard (r ∷ rs) qs past = ap (λ (l : List Act). reply_act heard r ∷ l) (acts_append heard rs qs past)
+
+after_grant : (size : ℕ) (b : Bool) (heard : ℕ → ℕ) (bytes holds awaits : List ℕ) (w : Wanting) (ws : List Wanting) (past : List Act)
+    → State size heard bytes holds awaits (w ∷ ws) past → leaves w holds ≡ false → any_recalled w holds awaits 8 ≡ false → list_all (λ kind. kind == 0) awaits ≡ true
+    → w.upgrade ≡ b
+    → State size heard bytes (slice_set holds w.host (granted w)) awaits ws (reply_act heard (if b then Unlock (record { 0 = w.host }) else Supply (record { 0 = w.host }) (record { read = false; write = not (wants_write w) }) bytes) ∷ past)
+after_grant size true heard bytes holds awaits w ws past s stays none free up = after_unlock size heard bytes holds awaits w ws past s stays none free up
+after_grant size false heard bytes holds awaits w ws past s stays none free request =
+    after_supply size (lock_number (record { read = false; write = not (wants_write w) })) heard bytes holds awaits w ws past s stays none free request (lock_is w request) where
+      lock_is : (w : Wanting) → w.upgrade ≡ false → lock_number (record { read = false; write = not (wants_write w) }) ≡ (if w.access == 3 then 0 else 2)
+      lock_is w request = grind (arith, nat_tests)
+
+left : (size : ℕ) (heard : ℕ → ℕ) (bytes holds awaits : List ℕ) (w : Wanting) (ws : List Wanting) (past : List Act) → State size heard bytes holds awaits (w ∷ ws) past → leaves w holds ≡ true → State size heard bytes holds awaits ws past
+left size heard bytes holds awaits w ws past s is =
+    record {
+      licensed = s.licensed;
+      stands = record {
+        same_holds = s.stands.same_holds;
+        same_awaits = s.stands.same_awaits;
+        same_line = s.stands.same_line ∙ not_counted w holds ws is;
+        same_bytes = s.stands.same_bytes;
+        eight_hold = s.stands.eight_hold;
+        eight_await = s.stands.eight_await;
+        bounded = s.stands.bounded;
+        in_turn = s.stands.in_turn.3;
+        waiting = λ h some. (s.stands.waiting h some).1;
+        writing = λ h two. (s.stands.writing h two).1;
+      };
+      hears = s.hears;
+    }
+
+pub served_follows : (size : ℕ) (heard : ℕ → ℕ) (bytes holds awaits : List ℕ) (wants : List Wanting) (sent : List Reply) (past : List Act)
+    → State size heard bytes holds awaits wants (reply_acts heard sent ++ past) → Follows size heard bytes (served sent holds awaits bytes wants) past
+served_follows size heard bytes holds awaits [] sent past s = record { licensed = s.licensed; stands = s.stands }
+served_follows size heard bytes holds awaits (w ∷ ws) sent past s =
+    by_turn (turn w holds awaits) refl
+    (λ t. served_follows size heard bytes holds awaits ws sent past t)
+    (λ t. served_follows size heard bytes (slice_set holds w.host (granted w)) awaits ws (grant w bytes ∷ sent) past t) where
+      by_turn : (t : Turn) → turn w holds awaits ≡ t
+          → (State size heard bytes holds awaits ws (reply_acts heard sent ++ past) → Follows size heard bytes (served sent holds awaits bytes ws) past)
+          → (State size heard bytes (slice_set holds w.host (granted w)) awaits ws (reply_acts heard (grant w bytes ∷ sent) ++ past) → Follows size heard bytes (served (grant w bytes ∷ sent) (slice_set holds w.host (granted w)) awaits bytes ws) past)
+          → Follows size heard bytes (elim t as (λ t. Served) [
+            | Leaves ↦ served sent holds awaits bytes ws
+            | Recalls ↦ record { holds = holds; awaits = recalled w holds awaits 8; line = w ∷ ws; replies = recalls w holds awaits 8 ++ sent }
+            | Waits ↦ record { holds = holds; awaits = awaits; line = w ∷ ws; replies = sent }
+            | Grants ↦ served (grant w bytes ∷ sent) (slice_set holds w.host (granted w)) awaits bytes ws
+          ]) past
+      by_turn Leaves is on given = on (left size heard bytes holds awaits w ws (reply_acts heard sent ++ past) s (turn_leaves (leaves w holds) (any_recalled w holds awaits 8) (list_all (λ kind. kind == 0) awaits) is))
+      by_turn Recalls is on given =
+          let r = after_recalls size heard bytes holds awaits w ws (reply_acts heard sent ++ past) 8 s (turn_stays (leaves w holds) (any_recalled w holds awaits 8) (list_all (λ kind. kind == 0) awaits) Recalls (λ e. absurd (cc)) is) (omega arith) in
+          let e = acts_append heard (recalls w holds awaits 8) sent past in
+          record {
+            licensed = subst (λ (l : List Act). Licensed size l) (sym e) r.licensed;
+            stands = subst (λ (l : List Act). Stands size holds (recalled w holds awaits 8) bytes (w ∷ ws) l) (sym e) r.stands;
+          }
+      by_turn Waits is on given = record { licensed = s.licensed; stands = s.stands }
+      by_turn Grants is on given =
+          let f = turn_grants (leaves w holds) (any_recalled w holds awaits 8) (list_all (λ kind. kind == 0) awaits) is in
+          given (after_grant size w.upgrade heard bytes holds awaits w ws (reply_acts heard sent ++ past) s (turn_stays (leaves w holds) (any_recalled w holds awaits 8) (list_all (λ kind. kind == 0) awaits) Grants (λ e. absurd (cc)) is) f.0 f.1 refl)
