@@ -1,5 +1,5 @@
 -- What one act of the server changes in what the history says.
-use Rattle.std.proofs.Common.{◌≡◌, ◌≢◌, ◌<◌, ◌≤◌, ◌+◌, ◌==◌, ◌&&◌, ℕ, zero, suc, List, [], ◌∷◌, ◌++◌, length, arith, refl, ap, subst, sym, ◌∙◌, Bool, true, false, if◌then◌else◌}
+use Rattle.std.proofs.Common.{◌≡◌, ◌≢◌, ◌<◌, ◌==◌, ◌&&◌, ℕ, zero, suc, List, [], ◌∷◌, length, arith, refl, ap, subst, sym, ◌∙◌, Bool, true, if◌then◌else◌}
 use Rattle.std.specs.Prelude.{slice_index, slice_set}
 use Rattle.std.specs.List.{list_all}
 use Rattle.std.proofs.lemmas.Bool.Decides.{nat_tests}
@@ -8,7 +8,7 @@ use native.Mathlib.Decide.{ℕ_discrete}
 use Rattle.vm_model.specs.Words.{Act, Effect, SentDown, DownWord, effect_on, to_others}
 use Rattle.vm_model.specs.Side.{Side, side, move}
 use Rattle.vm_model.specs.Server.{Wanting, trimmed_line}
-use Rattle.sms_pages.specs.Stands.{counts, counted, NoUpgrade, NoRequest}
+use Rattle.sms_pages.specs.Stands.{counted, NoUpgrade}
 
 own_effect : (k : ℕ) (e : Effect) → effect_on k (record { host = k; effect = e }) ≡ e
 own_effect k e = grind (arith, nat_tests)

@@ -1,21 +1,22 @@
 -- Each reply of a directory that stands for its history has a cause, and the directory stands for the history with it.
-use Rattle.std.proofs.Common.{◌≡◌, ◌≢◌, ◌<◌, ◌≤◌, ◌+◌, ◌==◌, ◌&&◌, ◌||◌, ℕ, zero, suc, List, [], ◌∷◌, ◌++◌, length, arith, refl, ap, subst, sym, ◌∙◌, Bool, true, false, not, if◌then◌else◌, Some, Option, inl, inr, ◌⊎◌}
-use Rattle.std.specs.Prelude.{slice_index, slice_set, nat_lt}
+use Rattle.std.proofs.Common.{◌≡◌, ◌≢◌, ◌<◌, ◌≤◌, ◌==◌, ◌&&◌, ◌||◌, ℕ, zero, suc, List, [], ◌∷◌, ◌++◌, length, arith, refl, ap, subst, sym, ◌∙◌, Bool, true, false, not, if◌then◌else◌, Some, inl, inr, ◌⊎◌}
+use Rattle.std.specs.Prelude.{slice_index, slice_set}
 use Rattle.std.specs.List.{list_all}
 use Rattle.std.proofs.lemmas.Bool.Decides.{nat_tests}
 use Rattle.std.proofs.lemmas.List.{get_or-set_same, get_or-set_other, get_or_past, length-set}
 use native.Mathlib.Decide.{ℕ_discrete}
-use Rattle.vm_model.specs.Words.{Act, Effect, SentDown, Supplying, Locking}
-use Rattle.vm_model.specs.Side.{Side, side, move, right_of, kind_of}
-use Rattle.vm_model.specs.Server.{Wanting, wants_write, first, line, trimmed_line, without, kept}
-use Rattle.vm_model.specs.PageLicences.{Licensed, Cause, Answers, SupplyRow, UpgradeRow, RecallRow, NobodyAwaited, OthersHold}
+use Rattle.vm_model.specs.Words.{Act, SentDown, Supplying, Locking}
+use Rattle.vm_model.specs.Side.{Side, side, right_of, kind_of}
+use Rattle.vm_model.specs.Server.{Wanting, wants_write, first, line, trimmed_line, without}
+use Rattle.vm_model.specs.PageLicences.{Licensed, SupplyRow, UpgradeRow, RecallRow, OthersHold}
 use Rattle.sms_pages.specs.declared.reply.Reply.{Reply}
 use Rattle.sms_pages.specs.declared.reply.Reply.TheVariants.{Supply, Flush, CleanLock, Unlock}
 use Rattle.sms_pages.specs.declared.holding.Turn.{Turn}
 use Rattle.sms_pages.specs.declared.holding.Turn.TheVariants.{Leaves, Recalls, Waits, Grants}
-use Rattle.sms_pages.specs.Directory.{is_recalled, any_recalled, leaves, turn, recall, recall_kind, recalls, recalled, grant, granted, Served, served}
-use Rattle.sms_pages.specs.Stands.{counts, counted, NoUpgrade, NoRequest, InTurn, Stands, lock_number, reply_act, reply_acts, Hears, Follows}
-use Rattle.sms_pages.proofs.Facts.{own_side, holds_set, awaits_set, holds_kept, awaits_kept, heard_kept, counted_lost, counted_none, counted_same, all_none}
+use Rattle.sms_pages.specs.Directory.{is_recalled, any_recalled, leaves, turn, recall, recall_kind, recalls, recalled, grant, granted, Directory, Outcome, served, IsServed}
+use Rattle.sms_pages.specs.Stands.{counted, NoUpgrade, NoRequest, Stands, StandsFor, lock_number, reply_act, reply_acts, Hears, Follows, IsAnswered}
+use Rattle.vm_model.specs.Coherence.{Served}
+use Rattle.sms_pages.proofs.Facts.{own_side, holds_set, awaits_set, holds_kept, awaits_kept, heard_kept, counted_none, counted_same, all_none}
 use Rattle.sms_pages.proofs.Recalls.{recalled_above}
 
 -- what is known so far: each reply that was sent had its cause, and the lists stand for the history with them
@@ -322,7 +323,7 @@ served_follows size heard bytes holds awaits (w ∷ ws) sent past s =
       by_turn : (t : Turn) → turn w holds awaits ≡ t
           → (State size heard bytes holds awaits ws (reply_acts heard sent ++ past) → Follows size heard bytes (served sent holds awaits bytes ws) past)
           → (State size heard bytes (slice_set holds w.host (granted w)) awaits ws (reply_acts heard (grant w bytes ∷ sent) ++ past) → Follows size heard bytes (served (grant w bytes ∷ sent) (slice_set holds w.host (granted w)) awaits bytes ws) past)
-          → Follows size heard bytes (elim t as (λ t. Served) [
+          → Follows size heard bytes (elim t as (λ t. Outcome) [
             | Leaves ↦ served sent holds awaits bytes ws
             | Recalls ↦ record { holds = holds; awaits = recalled w holds awaits 8; line = w ∷ ws; replies = recalls w holds awaits 8 ++ sent }
             | Waits ↦ record { holds = holds; awaits = awaits; line = w ∷ ws; replies = sent }
@@ -340,3 +341,85 @@ served_follows size heard bytes holds awaits (w ∷ ws) sent past s =
       by_turn Grants is on given =
           let f = turn_grants (leaves w holds) (any_recalled w holds awaits 8) (list_all (λ kind. kind == 0) awaits) is in
           given (after_grant size w.upgrade heard bytes holds awaits w ws (reply_acts heard sent ++ past) s (turn_stays (leaves w holds) (any_recalled w holds awaits 8) (list_all (λ kind. kind == 0) awaits) Grants (λ e. absurd (cc)) is) f.0 f.1 refl)
+
+-- where somebody still waits, some host is awaited
+
+some_recalled : (w : Wanting) (holds awaits : List ℕ) (n : ℕ) → length awaits ≡ 8 → n ≤ 8 → any_recalled w holds awaits n ≡ true → (g : ℕ) × (0 < slice_index (recalled w holds awaits n) g)
+some_recalled w holds awaits zero eight le any = absurd (cc)
+some_recalled w holds awaits (suc n) eight le any = by_host (is_recalled w n (slice_index holds n) (slice_index awaits n)) (any_recalled w holds awaits n) any (some_recalled w holds awaits n eight (omega arith)) where
+  long : (m : ℕ) → length (recalled w holds awaits m) ≡ 8
+  long zero = eight
+  long (suc m) = keeps (is_recalled w m (slice_index holds m) (slice_index awaits m)) (recalled w holds awaits m) m (recall_kind w) (long m) where
+    keeps : (b : Bool) (xs : List ℕ) (m kind : ℕ) → length xs ≡ 8 → length (if b then slice_set xs m kind else xs) ≡ 8
+    keeps true xs m kind is = length-set xs m kind ∙ is
+    keeps false xs m kind is = is
+
+  some_kind : (w : Wanting) → 0 < recall_kind w
+  some_kind w = grind arith
+
+  by_host : (b c : Bool) → (c || b) ≡ true → (c ≡ true → (g : ℕ) × (0 < slice_index (recalled w holds awaits n) g)) → (g : ℕ) × (0 < slice_index (if b then slice_set (recalled w holds awaits n) n (recall_kind w) else recalled w holds awaits n) g)
+  by_host true c is before = (n, let e : slice_index (slice_set (recalled w holds awaits n) n (recall_kind w)) n ≡ recall_kind w = get_or-set_same (recalled w holds awaits n) n (recall_kind w) 0 (omega (arith, long n)) in omega (arith, some_kind w))
+  by_host false true is before = before refl
+  by_host false false is before = absurd (cc)
+
+not_all_none : (awaits : List ℕ) → list_all (λ kind. kind == 0) awaits ≡ false → (g : ℕ) × (0 < slice_index awaits g)
+not_all_none [] is = absurd (cc)
+not_all_none (a ∷ more) is = elim (ℕ_discrete a 0) [
+  | yes none ↦ let r = not_all_none more (rest_not a (list_all (λ kind. kind == 0) more) none is) in (suc r.0, r.1)
+  | no some ↦ (0, omega arith)
+] where
+  rest_not : (a : ℕ) (c : Bool) → a ≡ 0 → (a == 0 && c) ≡ false → c ≡ false
+  rest_not a c none is = grind (arith, nat_tests)
+
+turn_recalls : (l r a : Bool) → (if l then Leaves else if r then Recalls else if a then Grants else Waits) ≡ Recalls → r ≡ true
+turn_recalls l r a is = grind arith
+
+turn_waits : (l r a : Bool) → (if l then Leaves else if r then Recalls else if a then Grants else Waits) ≡ Waits → a ≡ false
+turn_waits l r a is = grind arith
+
+abbrev Awaited : Outcome → Type 0
+Awaited s = s.line ≢ [] → (g : ℕ) × (0 < slice_index s.awaits g)
+
+pub served_awaited : (sent : List Reply) (holds awaits bytes : List ℕ) (wants : List Wanting) → length awaits ≡ 8 → (served sent holds awaits bytes wants).line ≢ [] → (g : ℕ) × (0 < slice_index (served sent holds awaits bytes wants).awaits g)
+served_awaited sent holds awaits bytes [] eight = λ some. absurd (some refl)
+served_awaited sent holds awaits bytes (w ∷ ws) eight =
+    by_turn (turn w holds awaits) refl (served_awaited sent holds awaits bytes ws eight) (served_awaited (grant w bytes ∷ sent) (slice_set holds w.host (granted w)) awaits bytes ws eight) where
+      by_turn : (t : Turn) → turn w holds awaits ≡ t → Awaited (served sent holds awaits bytes ws) → Awaited (served (grant w bytes ∷ sent) (slice_set holds w.host (granted w)) awaits bytes ws)
+          → Awaited (elim t as (λ t. Outcome) [
+            | Leaves ↦ served sent holds awaits bytes ws
+            | Recalls ↦ record { holds = holds; awaits = recalled w holds awaits 8; line = w ∷ ws; replies = recalls w holds awaits 8 ++ sent }
+            | Waits ↦ record { holds = holds; awaits = awaits; line = w ∷ ws; replies = sent }
+            | Grants ↦ served (grant w bytes ∷ sent) (slice_set holds w.host (granted w)) awaits bytes ws
+          ])
+      by_turn Leaves is on given = on
+      by_turn Recalls is on given = λ some. some_recalled w holds awaits 8 eight (omega arith) (turn_recalls (leaves w holds) (any_recalled w holds awaits 8) (list_all (λ kind. kind == 0) awaits) is)
+      by_turn Waits is on given = λ some. not_all_none awaits (turn_waits (leaves w holds) (any_recalled w holds awaits 8) (list_all (λ kind. kind == 0) awaits) is)
+      by_turn Grants is on given = given
+
+-- the law of serving
+
+some_counted : (holds : List ℕ) (wants : List Wanting) → counted holds wants ≢ [] → wants ≢ []
+some_counted holds [] some is = some refl
+some_counted holds (w ∷ ws) some is = absurd (cc)
+
+pub serving : (size : ℕ) (heard : ℕ → ℕ) (changed after : Directory) (replies : List Reply) (past : List Act)
+    → Licensed size past → StandsFor size changed past → Hears heard past → IsServed changed after replies → IsAnswered size heard after replies past
+serving size heard changed after replies past licensed stands hears is =
+    record {
+      licensed = f.licensed;
+      stands = subst (λ (bytes : List ℕ). Stands size after.holds after.awaits bytes after.line (reply_acts heard replies ++ past)) (sym is.bytes) f.stands;
+      served = served_past;
+    } where
+      done : Outcome
+      done = record { holds = after.holds; awaits = after.awaits; line = after.line; replies = replies }
+
+      f : Follows size heard changed.bytes (record { holds = after.holds; awaits = after.awaits; line = after.line; replies = replies }) past
+      f = subst (λ (s : Outcome). Follows size heard changed.bytes s past) (sym is.exact) (served_follows size heard changed.bytes changed.holds changed.awaits changed.line [] past (record { licensed = licensed; stands = stands; hears = hears }))
+
+      waits : after.line ≢ [] → (g : ℕ) × (0 < slice_index after.awaits g)
+      waits = subst (λ (s : Outcome). s.line ≢ [] → (g : ℕ) × (0 < slice_index s.awaits g)) (sym is.exact) (served_awaited [] changed.holds changed.awaits changed.bytes changed.line stands.eight_await)
+
+      served_past : Served (reply_acts heard replies ++ past)
+      served_past some =
+          let g = waits (some_counted after.holds after.line (λ none. some (f.stands.same_line ∙ none))) in
+          (g.0, subst (λ (n : ℕ). 0 < n) (sym (f.stands.same_awaits g.0)) g.1)

@@ -3,3 +3,4 @@ pub mod Pages
 pub mod Serving
 pub mod Facts
 pub mod Following
+pub mod Taken

@@ -6,7 +6,7 @@ use Rattle.vm_model.specs.Server.{Wanting}
 use Rattle.sms_pages.specs.declared.holding.Turn.{Turn}
 use Rattle.sms_pages.specs.declared.holding.Turn.TheVariants.{Leaves, Recalls, Waits, Grants}
 use Rattle.sms_pages.specs.declared.reply.Reply.{Reply}
-use Rattle.sms_pages.specs.Directory.{is_recalled, recall, recalled, recalls, turn, grant, granted, Served, served}
+use Rattle.sms_pages.specs.Directory.{is_recalled, recall, recalled, recalls, turn, grant, granted, Outcome, served}
 
 pub ends_waiting : (sent : List Reply) (holds awaits bytes : List ℕ) (line : List Wanting) (w : Wanting) → slice_get line 0 ≡ Some w → turn w holds awaits ≡ Waits → record { holds = holds; awaits = awaits; line = line; replies = sent } ≡ served sent holds awaits bytes line
 ends_waiting sent holds awaits bytes [] w front is = absurd (cc)
@@ -31,7 +31,7 @@ served_few sent holds awaits bytes (w ∷ ws) = by_turn (turn w holds awaits) se
   by_turn : (t : Turn) (sent : List Reply) (holds awaits bytes : List ℕ) (w : Wanting) (ws : List Wanting)
       → length (served sent holds awaits bytes ws).replies ≤ length sent + (length ws + 8)
       → length (served (grant w bytes ∷ sent) (slice_set holds w.host (granted w)) awaits bytes ws).replies ≤ length (grant w bytes ∷ sent) + (length ws + 8)
-      → length (elim t as (λ t. Served) [
+      → length (elim t as (λ t. Outcome) [
         | Leaves ↦ served sent holds awaits bytes ws
         | Recalls ↦ record { holds = holds; awaits = recalled w holds awaits 8; line = w ∷ ws; replies = recalls w holds awaits 8 ++ sent }
         | Waits ↦ record { holds = holds; awaits = awaits; line = w ∷ ws; replies = sent }
@@ -43,4 +43,4 @@ served_few sent holds awaits bytes (w ∷ ws) = by_turn (turn w holds awaits) se
   by_turn Grants sent holds awaits bytes w ws left given = omega arith
 
 pub replies_few : (sent replies : List Reply) (holds awaits bytes new_holds new_awaits : List ℕ) (line rest : List Wanting) → record { holds = new_holds; awaits = new_awaits; line = rest; replies = replies } ≡ served sent holds awaits bytes line → length replies ≤ length sent + (length line + 8)
-replies_few sent replies holds awaits bytes new_holds new_awaits line rest is = let same : replies ≡ (served sent holds awaits bytes line).replies = ap (λ (s : Served). s.replies) is in rw same (served_few sent holds awaits bytes line)
+replies_few sent replies holds awaits bytes new_holds new_awaits line rest is = let same : replies ≡ (served sent holds awaits bytes line).replies = ap (λ (s : Outcome). s.replies) is in rw same (served_few sent holds awaits bytes line)

@@ -108,14 +108,14 @@ turn w holds awaits =
     else Waits
 
 -- what serving leaves, and the replies, the newest first
-pub record Served : Type 0 where
+pub record Outcome : Type 0 where
   pub holds : List ℕ
   pub awaits : List ℕ
   pub line : List Wanting
   pub replies : List Reply
 
 -- the line is served as far as it goes, behind the replies that were sent before
-abbrev pub served : List Reply → List ℕ → List ℕ → List ℕ → List Wanting → Served
+abbrev pub served : List Reply → List ℕ → List ℕ → List ℕ → List Wanting → Outcome
 served sent holds awaits bytes [] = record { holds = holds; awaits = awaits; line = []; replies = sent }
 served sent holds awaits bytes (w ∷ ws) = elim (turn w holds awaits) [
   | Leaves ↦ served sent holds awaits bytes ws

@@ -2,12 +2,13 @@
 use Rattle.std.specs.Prelude.{ℕ, ◌≡◌, ◌≢◌, ◌≤◌, ◌<◌, ◌+◌, ◌==◌, Bool, true, false, if◌then◌else◌, List, [], ◌∷◌, ◌++◌, length, slice_index}
 use Rattle.vm_base.specs.declared.ids.Lock.{Lock}
 use Rattle.vm_model.specs.Words.{Act, Supplying, Locking, SentDown, TakenUp, UpWord}
-use Rattle.vm_model.specs.Side.{Side, side}
+use Rattle.vm_model.specs.Side.{side}
 use Rattle.vm_model.specs.Server.{Wanting, line, kept}
 use Rattle.vm_model.specs.PageLicences.{Licensed}
+use Rattle.vm_model.specs.Coherence.{Served}
 use Rattle.sms_pages.specs.declared.reply.Reply.{Reply}
 use Rattle.sms_pages.specs.declared.reply.Reply.TheVariants.{Supply, Flush, CleanLock, Unlock}
-use Rattle.sms_pages.specs.Directory.{Served}
+use Rattle.sms_pages.specs.Directory.{Directory, Outcome}
 
 -- an upgrade counts only while its host holds Read
 abbrev pub counts : List ℕ → Wanting → Bool
@@ -63,7 +64,20 @@ reply_acts heard (r ∷ rs) = reply_act heard r ∷ reply_acts heard rs
 abbrev pub Hears : (ℕ → ℕ) → List Act → Type 0
 Hears heard past = (h : ℕ) → heard h ≡ (side h past).heard
 
--- the past with the replies has a cause for each act, and the directory stands for it
-pub record Follows (size : ℕ) (heard : ℕ → ℕ) (bytes : List ℕ) (s : Served) (past : List Act) : Type 0 where
+-- the past with the replies has a cause for each act, and what serving leaves stands for it
+pub record Follows (size : ℕ) (heard : ℕ → ℕ) (bytes : List ℕ) (s : Outcome) (past : List Act) : Type 0 where
   pub licensed : Licensed size (reply_acts heard s.replies ++ past)
   pub stands : Stands size s.holds s.awaits bytes s.line (reply_acts heard s.replies ++ past)
+
+abbrev pub StandsFor : ℕ → Directory → List Act → Type 0
+StandsFor size d past = Stands size d.holds d.awaits d.bytes d.line past
+
+-- each reply has its cause, the directory stands for the past with them, and where somebody still waits a host is awaited
+pub record IsAnswered (size : ℕ) (heard : ℕ → ℕ) (after : Directory) (replies : List Reply) (past : List Act) : Type 0 where
+  pub licensed : Licensed size (reply_acts heard replies ++ past)
+  pub stands : StandsFor size after (reply_acts heard replies ++ past)
+  pub served : Served (reply_acts heard replies ++ past)
+
+-- the taking of a message of the host
+abbrev pub taken : ℕ → UpWord → Act
+taken h word = record { host = h; effect = TakenUp word }

@@ -4,7 +4,9 @@
 mod desk;
 mod directory;
 mod holding;
+mod law;
 mod reply;
 
 pub use directory::PageDirectory;
+pub use law::directory_law;
 pub use reply::{Replies, Reply};

@@ -22,10 +22,10 @@ abbrev pub without : ℕ → List Wanting → List Wanting
 without h [] = []
 without h (w ∷ ws) = if w.host == h then (if w.upgrade then w ∷ without h ws else ws) else w ∷ without h ws
 
--- an unlock counts only from a host that holds Read and isn't awaited
+-- a request joins; so does an unlock, to write, from a host that holds Read and isn't awaited
 abbrev pub joined : Side → ℕ → Effect → List Wanting → List Wanting
 joined s h (TakenUp (Asking asker access)) ws = ws ++ record { host = h; upgrade = false; access = access } ∷ []
-joined s h (TakenUp (Unlocking access)) ws = if s.holds == 1 && s.awaits == 0 then ws ++ record { host = h; upgrade = true; access = access } ∷ [] else ws
+joined s h (TakenUp (Unlocking access)) ws = if s.holds == 1 && s.awaits == 0 then ws ++ record { host = h; upgrade = true; access = 3 } ∷ [] else ws
 joined s h (SentDown control (Supplying lock precious bytes)) ws = without h ws
 joined s h e ws = ws
 
