@@ -9,4 +9,6 @@ pub mod Whole
 pub mod Ways
 pub mod Carried
 pub mod Still
+pub mod Opens
+pub mod Single
 pub mod Crossing

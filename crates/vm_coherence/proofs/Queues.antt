@@ -217,6 +217,8 @@ sum_down f (w ∷ q) = f w + sum_down f q
 -- 1 for a message that the server of a shared page never sends
 abbrev pub odd : DownWord → ℕ
 odd (Locking count returns false lock true) = if lock == 2 then 0 else 1
+odd (Locking count returns true lock false) = 1
+odd (Locking count returns false (suc lock) false) = 1
 odd Lacking = 1
 odd Failing = 1
 odd w = 0
