@@ -11,4 +11,5 @@ pub mod Carried
 pub mod Still
 pub mod Opens
 pub mod Single
+pub mod Aligned
 pub mod Crossing
