@@ -8,7 +8,8 @@ use native.Mathlib.Decide.{ℕ_discrete}
 use Rattle.vm_model.specs.Words.{Act, Effect, SentDown, DownWord, effect_on, to_others}
 use Rattle.vm_model.specs.Side.{Side, side, move}
 use Rattle.vm_model.specs.Server.{Wanting, trimmed_line}
-use Rattle.sms_pages.specs.Stands.{counted, NoUpgrade}
+use Rattle.vm_model.specs.Server.{NoUpgrade}
+use Rattle.sms_pages.specs.Stands.{counted}
 
 own_effect : (k : ℕ) (e : Effect) → effect_on k (record { host = k; effect = e }) ≡ e
 own_effect k e = grind (arith, nat_tests)

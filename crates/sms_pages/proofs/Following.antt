@@ -14,7 +14,8 @@ use Rattle.sms_pages.specs.declared.reply.Reply.TheVariants.{Supply, Flush, Clea
 use Rattle.sms_pages.specs.declared.holding.Turn.{Turn}
 use Rattle.sms_pages.specs.declared.holding.Turn.TheVariants.{Leaves, Recalls, Waits, Grants}
 use Rattle.sms_pages.specs.Directory.{is_recalled, any_recalled, leaves, turn, recall, recall_kind, recalls, recalled, grant, granted, Directory, Outcome, served, IsServed}
-use Rattle.sms_pages.specs.Stands.{counted, NoUpgrade, NoRequest, Stands, StandsFor, lock_number, reply_act, reply_acts, Hears, Follows, IsAnswered}
+use Rattle.vm_model.specs.Server.{NoUpgrade, NoRequest}
+use Rattle.sms_pages.specs.Stands.{counted, Stands, StandsFor, lock_number, reply_act, reply_acts, Hears, Follows, IsAnswered}
 use Rattle.vm_model.specs.Coherence.{Served}
 use Rattle.sms_pages.proofs.Facts.{own_side, holds_set, awaits_set, holds_kept, awaits_kept, heard_kept, counted_none, counted_same, all_none}
 use Rattle.sms_pages.proofs.Recalls.{recalled_above}

@@ -8,7 +8,8 @@ use Rattle.vm_model.specs.Words.{Act, Effect, TakenUp, Asking, Unlocking, Return
 use Rattle.vm_model.specs.Side.{Side, side, move, after_done}
 use Rattle.vm_model.specs.Server.{Wanting, line, trimmed_line, joined, kept}
 use Rattle.sms_pages.specs.Directory.{Directory, requested, unlocked, saved, finished, left_by, ended, IsNew}
-use Rattle.sms_pages.specs.Stands.{counts, counted, NoUpgrade, NoRequest, InTurn, Stands, StandsFor}
+use Rattle.vm_model.specs.Server.{NoUpgrade, NoRequest}
+use Rattle.sms_pages.specs.Stands.{counts, counted, InTurn, Stands, StandsFor, taken}
 use Rattle.sms_pages.proofs.Facts.{own_side, holds_set, awaits_set, holds_kept, awaits_kept, counted_lost, counted_none, counted_same, all_none}
 
 -- what joins at the end
@@ -276,3 +277,35 @@ begins size d new =
     } where
       zeros : (xs : List ℕ) → xs ≡ replicate 8 0 → (h : ℕ) → slice_index xs h ≡ 0
       zeros xs is h = ap (λ (l : List ℕ). slice_index l h) is ∙ all_none (replicate 8 0) refl h
+
+-- the same, with premises on the history alone
+
+request_apart : (holds : List ℕ) (h : ℕ) (ws : List Wanting) → NoRequest h (counted holds ws) → NoRequest h ws
+request_apart holds h [] none = tt
+request_apart holds h (w ∷ ws) none = by_case (counts holds w) refl (request_apart holds h ws) none where
+  by_case : (b : Bool) → counts holds w ≡ b → (NoRequest h (counted holds ws) → NoRequest h ws) → NoRequest h (if b then w ∷ counted holds ws else counted holds ws) → NoRequest h (w ∷ ws)
+  by_case true is rest apart = (apart.0, rest apart.1)
+  by_case false is rest apart = ((λ request. absurd (no_count w (slice_index holds w.host) request is)), rest apart) where
+    no_count : (w : Wanting) (a : ℕ) → w.upgrade ≡ false → (if w.upgrade then a == 1 else true) ≡ false → ⊥
+    no_count w a request is = grind arith
+
+upgrade_apart : (holds : List ℕ) (h : ℕ) (ws : List Wanting) → slice_index holds h ≡ 1 → NoUpgrade h (counted holds ws) → NoUpgrade h ws
+upgrade_apart holds h [] reads none = tt
+upgrade_apart holds h (w ∷ ws) reads none = by_case (counts holds w) refl (upgrade_apart holds h ws reads) none where
+  by_case : (b : Bool) → counts holds w ≡ b → (NoUpgrade h (counted holds ws) → NoUpgrade h ws) → NoUpgrade h (if b then w ∷ counted holds ws else counted holds ws) → NoUpgrade h (w ∷ ws)
+  by_case true is rest apart = (apart.0, rest apart.1)
+  by_case false is rest apart = ((λ up same. absurd (not_counted w (slice_index holds w.host) up (ap (λ (k : ℕ). slice_index holds k) same ∙ reads) is)), rest apart) where
+    not_counted : (w : Wanting) (a : ℕ) → w.upgrade ≡ true → a ≡ 1 → (if w.upgrade then a == 1 else true) ≡ false → ⊥
+    not_counted w a up one is = grind (arith, nat_tests)
+
+pub request_taken : (size h control access : ℕ) (d : Directory) (past : List Act) → StandsFor size d past → h < 8 → NoRequest h (line past) → StandsFor size (requested h access d) (taken h (Asking control access) ∷ past)
+request_taken size h control access d past s lt none = after_request size h control access d past s lt (request_apart d.holds h d.line (subst (λ (l : List Wanting). NoRequest h l) s.same_line none))
+
+pub unlock_taken : (size h access : ℕ) (d : Directory) (past : List Act) → StandsFor size d past → h < 8 → NoUpgrade h (line past) → StandsFor size (unlocked h d) (taken h (Unlocking access) ∷ past)
+unlock_taken size h access d past s lt none = after_unlock size h access d past s lt (λ reads free. upgrade_apart d.holds h d.line reads (subst (λ (l : List Wanting). NoUpgrade h l) s.same_line none))
+
+pub completed_taken : (size h control count : ℕ) (d : Directory) (past : List Act) → StandsFor size d past → h < 8 → (0 < (side h past).awaits → (side h past).awaited_control ≡ control) → StandsFor size (finished h d) (taken h (Doing control count) ∷ past)
+completed_taken size h control count d past s lt mine = after_completed size h control count d past s lt (λ some. mine (subst (λ (n : ℕ). 0 < n) (sym (s.same_awaits h)) some))
+
+pub end_taken : (size h control : ℕ) (d : Directory) (past : List Act) → StandsFor size d past → h < 8 → (0 < (side h past).awaits → (side h past).awaited_control ≡ control) → StandsFor size (ended h d) (taken h (Ending control) ∷ past)
+end_taken size h control d past s lt mine = after_end size h control d past s lt (λ some. mine (subst (λ (n : ℕ). 0 < n) (sym (s.same_awaits h)) some))

@@ -3,7 +3,7 @@ use Rattle.std.specs.Prelude.{ℕ, ◌≡◌, ◌≢◌, ◌≤◌, ◌<◌, ◌
 use Rattle.vm_base.specs.declared.ids.Lock.{Lock}
 use Rattle.vm_model.specs.Words.{Act, Supplying, Locking, SentDown, TakenUp, UpWord}
 use Rattle.vm_model.specs.Side.{side}
-use Rattle.vm_model.specs.Server.{Wanting, line, kept}
+use Rattle.vm_model.specs.Server.{Wanting, line, kept, NoUpgrade, NoRequest}
 use Rattle.vm_model.specs.PageLicences.{Licensed}
 use Rattle.vm_model.specs.Coherence.{Served}
 use Rattle.sms_pages.specs.declared.reply.Reply.{Reply}
@@ -17,16 +17,6 @@ counts holds w = if w.upgrade then slice_index holds w.host == 1 else true
 abbrev pub counted : List ℕ → List Wanting → List Wanting
 counted holds [] = []
 counted holds (w ∷ ws) = if counts holds w then w ∷ counted holds ws else counted holds ws
-
--- none of them is an upgrade of the host
-abbrev pub NoUpgrade : ℕ → List Wanting → Type 0
-NoUpgrade h [] = Unit {0}
-NoUpgrade h (w ∷ ws) = (w.upgrade ≡ true → w.host ≢ h) × NoUpgrade h ws
-
--- none of them is a request of the host
-abbrev pub NoRequest : ℕ → List Wanting → Type 0
-NoRequest h [] = Unit {0}
-NoRequest h (w ∷ ws) = (w.upgrade ≡ false → w.host ≢ h) × NoRequest h ws
 
 -- each is of one of eight hosts; a host is in it once with an upgrade and once with a request, the upgrade in front
 abbrev pub InTurn : List Wanting → Type 0

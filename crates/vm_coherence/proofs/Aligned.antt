@@ -3,8 +3,8 @@ use Rattle.std.proofs.Common.{◌≡◌, ◌≢◌, ℕ, ◌+◌, ◌==◌, ◌<
 use Rattle.std.specs.Prelude.{nat_lt}
 use native.Mathlib.Decide.{ℕ_discrete}
 use Rattle.std.proofs.lemmas.Bool.Decides.{nat_tests}
-use Rattle.vm_model.specs.Words.{UpWord, Asking, Unlocking, Returning, Doing, Ending, OtherUp, Locking, SendsUp, TakenUp}
-use Rattle.vm_model.specs.Side.{Side, rest, opened, sent_up, taken_up, sent_down}
+use Rattle.vm_model.specs.Words.{UpWord, Asking, Unlocking, Returning, Doing, Ending, OtherUp, DownWord, Locking, SendsUp, TakenUp}
+use Rattle.vm_model.specs.Side.{Side, nobody, rest, opened, sent_up, taken_up, sent_down, hears}
 use Rattle.vm_model.specs.Waiters.{Waiter}
 use Rattle.vm_model.specs.Server.{first}
 use Rattle.vm_model.specs.PageLicences.{May}
@@ -134,3 +134,9 @@ end_is_mine s n control ok k x is some = elim (ℕ_discrete s.awaited_control co
       let no_does : sum_up (does_of s.awaited_control) (rest s.up) ≤ sum_up (early (control + 1)) (rest s.up) = does_early s.awaited_control (control + 1) (rest s.up) less in
       let no_ends : sum_up (ends s.awaited_control) (rest s.up) ≤ sum_up (early (control + 1)) (rest s.up) = ends_early s.awaited_control (control + 1) (rest s.up) less in
       grind (arith, nat_tests, k.awaited_carried some, ok.mine)
+
+pub aligned_start : Aligned nobody
+aligned_start = grind (arith, nat_tests)
+
+pub aligned_hears : (s : Side) (w : DownWord) → Aligned s → Aligned (hears s w)
+aligned_hears s w x = grind arith

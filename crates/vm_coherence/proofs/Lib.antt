@@ -12,4 +12,5 @@ pub mod Still
 pub mod Opens
 pub mod Single
 pub mod Aligned
+pub mod Protocol
 pub mod Crossing

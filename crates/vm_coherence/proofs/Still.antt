@@ -107,19 +107,19 @@ orders_if size h e past c = tt
 
 -- all hosts: each has its unlocks in the line
 
-abbrev upgrades : ℕ → List Act → ℕ
+abbrev pub upgrades : ℕ → List Act → ℕ
 upgrades h past = total (upgrade h) (line past)
 
 pub record Waits (past : List Act) : Type 0 where
   pub each : (h : ℕ) → Carried (side h past) (upgrades h past)
 
-upgrades_own : (a : Act) (past : List Act) → upgrades a.host (a ∷ past) ≡ after (side a.host past) (upgrades a.host past) a.effect
+pub upgrades_own : (a : Act) (past : List Act) → upgrades a.host (a ∷ past) ≡ after (side a.host past) (upgrades a.host past) a.effect
 upgrades_own a past =
     trimmed_own a.host (side a.host (a ∷ past)).holds (joined (side a.host past) a.host a.effect (line past))
     ∙ (ap (λ (n : ℕ). gate (side a.host (a ∷ past)).holds n) (joined_own a.host a.effect (side a.host past) (upgrades a.host past) (line past) refl)
     ∙ ap (λ (s : Side). gate s.holds (counted_in (side a.host past) a.effect (upgrades a.host past))) (own_side a past))
 
-upgrades_other : (h : ℕ) (a : Act) (past : List Act) → a.host ≢ h → upgrades h (a ∷ past) ≡ upgrades h past
+pub upgrades_other : (h : ℕ) (a : Act) (past : List Act) → a.host ≢ h → upgrades h (a ∷ past) ≡ upgrades h past
 upgrades_other h a past apart =
     trimmed_other h a.host (side a.host (a ∷ past)).holds (joined (side a.host past) a.host a.effect (line past)) (λ f. apart (sym f))
     ∙ joined_upgrade h a.host a.effect (side a.host past) (line past) (λ f. apart (sym f))

@@ -77,7 +77,7 @@ pub record Bytes (size : ℕ) (past : List Act) : Type 0 where
   pub saved : ((h : ℕ) → Settled (side h past)) → kept size past ≡ current size past
 
 -- what holds of the host of an act, and of every other host, holds of all
-at_each : (P : Side → Type 0) (a : Act) (past : List Act) → P (move (side a.host past) a.effect) → ((h : ℕ) → a.host ≢ h → P (move (side h past) (to_others a.effect))) → (h : ℕ) → P (side h (a ∷ past))
+pub at_each : (P : Side → Type 0) (a : Act) (past : List Act) → P (move (side a.host past) a.effect) → ((h : ℕ) → a.host ≢ h → P (move (side h past) (to_others a.effect))) → (h : ℕ) → P (side h (a ∷ past))
 at_each P a past own others h = elim (ℕ_discrete a.host h) [
   | yes e ↦ subst (λ (k : ℕ). P (side k (a ∷ past))) e (subst P (sym (own_side a past)) own)
   | no e ↦ subst P (sym (other_side h a past e)) (others h e)

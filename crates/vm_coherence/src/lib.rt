@@ -5,8 +5,10 @@
 //! channels, and the server of the page answers by its rows.
 #![tactic(auto)]
 
-ghost use Rattle.std.specs.Prelude.{ℕ, List};
-ghost use Rattle.vm_model.specs.Words.{Act};
+ghost use Rattle.std.specs.Prelude.{ℕ, List, ◌≡◌, ◌<◌, Some};
+ghost use Rattle.vm_model.specs.Words.{Act, Asking, Unlocking, Doing, Ending};
+ghost use Rattle.vm_model.specs.Side.{side};
+ghost use Rattle.vm_model.specs.Server.{first, line, NoRequest, NoUpgrade};
 ghost use Rattle.vm_model.specs.PageLicences.{Licensed};
 ghost use Rattle.vm_model.specs.PagePart.{world_part};
 ghost use Rattle.vm_coherence.specs.Crossing.{crossing};
@@ -39,5 +41,20 @@ pub fn crossing_run()
     ensures served { Served (world_part 16 crossing) }
     ensures prompt { Prompt (world_part 16 crossing) }
     ensures quiet { Quiet (world_part 16 crossing) }
+{
+}
+
+/// What the hosts' own rules give the server of a page: when a request is taken, none of its host is
+/// in the line; when an unlock is taken, no upgrade of its host is; a lock that is said done, and a
+/// control that ends while its host is awaited, are of the control for which the host is awaited.
+///
+/// A server that takes each message in its turn may so note a host's words without looking at the
+/// control that they name.
+#[tactic(auto, using(crate::proofs::Protocol::one_request, crate::proofs::Protocol::one_unlock, crate::proofs::Protocol::completed_awaited, crate::proofs::Protocol::ended_awaited))]
+pub fn protocol_law()
+    ensures one_request { (size h control access : ℕ) (acts : List Act) → Licensed size acts → first (side h acts).up ≡ Some (Asking control access) → NoRequest h (line acts) }
+    ensures one_unlock { (size h access : ℕ) (acts : List Act) → Licensed size acts → StepsDone acts → first (side h acts).up ≡ Some (Unlocking access) → NoUpgrade h (line acts) }
+    ensures completed { (size h control count : ℕ) (acts : List Act) → Licensed size acts → StepsDone acts → first (side h acts).up ≡ Some (Doing control count) → (side h acts).awaited_control ≡ control }
+    ensures ended { (size h control : ℕ) (acts : List Act) → Licensed size acts → StepsDone acts → first (side h acts).up ≡ Some (Ending control) → 0 < (side h acts).awaits → (side h acts).awaited_control ≡ control }
 {
 }

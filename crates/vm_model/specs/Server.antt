@@ -1,5 +1,5 @@
 -- The shared memory server and one page: the line of those who want it, and its bytes.
-use Rattle.std.specs.Prelude.{ℕ, ◌==◌, ◌&&◌, List, [], ◌∷◌, ◌++◌, Bool, true, false, if◌then◌else◌, Option, Some, None, replicate}
+use Rattle.std.specs.Prelude.{ℕ, ◌≡◌, ◌≢◌, ◌==◌, ◌&&◌, List, [], ◌∷◌, ◌++◌, Bool, true, false, if◌then◌else◌, Option, Some, None, replicate}
 use Rattle.vm_base.specs.Pages.{little_endian_bytes, with_bytes}
 use Rattle.vm_model.specs.Words.{Asking, Unlocking, Returning, Supplying, Effect, TakenUp, SentDown, Stores, Act}
 use Rattle.vm_model.specs.Side.{Side, side}
@@ -41,6 +41,16 @@ trimmed_line h holds (w ∷ ws) = if stays h holds w then w ∷ trimmed_line h h
 abbrev pub line : List Act → List Wanting
 line [] = []
 line (a ∷ past) = trimmed_line a.host (side a.host (a ∷ past)).holds (joined (side a.host past) a.host a.effect (line past))
+
+-- none of them is an upgrade of the host
+abbrev pub NoUpgrade : ℕ → List Wanting → Type 0
+NoUpgrade h [] = Unit {0}
+NoUpgrade h (w ∷ ws) = (w.upgrade ≡ true → w.host ≢ h) × NoUpgrade h ws
+
+-- none of them is a request of the host
+abbrev pub NoRequest : ℕ → List Wanting → Type 0
+NoRequest h [] = Unit {0}
+NoRequest h (w ∷ ws) = (w.upgrade ≡ false → w.host ≢ h) × NoRequest h ws
 
 -- the page's bytes as the stores leave them, zeros at first
 abbrev pub current_after : Effect → List ℕ → List ℕ
