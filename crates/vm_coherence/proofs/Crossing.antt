@@ -1,5 +1,5 @@
 -- A run of the page world in which an unlock and a flush cross. It meets the licences, so they are no empty premise.
-use Rattle.std.proofs.Common.{ℕ, ◌∷◌, [], List, arith, true, false, refl}
+use Rattle.std.proofs.Common.{◌∷◌, [], List, arith, true, false, refl}
 use Rattle.std.proofs.lemmas.Bool.Decides.{nat_tests}
 use Rattle.vm_coherence.specs.Crossing.{host, task, object, page, zeros, fives, crossing}
 use Rattle.vm_model.specs.declared.message.Channel.TheVariants.{Up, Down}
@@ -7,7 +7,6 @@ use Rattle.vm_model.specs.declared.message.Message.TheVariants as message
 use Rattle.vm_model.specs.declared.event.Event.{Event}
 use Rattle.vm_model.specs.declared.event.Event.TheVariants as event
 use Rattle.vm_model.specs.Words.{Asking, Unlocking, Returning, Doing, Supplying, Locking, Opens, SendsUp, TakenUp, SentDown, TakesDown, Drops, Begins, Loads, Stores}
-use Rattle.vm_model.specs.Side.{done}
 use Rattle.vm_model.specs.PageLicences.{NobodyAwaited, OthersHold, Cause, Licensed}
 use Rattle.vm_model.specs.Coherence.{Done, StepsDone, Prompt, Served, Quiet}
 use Rattle.vm_model.specs.PagePart.{world_part}

@@ -14,3 +14,4 @@ pub mod Single
 pub mod Aligned
 pub mod Protocol
 pub mod Crossing
+pub mod Remapping

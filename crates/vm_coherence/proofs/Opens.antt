@@ -1,6 +1,5 @@
 -- Where unlocks and the locks that answer them stand.
-use Rattle.std.proofs.Common.{◌≡◌, ℕ, zero, suc, ◌+◌, ◌<◌, ◌≤◌, List, [], ◌∷◌, ◌++◌, arith, true, false, if◌then◌else◌, refl, ◌==◌}
-use Rattle.std.specs.Prelude.{nat_lt}
+use Rattle.std.proofs.Common.{◌≡◌, ℕ, zero, suc, ◌+◌, ◌≤◌, List, [], ◌∷◌, ◌++◌, arith, false}
 use Rattle.std.proofs.lemmas.Bool.Decides.{nat_tests}
 use Rattle.vm_model.specs.Words.{DownWord, Supplying, Locking}
 use Rattle.vm_coherence.proofs.Queues.{if_any, grant, supplies, any_reply, sum_down, odd, sum_down_end}

@@ -1,5 +1,5 @@
 -- A host has one unlock at a time.
-use Rattle.std.proofs.Common.{◌≡◌, ℕ, ◌+◌, ◌==◌, ◌<◌, ◌≤◌, ◌≢◌, List, arith, Bool, true, false, Some, if◌then◌else◌}
+use Rattle.std.proofs.Common.{◌≡◌, ℕ, ◌+◌, ◌<◌, ◌≤◌, ◌≢◌, List, arith, Bool, true, false, Some}
 use Rattle.std.proofs.lemmas.Bool.Decides.{nat_tests}
 use Rattle.vm_model.specs.Words.{Asking, Unlocking, Returning, Doing, Ending, Supplying, Locking, SendsUp, TakenUp, SentDown, Drops, Stores}
 use Rattle.vm_model.specs.Side.{Side, nobody, rest, opened, hears, move}

@@ -10,8 +10,9 @@ ghost use Rattle.vm_model.specs.Words.{Act, Asking, Unlocking, Doing, Ending};
 ghost use Rattle.vm_model.specs.Side.{side};
 ghost use Rattle.vm_model.specs.Server.{first, line, NoRequest, NoUpgrade};
 ghost use Rattle.vm_model.specs.PageLicences.{Licensed};
-ghost use Rattle.vm_model.specs.PagePart.{world_part};
+ghost use Rattle.vm_model.specs.PagePart.{page_part, world_part};
 ghost use Rattle.vm_coherence.specs.Crossing.{crossing};
+ghost use Rattle.vm_coherence.specs.Remapping.{remapping};
 ghost use Rattle.vm_model.specs.Coherence.{Throughout, OneWriter, SameBytes, EachLoadReads, StepsDone, Served, Prompt, Quiet, Answered, NobodyWaits};
 
 /// The law of one shared page, for any page size. It holds of the page's part of a history and of
@@ -41,8 +42,7 @@ pub fn crossing_run()
     ensures served { Served (world_part 16 crossing) }
     ensures prompt { Prompt (world_part 16 crossing) }
     ensures quiet { Quiet (world_part 16 crossing) }
-{
-}
+{}
 
 /// What the hosts' own rules give the server of a page: when a request is taken, none of its host is
 /// in the line; when an unlock is taken, no upgrade of its host is; a lock that is said done, and a
@@ -56,5 +56,13 @@ pub fn protocol_law()
     ensures one_unlock { (size h access : ℕ) (acts : List Act) → Licensed size acts → StepsDone acts → first (side h acts).up ≡ Some (Unlocking access) → NoUpgrade h (line acts) }
     ensures completed { (size h control count : ℕ) (acts : List Act) → Licensed size acts → StepsDone acts → first (side h acts).up ≡ Some (Doing control count) → (side h acts).awaited_control ≡ control }
     ensures ended { (size h control : ℕ) (acts : List Act) → Licensed size acts → StepsDone acts → first (side h acts).up ≡ Some (Ending control) → 0 < (side h acts).awaits → (side h acts).awaited_control ≡ control }
-{
-}
+{}
+
+/// A worked history of a whole system, of 16-byte pages: two hosts map one page and read it, host 0
+/// wants to write, and host 1 ends its control while it is awaited, maps the page anew and reads what
+/// host 0 stored. The page's part of it has a cause for each event and pays what its steps owe.
+#[tactic(auto, using(crate::proofs::Remapping::remapping_licensed, crate::proofs::Remapping::remapping_done))]
+pub fn remapping_run()
+    ensures licensed { Licensed 16 (page_part 16 0 0 remapping) }
+    ensures done { StepsDone (page_part 16 0 0 remapping) }
+{}
