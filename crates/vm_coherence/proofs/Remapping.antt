@@ -8,9 +8,9 @@ use Rattle.vm_model.specs.declared.message.Channel.TheVariants.{Up, Down}
 use Rattle.vm_model.specs.declared.message.Message.TheVariants as message
 use Rattle.vm_model.specs.declared.event.Event.{Event}
 use Rattle.vm_model.specs.declared.event.Event.TheVariants as event
-use Rattle.vm_model.specs.Words.{Asking, Unlocking, Returning, Doing, Ending, OtherUp, Supplying, Locking, Readying, Opens, SendsUp, TakenUp, SentDown, TakesDown, Drops, Begins, Loads, Stores, StepBegins, Nothing}
+use Rattle.vm_model.specs.Words.{Asking, Unlocking, Returning, Doing, Ending, Locking, Opens, SendsUp, SentDown, Drops}
 use Rattle.vm_model.specs.PageLicences.{NobodyAwaited, OthersHold, Cause, Licensed}
-use Rattle.vm_model.specs.Coherence.{Done, StepsDone}
+use Rattle.vm_model.specs.Coherence.{StepsDone}
 use Rattle.vm_model.specs.PagePart.{page_part}
 
 abbrev run_0 : List Event
@@ -25,83 +25,56 @@ steps_0 = tt
 abbrev run_1 : List Event
 run_1 = event.Line 4 ∷ run_0
 
-done_0 : Done (page_part 16 0 0 run_0)
-done_0 h = grind (arith, nat_tests)
-
-cause_0 : Cause 16 0 (StepBegins) (page_part 16 0 0 run_0)
-cause_0 = tt
-
 steps_1 : StepsDone (page_part 16 0 0 run_1)
-steps_1 = (λ begins. done_0, steps_0)
+steps_1 = ((λ begins h. grind (arith, nat_tests)), steps_0)
 
 licensed_1 : Licensed 16 (page_part 16 0 0 run_1)
-licensed_1 = (cause_0, licensed_0)
+licensed_1 = (tt, licensed_0)
 
 abbrev run_2 : List Event
 run_2 = event.TaskMade (task 0) (host 0) ∷ run_1
-
-cause_1 : Cause 16 0 (Nothing) (page_part 16 0 0 run_1)
-cause_1 = tt
 
 steps_2 : StepsDone (page_part 16 0 0 run_2)
 steps_2 = (λ begins. absurd (cc), steps_1)
 
 licensed_2 : Licensed 16 (page_part 16 0 0 run_2)
-licensed_2 = (cause_1, licensed_1)
+licensed_2 = (tt, licensed_1)
 
 abbrev run_3 : List Event
 run_3 = event.Line 5 ∷ run_2
 
-done_2 : Done (page_part 16 0 0 run_2)
-done_2 h = grind (arith, nat_tests)
-
-cause_2 : Cause 16 0 (StepBegins) (page_part 16 0 0 run_2)
-cause_2 = tt
-
 steps_3 : StepsDone (page_part 16 0 0 run_3)
-steps_3 = (λ begins. done_2, steps_2)
+steps_3 = ((λ begins h. grind (arith, nat_tests)), steps_2)
 
 licensed_3 : Licensed 16 (page_part 16 0 0 run_3)
-licensed_3 = (cause_2, licensed_2)
+licensed_3 = (tt, licensed_2)
 
 abbrev run_4 : List Event
 run_4 = event.TaskMade (task 1) (host 1) ∷ run_3
-
-cause_3 : Cause 16 0 (Nothing) (page_part 16 0 0 run_3)
-cause_3 = tt
 
 steps_4 : StepsDone (page_part 16 0 0 run_4)
 steps_4 = (λ begins. absurd (cc), steps_3)
 
 licensed_4 : Licensed 16 (page_part 16 0 0 run_4)
-licensed_4 = (cause_3, licensed_3)
+licensed_4 = (tt, licensed_3)
 
 abbrev run_5 : List Event
 run_5 = event.Line 6 ∷ run_4
 
-done_4 : Done (page_part 16 0 0 run_4)
-done_4 h = grind (arith, nat_tests)
-
-cause_4 : Cause 16 0 (StepBegins) (page_part 16 0 0 run_4)
-cause_4 = tt
-
 steps_5 : StepsDone (page_part 16 0 0 run_5)
-steps_5 = (λ begins. done_4, steps_4)
+steps_5 = ((λ begins h. grind (arith, nat_tests)), steps_4)
 
 licensed_5 : Licensed 16 (page_part 16 0 0 run_5)
-licensed_5 = (cause_4, licensed_4)
+licensed_5 = (tt, licensed_4)
 
 abbrev run_6 : List Event
 run_6 = event.Entered (task 0) 0 16 region 0 both Share ∷ run_5
-
-cause_5 : Cause 16 0 (Nothing) (page_part 16 0 0 run_5)
-cause_5 = tt
 
 steps_6 : StepsDone (page_part 16 0 0 run_6)
 steps_6 = (λ begins. absurd (cc), steps_5)
 
 licensed_6 : Licensed 16 (page_part 16 0 0 run_6)
-licensed_6 = (cause_5, licensed_5)
+licensed_6 = (tt, licensed_5)
 
 abbrev run_7 : List Event
 run_7 = event.Sent (Up (host 0) object) (message.Init 1 16) ∷ run_6
@@ -118,29 +91,20 @@ licensed_7 = (cause_6, licensed_6)
 abbrev run_8 : List Event
 run_8 = event.Line 7 ∷ run_7
 
-done_7 : Done (page_part 16 0 0 run_7)
-done_7 h = grind (arith, nat_tests)
-
-cause_7 : Cause 16 0 (StepBegins) (page_part 16 0 0 run_7)
-cause_7 = tt
-
 steps_8 : StepsDone (page_part 16 0 0 run_8)
-steps_8 = (λ begins. done_7, steps_7)
+steps_8 = ((λ begins h. grind (arith, nat_tests)), steps_7)
 
 licensed_8 : Licensed 16 (page_part 16 0 0 run_8)
-licensed_8 = (cause_7, licensed_7)
+licensed_8 = (tt, licensed_7)
 
 abbrev run_9 : List Event
 run_9 = event.Entered (task 1) 0 16 region 0 both Share ∷ run_8
-
-cause_8 : Cause 16 0 (Nothing) (page_part 16 0 0 run_8)
-cause_8 = tt
 
 steps_9 : StepsDone (page_part 16 0 0 run_9)
 steps_9 = (λ begins. absurd (cc), steps_8)
 
 licensed_9 : Licensed 16 (page_part 16 0 0 run_9)
-licensed_9 = (cause_8, licensed_8)
+licensed_9 = (tt, licensed_8)
 
 abbrev run_10 : List Event
 run_10 = event.Sent (Up (host 1) object) (message.Init 1 16) ∷ run_9
@@ -157,140 +121,92 @@ licensed_10 = (cause_9, licensed_9)
 abbrev run_11 : List Event
 run_11 = event.Line 8 ∷ run_10
 
-done_10 : Done (page_part 16 0 0 run_10)
-done_10 h = grind (arith, nat_tests)
-
-cause_10 : Cause 16 0 (StepBegins) (page_part 16 0 0 run_10)
-cause_10 = tt
-
 steps_11 : StepsDone (page_part 16 0 0 run_11)
-steps_11 = (λ begins. done_10, steps_10)
+steps_11 = ((λ begins h. grind (arith, nat_tests)), steps_10)
 
 licensed_11 : Licensed 16 (page_part 16 0 0 run_11)
-licensed_11 = (cause_10, licensed_10)
+licensed_11 = (tt, licensed_10)
 
 abbrev run_12 : List Event
 run_12 = event.BegunLoad (task 0) 0 1 ∷ run_11
-
-cause_11 : Cause 16 0 (Begins 0 false 0 1 0) (page_part 16 0 0 run_11)
-cause_11 = tt
 
 steps_12 : StepsDone (page_part 16 0 0 run_12)
 steps_12 = (λ begins. absurd (cc), steps_11)
 
 licensed_12 : Licensed 16 (page_part 16 0 0 run_12)
-licensed_12 = (cause_11, licensed_11)
+licensed_12 = (tt, licensed_11)
 
 abbrev run_13 : List Event
 run_13 = event.Line 9 ∷ run_12
 
-done_12 : Done (page_part 16 0 0 run_12)
-done_12 h = grind (arith, nat_tests)
-
-cause_12 : Cause 16 0 (StepBegins) (page_part 16 0 0 run_12)
-cause_12 = tt
-
 steps_13 : StepsDone (page_part 16 0 0 run_13)
-steps_13 = (λ begins. done_12, steps_12)
+steps_13 = ((λ begins h. grind (arith, nat_tests)), steps_12)
 
 licensed_13 : Licensed 16 (page_part 16 0 0 run_13)
-licensed_13 = (cause_12, licensed_12)
+licensed_13 = (tt, licensed_12)
 
 abbrev run_14 : List Event
 run_14 = event.BegunLoad (task 1) 0 1 ∷ run_13
-
-cause_13 : Cause 16 1 (Begins 1 false 0 1 0) (page_part 16 0 0 run_13)
-cause_13 = tt
 
 steps_14 : StepsDone (page_part 16 0 0 run_14)
 steps_14 = (λ begins. absurd (cc), steps_13)
 
 licensed_14 : Licensed 16 (page_part 16 0 0 run_14)
-licensed_14 = (cause_13, licensed_13)
+licensed_14 = (tt, licensed_13)
 
 abbrev run_15 : List Event
 run_15 = event.Line 10 ∷ run_14
 
-done_14 : Done (page_part 16 0 0 run_14)
-done_14 h = grind (arith, nat_tests)
-
-cause_14 : Cause 16 0 (StepBegins) (page_part 16 0 0 run_14)
-cause_14 = tt
-
 steps_15 : StepsDone (page_part 16 0 0 run_15)
-steps_15 = (λ begins. done_14, steps_14)
+steps_15 = ((λ begins h. grind (arith, nat_tests)), steps_14)
 
 licensed_15 : Licensed 16 (page_part 16 0 0 run_15)
-licensed_15 = (cause_14, licensed_14)
+licensed_15 = (tt, licensed_14)
 
 abbrev run_16 : List Event
 run_16 = event.Taken (Up (host 0) object) (message.Init 1 16) ∷ run_15
 
-done_15 : Done (page_part 16 0 0 run_15)
-done_15 h = grind (arith, nat_tests)
-
-cause_15 : Cause 16 0 (TakenUp OtherUp) (page_part 16 0 0 run_15)
-cause_15 = tt
-
 steps_16 : StepsDone (page_part 16 0 0 run_16)
-steps_16 = (λ begins. done_15, steps_15)
+steps_16 = ((λ begins h. grind (arith, nat_tests)), steps_15)
 
 licensed_16 : Licensed 16 (page_part 16 0 0 run_16)
-licensed_16 = (cause_15, licensed_15)
+licensed_16 = (tt, licensed_15)
 
 abbrev run_17 : List Event
 run_17 = event.Sent (Down (host 0) object 1) (message.Ready false 0) ∷ run_16
-
-cause_16 : Cause 16 0 (SentDown 1 Readying) (page_part 16 0 0 run_16)
-cause_16 = tt
 
 steps_17 : StepsDone (page_part 16 0 0 run_17)
 steps_17 = (λ begins. absurd (cc), steps_16)
 
 licensed_17 : Licensed 16 (page_part 16 0 0 run_17)
-licensed_17 = (cause_16, licensed_16)
+licensed_17 = (tt, licensed_16)
 
 abbrev run_18 : List Event
 run_18 = event.Taken (Up (host 1) object) (message.Init 1 16) ∷ run_17
 
-done_17 : Done (page_part 16 0 0 run_17)
-done_17 h = grind (arith, nat_tests)
-
-cause_17 : Cause 16 1 (TakenUp OtherUp) (page_part 16 0 0 run_17)
-cause_17 = tt
-
 steps_18 : StepsDone (page_part 16 0 0 run_18)
-steps_18 = (λ begins. done_17, steps_17)
+steps_18 = ((λ begins h. grind (arith, nat_tests)), steps_17)
 
 licensed_18 : Licensed 16 (page_part 16 0 0 run_18)
-licensed_18 = (cause_17, licensed_17)
+licensed_18 = (tt, licensed_17)
 
 abbrev run_19 : List Event
 run_19 = event.Sent (Down (host 1) object 1) (message.Ready false 0) ∷ run_18
-
-cause_18 : Cause 16 1 (SentDown 1 Readying) (page_part 16 0 0 run_18)
-cause_18 = tt
 
 steps_19 : StepsDone (page_part 16 0 0 run_19)
 steps_19 = (λ begins. absurd (cc), steps_18)
 
 licensed_19 : Licensed 16 (page_part 16 0 0 run_19)
-licensed_19 = (cause_18, licensed_18)
+licensed_19 = (tt, licensed_18)
 
 abbrev run_20 : List Event
 run_20 = event.Taken (Down (host 0) object 1) (message.Ready false 0) ∷ run_19
 
-done_19 : Done (page_part 16 0 0 run_19)
-done_19 h = grind (arith, nat_tests)
-
-cause_19 : Cause 16 0 (TakesDown 1 Readying) (page_part 16 0 0 run_19)
-cause_19 = tt
-
 steps_20 : StepsDone (page_part 16 0 0 run_20)
-steps_20 = (λ begins. done_19, steps_19)
+steps_20 = ((λ begins h. grind (arith, nat_tests)), steps_19)
 
 licensed_20 : Licensed 16 (page_part 16 0 0 run_20)
-licensed_20 = (cause_19, licensed_19)
+licensed_20 = (tt, licensed_19)
 
 abbrev run_21 : List Event
 run_21 = event.Sent (Up (host 0) object) (message.Request 1 page 1) ∷ run_20
@@ -307,17 +223,11 @@ licensed_21 = (cause_20, licensed_20)
 abbrev run_22 : List Event
 run_22 = event.Taken (Down (host 1) object 1) (message.Ready false 0) ∷ run_21
 
-done_21 : Done (page_part 16 0 0 run_21)
-done_21 h = grind (arith, nat_tests)
-
-cause_21 : Cause 16 1 (TakesDown 1 Readying) (page_part 16 0 0 run_21)
-cause_21 = tt
-
 steps_22 : StepsDone (page_part 16 0 0 run_22)
-steps_22 = (λ begins. done_21, steps_21)
+steps_22 = ((λ begins h. grind (arith, nat_tests)), steps_21)
 
 licensed_22 : Licensed 16 (page_part 16 0 0 run_22)
-licensed_22 = (cause_21, licensed_21)
+licensed_22 = (tt, licensed_21)
 
 abbrev run_23 : List Event
 run_23 = event.Sent (Up (host 1) object) (message.Request 1 page 1) ∷ run_22
@@ -334,17 +244,11 @@ licensed_23 = (cause_22, licensed_22)
 abbrev run_24 : List Event
 run_24 = event.Taken (Up (host 0) object) (message.Request 1 page 1) ∷ run_23
 
-done_23 : Done (page_part 16 0 0 run_23)
-done_23 h = grind (arith, nat_tests)
-
-cause_23 : Cause 16 0 (TakenUp (Asking 1 1)) (page_part 16 0 0 run_23)
-cause_23 = refl
-
 steps_24 : StepsDone (page_part 16 0 0 run_24)
-steps_24 = (λ begins. done_23, steps_23)
+steps_24 = ((λ begins h. grind (arith, nat_tests)), steps_23)
 
 licensed_24 : Licensed 16 (page_part 16 0 0 run_24)
-licensed_24 = (cause_23, licensed_23)
+licensed_24 = (refl, licensed_23)
 
 abbrev run_25 : List Event
 run_25 = event.Sent (Down (host 0) object 1) (message.Supply page 2 false zeros) ∷ run_24
@@ -355,29 +259,20 @@ free_24 g = grind (arith, nat_tests)
 low_24 : OthersHold 1 0 (page_part 16 0 0 run_24)
 low_24 g apart = grind (arith, nat_tests)
 
-cause_24 : Cause 16 0 (SentDown 1 (Supplying 2 false zeros)) (page_part 16 0 0 run_24)
-cause_24 = (refl, refl, free_24, refl, (refl, refl, refl, low_24))
-
 steps_25 : StepsDone (page_part 16 0 0 run_25)
 steps_25 = (λ begins. absurd (cc), steps_24)
 
 licensed_25 : Licensed 16 (page_part 16 0 0 run_25)
-licensed_25 = (cause_24, licensed_24)
+licensed_25 = ((refl, refl, free_24, refl, (refl, refl, refl, low_24)), licensed_24)
 
 abbrev run_26 : List Event
 run_26 = event.Taken (Up (host 1) object) (message.Request 1 page 1) ∷ run_25
 
-done_25 : Done (page_part 16 0 0 run_25)
-done_25 h = grind (arith, nat_tests)
-
-cause_25 : Cause 16 1 (TakenUp (Asking 1 1)) (page_part 16 0 0 run_25)
-cause_25 = refl
-
 steps_26 : StepsDone (page_part 16 0 0 run_26)
-steps_26 = (λ begins. done_25, steps_25)
+steps_26 = ((λ begins h. grind (arith, nat_tests)), steps_25)
 
 licensed_26 : Licensed 16 (page_part 16 0 0 run_26)
-licensed_26 = (cause_25, licensed_25)
+licensed_26 = (refl, licensed_25)
 
 abbrev run_27 : List Event
 run_27 = event.Sent (Down (host 1) object 1) (message.Supply page 2 false zeros) ∷ run_26
@@ -388,95 +283,65 @@ free_26 g = grind (arith, nat_tests)
 low_26 : OthersHold 1 1 (page_part 16 0 0 run_26)
 low_26 g apart = grind (arith, nat_tests)
 
-cause_26 : Cause 16 1 (SentDown 1 (Supplying 2 false zeros)) (page_part 16 0 0 run_26)
-cause_26 = (refl, refl, free_26, refl, (refl, refl, refl, low_26))
-
 steps_27 : StepsDone (page_part 16 0 0 run_27)
 steps_27 = (λ begins. absurd (cc), steps_26)
 
 licensed_27 : Licensed 16 (page_part 16 0 0 run_27)
-licensed_27 = (cause_26, licensed_26)
+licensed_27 = ((refl, refl, free_26, refl, (refl, refl, refl, low_26)), licensed_26)
 
 abbrev run_28 : List Event
 run_28 = event.Taken (Down (host 0) object 1) (message.Supply page 2 false zeros) ∷ run_27
 
-done_27 : Done (page_part 16 0 0 run_27)
-done_27 h = grind (arith, nat_tests)
-
-cause_27 : Cause 16 0 (TakesDown 1 (Supplying 2 false zeros)) (page_part 16 0 0 run_27)
-cause_27 = λ mine live. refl
-
 steps_28 : StepsDone (page_part 16 0 0 run_28)
-steps_28 = (λ begins. done_27, steps_27)
+steps_28 = ((λ begins h. grind (arith, nat_tests)), steps_27)
 
 licensed_28 : Licensed 16 (page_part 16 0 0 run_28)
-licensed_28 = (cause_27, licensed_27)
+licensed_28 = ((λ mine live. refl), licensed_27)
 
 abbrev run_29 : List Event
 run_29 = event.Loaded (task 0) object page 0 ∷ run_28
-
-cause_28 : Cause 16 0 (Loads 0 0) (page_part 16 0 0 run_28)
-cause_28 = (refl, refl, refl)
 
 steps_29 : StepsDone (page_part 16 0 0 run_29)
 steps_29 = (λ begins. absurd (cc), steps_28)
 
 licensed_29 : Licensed 16 (page_part 16 0 0 run_29)
-licensed_29 = (cause_28, licensed_28)
+licensed_29 = ((refl, refl, refl), licensed_28)
 
 abbrev run_30 : List Event
 run_30 = event.Taken (Down (host 1) object 1) (message.Supply page 2 false zeros) ∷ run_29
 
-done_29 : Done (page_part 16 0 0 run_29)
-done_29 h = grind (arith, nat_tests)
-
-cause_29 : Cause 16 1 (TakesDown 1 (Supplying 2 false zeros)) (page_part 16 0 0 run_29)
-cause_29 = λ mine live. refl
-
 steps_30 : StepsDone (page_part 16 0 0 run_30)
-steps_30 = (λ begins. done_29, steps_29)
+steps_30 = ((λ begins h. grind (arith, nat_tests)), steps_29)
 
 licensed_30 : Licensed 16 (page_part 16 0 0 run_30)
-licensed_30 = (cause_29, licensed_29)
+licensed_30 = ((λ mine live. refl), licensed_29)
 
 abbrev run_31 : List Event
 run_31 = event.Loaded (task 1) object page 0 ∷ run_30
-
-cause_30 : Cause 16 1 (Loads 1 0) (page_part 16 0 0 run_30)
-cause_30 = (refl, refl, refl)
 
 steps_31 : StepsDone (page_part 16 0 0 run_31)
 steps_31 = (λ begins. absurd (cc), steps_30)
 
 licensed_31 : Licensed 16 (page_part 16 0 0 run_31)
-licensed_31 = (cause_30, licensed_30)
+licensed_31 = ((refl, refl, refl), licensed_30)
 
 abbrev run_32 : List Event
 run_32 = event.Line 11 ∷ run_31
 
-done_31 : Done (page_part 16 0 0 run_31)
-done_31 h = grind (arith, nat_tests)
-
-cause_31 : Cause 16 0 (StepBegins) (page_part 16 0 0 run_31)
-cause_31 = tt
-
 steps_32 : StepsDone (page_part 16 0 0 run_32)
-steps_32 = (λ begins. done_31, steps_31)
+steps_32 = ((λ begins h. grind (arith, nat_tests)), steps_31)
 
 licensed_32 : Licensed 16 (page_part 16 0 0 run_32)
-licensed_32 = (cause_31, licensed_31)
+licensed_32 = (tt, licensed_31)
 
 abbrev run_33 : List Event
 run_33 = event.BegunStore (task 0) 0 1 8 ∷ run_32
-
-cause_32 : Cause 16 0 (Begins 0 true 0 1 8) (page_part 16 0 0 run_32)
-cause_32 = tt
 
 steps_33 : StepsDone (page_part 16 0 0 run_33)
 steps_33 = (λ begins. absurd (cc), steps_32)
 
 licensed_33 : Licensed 16 (page_part 16 0 0 run_33)
-licensed_33 = (cause_32, licensed_32)
+licensed_33 = (tt, licensed_32)
 
 abbrev run_34 : List Event
 run_34 = event.Sent (Up (host 0) object) (message.Unlock 1 page 3) ∷ run_33
@@ -493,32 +358,20 @@ licensed_34 = (cause_33, licensed_33)
 abbrev run_35 : List Event
 run_35 = event.Line 12 ∷ run_34
 
-done_34 : Done (page_part 16 0 0 run_34)
-done_34 h = grind (arith, nat_tests)
-
-cause_34 : Cause 16 0 (StepBegins) (page_part 16 0 0 run_34)
-cause_34 = tt
-
 steps_35 : StepsDone (page_part 16 0 0 run_35)
-steps_35 = (λ begins. done_34, steps_34)
+steps_35 = ((λ begins h. grind (arith, nat_tests)), steps_34)
 
 licensed_35 : Licensed 16 (page_part 16 0 0 run_35)
-licensed_35 = (cause_34, licensed_34)
+licensed_35 = (tt, licensed_34)
 
 abbrev run_36 : List Event
 run_36 = event.Taken (Up (host 0) object) (message.Unlock 1 page 3) ∷ run_35
 
-done_35 : Done (page_part 16 0 0 run_35)
-done_35 h = grind (arith, nat_tests)
-
-cause_35 : Cause 16 0 (TakenUp (Unlocking 3)) (page_part 16 0 0 run_35)
-cause_35 = refl
-
 steps_36 : StepsDone (page_part 16 0 0 run_36)
-steps_36 = (λ begins. done_35, steps_35)
+steps_36 = ((λ begins h. grind (arith, nat_tests)), steps_35)
 
 licensed_36 : Licensed 16 (page_part 16 0 0 run_36)
-licensed_36 = (cause_35, licensed_35)
+licensed_36 = (refl, licensed_35)
 
 abbrev run_37 : List Event
 run_37 = event.Sent (Down (host 1) object 1) (message.Lock page 1 1 true 8 true) ∷ run_36
@@ -535,29 +388,20 @@ licensed_37 = (cause_36, licensed_36)
 abbrev run_38 : List Event
 run_38 = event.Line 13 ∷ run_37
 
-done_37 : Done (page_part 16 0 0 run_37)
-done_37 h = grind (arith, nat_tests)
-
-cause_37 : Cause 16 0 (StepBegins) (page_part 16 0 0 run_37)
-cause_37 = tt
-
 steps_38 : StepsDone (page_part 16 0 0 run_38)
-steps_38 = (λ begins. done_37, steps_37)
+steps_38 = ((λ begins h. grind (arith, nat_tests)), steps_37)
 
 licensed_38 : Licensed 16 (page_part 16 0 0 run_38)
-licensed_38 = (cause_37, licensed_37)
+licensed_38 = (tt, licensed_37)
 
 abbrev run_39 : List Event
 run_39 = event.Removed (task 1) 0 16 ∷ run_38
-
-cause_38 : Cause 16 0 (Nothing) (page_part 16 0 0 run_38)
-cause_38 = tt
 
 steps_39 : StepsDone (page_part 16 0 0 run_39)
 steps_39 = (λ begins. absurd (cc), steps_38)
 
 licensed_39 : Licensed 16 (page_part 16 0 0 run_39)
-licensed_39 = (cause_38, licensed_38)
+licensed_39 = (tt, licensed_38)
 
 abbrev run_40 : List Event
 run_40 = event.Dropped (host 1) object page ∷ run_39
@@ -586,29 +430,20 @@ licensed_41 = (cause_40, licensed_40)
 abbrev run_42 : List Event
 run_42 = event.Line 14 ∷ run_41
 
-done_41 : Done (page_part 16 0 0 run_41)
-done_41 h = grind (arith, nat_tests)
-
-cause_41 : Cause 16 0 (StepBegins) (page_part 16 0 0 run_41)
-cause_41 = tt
-
 steps_42 : StepsDone (page_part 16 0 0 run_42)
-steps_42 = (λ begins. done_41, steps_41)
+steps_42 = ((λ begins h. grind (arith, nat_tests)), steps_41)
 
 licensed_42 : Licensed 16 (page_part 16 0 0 run_42)
-licensed_42 = (cause_41, licensed_41)
+licensed_42 = (tt, licensed_41)
 
 abbrev run_43 : List Event
 run_43 = event.Entered (task 1) 0 16 region 0 both Share ∷ run_42
-
-cause_42 : Cause 16 0 (Nothing) (page_part 16 0 0 run_42)
-cause_42 = tt
 
 steps_43 : StepsDone (page_part 16 0 0 run_43)
 steps_43 = (λ begins. absurd (cc), steps_42)
 
 licensed_43 : Licensed 16 (page_part 16 0 0 run_43)
-licensed_43 = (cause_42, licensed_42)
+licensed_43 = (tt, licensed_42)
 
 abbrev run_44 : List Event
 run_44 = event.Sent (Up (host 1) object) (message.Init 2 16) ∷ run_43
@@ -625,32 +460,20 @@ licensed_44 = (cause_43, licensed_43)
 abbrev run_45 : List Event
 run_45 = event.Line 15 ∷ run_44
 
-done_44 : Done (page_part 16 0 0 run_44)
-done_44 h = grind (arith, nat_tests)
-
-cause_44 : Cause 16 0 (StepBegins) (page_part 16 0 0 run_44)
-cause_44 = tt
-
 steps_45 : StepsDone (page_part 16 0 0 run_45)
-steps_45 = (λ begins. done_44, steps_44)
+steps_45 = ((λ begins h. grind (arith, nat_tests)), steps_44)
 
 licensed_45 : Licensed 16 (page_part 16 0 0 run_45)
-licensed_45 = (cause_44, licensed_44)
+licensed_45 = (tt, licensed_44)
 
 abbrev run_46 : List Event
 run_46 = event.Taken (Up (host 1) object) (message.Terminate 1) ∷ run_45
 
-done_45 : Done (page_part 16 0 0 run_45)
-done_45 h = grind (arith, nat_tests)
-
-cause_45 : Cause 16 1 (TakenUp (Ending 1)) (page_part 16 0 0 run_45)
-cause_45 = refl
-
 steps_46 : StepsDone (page_part 16 0 0 run_46)
-steps_46 = (λ begins. done_45, steps_45)
+steps_46 = ((λ begins h. grind (arith, nat_tests)), steps_45)
 
 licensed_46 : Licensed 16 (page_part 16 0 0 run_46)
-licensed_46 = (cause_45, licensed_45)
+licensed_46 = (refl, licensed_45)
 
 abbrev run_47 : List Event
 run_47 = event.Sent (Down (host 0) object 1) (message.Lock page 1 0 false 0 false) ∷ run_46
@@ -661,155 +484,101 @@ free_46 g = grind (arith, nat_tests)
 low_46 : OthersHold 0 0 (page_part 16 0 0 run_46)
 low_46 g apart = grind (arith, nat_tests)
 
-cause_46 : Cause 16 0 (SentDown 1 (Locking 1 0 false 0 false)) (page_part 16 0 0 run_46)
-cause_46 = (refl, refl, refl, refl, refl, free_46, low_46, (refl, refl))
-
 steps_47 : StepsDone (page_part 16 0 0 run_47)
 steps_47 = (λ begins. absurd (cc), steps_46)
 
 licensed_47 : Licensed 16 (page_part 16 0 0 run_47)
-licensed_47 = (cause_46, licensed_46)
+licensed_47 = ((refl, refl, refl, refl, refl, free_46, low_46, (refl, refl)), licensed_46)
 
 abbrev run_48 : List Event
 run_48 = event.Line 16 ∷ run_47
 
-done_47 : Done (page_part 16 0 0 run_47)
-done_47 h = grind (arith, nat_tests)
-
-cause_47 : Cause 16 0 (StepBegins) (page_part 16 0 0 run_47)
-cause_47 = tt
-
 steps_48 : StepsDone (page_part 16 0 0 run_48)
-steps_48 = (λ begins. done_47, steps_47)
+steps_48 = ((λ begins h. grind (arith, nat_tests)), steps_47)
 
 licensed_48 : Licensed 16 (page_part 16 0 0 run_48)
-licensed_48 = (cause_47, licensed_47)
+licensed_48 = (tt, licensed_47)
 
 abbrev run_49 : List Event
 run_49 = event.Taken (Down (host 1) object 1) (message.Lock page 1 1 true 8 true) ∷ run_48
 
-done_48 : Done (page_part 16 0 0 run_48)
-done_48 h = grind (arith, nat_tests)
-
-cause_48 : Cause 16 1 (TakesDown 1 (Locking 1 1 true 8 true)) (page_part 16 0 0 run_48)
-cause_48 = λ mine live. absurd (cc)
-
 steps_49 : StepsDone (page_part 16 0 0 run_49)
-steps_49 = (λ begins. done_48, steps_48)
+steps_49 = ((λ begins h. grind (arith, nat_tests)), steps_48)
 
 licensed_49 : Licensed 16 (page_part 16 0 0 run_49)
-licensed_49 = (cause_48, licensed_48)
+licensed_49 = ((λ mine live. absurd (cc)), licensed_48)
 
 abbrev run_50 : List Event
 run_50 = event.Line 17 ∷ run_49
 
-done_49 : Done (page_part 16 0 0 run_49)
-done_49 h = grind (arith, nat_tests)
-
-cause_49 : Cause 16 0 (StepBegins) (page_part 16 0 0 run_49)
-cause_49 = tt
-
 steps_50 : StepsDone (page_part 16 0 0 run_50)
-steps_50 = (λ begins. done_49, steps_49)
+steps_50 = ((λ begins h. grind (arith, nat_tests)), steps_49)
 
 licensed_50 : Licensed 16 (page_part 16 0 0 run_50)
-licensed_50 = (cause_49, licensed_49)
+licensed_50 = (tt, licensed_49)
 
 abbrev run_51 : List Event
 run_51 = event.Taken (Up (host 1) object) (message.Init 2 16) ∷ run_50
 
-done_50 : Done (page_part 16 0 0 run_50)
-done_50 h = grind (arith, nat_tests)
-
-cause_50 : Cause 16 1 (TakenUp OtherUp) (page_part 16 0 0 run_50)
-cause_50 = tt
-
 steps_51 : StepsDone (page_part 16 0 0 run_51)
-steps_51 = (λ begins. done_50, steps_50)
+steps_51 = ((λ begins h. grind (arith, nat_tests)), steps_50)
 
 licensed_51 : Licensed 16 (page_part 16 0 0 run_51)
-licensed_51 = (cause_50, licensed_50)
+licensed_51 = (tt, licensed_50)
 
 abbrev run_52 : List Event
 run_52 = event.Sent (Down (host 1) object 2) (message.Ready false 0) ∷ run_51
-
-cause_51 : Cause 16 1 (SentDown 2 Readying) (page_part 16 0 0 run_51)
-cause_51 = tt
 
 steps_52 : StepsDone (page_part 16 0 0 run_52)
 steps_52 = (λ begins. absurd (cc), steps_51)
 
 licensed_52 : Licensed 16 (page_part 16 0 0 run_52)
-licensed_52 = (cause_51, licensed_51)
+licensed_52 = (tt, licensed_51)
 
 abbrev run_53 : List Event
 run_53 = event.Taken (Down (host 0) object 1) (message.Lock page 1 0 false 0 false) ∷ run_52
 
-done_52 : Done (page_part 16 0 0 run_52)
-done_52 h = grind (arith, nat_tests)
-
-cause_52 : Cause 16 0 (TakesDown 1 (Locking 1 0 false 0 false)) (page_part 16 0 0 run_52)
-cause_52 = λ mine live. refl
-
 steps_53 : StepsDone (page_part 16 0 0 run_53)
-steps_53 = (λ begins. done_52, steps_52)
+steps_53 = ((λ begins h. grind (arith, nat_tests)), steps_52)
 
 licensed_53 : Licensed 16 (page_part 16 0 0 run_53)
-licensed_53 = (cause_52, licensed_52)
+licensed_53 = ((λ mine live. refl), licensed_52)
 
 abbrev run_54 : List Event
 run_54 = event.Stored (task 0) object page 0 1 8 ∷ run_53
-
-cause_53 : Cause 16 0 (Stores 0 0 1 8) (page_part 16 0 0 run_53)
-cause_53 = (refl, refl, refl, refl, refl)
 
 steps_54 : StepsDone (page_part 16 0 0 run_54)
 steps_54 = (λ begins. absurd (cc), steps_53)
 
 licensed_54 : Licensed 16 (page_part 16 0 0 run_54)
-licensed_54 = (cause_53, licensed_53)
+licensed_54 = ((refl, refl, refl, refl, refl), licensed_53)
 
 abbrev run_55 : List Event
 run_55 = event.Taken (Down (host 1) object 2) (message.Ready false 0) ∷ run_54
 
-done_54 : Done (page_part 16 0 0 run_54)
-done_54 h = grind (arith, nat_tests)
-
-cause_54 : Cause 16 1 (TakesDown 2 Readying) (page_part 16 0 0 run_54)
-cause_54 = tt
-
 steps_55 : StepsDone (page_part 16 0 0 run_55)
-steps_55 = (λ begins. done_54, steps_54)
+steps_55 = ((λ begins h. grind (arith, nat_tests)), steps_54)
 
 licensed_55 : Licensed 16 (page_part 16 0 0 run_55)
-licensed_55 = (cause_54, licensed_54)
+licensed_55 = (tt, licensed_54)
 
 abbrev run_56 : List Event
 run_56 = event.Line 18 ∷ run_55
 
-done_55 : Done (page_part 16 0 0 run_55)
-done_55 h = grind (arith, nat_tests)
-
-cause_55 : Cause 16 0 (StepBegins) (page_part 16 0 0 run_55)
-cause_55 = tt
-
 steps_56 : StepsDone (page_part 16 0 0 run_56)
-steps_56 = (λ begins. done_55, steps_55)
+steps_56 = ((λ begins h. grind (arith, nat_tests)), steps_55)
 
 licensed_56 : Licensed 16 (page_part 16 0 0 run_56)
-licensed_56 = (cause_55, licensed_55)
+licensed_56 = (tt, licensed_55)
 
 abbrev run_57 : List Event
 run_57 = event.BegunLoad (task 1) 0 1 ∷ run_56
-
-cause_56 : Cause 16 1 (Begins 1 false 0 1 0) (page_part 16 0 0 run_56)
-cause_56 = tt
 
 steps_57 : StepsDone (page_part 16 0 0 run_57)
 steps_57 = (λ begins. absurd (cc), steps_56)
 
 licensed_57 : Licensed 16 (page_part 16 0 0 run_57)
-licensed_57 = (cause_56, licensed_56)
+licensed_57 = (tt, licensed_56)
 
 abbrev run_58 : List Event
 run_58 = event.Sent (Up (host 1) object) (message.Request 2 page 1) ∷ run_57
@@ -826,32 +595,20 @@ licensed_58 = (cause_57, licensed_57)
 abbrev run_59 : List Event
 run_59 = event.Line 19 ∷ run_58
 
-done_58 : Done (page_part 16 0 0 run_58)
-done_58 h = grind (arith, nat_tests)
-
-cause_58 : Cause 16 0 (StepBegins) (page_part 16 0 0 run_58)
-cause_58 = tt
-
 steps_59 : StepsDone (page_part 16 0 0 run_59)
-steps_59 = (λ begins. done_58, steps_58)
+steps_59 = ((λ begins h. grind (arith, nat_tests)), steps_58)
 
 licensed_59 : Licensed 16 (page_part 16 0 0 run_59)
-licensed_59 = (cause_58, licensed_58)
+licensed_59 = (tt, licensed_58)
 
 abbrev run_60 : List Event
 run_60 = event.Taken (Up (host 1) object) (message.Request 2 page 1) ∷ run_59
 
-done_59 : Done (page_part 16 0 0 run_59)
-done_59 h = grind (arith, nat_tests)
-
-cause_59 : Cause 16 1 (TakenUp (Asking 2 1)) (page_part 16 0 0 run_59)
-cause_59 = refl
-
 steps_60 : StepsDone (page_part 16 0 0 run_60)
-steps_60 = (λ begins. done_59, steps_59)
+steps_60 = ((λ begins h. grind (arith, nat_tests)), steps_59)
 
 licensed_60 : Licensed 16 (page_part 16 0 0 run_60)
-licensed_60 = (cause_59, licensed_59)
+licensed_60 = (refl, licensed_59)
 
 abbrev run_61 : List Event
 run_61 = event.Sent (Down (host 0) object 1) (message.Lock page 1 1 false 2 true) ∷ run_60
@@ -868,17 +625,11 @@ licensed_61 = (cause_60, licensed_60)
 abbrev run_62 : List Event
 run_62 = event.Taken (Down (host 0) object 1) (message.Lock page 1 1 false 2 true) ∷ run_61
 
-done_61 : Done (page_part 16 0 0 run_61)
-done_61 h = grind (arith, nat_tests)
-
-cause_61 : Cause 16 0 (TakesDown 1 (Locking 1 1 false 2 true)) (page_part 16 0 0 run_61)
-cause_61 = λ mine live. refl
-
 steps_62 : StepsDone (page_part 16 0 0 run_62)
-steps_62 = (λ begins. done_61, steps_61)
+steps_62 = ((λ begins h. grind (arith, nat_tests)), steps_61)
 
 licensed_62 : Licensed 16 (page_part 16 0 0 run_62)
-licensed_62 = (cause_61, licensed_61)
+licensed_62 = ((λ mine live. refl), licensed_61)
 
 abbrev run_63 : List Event
 run_63 = event.Sent (Up (host 0) object) (message.Return 1 page true true eights) ∷ run_62
@@ -907,32 +658,20 @@ licensed_64 = (cause_63, licensed_63)
 abbrev run_65 : List Event
 run_65 = event.Taken (Up (host 0) object) (message.Return 1 page true true eights) ∷ run_64
 
-done_64 : Done (page_part 16 0 0 run_64)
-done_64 h = grind (arith, nat_tests)
-
-cause_64 : Cause 16 0 (TakenUp (Returning true true eights)) (page_part 16 0 0 run_64)
-cause_64 = refl
-
 steps_65 : StepsDone (page_part 16 0 0 run_65)
-steps_65 = (λ begins. done_64, steps_64)
+steps_65 = ((λ begins h. grind (arith, nat_tests)), steps_64)
 
 licensed_65 : Licensed 16 (page_part 16 0 0 run_65)
-licensed_65 = (cause_64, licensed_64)
+licensed_65 = (refl, licensed_64)
 
 abbrev run_66 : List Event
 run_66 = event.Taken (Up (host 0) object) (message.Completed 1 page 1) ∷ run_65
 
-done_65 : Done (page_part 16 0 0 run_65)
-done_65 h = grind (arith, nat_tests)
-
-cause_65 : Cause 16 0 (TakenUp (Doing 1 1)) (page_part 16 0 0 run_65)
-cause_65 = refl
-
 steps_66 : StepsDone (page_part 16 0 0 run_66)
-steps_66 = (λ begins. done_65, steps_65)
+steps_66 = ((λ begins h. grind (arith, nat_tests)), steps_65)
 
 licensed_66 : Licensed 16 (page_part 16 0 0 run_66)
-licensed_66 = (cause_65, licensed_65)
+licensed_66 = (refl, licensed_65)
 
 abbrev run_67 : List Event
 run_67 = event.Sent (Down (host 1) object 2) (message.Supply page 2 false eights) ∷ run_66
@@ -943,41 +682,29 @@ free_66 g = grind (arith, nat_tests)
 low_66 : OthersHold 1 1 (page_part 16 0 0 run_66)
 low_66 g apart = grind (arith, nat_tests)
 
-cause_66 : Cause 16 1 (SentDown 2 (Supplying 2 false eights)) (page_part 16 0 0 run_66)
-cause_66 = (refl, refl, free_66, refl, (refl, refl, refl, low_66))
-
 steps_67 : StepsDone (page_part 16 0 0 run_67)
 steps_67 = (λ begins. absurd (cc), steps_66)
 
 licensed_67 : Licensed 16 (page_part 16 0 0 run_67)
-licensed_67 = (cause_66, licensed_66)
+licensed_67 = ((refl, refl, free_66, refl, (refl, refl, refl, low_66)), licensed_66)
 
 abbrev run_68 : List Event
 run_68 = event.Taken (Down (host 1) object 2) (message.Supply page 2 false eights) ∷ run_67
 
-done_67 : Done (page_part 16 0 0 run_67)
-done_67 h = grind (arith, nat_tests)
-
-cause_67 : Cause 16 1 (TakesDown 2 (Supplying 2 false eights)) (page_part 16 0 0 run_67)
-cause_67 = λ mine live. refl
-
 steps_68 : StepsDone (page_part 16 0 0 run_68)
-steps_68 = (λ begins. done_67, steps_67)
+steps_68 = ((λ begins h. grind (arith, nat_tests)), steps_67)
 
 licensed_68 : Licensed 16 (page_part 16 0 0 run_68)
-licensed_68 = (cause_67, licensed_67)
+licensed_68 = ((λ mine live. refl), licensed_67)
 
 abbrev run_69 : List Event
 run_69 = event.Loaded (task 1) object page 8 ∷ run_68
-
-cause_68 : Cause 16 1 (Loads 1 8) (page_part 16 0 0 run_68)
-cause_68 = (refl, refl, refl)
 
 steps_69 : StepsDone (page_part 16 0 0 run_69)
 steps_69 = (λ begins. absurd (cc), steps_68)
 
 licensed_69 : Licensed 16 (page_part 16 0 0 run_69)
-licensed_69 = (cause_68, licensed_68)
+licensed_69 = ((refl, refl, refl), licensed_68)
 
 pub remapping_licensed : Licensed 16 (page_part 16 0 0 remapping)
 remapping_licensed = licensed_69
