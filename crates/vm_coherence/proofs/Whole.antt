@@ -9,10 +9,10 @@ use Rattle.vm_model.specs.Side.{Side, nobody, can_read, reaches, hears, move, si
 use Rattle.vm_model.specs.Waiters.{Waiter, waiters, waiter_of}
 use Rattle.vm_model.specs.Server.{first, Wanting, line, current_after, current, kept_after, kept}
 use Rattle.vm_model.specs.PageLicences.{MayLoad, May, SupplyRow, Answers, Cause, Licensed}
-use Rattle.vm_model.specs.Coherence.{Throughout, SaysUp, CarryUp, Carries, SameBytes, Reads, LoadReads, EachLoadReads}
+use Rattle.vm_model.specs.Coherence.{Throughout, SaysUp, CarryUp, Carries, SameBytes, Reads, LoadReads, EachLoadReads, PageLegal}
 use Rattle.vm_coherence.proofs.Queues.{drain_up}
 use Rattle.vm_coherence.proofs.Sound.{Fair, Sound}
-use Rattle.vm_coherence.proofs.Law.{never, keep, World, alone_if, pending_if, cause, own_side, other_side, world}
+use Rattle.vm_coherence.proofs.Law.{never, keep, World, alone_if, pending_if, cause, own_side, other_side, world, throughout_writer}
 use Rattle.vm_coherence.proofs.Orderly.{Orderly, order_asking, order_unlocking, order_returning, order_doing, order_ending, order_drops, order_step, order_opens, order_ready, order_stores, order_heard_asking, order_heard_unlocking, order_heard_returning, order_heard_doing, order_heard_ending, order_supply, order_upgrade, order_order, order_supplied, order_locked}
 use Rattle.vm_coherence.proofs.Truth.{SaysTruth, can_store, carry, IsStore, carry_others, Settled, Silent, settled_others}
 use Rattle.vm_coherence.proofs.Settled.{settled_own}
@@ -177,3 +177,7 @@ loads size (a ∷ past) licensed = (cause_reads size a.host a.effect past (same_
 pub throughout_bytes : (size : ℕ) (past : List Act) → Licensed size past → Throughout (SameBytes size) past
 throughout_bytes size [] licensed = same_bytes size [] licensed
 throughout_bytes size (a ∷ past) licensed = (same_bytes size (a ∷ past) licensed, throughout_bytes size past licensed.1)
+
+pub page_legal : (size : ℕ) (past : List Act) → Licensed size past → PageLegal size past
+page_legal size past licensed =
+    record { licensed = licensed; one_writer = throughout_writer size past licensed; same_bytes = throughout_bytes size past licensed; loads = loads size past licensed }

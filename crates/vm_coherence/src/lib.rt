@@ -13,7 +13,7 @@ ghost use Rattle.vm_model.specs.PageLicences.{Licensed};
 ghost use Rattle.vm_model.specs.PagePart.{page_part, world_part};
 ghost use Rattle.vm_coherence.specs.Crossing.{crossing};
 ghost use Rattle.vm_coherence.specs.Remapping.{remapping};
-ghost use Rattle.vm_model.specs.Coherence.{Throughout, OneWriter, SameBytes, EachLoadReads, StepsDone, Served, Prompt, Quiet, Answered, NobodyWaits};
+ghost use Rattle.vm_model.specs.Coherence.{Throughout, OneWriter, SameBytes, EachLoadReads, PageLegal, StepsDone, Served, Prompt, Quiet, Answered, NobodyWaits};
 
 /// The law of one shared page, for any page size. It holds of the page's part of a history and of
 /// the page world alike, and for whatever host, also one that never appears.
@@ -22,11 +22,12 @@ ghost use Rattle.vm_model.specs.Coherence.{Throughout, OneWriter, SameBytes, Eac
 /// no other can read, at every moment, also inside a step. A load therefore reads what the stores in
 /// front of it left. Where nothing is on its way and each step has paid what it owes, no page is
 /// asked for and no unlock is outstanding, so that no access waits.
-#[tactic(auto, using(crate::proofs::Law::throughout_writer, crate::proofs::Whole::throughout_bytes, crate::proofs::Whole::loads, crate::proofs::Still::answered, crate::proofs::Still::still))]
+#[tactic(auto, using(crate::proofs::Law::throughout_writer, crate::proofs::Whole::throughout_bytes, crate::proofs::Whole::loads, crate::proofs::Whole::page_legal, crate::proofs::Still::answered, crate::proofs::Still::still))]
 pub fn coherence_law()
     ensures one_writer { (size : ℕ) (acts : List Act) → Licensed size acts → Throughout OneWriter acts }
     ensures same_bytes { (size : ℕ) (acts : List Act) → Licensed size acts → Throughout (SameBytes size) acts }
     ensures loads { (size : ℕ) (acts : List Act) → Licensed size acts → EachLoadReads size acts }
+    ensures legal { (size : ℕ) (acts : List Act) → Licensed size acts → PageLegal size acts }
     ensures answered { (size : ℕ) (acts : List Act) → Licensed size acts → StepsDone acts → Served acts → Quiet acts → Answered acts }
     ensures nobody_waits { (size : ℕ) (acts : List Act) → Licensed size acts → StepsDone acts → Served acts → Prompt acts → Quiet acts → NobodyWaits acts }
 {}

@@ -5,6 +5,7 @@ use Rattle.vm_model.specs.Words.{UpWord, Returning, DownWord, Supplying, Effect,
 use Rattle.vm_model.specs.Side.{Side, side, can_read, can_write}
 use Rattle.vm_model.specs.Waiters.{Waiter, waiters, waiter_of}
 use Rattle.vm_model.specs.Server.{line, current}
+use Rattle.vm_model.specs.PageLicences.{Licensed}
 
 -- at every moment, also inside a step
 abbrev pub Throughout : (List Act → Type 0) → List Act → Type 0
@@ -55,6 +56,14 @@ LoadReads size h e past = Unit {0}
 abbrev pub EachLoadReads : ℕ → List Act → Type 0
 EachLoadReads size [] = Unit {0}
 EachLoadReads size (a ∷ past) = LoadReads size a.host a.effect past × EachLoadReads size past
+
+-- A shared page behaves as one memory: each event has its cause, at every moment there is one writer and every copy
+-- has the same bytes, and each load answers them.
+pub record PageLegal (size : ℕ) (acts : List Act) : Type 0 where
+  pub licensed : Licensed size acts
+  pub one_writer : Throughout OneWriter acts
+  pub same_bytes : Throughout (SameBytes size) acts
+  pub loads : EachLoadReads size acts
 
 -- what a step owes at its end
 
