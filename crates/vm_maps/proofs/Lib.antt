@@ -1,0 +1,14 @@
+mod Allowed
+mod Counts
+mod Covered
+mod Entering
+mod Found
+mod Kept
+mod Mappings
+mod Multiples
+mod Order
+mod Pages
+mod Range
+mod Rewriting
+mod Tasks
+mod Walk

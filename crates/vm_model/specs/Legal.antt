@@ -1,0 +1,39 @@
+-- What a legal history is.
+use Rattle.std.specs.Prelude.{ℕ, ◌≡◌, List, ◌++◌, None}
+use Rattle.vm_model.specs.declared.event.Event.{Event}
+use Rattle.vm_model.specs.declared.command.Numbered.{Numbered}
+use Rattle.vm_model.specs.declared.script.Header.{Header}
+use Rattle.vm_model.specs.declared.script.Script.{Script}
+use Rattle.vm_model.specs.Moments.{EachEvent, EachMoment, BeforeSteps}
+use Rattle.vm_model.specs.Waiting.{waiting}
+use Rattle.vm_model.specs.Frames.{FramesSuffice}
+use Rattle.vm_model.specs.Bytes.{OwnBytes, FlatBytes}
+use Rattle.vm_model.specs.Follows.{Follows}
+
+-- no access waits in vain: nothing is on its way to anybody, so none waits at all
+abbrev pub Prompt : List Event → Type 0
+Prompt past = (task : ℕ) → waiting task past ≡ None
+
+-- the history is legal for these commands under this header
+pub record LegalFor (header : Header) (commands : List Numbered) (history : List Event) : Type 0 where
+  -- each command has its group, in order, and each event its cause
+  pub follows : Follows header commands history
+  -- each load answers from its own host's page
+  pub own_bytes : EachEvent (OwnBytes header) history
+  -- each load answers the flat map's bytes
+  pub flat_bytes : EachEvent (FlatBytes header) history
+  -- at every moment the frames suffice
+  pub frames : EachMoment (FramesSuffice header) history
+  -- no access waits in vain, at the end of each step
+  pub prompt : BeforeSteps Prompt history
+  pub prompt_at_end : Prompt history
+
+abbrev pub Legal : Script → List Event → Type 0
+Legal script history = LegalFor script.header script.commands.items history
+
+-- the history is legal for the commands that were run, and some may be left
+pub record LegalSoFar (script : Script) (history : List Event) : Type 0 where
+  pub later : List Numbered
+  pub run : List Numbered
+  pub order : script.commands.items ≡ later ++ run
+  pub legal : LegalFor script.header run history

@@ -1,0 +1,7 @@
+pub mod Adapters
+pub mod Areas
+pub mod Arming
+pub mod Bytes
+pub mod Causes
+pub mod Memory
+pub mod Plans

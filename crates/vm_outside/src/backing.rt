@@ -1,0 +1,44 @@
+// Named areas of bytes that outlast the pages.
+ghost use Rattle.std.specs.Prelude.{ℕ, List};
+ghost use Rattle.std.specs.declared.option.Option.{Option};
+ghost use Rattle.vm_outside.specs.Areas.{LengthTold, ReadTold, WriteTold};
+ghost use Rattle.vm_outside.specs.Causes.{HasCause, WriteHasCause};
+
+use vm_base::{Failed, WriteStop};
+
+/// Named areas of bytes, as files or a paging device have.
+pub trait Backing {
+    /// What the backing tells of a name, None where it tells nothing: the bytes of its area, or
+    /// that there is no such area. Of a name of which it tells it goes on telling.
+    ghost area: { Self → List ℕ → Option (Option (List ℕ)) };
+
+    /// How often it has failed; at most 18,446,744,073,709,551,615 are counted.
+    ghost faults: { Self → ℕ };
+
+    /// The second state may come after the first: each call promises it of the states before and
+    /// after it.
+    ghost later: { Self → Self → Type 0 };
+
+    /// The length of an area in bytes, None where it is not there.
+    fn length(&mut self, name: &str) -> Result<Option<u64>, Failed>
+        ensures told { LengthTold (area self.old) (area self.new) name.now result }
+        ensures cause { HasCause (faults self.old) (faults self.new) result }
+        ensures later { later self.old self.new };
+
+    /// Fills the buffer with the bytes of an area from `at` on. An area that is not there is read
+    /// as an empty one.
+    fn read(&mut self, name: &str, at: u64, buf: &mut [u8]) -> Result<(), Failed>
+        ensures told { ReadTold (area self.old) (area self.new) name.now at buf.new result }
+        ensures cause { HasCause (faults self.old) (faults self.new) result }
+        ensures later { later self.old self.new };
+
+    /// Writes bytes to an area from `at` on, and makes or lengthens the area for it.
+    fn write(&mut self, name: &str, at: u64, bytes: &[u8]) -> Result<(), WriteStop>
+        ensures told { WriteTold (area self.old) (area self.new) name.now at bytes.now result }
+        ensures cause { WriteHasCause (faults self.old) (faults self.new) result }
+        ensures later { later self.old self.new };
+
+    ghost later_same: { (s : Self) → later s s };
+
+    ghost later_more: { (r s t : Self) → later r s → later s t → later r t };
+}

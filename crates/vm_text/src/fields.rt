@@ -1,0 +1,196 @@
+// A line of text, and the fields that are put behind it.
+ghost use Rattle.std.specs.Prelude.{◌≡◌, ◌<◌, ◌≤◌, ◌++◌, [], ◌∷◌, length, take, decimal, OnOk, IfOk};
+ghost use Rattle.std.specs.List.{flat_map};
+ghost use Rattle.vm_base.specs.Pages.{little_endian_bytes};
+ghost use Rattle.vm_model.specs.Text.{field, flag as flag_of, prot_number as prot_of, inherit_number as inherit_of, hex_digit as digit_of, byte_hex as hex_of, trimmed, page_field, newline};
+ghost use Rattle.vm_text.specs.Fields.{with_fields};
+
+use itoa::Buffer;
+use std::alloc::Global;
+use std::marker::Model;
+use vm_base::{Inherit, NoMemory, Prot};
+
+/// A line of text, which contracts see as its bytes.
+#[derive(Drop)]
+pub struct Line {
+    bytes: Vec<u8>,
+}
+
+impl Model for Line {
+    ghost use Rattle.std.specs.Prelude.{ℕ, List};
+
+    ghost Value = { List ℕ };
+
+    ghost view = { λ l. l.bytes.items };
+}
+
+impl Line {
+    /// The bytes, with the line end where the line has one.
+    pub fn as_slice(&self) -> &[u8]
+        ensures { result.now ≡ self.now }
+    {
+        &self.bytes
+    }
+
+    pub(crate) fn new(alloc: Global) -> Line
+        ensures { result ≡ [] }
+    {
+        Line {
+            bytes: Vec::new(alloc),
+        }
+    }
+
+    fn put_byte(&mut self, byte: u8) -> Result<(), NoMemory>
+        ensures { OnOk result (self.new ≡ self.old ++ byte ∷ []) }
+    {
+        self.bytes.push(byte)?;
+        Ok(())
+    }
+
+    pub(crate) fn put_word(&mut self, word: &[u8]) -> Result<(), NoMemory>
+        ensures { OnOk result (self.new ≡ self.old ++ word.now) }
+    {
+        self.bytes.extend_from_slice(word)?;
+        Ok(())
+    }
+
+    pub(crate) fn put_number(&mut self, number: u64) -> Result<(), NoMemory>
+        ensures { OnOk result (self.new ≡ self.old ++ decimal number) }
+    {
+        let mut buffer = Buffer::new();
+        self.bytes
+            .extend_from_slice(buffer.format(number).as_bytes())?;
+        Ok(())
+    }
+
+    pub(crate) fn put_field(&mut self, number: u64) -> Result<(), NoMemory>
+        ensures { OnOk result (self.new ≡ self.old ++ field number) }
+    {
+        let mut buffer = Buffer::new();
+        self.bytes.push(b' ')?;
+        self.bytes
+            .extend_from_slice(buffer.format(number).as_bytes())?;
+        Ok(())
+    }
+
+    #[tactic(auto, using(crate::proofs::Spelling::with_fields_more))]
+    pub(crate) fn put_fields(&mut self, numbers: &[u64]) -> Result<(), NoMemory>
+        ensures { OnOk result (self.new ≡ with_fields self.old numbers.now) }
+    {
+        for number in numbers {
+            self.put_field(*number)?;
+        }
+        Ok(())
+    }
+
+    fn put_hex_byte(&mut self, byte: u8) -> Result<(), NoMemory>
+        ensures { OnOk result (self.new ≡ self.old ++ hex_of byte) }
+    {
+        self.bytes.push(hex_digit(byte / 16))?;
+        self.bytes.push(hex_digit(byte % 16))?;
+        Ok(())
+    }
+
+    fn put_hex(&mut self, bytes: &[u8]) -> Result<(), NoMemory>
+        ensures { OnOk result (self.new ≡ self.old ++ flat_map hex_of bytes.now) }
+    {
+        for byte in bytes {
+            self.put_hex_byte(*byte)?;
+        }
+        Ok(())
+    }
+
+    // The lowest bytes of a number, the lowest first.
+    #[tactic(auto, using(crate::proofs::Spelling::spelled_more))]
+    pub(crate) fn put_little_endian(&mut self, size: u32, number: u64) -> Result<(), NoMemory>
+        ensures { OnOk result (self.new ≡ self.old ++ flat_map hex_of (little_endian_bytes size number)) }
+    {
+        let mut rest = number;
+        'all: for _ in 0..size {
+            self.put_hex_byte((rest % 256) as u8)?;
+            rest /= 256;
+        }
+        Ok(())
+    }
+
+    pub(crate) fn put_page(&mut self, bytes: &[u8]) -> Result<(), NoMemory>
+        ensures { OnOk result (self.new ≡ self.old ++ page_field bytes.now) }
+    {
+        let end = trimmed_len(bytes);
+        if end == 0 {
+            return self.put_word(b" -");
+        }
+        self.put_byte(b' ')?;
+        self.put_hex(&bytes[..end])
+    }
+
+    pub(crate) fn end(&mut self) -> Result<(), NoMemory>
+        ensures { OnOk result (self.new ≡ self.old ++ newline) }
+    {
+        self.put_byte(b'\n')
+    }
+}
+
+// A word, and a field for each number.
+pub(crate) fn numbers_text(alloc: Global, word: &[u8], numbers: &[u64]) -> Result<Line, NoMemory>
+    ensures { IfOk result (λ text. text ≡ with_fields word.now numbers.now) }
+{
+    let mut text = Line::new(alloc);
+    text.put_word(word)?;
+    text.put_fields(numbers)?;
+    Ok(text)
+}
+
+pub(crate) fn numbers_line(alloc: Global, word: &[u8], numbers: &[u64]) -> Result<Line, NoMemory>
+    ensures { IfOk result (λ line. line ≡ with_fields word.now numbers.now ++ newline) }
+{
+    let mut line = numbers_text(alloc, word, numbers)?;
+    line.end()?;
+    Ok(line)
+}
+
+pub(crate) fn flag(set: bool) -> u64
+    ensures { result ≡ flag_of set }
+{
+    u64::from(set)
+}
+
+pub(crate) fn prot_number(prot: Prot) -> u64
+    ensures { result ≡ prot_of prot }
+{
+    let write = if prot.write { 2 } else { 0 };
+    flag(prot.read) + write
+}
+
+pub(crate) fn inherit_number(inherit: Inherit) -> u64
+    ensures { result ≡ inherit_of inherit }
+{
+    match inherit {
+        Inherit::Share => 0,
+        Inherit::Copy => 1,
+        Inherit::Never => 2,
+    }
+}
+
+fn hex_digit(digit: u8) -> u8
+    requires { digit < 16 }
+    ensures { result ≡ digit_of digit }
+{
+    if digit < 10 {
+        b'0' + digit
+    } else {
+        b'a' - 10 + digit
+    }
+}
+
+// The length up to the last byte that isn't zero.
+fn trimmed_len(bytes: &[u8]) -> usize
+    ensures within { result ≤ length bytes.now }
+    ensures trimmed { take result bytes.now ≡ trimmed bytes.now }
+{
+    let mut end = bytes.len();
+    'zeros: while end > 0 && bytes[end - 1] == 0 {
+        end -= 1;
+    }
+    end
+}

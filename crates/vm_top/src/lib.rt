@@ -1,0 +1,13 @@
+//! The call that does all that the program does: it reads a script, runs it, and writes its history.
+#![tactic(auto)]
+
+mod form;
+mod reading;
+mod render;
+mod run;
+mod runner;
+#[cfg(test)]
+mod tests;
+mod top;
+
+pub use top::{Outcome, Status, pagers_main};

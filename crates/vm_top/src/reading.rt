@@ -1,0 +1,41 @@
+// Reads a source to its end, or to one byte more than a script may have.
+ghost use Rattle.std.specs.Prelude.{◌≤◌, IfOk, IsErrOf};
+ghost use Rattle.vm_outside.specs.Causes.{Rose};
+ghost use Rattle.vm_top.specs.Reading.{ReadWhole};
+ghost use Rattle.vm_top.specs.declared.reading.ReadStop.TheVariants.{Failed};
+
+use std::alloc::Global;
+use vm_outside::Source;
+
+const MOST: usize = 1_048_576;
+
+/// Why a source was not read whole.
+#[derive(Clone, Copy, Debug, PartialEq, Eq)]
+pub enum ReadStop {
+    /// The source failed.
+    Failed,
+    /// No memory was there.
+    NoMemory,
+}
+
+/// All that is left of the source, or a first part of more than 1,048,576 bytes.
+pub fn read_all<S: Source>(alloc: Global, source: &mut S) -> Result<Vec<u8>, ReadStop>
+    ensures whole { IfOk result (λ bytes. ReadWhole (S.left source.old) (S.left source.new) bytes.items) }
+    ensures later { S.faults source.old ≤ S.faults source.new }
+    ensures failed { IsErrOf result Failed → Rose (S.faults source.old) (S.faults source.new) }
+{
+    let mut bytes = Vec::new(alloc);
+    let mut piece = [0u8; 4096];
+    'all: while bytes.len() <= MOST {
+        let Ok(count) = source.read(&mut piece) else {
+            return Err(ReadStop::Failed);
+        };
+        if count == 0 {
+            return Ok(bytes);
+        }
+        let Ok(()) = bytes.extend_from_slice(&piece[..count]) else {
+            return Err(ReadStop::NoMemory);
+        };
+    }
+    Ok(bytes)
+}
