@@ -13,3 +13,11 @@ pub mod Regions
 pub mod Tasks
 pub mod Text
 pub mod Waiting
+pub mod Words
+pub mod Side
+pub mod Waiters
+pub mod Server
+pub mod PageLicences
+pub mod Coherence
+pub mod TaskPlace
+pub mod PagePart

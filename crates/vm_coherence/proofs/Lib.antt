@@ -1,0 +1,17 @@
+pub mod Queues
+pub mod Sound
+pub mod Line
+pub mod Law
+pub mod Orderly
+pub mod Truth
+pub mod Settled
+pub mod Whole
+pub mod Ways
+pub mod Carried
+pub mod Still
+pub mod Opens
+pub mod Single
+pub mod Aligned
+pub mod Protocol
+pub mod Crossing
+pub mod Remapping
