@@ -17,23 +17,23 @@ stepped parts b bs n m is = rw (is, add-one, add-one) refl
 pub parted : (parts : ℕ → Bool) (bytes : List ℕ) → position_or_len parts bytes < length bytes → pieces parts bytes ≡ take (position_or_len parts bytes) bytes ∷ pieces parts (drop (position_or_len parts bytes + 1) bytes)
 parted parts [] less = absurd (omega arith)
 parted parts (b ∷ bs) less = elim (both (parts b)) [
-    | inl is ↦ rw is refl
-    | inr isnt ↦
-        let n = position_or_len parts bs in
-        let here : position_or_len parts (b ∷ bs) ≡ suc n = rw isnt (omega arith) in
-        let inside : n < length bs = omega (arith, here) in
-        rw (isnt, parted parts bs inside) (stepped parts b bs n _ (omega arith))
-  ]
+  | inl is ↦ rw is refl
+  | inr isnt ↦
+      let n = position_or_len parts bs in
+      let here : position_or_len parts (b ∷ bs) ≡ suc n = rw isnt (omega arith) in
+      let inside : n < length bs = omega (arith, here) in
+      rw (isnt, parted parts bs inside) (stepped parts b bs n _ (omega arith))
+]
 
 -- the one piece
 pub unparted : (parts : ℕ → Bool) (bytes : List ℕ) → length bytes ≤ position_or_len parts bytes → pieces parts bytes ≡ bytes ∷ []
 unparted parts [] past = refl
 unparted parts (b ∷ bs) past = elim (both (parts b)) [
-    | inl is ↦ let here : position_or_len parts (b ∷ bs) ≡ 0 = rw is refl in absurd (omega (arith, here))
-    | inr isnt ↦
-        let here : position_or_len parts (b ∷ bs) ≡ suc (position_or_len parts bs) = rw isnt (omega arith) in
-        rw (isnt, unparted parts bs (omega (arith, here))) refl
-  ]
+  | inl is ↦ let here : position_or_len parts (b ∷ bs) ≡ 0 = rw is refl in absurd (omega (arith, here))
+  | inr isnt ↦
+      let here : position_or_len parts (b ∷ bs) ≡ suc (position_or_len parts bs) = rw isnt (omega arith) in
+      rw (isnt, unparted parts bs (omega (arith, here))) refl
+]
 
 -- what a position says
 pub placed : (parts : ℕ → Bool) (bytes : List ℕ) (r : Option ℕ) → r ≡ position parts bytes → MatchOption r (length bytes ≤ position_or_len parts bytes) (λ i. (i ≡ position_or_len parts bytes) × (i < length bytes))

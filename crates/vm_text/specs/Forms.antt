@@ -74,7 +74,7 @@ abbrev pub object_of : Heading → List ℕ → Result ObjectId ScriptFault
 object_of heading word = elim (declared_at word heading.objects) [
   | None ↦ Err UnknownWord
   | Some object ↦ Ok (record { 0 = object })
-  ]
+]
 
 -- a name that may be declared next
 abbrev pub new_name : Heading → List ℕ → Result (List ℕ) ScriptFault
@@ -430,7 +430,7 @@ abbrev pub say_line : Heading → List (List ℕ) → Result Command ScriptFault
 say_line heading (host ∷ name ∷ word ∷ line) = elim (word_in message_words word) [
   | None ↦ nothing_said heading host name
   | Some meaning ↦ message_form heading meaning host name line
-  ]
+]
 say_line heading _ = Err WrongCount
 
 abbrev pub command_form : Heading → CommandWord → List (List ℕ) → Result Command ScriptFault

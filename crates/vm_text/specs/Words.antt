@@ -155,5 +155,5 @@ abbrev pub page_of : ℕ → List ℕ → Result (List ℕ) ScriptFault
 page_of size word =
     if bytes_eq word (45 ∷ []) then Ok (page_with size [])
     else (if are_pairs word
-        then (if nat_le (length (pair_bytes word)) size then Ok (page_with size (pair_bytes word)) else Err OutOfRange)
-        else Err BadNumber)
+    then (if nat_le (length (pair_bytes word)) size then Ok (page_with size (pair_bytes word)) else Err OutOfRange)
+    else Err BadNumber)

@@ -19,4 +19,6 @@ pub use error::ScriptError;
 pub use reader::read_script;
 
 #[cfg(test)]
-mod reader_tests;
+mod fault_tests;
+#[cfg(test)]
+mod script_tests;
