@@ -1,8 +1,7 @@
 -- Lines and words from the front on.
-use Rattle.std.proofs.Common.{◌≡◌, ◌≢◌, ℕ, zero, suc, ◌+◌, ◌<◌, ◌≤◌, Bool, true, false, not, cond, List, [], ◌∷◌, length, get_or, take, drop, length-drop, ◌-◌, Option, Some, None, MatchOption, refl, ap, sym, ◌∙◌, arith, ◌⊎◌, inl, inr, add-one, one-add, drop-cons, nat_lt}
+use Rattle.std.proofs.Common.{◌≡◌, ℕ, zero, suc, ◌+◌, ◌<◌, ◌≤◌, Bool, true, false, not, cond, List, [], ◌∷◌, length, take, drop, length-drop, ◌-◌, Option, Some, None, MatchOption, refl, ap, sym, ◌∙◌, arith, ◌⊎◌, inl, inr, add-one, one-add}
 use Rattle.std.proofs.lemmas.List.{take_all, drop_all}
 use Rattle.std.proofs.lemmas.Bool.Decides.{nat_tests}
-use Rattle.std.proofs.lemmas.List.Quantifiers.{position-Some}
 use Rattle.std.specs.List.{position, position_or_len}
 use Rattle.vm_text.specs.Words.{onto, pieces, is_line_feed, is_space, without_last, lines_of, filled, words_of, Leads}
 

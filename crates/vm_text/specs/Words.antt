@@ -3,7 +3,7 @@ use Rattle.std.specs.Prelude.{ℕ, ◌≡◌, ◌+◌, ◌-◌, ◌*◌, ◌^◌
 use Rattle.std.specs.Str.{bytes_eq}
 use Rattle.vm_model.specs.Name.{is_digit}
 use Rattle.vm_model.specs.declared.fault.ScriptFault.{ScriptFault}
-use Rattle.vm_model.specs.declared.fault.ScriptFault.TheVariants.{UnknownWord, BadNumber, WrongCount, OutOfRange}
+use Rattle.vm_model.specs.declared.fault.ScriptFault.TheVariants.{BadNumber, WrongCount, OutOfRange}
 
 -- one thing, then the next; the first fault ends it
 infixl 10 ◌>>=◌

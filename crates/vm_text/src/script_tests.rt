@@ -1,8 +1,9 @@
 // What the commands of a script say.
 use super::*;
+use std::process::Abort;
 use std::test::*;
 use vm_base::{HostId, Inherit, ObjectId, ObjectKind, PageNo, Prot, TaskId};
-use vm_model::{Channel, Command, Message};
+use vm_model::{Channel, Command, Commands, Header, Message};
 
 const SAID: &str = "hosts 3 4
 frames 2 9
@@ -265,34 +266,36 @@ fn is_said(line: u32, command: &Command) -> bool {
     }
 }
 
+fn assert_header(rt: &impl Abort, header: &Header) {
+    assert_eq!(rt; header.size.bytes(), 4096);
+    assert_eq!(rt; header.slots, 1024);
+    assert_eq!(rt; header.frames.len(), 3);
+    assert_eq!(rt; *header.frames.at(0), 4);
+    assert_eq!(rt; *header.frames.at(1), 4);
+    assert_eq!(rt; *header.frames.at(2), 7);
+    assert_eq!(rt; header.objects.len(), 3);
+    let shared = header.objects.at(1);
+    assert_eq!(rt; shared.name.as_str(), "s");
+    assert_eq!(rt; shared.kind, ObjectKind::Shared);
+    assert_eq!(rt; shared.pages, 9);
+}
+
+fn assert_commands(rt: &impl Abort, commands: &Commands) {
+    assert_eq!(rt; commands.len(), 27);
+    for i in 0..27 {
+        let numbered = commands.at(i);
+        assert_eq!(rt; numbered.line, 7 + i);
+        assert!(rt; is_said(numbered.line, &numbered.command), "command {i}");
+    }
+}
+
 #[test]
 fn what_a_script_says(rt: HostRuntime) -> Result<(), Fail> {
     let script = read_script(rt.alloc(), SAID.as_bytes())
         .ok()
         .ok_or("the script has no fault")?;
     assert_eq!(rt; script.lines, 33);
-    assert_eq!(rt; script.header.size.bytes(), 4096);
-    assert_eq!(rt; script.header.slots, 1024);
-    assert_eq!(rt; script.header.frames.len(), 3);
-    assert_eq!(rt;
-        (
-            *script.header.frames.at(0),
-            *script.header.frames.at(1),
-            *script.header.frames.at(2)
-        ),
-        (4, 4, 7)
-    );
-    assert_eq!(rt; script.header.objects.len(), 3);
-    let shared = script.header.objects.at(1);
-    assert_eq!(rt;
-        (shared.name.as_str(), shared.kind, shared.pages),
-        ("s", ObjectKind::Shared, 9)
-    );
-    assert_eq!(rt; script.commands.len(), 27);
-    for i in 0..27 {
-        let numbered = script.commands.at(i);
-        assert_eq!(rt; numbered.line, 7 + i);
-        assert!(rt; is_said(numbered.line, &numbered.command), "line {i}");
-    }
+    assert_header(&rt, &script.header);
+    assert_commands(&rt, &script.commands);
     Ok(())
 }
