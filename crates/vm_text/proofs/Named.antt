@@ -1,5 +1,5 @@
 -- An object that is declared is found by its name.
-use Rattle.std.proofs.Common.{◌≡◌, ℕ, List, [], ◌∷◌, length, cond, Option, Some, None, refl, ap, sym, ◌∙◌}
+use Rattle.std.proofs.Common.{◌≡◌, ℕ, List, ◌∷◌, length, cond, Option, Some, refl, ◌∙◌}
 use Rattle.std.specs.Str.{bytes_eq}
 use Rattle.vm_model.specs.declared.script.Declared.{Declared}
 use Rattle.vm_text.specs.Forms.{declared_at}

@@ -1,6 +1,5 @@
 -- A word with a dot has more than one part.
-use Rattle.std.proofs.Common.{◌≡◌, ℕ, ◌<◌, List, [], ◌∷◌, length, Result, Ok, Err, refl, arith}
-use Rattle.vm_model.specs.declared.fault.ScriptFault.{ScriptFault}
+use Rattle.std.proofs.Common.{◌≡◌, ℕ, ◌<◌, List, [], ◌∷◌, length, Err, refl, arith}
 use Rattle.vm_model.specs.declared.fault.ScriptFault.TheVariants.{UnknownWord}
 use Rattle.vm_text.specs.Words.{pieces, is_dot}
 use Rattle.vm_text.specs.Forms.{one_part}

@@ -1,8 +1,7 @@
 -- Lines and words from the front on.
-use Rattle.std.proofs.Common.{◌≡◌, ◌≢◌, ℕ, zero, suc, ◌+◌, ◌<◌, ◌≤◌, Bool, true, false, not, cond, List, [], ◌∷◌, length, get_or, take, drop, length-drop, ◌-◌, Option, Some, None, MatchOption, refl, ap, sym, ◌∙◌, arith, ◌⊎◌, inl, inr, add-one, one-add, drop-cons, nat_lt}
+use Rattle.std.proofs.Common.{◌≡◌, ℕ, zero, suc, ◌+◌, ◌<◌, ◌≤◌, Bool, true, false, not, cond, List, [], ◌∷◌, length, take, drop, length-drop, ◌-◌, Option, Some, None, MatchOption, refl, ap, sym, ◌∙◌, arith, ◌⊎◌, inl, inr, add-one, one-add}
 use Rattle.std.proofs.lemmas.List.{take_all, drop_all}
 use Rattle.std.proofs.lemmas.Bool.Decides.{nat_tests}
-use Rattle.std.proofs.lemmas.List.Quantifiers.{position-Some}
 use Rattle.std.specs.List.{position, position_or_len}
 use Rattle.vm_text.specs.Words.{onto, pieces, is_line_feed, is_space, without_last, lines_of, filled, words_of, Leads}
 
@@ -17,23 +16,23 @@ stepped parts b bs n m is = rw (is, add-one, add-one) refl
 pub parted : (parts : ℕ → Bool) (bytes : List ℕ) → position_or_len parts bytes < length bytes → pieces parts bytes ≡ take (position_or_len parts bytes) bytes ∷ pieces parts (drop (position_or_len parts bytes + 1) bytes)
 parted parts [] less = absurd (omega arith)
 parted parts (b ∷ bs) less = elim (both (parts b)) [
-    | inl is ↦ rw is refl
-    | inr isnt ↦
-        let n = position_or_len parts bs in
-        let here : position_or_len parts (b ∷ bs) ≡ suc n = rw isnt (omega arith) in
-        let inside : n < length bs = omega (arith, here) in
-        rw (isnt, parted parts bs inside) (stepped parts b bs n _ (omega arith))
-  ]
+  | inl is ↦ rw is refl
+  | inr isnt ↦
+      let n = position_or_len parts bs in
+      let here : position_or_len parts (b ∷ bs) ≡ suc n = rw isnt (omega arith) in
+      let inside : n < length bs = omega (arith, here) in
+      rw (isnt, parted parts bs inside) (stepped parts b bs n _ (omega arith))
+]
 
 -- the one piece
 pub unparted : (parts : ℕ → Bool) (bytes : List ℕ) → length bytes ≤ position_or_len parts bytes → pieces parts bytes ≡ bytes ∷ []
 unparted parts [] past = refl
 unparted parts (b ∷ bs) past = elim (both (parts b)) [
-    | inl is ↦ let here : position_or_len parts (b ∷ bs) ≡ 0 = rw is refl in absurd (omega (arith, here))
-    | inr isnt ↦
-        let here : position_or_len parts (b ∷ bs) ≡ suc (position_or_len parts bs) = rw isnt (omega arith) in
-        rw (isnt, unparted parts bs (omega (arith, here))) refl
-  ]
+  | inl is ↦ let here : position_or_len parts (b ∷ bs) ≡ 0 = rw is refl in absurd (omega (arith, here))
+  | inr isnt ↦
+      let here : position_or_len parts (b ∷ bs) ≡ suc (position_or_len parts bs) = rw isnt (omega arith) in
+      rw (isnt, unparted parts bs (omega (arith, here))) refl
+]
 
 -- what a position says
 pub placed : (parts : ℕ → Bool) (bytes : List ℕ) (r : Option ℕ) → r ≡ position parts bytes → MatchOption r (length bytes ≤ position_or_len parts bytes) (λ i. (i ≡ position_or_len parts bytes) × (i < length bytes))

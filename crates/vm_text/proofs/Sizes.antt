@@ -1,8 +1,7 @@
 -- A page size is one of the list of page sizes.
-use Rattle.std.proofs.Common.{◌≡◌, ℕ, List, [], ◌∷◌, Result, Ok, Err, refl, ap, sym, ◌∙◌, inl, inr}
+use Rattle.std.proofs.Common.{◌≡◌, ℕ, List, [], ◌∷◌, Ok, refl, sym, inl, inr}
 use Rattle.vm_base.specs.Pages.{IsPageSize}
-use Rattle.vm_model.specs.declared.fault.ScriptFault.{ScriptFault}
-use Rattle.vm_text.specs.Words.{◌>>=◌, number_of}
+use Rattle.vm_text.specs.Words.{number_of}
 use Rattle.vm_text.specs.Forms.{one_of, page_size}
 
 sized : (n : ℕ) → IsPageSize n → one_of (16 ∷ 32 ∷ 64 ∷ 128 ∷ 256 ∷ 512 ∷ 1024 ∷ 2048 ∷ 4096 ∷ []) n ≡ Ok n

@@ -1,5 +1,5 @@
 -- The form of each line of a script: its words, from left to right.
-use Rattle.std.specs.Prelude.{ℕ, ◌≡◌, ◌+◌, ◌-◌, ◌*◌, ◌^◌, ◌%◌, ◌==◌, ◌&&◌, ◌||◌, Bool, true, false, nat_le, nat_lt, List, [], ◌∷◌, length, replicate, reverse, slice_set, codes, Option, Some, None, is_some, Result, Ok, Err, if◌then◌else◌}
+use Rattle.std.specs.Prelude.{ℕ, ◌≡◌, ◌-◌, ◌^◌, ◌%◌, ◌==◌, ◌||◌, Bool, true, false, nat_le, nat_lt, List, [], ◌∷◌, length, replicate, reverse, slice_set, codes, Option, Some, None, is_some, Result, Ok, Err, if◌then◌else◌}
 use Rattle.std.specs.Option.{unwrap_or}
 use Rattle.std.specs.Str.{bytes_eq}
 use Rattle.vm_base.specs.declared.ids.HostId.{HostId}
@@ -14,10 +14,9 @@ use Rattle.vm_base.specs.declared.ids.TaskId.{TaskId}
 use Rattle.vm_model.specs.declared.command.Command.{Command}
 use Rattle.vm_model.specs.declared.command.Command.TheVariants as commands
 use Rattle.vm_model.specs.declared.fault.ScriptFault.{ScriptFault}
-use Rattle.vm_model.specs.declared.fault.ScriptFault.TheVariants.{UnknownWord, BadNumber, WrongCount, OutOfRange, HeaderLate, NoHosts}
+use Rattle.vm_model.specs.declared.fault.ScriptFault.TheVariants.{UnknownWord, WrongCount, OutOfRange, NoHosts}
 use Rattle.vm_model.specs.declared.message.Channel.{Channel}
 use Rattle.vm_model.specs.declared.message.Channel.TheVariants as channels
-use Rattle.vm_model.specs.declared.message.Message.{Message}
 use Rattle.vm_model.specs.declared.message.Message.TheVariants as messages
 use Rattle.vm_model.specs.declared.script.Declared.{Declared}
 use Rattle.vm_model.specs.declared.script.Header.{Header}
@@ -74,7 +73,7 @@ abbrev pub object_of : Heading → List ℕ → Result ObjectId ScriptFault
 object_of heading word = elim (declared_at word heading.objects) [
   | None ↦ Err UnknownWord
   | Some object ↦ Ok (record { 0 = object })
-  ]
+]
 
 -- a name that may be declared next
 abbrev pub new_name : Heading → List ℕ → Result (List ℕ) ScriptFault
@@ -430,7 +429,7 @@ abbrev pub say_line : Heading → List (List ℕ) → Result Command ScriptFault
 say_line heading (host ∷ name ∷ word ∷ line) = elim (word_in message_words word) [
   | None ↦ nothing_said heading host name
   | Some meaning ↦ message_form heading meaning host name line
-  ]
+]
 say_line heading _ = Err WrongCount
 
 abbrev pub command_form : Heading → CommandWord → List (List ℕ) → Result Command ScriptFault

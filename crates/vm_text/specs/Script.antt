@@ -1,5 +1,5 @@
 -- A whole script: its lines one after the other, and the first fault with its line.
-use Rattle.std.specs.Prelude.{ℕ, ◌+◌, ◌-◌, ◌≡◌, ◌==◌, ◌||◌, Bool, nat_lt, List, [], ◌∷◌, length, reverse, Option, Some, None, Result, Ok, Err, if◌then◌else◌}
+use Rattle.std.specs.Prelude.{ℕ, ◌+◌, ◌-◌, ◌≡◌, ◌||◌, nat_lt, List, [], ◌∷◌, length, reverse, Some, None, Result, Ok, Err, if◌then◌else◌}
 use Rattle.std.specs.Option.{unwrap_or}
 use Rattle.vm_model.specs.declared.command.Numbered.{Numbered}
 use Rattle.vm_model.specs.declared.fault.ScriptFault.{ScriptFault}
@@ -44,8 +44,8 @@ line_read number reading (word ∷ line) =
       | None ↦ elim (word_in command_words word) [
         | Some meaning ↦ command_line number reading meaning line
         | None ↦ Err UnknownWord
-        ]
       ]
+    ]
 
 -- a script that was read: frames from host 0 on, and the newest object and command first
 pub record Whole : Type 0 where
@@ -63,8 +63,8 @@ whole_of reading lines = record {
   frames = reading.heading.frames;
   objects = reading.heading.objects;
   commands = reading.commands;
-  lines = lines
-  }
+  lines = lines;
+}
 
 -- the lines from the one of this number on
 abbrev pub lines_read : ℕ → Reading → List (List ℕ) → Result Whole (ℕ × ScriptFault)
@@ -74,7 +74,7 @@ lines_read number reading (line ∷ lines) =
     else elim (line_read number reading (words_of line)) [
       | Ok more ↦ lines_read (number + 1) more lines
       | Err fault ↦ Err (number, fault)
-      ]
+    ]
 
 -- the script that bytes spell, or their first fault with its line
 abbrev pub script_of : List ℕ → Result Whole (ℕ × ScriptFault)
@@ -88,8 +88,8 @@ seen script = record {
   frames = reverse script.header.frames.items;
   objects = script.header.objects.items;
   commands = script.commands.items;
-  lines = script.lines
-  }
+  lines = script.lines;
+}
 
 -- what reading returned, beside what the bytes spell, unless memory ran out
 abbrev pub IsRead : Result Script ScriptError → Result Whole (ℕ × ScriptFault) → Type 0

@@ -3,7 +3,7 @@ use Rattle.std.specs.Prelude.{ℕ, ◌≡◌, ◌+◌, ◌-◌, ◌*◌, ◌^◌
 use Rattle.std.specs.Str.{bytes_eq}
 use Rattle.vm_model.specs.Name.{is_digit}
 use Rattle.vm_model.specs.declared.fault.ScriptFault.{ScriptFault}
-use Rattle.vm_model.specs.declared.fault.ScriptFault.TheVariants.{UnknownWord, BadNumber, WrongCount, OutOfRange}
+use Rattle.vm_model.specs.declared.fault.ScriptFault.TheVariants.{BadNumber, WrongCount, OutOfRange}
 
 -- one thing, then the next; the first fault ends it
 infixl 10 ◌>>=◌
@@ -155,5 +155,5 @@ abbrev pub page_of : ℕ → List ℕ → Result (List ℕ) ScriptFault
 page_of size word =
     if bytes_eq word (45 ∷ []) then Ok (page_with size [])
     else (if are_pairs word
-        then (if nat_le (length (pair_bytes word)) size then Ok (page_with size (pair_bytes word)) else Err OutOfRange)
-        else Err BadNumber)
+    then (if nat_le (length (pair_bytes word)) size then Ok (page_with size (pair_bytes word)) else Err OutOfRange)
+    else Err BadNumber)

@@ -248,7 +248,12 @@ fn fail_line(line: &[u8]) -> Result<Command, ScriptFault>
 }
 
 /// Reads the rest of a command line.
-pub fn command_form(alloc: Global, heading: &Heading, word: CommandWord, line: &[u8]) -> Result<Command, LineStop>
+pub fn command_form(
+    alloc: Global,
+    heading: &Heading,
+    word: CommandWord,
+    line: &[u8],
+) -> Result<Command, LineStop>
     ensures { Gives result (command_form heading.now word (words_of line.now)) }
 {
     let command = match word {

@@ -158,7 +158,12 @@ impl<'a> Heading<'a> {
     }
 
     /// Reads the rest of a header line.
-    pub fn header_form(&mut self, alloc: Global, word: HeaderWord, line: &'a [u8]) -> Result<(), LineStop>
+    pub fn header_form(
+        &mut self,
+        alloc: Global,
+        word: HeaderWord,
+        line: &'a [u8],
+    ) -> Result<(), LineStop>
         ensures { Goes result self.new (header_form self.old word (words_of line.now)) }
     {
         match word {

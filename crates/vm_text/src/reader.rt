@@ -15,6 +15,7 @@ use std::marker::Model;
 use vm_model::{Commands, Numbered, Script, ScriptFault};
 
 const MOST_BYTES: usize = 1_048_576;
+
 const MOST_LINES: u32 = 20_000;
 
 // What the lines have said so far.
@@ -42,7 +43,12 @@ impl<'a> Reading<'a> {
         }
     }
 
-    fn header_line(&mut self, alloc: Global, word: HeaderWord, line: &'a [u8]) -> Result<(), LineStop>
+    fn header_line(
+        &mut self,
+        alloc: Global,
+        word: HeaderWord,
+        line: &'a [u8],
+    ) -> Result<(), LineStop>
         ensures { Goes result self.new (header_line self.old word (words_of line.now)) }
     {
         if self.commands.len() > 0 || self.heading.again(word) {
@@ -51,7 +57,13 @@ impl<'a> Reading<'a> {
         self.heading.header_form(alloc, word, line)
     }
 
-    fn command_line(&mut self, alloc: Global, number: u32, word: CommandWord, line: &[u8]) -> Result<(), LineStop>
+    fn command_line(
+        &mut self,
+        alloc: Global,
+        number: u32,
+        word: CommandWord,
+        line: &[u8],
+    ) -> Result<(), LineStop>
         ensures { Goes result self.new (command_line number self.old word (words_of line.now)) }
     {
         if !self.heading.has_hosts() {

@@ -19,7 +19,11 @@ use vm_model::{Command, Message, ScriptFault};
 const MOST_PAGE: u32 = 4095;
 
 // The host and the object that a message goes to.
-fn receiver_of(heading: &Heading, host: &[u8], name: &[u8]) -> Result<(HostId, ObjectId), ScriptFault>
+fn receiver_of(
+    heading: &Heading,
+    host: &[u8],
+    name: &[u8],
+) -> Result<(HostId, ObjectId), ScriptFault>
     ensures { result ≡ receiver_of heading.now host.now name.now }
 {
     let host = heading.host_of(host)?;
@@ -27,7 +31,12 @@ fn receiver_of(heading: &Heading, host: &[u8], name: &[u8]) -> Result<(HostId, O
     Ok((host, object))
 }
 
-fn ready_said(heading: &Heading, host: &[u8], name: &[u8], line: &[u8]) -> Result<Command, ScriptFault>
+fn ready_said(
+    heading: &Heading,
+    host: &[u8],
+    name: &[u8],
+    line: &[u8],
+) -> Result<Command, ScriptFault>
     ensures { result ≡ ready_said heading.now host.now name.now (words_of line.now) }
 {
     let (cache, strategy) = two_words(line)?;
@@ -42,7 +51,13 @@ fn ready_said(heading: &Heading, host: &[u8], name: &[u8], line: &[u8]) -> Resul
     })
 }
 
-fn supply_said(alloc: Global, heading: &Heading, host: &[u8], name: &[u8], line: &[u8]) -> Result<Command, LineStop>
+fn supply_said(
+    alloc: Global,
+    heading: &Heading,
+    host: &[u8],
+    name: &[u8],
+    line: &[u8],
+) -> Result<Command, LineStop>
     ensures { Gives result (supply_said heading.now host.now name.now (words_of line.now)) }
 {
     let (page, lock, precious, hex) = four_words(line)?;
@@ -64,7 +79,12 @@ fn supply_said(alloc: Global, heading: &Heading, host: &[u8], name: &[u8], line:
     })
 }
 
-fn unavailable_said(heading: &Heading, host: &[u8], name: &[u8], line: &[u8]) -> Result<Command, ScriptFault>
+fn unavailable_said(
+    heading: &Heading,
+    host: &[u8],
+    name: &[u8],
+    line: &[u8],
+) -> Result<Command, ScriptFault>
     ensures { result ≡ unavailable_said heading.now host.now name.now (words_of line.now) }
 {
     let page = one_word(line)?;
@@ -78,7 +98,12 @@ fn unavailable_said(heading: &Heading, host: &[u8], name: &[u8], line: &[u8]) ->
     })
 }
 
-fn error_said(heading: &Heading, host: &[u8], name: &[u8], line: &[u8]) -> Result<Command, ScriptFault>
+fn error_said(
+    heading: &Heading,
+    host: &[u8],
+    name: &[u8],
+    line: &[u8],
+) -> Result<Command, ScriptFault>
     ensures { result ≡ error_said heading.now host.now name.now (words_of line.now) }
 {
     let (page, reason) = two_words(line)?;
@@ -96,7 +121,12 @@ fn error_said(heading: &Heading, host: &[u8], name: &[u8], line: &[u8]) -> Resul
     })
 }
 
-fn lock_said(heading: &Heading, host: &[u8], name: &[u8], line: &[u8]) -> Result<Command, ScriptFault>
+fn lock_said(
+    heading: &Heading,
+    host: &[u8],
+    name: &[u8],
+    line: &[u8],
+) -> Result<Command, ScriptFault>
     ensures { result ≡ lock_said heading.now host.now name.now (words_of line.now) }
 {
     let (page, count, returns, flush, lock, reply) = six_words(line)?;
@@ -129,7 +159,14 @@ fn nothing_said(heading: &Heading, host: &[u8], name: &[u8]) -> Result<Command, 
     Err(ScriptFault::UnknownWord)
 }
 
-fn message_form(alloc: Global, heading: &Heading, word: MessageWord, host: &[u8], name: &[u8], line: &[u8]) -> Result<Command, LineStop>
+fn message_form(
+    alloc: Global,
+    heading: &Heading,
+    word: MessageWord,
+    host: &[u8],
+    name: &[u8],
+    line: &[u8],
+) -> Result<Command, LineStop>
     ensures { Gives result (message_form heading.now word host.now name.now (words_of line.now)) }
 {
     match word {

@@ -101,7 +101,11 @@ pub fn inherit_of(word: &[u8]) -> Result<Inherit, ScriptFault>
 }
 
 /// A task, an address and a length in bytes.
-pub fn range_of(task: &[u8], address: &[u8], bytes: &[u8]) -> Result<(TaskId, u64, u64), ScriptFault>
+pub fn range_of(
+    task: &[u8],
+    address: &[u8],
+    bytes: &[u8],
+) -> Result<(TaskId, u64, u64), ScriptFault>
     ensures { result ≡ range_of task.now address.now bytes.now }
 {
     let owner = task_of(task)?;

@@ -1,4 +1,4 @@
-// Faults of scripts, with their lines and numbers, and what scripts say.
+// Faults of scripts, with their lines and numbers.
 use super::*;
 use std::alloc::Global;
 use std::process::Abort;
@@ -408,7 +408,13 @@ fn put_lines(script: &mut Vec<u8>, text: &str) -> Result<(), Fail> {
 }
 
 // Reads each row of a table behind a head of so many lines.
-fn run_table(rt: &impl Abort, alloc: Global, head: &str, lines: u32, table: &str) -> Result<u32, Fail> {
+fn run_table(
+    rt: &impl Abort,
+    alloc: Global,
+    head: &str,
+    lines: u32,
+    table: &str,
+) -> Result<u32, Fail> {
     let mut count = 0u32;
     for row in table.lines() {
         let Some((number, text)) = row.split_once(' ') else {
@@ -418,9 +424,20 @@ fn run_table(rt: &impl Abort, alloc: Global, head: &str, lines: u32, table: &str
         put_lines(&mut script, head)?;
         put_lines(&mut script, text)?;
         let (line, kind) = fault_of(alloc, &script);
-        let wanted: u32 = number.parse::<u32>().ok().ok_or("a row begins with a number")?;
+        let wanted: u32 = number
+            .parse::<u32>()
+            .ok()
+            .ok_or("a row begins with a number")?;
         assert_eq!(rt; kind, wanted, "{row}");
-        assert_eq!(rt; line, if wanted == 0 { 0 } else { lines.wrapping_add(1) }, "{row}");
+        assert_eq!(rt;
+            line,
+            if wanted == 0 {
+                0
+            } else {
+                lines.wrapping_add(1)
+            },
+            "{row}"
+        );
         count = count.wrapping_add(1);
     }
     Ok(count)
@@ -429,9 +446,15 @@ fn run_table(rt: &impl Abort, alloc: Global, head: &str, lines: u32, table: &str
 #[test]
 fn each_fault_of_each_line(rt: HostRuntime) -> Result<(), Fail> {
     assert_eq!(rt; run_table(&rt, rt.alloc(), "", 0, FIRST_LINES)?, 66);
-    assert_eq!(rt; run_table(&rt, rt.alloc(), "hosts 2 4/", 1, FRAMES_LINES)?, 9);
+    assert_eq!(rt;
+        run_table(&rt, rt.alloc(), "hosts 2 4/", 1, FRAMES_LINES)?,
+        9
+    );
     assert_eq!(rt; run_table(&rt, rt.alloc(), "", 0, HOSTLESS_LINES)?, 20);
-    assert_eq!(rt; run_table(&rt, rt.alloc(), "hosts 2 4/task 0 0/", 2, LATE_LINES)?, 9);
+    assert_eq!(rt;
+        run_table(&rt, rt.alloc(), "hosts 2 4/task 0 0/", 2, LATE_LINES)?,
+        9
+    );
     assert_eq!(rt; run_table(&rt, rt.alloc(), HEAD, 6, FURTHER_LINES)?, 9);
     assert_eq!(rt; run_table(&rt, rt.alloc(), HEAD, 6, COMMAND_LINES)?, 245);
     Ok(())
@@ -455,7 +478,11 @@ fn whole_scripts(rt: HostRuntime) {
         ("hosts 1 4", 0, 0),
         (" \t\r\nhosts\t1  4\r\n\n#x\n task 0 0 \n", 0, 0),
     ] {
-        assert_eq!(rt; fault_of(rt.alloc(), script.as_bytes()), (line, kind), "{script}");
+        assert_eq!(rt;
+            fault_of(rt.alloc(), script.as_bytes()),
+            (line, kind),
+            "{script}"
+        );
     }
 }
 
@@ -479,5 +506,41 @@ fn long_scripts(rt: HostRuntime) -> Result<(), Fail> {
     assert_eq!(rt; fault_of_many(rt.alloc(), b'\n', 1_048_576)?, (20_001, 1));
     assert_eq!(rt; fault_of_many(rt.alloc(), b'\n', 20_001)?, (20_001, 1));
     assert_eq!(rt; fault_of_many(rt.alloc(), b'\n', 20_000)?, (20_001, 7));
+    Ok(())
+}
+
+// The digits `digit`, so many times, as the number of hosts.
+fn fault_of_digits(alloc: Global, digit: u8, count: usize) -> Result<(u32, u32), Fail> {
+    let mut script = Vec::new(alloc);
+    script.extend_from_slice(b"hosts ")?;
+    for _ in 0..count {
+        script.push(digit)?;
+    }
+    script.extend_from_slice(b"1 4")?;
+    Ok(fault_of(alloc, &script))
+}
+
+#[test]
+fn long_numbers(rt: HostRuntime) -> Result<(), Fail> {
+    assert_eq!(rt; fault_of_digits(rt.alloc(), b'0', 1_000_000)?, (0, 0));
+    assert_eq!(rt; fault_of_digits(rt.alloc(), b'9', 1_000_000)?, (1, 3));
+    Ok(())
+}
+
+// A script that declares so many objects.
+fn fault_of_objects(alloc: Global, count: u32) -> Result<(u32, u32), Fail> {
+    let mut script = Vec::new(alloc);
+    script.extend_from_slice(b"hosts 1 4")?;
+    for i in 0..count {
+        let line = format!(in alloc; "\nfile a{i} 1")?;
+        script.extend_from_slice(line.as_bytes())?;
+    }
+    Ok(fault_of(alloc, &script))
+}
+
+#[test]
+fn many_objects(rt: HostRuntime) -> Result<(), Fail> {
+    assert_eq!(rt; fault_of_objects(rt.alloc(), 8192)?, (0, 0));
+    assert_eq!(rt; fault_of_objects(rt.alloc(), 8193)?, (8194, 5));
     Ok(())
 }
