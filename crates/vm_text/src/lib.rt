@@ -24,12 +24,8 @@ pub use fields::Line;
 pub use reader::read_script;
 
 #[cfg(test)]
-<<<<<<< HEAD
-mod reader_tests;
-#[cfg(test)]
-mod tests;
-=======
 mod fault_tests;
 #[cfg(test)]
 mod script_tests;
->>>>>>> 50ef5d930c251701cd8a262c78184f080df23b37
+#[cfg(test)]
+mod tests;
