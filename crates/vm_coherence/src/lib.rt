@@ -7,6 +7,8 @@
 
 ghost use Rattle.std.specs.Prelude.{ℕ, List, ◌≡◌, ◌<◌, Some};
 ghost use Rattle.vm_model.specs.Words.{Act, Asking, Unlocking, Doing, Ending};
+ghost use Rattle.vm_model.specs.declared.event.Event.{Event};
+ghost use Rattle.vm_model.specs.Channels.{UpInOrder, up_queue, up_words};
 ghost use Rattle.vm_model.specs.Side.{side};
 ghost use Rattle.vm_model.specs.Server.{first, line, NoRequest, NoUpgrade};
 ghost use Rattle.vm_model.specs.PageLicences.{Licensed};
@@ -66,4 +68,11 @@ pub fn protocol_law()
 pub fn remapping_run()
     ensures licensed { Licensed 16 (page_part 16 0 0 remapping) }
     ensures done { StepsDone (page_part 16 0 0 remapping) }
+{}
+
+/// The words of a page on the way up from a host are the messages of that page on the host's channel
+/// to the object, in order, where what is taken from each channel up is its oldest message.
+#[tactic(auto, using(crate::proofs::Channels::page_queue))]
+pub fn channel_law()
+    ensures { (size : ℕ) (history : List Event) (h o p : ℕ) → UpInOrder history → (side h (page_part size o p history)).up ≡ up_words p (up_queue h o history) }
 {}
