@@ -16,3 +16,4 @@ pub mod Protocol
 pub mod Crossing
 pub mod Remapping
 pub mod Channels
+pub mod Descent
