@@ -15,3 +15,5 @@ pub mod Aligned
 pub mod Protocol
 pub mod Crossing
 pub mod Remapping
+pub mod Channels
+pub mod Descent

@@ -5,8 +5,10 @@
 //! channels, and the server of the page answers by its rows.
 #![tactic(auto)]
 
-ghost use Rattle.std.specs.Prelude.{ℕ, List, ◌≡◌, ◌<◌, Some};
+ghost use Rattle.std.specs.Prelude.{ℕ, List, ◌≡◌, ◌<◌, Some, true};
 ghost use Rattle.vm_model.specs.Words.{Act, Asking, Unlocking, Doing, Ending};
+ghost use Rattle.vm_model.specs.declared.event.Event.{Event};
+ghost use Rattle.vm_model.specs.Channels.{UpInOrder, up_queue, up_words, DownInOrder, down_queue, down_words, last_control};
 ghost use Rattle.vm_model.specs.Side.{side};
 ghost use Rattle.vm_model.specs.Server.{first, line, NoRequest, NoUpgrade};
 ghost use Rattle.vm_model.specs.PageLicences.{Licensed};
@@ -66,4 +68,16 @@ pub fn protocol_law()
 pub fn remapping_run()
     ensures licensed { Licensed 16 (page_part 16 0 0 remapping) }
     ensures done { StepsDone (page_part 16 0 0 remapping) }
+{}
+
+/// A page's words are the messages of its channels, in order, so that first in, first out is said
+/// once for each channel of a whole history. Up: the page's words on the way from a host, where what
+/// is taken from each channel up is its oldest message. Down: those on the way to the live control,
+/// where the same holds of each channel down, nothing is sent to a control before it begins, and a
+/// control has a greater number than those before it.
+#[tactic(auto, using(crate::proofs::Channels::page_queue, crate::proofs::Descent::page_descent, crate::proofs::Descent::page_control))]
+pub fn channel_law()
+    ensures up { (size : ℕ) (history : List Event) (h o p : ℕ) → UpInOrder history → (side h (page_part size o p history)).up ≡ up_words p (up_queue h o history) }
+    ensures down { (size : ℕ) (history : List Event) (h o p : ℕ) → DownInOrder history → (side h (page_part size o p history)).live ≡ true → (side h (page_part size o p history)).down ≡ down_words p (down_queue h o (side h (page_part size o p history)).control history) }
+    ensures control { (size : ℕ) (history : List Event) (h o p : ℕ) → DownInOrder history → (side h (page_part size o p history)).control ≡ last_control h o history }
 {}

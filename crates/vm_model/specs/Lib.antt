@@ -21,3 +21,4 @@ pub mod PageLicences
 pub mod Coherence
 pub mod TaskPlace
 pub mod PagePart
+pub mod Channels
