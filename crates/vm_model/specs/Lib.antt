@@ -8,6 +8,7 @@ pub mod Licences
 pub mod Local
 pub mod Moments
 pub mod Name
+pub mod Prompt
 pub mod Refusal
 pub mod Regions
 pub mod Tasks
