@@ -1,5 +1,5 @@
 // A list that grows at its end, and is seen with its newest item first.
-ghost use Rattle.std.specs.Prelude.{◌≡◌, ◌+◌, ◌≤◌, ◌<◌, ◌∷◌, [], ◌++◌, length, reverse, slice_get, IsOk, OnOk, OnErr, MatchOption};
+ghost use Rattle.std.specs.Prelude.{◌≡◌, ◌+◌, ◌≤◌, ◌<◌, ◌∷◌, [], ◌++◌, length, reverse, insert, slice_get, IsOk, OnOk, OnErr, MatchOption};
 
 use crate::NoMemory;
 use std::alloc::Global;
@@ -73,6 +73,24 @@ impl<T> Listing<T> {
             return Err(NoMemory);
         }
         self.items.push_back(item)?;
+        Ok(())
+    }
+
+    /// Puts an item at an index, counted from the oldest, in front of those that stood there and
+    /// behind it; it fails for want of memory alone.
+    pub fn insert(&mut self, i: u32, item: T) -> Result<(), NoMemory>
+    where
+        T: Drop,
+        requires { i ≤ length self.old.items }
+        ensures ok { OnOk result (reverse self.new.items ≡ insert (reverse self.old.items) i item) }
+        ensures err { OnErr result (self.new.items ≡ self.old.items) }
+        ensures succeeds { 0 < self.old.room → IsOk result }
+        ensures room { self.old.room ≤ self.new.room + 1 }
+    {
+        if self.items.len() >= MOST {
+            return Err(NoMemory);
+        }
+        self.items.insert(i as usize, item)?;
         Ok(())
     }
 

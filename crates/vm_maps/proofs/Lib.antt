@@ -1,0 +1,13 @@
+mod Allowed
+mod Counts
+mod Covered
+mod Entering
+mod Found
+mod Kept
+mod Multiples
+mod Order
+mod Pages
+mod Range
+mod Rewriting
+mod Tasks
+mod Walk

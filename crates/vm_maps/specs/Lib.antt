@@ -1,0 +1,4 @@
+pub mod Judge
+pub mod Maps
+pub mod Rows
+pub mod Tables

@@ -1,0 +1,17 @@
+//! The address maps of tasks: which range of a task's addresses stands for which pages of a region.
+#![tactic(auto)]
+
+mod change;
+mod judge;
+mod maps;
+mod place;
+mod rewrite;
+mod search;
+mod task_map;
+
+pub use change::{MapChange, MapKind};
+pub use maps::Maps;
+pub use place::Place;
+
+#[cfg(test)]
+mod tests;

@@ -1,0 +1,199 @@
+// The maps of all tasks.
+ghost use Rattle.std.specs.Prelude.{◌≡◌, ◌≤◌, [], Some, None, IfOk, IfSome, IsOk, IsSome, IsSomeAnd, IsTrue, OnErr, OnOk, length, reverse};
+ghost use Rattle.vm_base.specs.Entries.{AreEntries, entered, inherited, is_range, most_entries, parts_in, protected, removed, rewritten};
+ghost use Rattle.vm_maps.specs.Judge.{judged, looked_up};
+ghost use Rattle.vm_maps.specs.Maps.{ChangesOnly, IsNewEntry, entries_in, rows_in};
+ghost use Rattle.vm_maps.specs.Rows.{becomes};
+ghost use Rattle.vm_maps.specs.declared.change.MapKind.TheVariants as kind;
+
+use crate::judge::{MOST_ENTRIES, judge_change, look_up};
+use crate::rewrite::{put_entry, rewrite};
+use crate::task_map::{TaskMap, find};
+use crate::{MapChange, Place};
+use std::alloc::Global;
+use std::marker::Model;
+use vm_base::{Access, Code, Entries, NoMemory, PageSize, TaskId};
+
+/// The address maps of tasks, as the Mach 3 kernel interfaces have them.
+///
+/// Contracts see the page size, and each task with its entries by rising address. The entries of a
+/// task don't meet, are of whole pages, and are at most 256.
+#[derive(Drop)]
+pub struct Maps {
+    alloc: Global,
+    size: PageSize,
+    tables: Vec<TaskMap>,
+}
+
+impl Model for Maps {
+    ghost use Rattle.vm_maps.specs.Maps.{Mapped};
+
+    ghost Value = { Mapped };
+
+    ghost use Rattle.vm_maps.specs.Tables.{AreKept, task_rows};
+
+    ghost view = { λ m. record { size = m.size; tasks = task_rows m.tables.items } };
+
+    ghost invariant = { λ m. AreKept m.size m.tables.items };
+}
+
+impl Maps {
+    /// No task has a map.
+    pub fn new(alloc: Global, size: PageSize) -> Maps
+        ensures { result ≡ record { size = size; tasks = [] } }
+    {
+        Maps {
+            alloc,
+            size,
+            tables: Vec::new(alloc),
+        }
+    }
+
+    /// Makes room for `n` further entries in each task.
+    ///
+    /// A task's table is taken whole when its map is made, so there is nothing left to take.
+    pub fn reserve(&mut self, n: u32) -> Result<(), NoMemory>
+        ensures same { self.new ≡ self.old }
+        ensures room { IsOk result }
+    {
+        let _ = n;
+        Ok(())
+    }
+
+    /// Makes the map of a task, without entries.
+    pub fn add_task(&mut self, task: TaskId) -> Result<(), NoMemory>
+        requires { entries_in task.0 self.old ≡ None }
+        ensures ok { OnOk result (ChangesOnly self.old self.new task.0 (Some [])) }
+        ensures err { OnErr result (self.new ≡ self.old) }
+    {
+        let mut entries = Entries::new(self.alloc);
+        entries.reserve(MOST_ENTRIES)?;
+        let i = find(&self.tables, task);
+        self.tables.insert(i, TaskMap { task, entries })?;
+        Ok(())
+    }
+
+    /// Ends the map of a task, and gives its entries.
+    pub fn end_task(&mut self, task: TaskId) -> Entries
+        requires { IsSome (entries_in task.0 self.old) }
+        ensures entries { entries_in task.0 self.old ≡ Some (reverse result.items) }
+        ensures ended { ChangesOnly self.old self.new task.0 None }
+    {
+        let i = find(&self.tables, task);
+        let table = self.tables.remove(i);
+        table.entries
+    }
+
+    /// The entries of a task.
+    pub fn entries(&self, task: TaskId) -> &Entries
+        requires { IsSome (entries_in task.0 self.now) }
+        ensures value { entries_in task.0 self.now ≡ Some (reverse result.now.items) }
+        ensures kept { AreEntries self.now.size (reverse result.now.items) }
+    {
+        let i = find(&self.tables, task);
+        &self.tables[i].entries
+    }
+
+    /// The first of four tests that the change meets, if it meets one.
+    ///
+    /// In their order: `InvalidArgument` where the range isn't one of whole pages below 2^32,
+    /// `InvalidAddress` where a page that is to be protected or inherited is in no entry, `NoSpace`
+    /// where the range of a new entry isn't free, `TableFull` where the task would have more than
+    /// 256 entries.
+    pub fn judge(&self, task: TaskId, change: &MapChange) -> Option<Code>
+        requires { IsSome (entries_in task.0 self.now) }
+        ensures { result ≡ judged self.now.size change.now (rows_in task.0 self.now) }
+    {
+        judge_change(self.size, self.entries(task), change)
+    }
+
+    /// Makes the entry of an Enter; the entries taken away are none.
+    ///
+    /// The task's table has room, so it doesn't fail.
+    pub fn enter(&mut self, task: TaskId, change: &MapChange) -> Result<Entries, NoMemory>
+        requires there { IsSome (entries_in task.0 self.old) }
+        requires kind { change.now.kind ≡ kind.Enter }
+        requires judged { judged self.old.size change.now (rows_in task.0 self.old) ≡ None }
+        requires entry { IsSomeAnd change.now.entry (IsNewEntry self.old.size change.now) }
+        ensures succeeds { IsOk result }
+        ensures taken { IfOk result (λ taken. taken.items ≡ []) }
+        ensures changes { IfSome change.now.entry (λ row. ChangesOnly self.old self.new task.0 (Some (entered row (rows_in task.0 self.old)))) }
+    {
+        let Some(entry) = change.entry else {
+            unreachable!()
+        };
+        let i = find(&self.tables, task);
+        let table = &mut self.tables[i];
+        put_entry(&mut table.entries, entry)?;
+        Ok(Entries::new(self.alloc))
+    }
+
+    /// Takes the range out of the task's entries, which are cut at its ends.
+    ///
+    /// The entries taken away are the parts in the range, by rising address.
+    pub fn remove(&mut self, task: TaskId, change: &MapChange) -> Result<Entries, NoMemory>
+        requires there { IsSome (entries_in task.0 self.old) }
+        requires kind { change.now.kind ≡ kind.Remove }
+        requires judged { judged self.old.size change.now (rows_in task.0 self.old) ≡ None }
+        ensures changes { OnOk result (ChangesOnly self.old self.new task.0 (Some (removed self.old.size change.now.address change.now.bytes (rows_in task.0 self.old)))) }
+        ensures taken { IfOk result (λ taken. reverse taken.items ≡ parts_in self.old.size change.now.address change.now.bytes (rows_in task.0 self.old)) }
+        ensures err { OnErr result (self.new ≡ self.old) }
+    {
+        self.rewrite(task, change)
+    }
+
+    /// Gives the range a protection; the entries are cut at its ends.
+    ///
+    /// The entries taken away are the parts in the range as they were, by rising address.
+    pub fn protect(&mut self, task: TaskId, change: &MapChange) -> Result<Entries, NoMemory>
+        requires there { IsSome (entries_in task.0 self.old) }
+        requires kind { change.now.kind ≡ kind.Protect }
+        requires judged { judged self.old.size change.now (rows_in task.0 self.old) ≡ None }
+        ensures changes { OnOk result (ChangesOnly self.old self.new task.0 (Some (protected self.old.size change.now.address change.now.bytes change.now.prot (rows_in task.0 self.old)))) }
+        ensures taken { IfOk result (λ taken. reverse taken.items ≡ parts_in self.old.size change.now.address change.now.bytes (rows_in task.0 self.old)) }
+        ensures err { OnErr result (self.new ≡ self.old) }
+    {
+        self.rewrite(task, change)
+    }
+
+    /// Gives the range an inheritance; the entries are cut at its ends.
+    ///
+    /// The entries taken away are the parts in the range as they were, by rising address.
+    pub fn inherit(&mut self, task: TaskId, change: &MapChange) -> Result<Entries, NoMemory>
+        requires there { IsSome (entries_in task.0 self.old) }
+        requires kind { change.now.kind ≡ kind.Inherit }
+        requires judged { judged self.old.size change.now (rows_in task.0 self.old) ≡ None }
+        ensures changes { OnOk result (ChangesOnly self.old self.new task.0 (Some (inherited self.old.size change.now.address change.now.bytes change.now.inherit (rows_in task.0 self.old)))) }
+        ensures taken { IfOk result (λ taken. reverse taken.items ≡ parts_in self.old.size change.now.address change.now.bytes (rows_in task.0 self.old)) }
+        ensures err { OnErr result (self.new ≡ self.old) }
+    {
+        self.rewrite(task, change)
+    }
+
+    /// Where an access of an address leads in its region.
+    ///
+    /// `InvalidAddress` where no entry holds the address, and else `ProtectionFailure` where the
+    /// entry doesn't allow the access: a store needs write, a load read.
+    pub fn lookup(&self, task: TaskId, address: u64, need: Access) -> Result<Place, Code>
+        requires { IsSome (entries_in task.0 self.now) }
+        ensures { result ≡ looked_up self.now.size address need (rows_in task.0 self.now) }
+    {
+        look_up(self.size, self.entries(task), address, need)
+    }
+
+    // Cuts a task's entries at the ends of the range, and changes what lies in it.
+    fn rewrite(&mut self, task: TaskId, change: &MapChange) -> Result<Entries, NoMemory>
+        requires there { IsSome (entries_in task.0 self.old) }
+        requires range { IsTrue (is_range self.old.size change.now.address change.now.bytes) }
+        requires few { length (rewritten (becomes change.now) self.old.size change.now.address change.now.bytes (rows_in task.0 self.old)) ≤ most_entries }
+        ensures changes { OnOk result (ChangesOnly self.old self.new task.0 (Some (rewritten (becomes change.now) self.old.size change.now.address change.now.bytes (rows_in task.0 self.old)))) }
+        ensures taken { IfOk result (λ taken. reverse taken.items ≡ parts_in self.old.size change.now.address change.now.bytes (rows_in task.0 self.old)) }
+        ensures err { OnErr result (self.new ≡ self.old) }
+    {
+        let i = find(&self.tables, task);
+        let table = &mut self.tables[i];
+        let made = rewrite(self.alloc, self.size, &table.entries, change)?;
+        table.entries = made.kept;
+        Ok(made.taken)
+    }
+}

@@ -1,0 +1,130 @@
+// Entries with one more, and entries cut at the ends of a range.
+ghost use Rattle.std.specs.Prelude.{◌≡◌, ◌+◌, ◌/◌, ◌≤◌, ◌<◌, ◌^◌, ◌++◌, IfOk, IsOk, OnOk, false, length, option_to_list, reverse};
+ghost use Rattle.std.specs.List.{flat_map};
+ghost use Rattle.vm_base.specs.Entries.{AreEntries, InOrder, cut, entered, meets_range, most_entries, parts_in, rewritten};
+ghost use Rattle.vm_maps.specs.Rows.{becomes, rewritten_one};
+
+use crate::judge::{ADDRESS_END, MOST_ENTRIES};
+use crate::search::count_passed;
+use crate::{MapChange, MapKind};
+use std::alloc::Global;
+use vm_base::{Entries, Entry, NoMemory, PageSize};
+
+// Puts an entry in its place, where a table has room for the most entries.
+pub fn put_entry(entries: &mut Entries, entry: Entry) -> Result<(), NoMemory>
+    requires order { InOrder 0 (2 ^ 32) (reverse entries.old.items) }
+    requires some { 0 < entry.bytes }
+    requires free { meets_range entry.address entry.bytes (reverse entries.old.items) ≡ false }
+    requires few { length entries.old.items < most_entries }
+    requires room { most_entries ≤ length entries.old.items + entries.old.room }
+    ensures succeeds { IsOk result }
+    ensures entered { reverse entries.new.items ≡ entered entry (reverse entries.old.items) }
+    ensures room { most_entries ≤ length entries.new.items + entries.new.room }
+{
+    let at = count_passed(entries, entry.address);
+    entries.insert(at, entry)
+}
+
+// What a change makes of a task's entries: those that the task has then, and the parts in the
+// range as they were.
+#[derive(Drop)]
+pub struct Rewritten {
+    pub kept: Entries,
+    pub taken: Entries,
+}
+
+// Cuts the entries at the ends of the range, and changes what lies in it.
+pub fn rewrite(
+    alloc: Global,
+    size: PageSize,
+    entries: &Entries,
+    change: &MapChange,
+) -> Result<Rewritten, NoMemory>
+    requires entries { AreEntries size (reverse entries.now.items) }
+    requires end { change.now.address + change.now.bytes ≤ 2 ^ 32 }
+    ensures kept { IfOk result (λ made. reverse made.kept.items ≡ rewritten (becomes change.now) size change.now.address change.now.bytes (reverse entries.now.items)) }
+    ensures taken { IfOk result (λ made. reverse made.taken.items ≡ parts_in size change.now.address change.now.bytes (reverse entries.now.items)) }
+    ensures room { IfOk result (λ made. most_entries ≤ length made.kept.items + made.kept.room) }
+{
+    let mut made = Rewritten {
+        kept: Entries::new(alloc),
+        taken: Entries::new(alloc),
+    };
+    made.kept.reserve(MOST_ENTRIES)?;
+    'all: for i in 0..entries.len() {
+        rewrite_entry(size, change, *entries.at(i), &mut made)?;
+    }
+    Ok(made)
+}
+
+// Adds what the change makes of one entry.
+fn rewrite_entry(
+    size: PageSize,
+    change: &MapChange,
+    entry: Entry,
+    made: &mut Rewritten,
+) -> Result<(), NoMemory>
+    requires end { change.now.address + change.now.bytes ≤ 2 ^ 32 }
+    requires high { entry.address + entry.bytes ≤ 2 ^ 32 }
+    requires pages { entry.offset + entry.bytes / size < 2 ^ 32 }
+    ensures kept { OnOk result (reverse made.new.kept.items ≡ reverse made.old.kept.items ++ rewritten_one size change.now entry) }
+    ensures taken { OnOk result (reverse made.new.taken.items ≡ reverse made.old.taken.items ++ cut size change.now.address (change.now.address + change.now.bytes) entry) }
+    ensures room { OnOk result (length made.old.kept.items + made.old.kept.room ≤ length made.new.kept.items + made.new.kept.room) }
+{
+    let end = change.address + change.bytes;
+    let part = cut(size, change.address, end, entry);
+    push_part(&mut made.taken, part)?;
+    push_part(&mut made.kept, cut(size, 0, change.address, entry))?;
+    push_part(&mut made.kept, altered(change, part))?;
+    push_part(&mut made.kept, cut(size, end, ADDRESS_END, entry))?;
+    Ok(())
+}
+
+fn push_part(list: &mut Entries, part: Option<Entry>) -> Result<(), NoMemory>
+    ensures ok { OnOk result (reverse list.new.items ≡ reverse list.old.items ++ option_to_list part) }
+    ensures room { OnOk result (length list.old.items + list.old.room ≤ length list.new.items + list.new.room) }
+{
+    if let Some(part) = part {
+        list.push(part)?;
+    }
+    Ok(())
+}
+
+// What a part in the range becomes.
+fn altered(change: &MapChange, part: Option<Entry>) -> Option<Entry>
+    ensures { option_to_list result ≡ flat_map (becomes change.now) (option_to_list part) }
+{
+    let part = part?;
+    match change.kind {
+        MapKind::Enter => Some(part),
+        MapKind::Remove => None,
+        MapKind::Protect => Some(Entry {
+            prot: change.prot,
+            ..part
+        }),
+        MapKind::Inherit => Some(Entry {
+            inherit: change.inherit,
+            ..part
+        }),
+    }
+}
+
+// The part of an entry from an address on and below another.
+fn cut(size: PageSize, from: u64, to: u64, entry: Entry) -> Option<Entry>
+    requires high { entry.address + entry.bytes ≤ 2 ^ 32 }
+    requires pages { entry.offset + entry.bytes / size < 2 ^ 32 }
+    ensures { option_to_list result ≡ cut size from to entry }
+{
+    let start = from.max(entry.address);
+    let end = to.min(entry.address + entry.bytes);
+    if start >= end {
+        return None;
+    }
+    let pages = (start - entry.address) / u64::from(size.bytes());
+    Some(Entry {
+        address: start,
+        bytes: end - start,
+        offset: entry.offset + pages as u32,
+        ..entry
+    })
+}

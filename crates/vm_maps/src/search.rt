@@ -1,0 +1,96 @@
+// Searches in a task's entries, which stand by rising address.
+ghost use Rattle.std.specs.Prelude.{◌≡◌, ◌+◌, ◌≤◌, ◌<◌, ◌^◌, drop, length, reverse, slice_get};
+ghost use Rattle.vm_base.specs.Entries.{InOrder, entry_at, meets_range};
+ghost use Rattle.vm_maps.specs.Rows.{cuts_at, passed, reaches};
+
+use vm_base::{Entries, Entry};
+
+// The number of entries that end at or in front of an address, which are the first ones.
+pub fn count_passed(entries: &Entries, address: u64) -> u32
+    requires { InOrder 0 (2 ^ 32) (reverse entries.now.items) }
+    ensures value { result ≡ passed address (reverse entries.now.items) }
+    ensures within { result ≤ length entries.now.items }
+{
+    let mut low = 0;
+    let mut high = entries.len();
+    'search: while low < high {
+        let middle = low + (high - low) / 2;
+        let entry = *entries.at(middle);
+        if entry.address + entry.bytes <= address {
+            low = middle + 1;
+        } else {
+            high = middle;
+        }
+    }
+    low
+}
+
+// The first entry that ends behind an address.
+fn first_behind(entries: &Entries, address: u64) -> Option<Entry>
+    requires { InOrder 0 (2 ^ 32) (reverse entries.now.items) }
+    ensures { result ≡ slice_get (reverse entries.now.items) (passed address (reverse entries.now.items)) }
+{
+    let i = count_passed(entries, address);
+    if i < entries.len() {
+        Some(*entries.at(i))
+    } else {
+        None
+    }
+}
+
+// The entry that holds an address.
+#[tactic(auto, using(crate::proofs::Found::found))]
+pub fn entry_at(entries: &Entries, address: u64) -> Option<Entry>
+    requires { InOrder 0 (2 ^ 32) (reverse entries.now.items) }
+    ensures { result ≡ entry_at address (reverse entries.now.items) }
+{
+    match first_behind(entries, address) {
+        Some(entry) if entry.address <= address => Some(entry),
+        _ => None,
+    }
+}
+
+// Whether an entry has an address of the range.
+#[tactic(auto, using(crate::proofs::Found::found))]
+pub fn meets_range(entries: &Entries, address: u64, bytes: u64) -> bool
+    requires order { InOrder 0 (2 ^ 32) (reverse entries.now.items) }
+    requires some { 0 < bytes }
+    requires end { address + bytes ≤ 2 ^ 32 }
+    ensures { result ≡ meets_range address bytes (reverse entries.now.items) }
+{
+    match first_behind(entries, address) {
+        Some(entry) => entry.address < address + bytes,
+        None => false,
+    }
+}
+
+// How many entries have addresses on both sides of a boundary: one or none.
+#[tactic(auto, using(crate::proofs::Found::found))]
+pub fn count_cuts(entries: &Entries, address: u64) -> u32
+    requires { InOrder 0 (2 ^ 32) (reverse entries.now.items) }
+    ensures value { result ≡ cuts_at address (reverse entries.now.items) }
+    ensures few { result ≤ 1 }
+{
+    match first_behind(entries, address) {
+        Some(entry) if entry.address < address => 1,
+        _ => 0,
+    }
+}
+
+// Whether the entries leave no gap from an address up to another.
+pub fn is_covered(entries: &Entries, from: u64, to: u64) -> bool
+    requires { InOrder 0 (2 ^ 32) (reverse entries.now.items) }
+    ensures { result ≡ reaches from to (drop (passed from (reverse entries.now.items)) (reverse entries.now.items)) }
+{
+    let mut i = count_passed(entries, from);
+    let mut reached = from;
+    'walk: while reached < to && i < entries.len() {
+        let entry = *entries.at(i);
+        if entry.address > reached {
+            return false;
+        }
+        reached = entry.address + entry.bytes;
+        i += 1;
+    }
+    to <= reached
+}
