@@ -1,5 +1,5 @@
 // The maps of all tasks.
-ghost use Rattle.std.specs.Prelude.{◌≡◌, ◌≤◌, [], Some, None, IfOk, IfSome, IsOk, IsSome, IsSomeAnd, IsTrue, OnErr, OnOk, length, reverse};
+ghost use Rattle.std.specs.Prelude.{◌≡◌, ◌≤◌, [], Some, None, IfOk, IfSome, IsOk, IsSome, IsSomeAnd, IsTrue, OnErr, OnOk, is_some, length, reverse};
 ghost use Rattle.vm_base.specs.Entries.{AreEntries, entered, inherited, is_range, most_entries, parts_in, protected, removed, rewritten};
 ghost use Rattle.vm_maps.specs.Judge.{judged, looked_up};
 ghost use Rattle.vm_maps.specs.Maps.{ChangesOnly, IsNewEntry, entries_in, rows_in};
@@ -82,6 +82,14 @@ impl Maps {
         let i = find(&self.tables, task);
         let table = self.tables.remove(i);
         table.entries
+    }
+
+    /// Whether a task has a map.
+    pub fn has(&self, task: TaskId) -> bool
+        ensures { result ≡ is_some (entries_in task.0 self.now) }
+    {
+        let i = find(&self.tables, task);
+        i < self.tables.len() && self.tables[i].task.0 == task.0
     }
 
     /// The entries of a task.

@@ -1,5 +1,6 @@
 pub mod Bytes
 pub mod Chains
+pub mod Flat
 pub mod Follows
 pub mod Frames
 pub mod Legal
