@@ -1,10 +1,11 @@
 -- Maps by rising task: where one stands, and what an edit there leaves.
-use Rattle.std.proofs.Common.{ℕ, zero, suc, ◌≡◌, ◌<◌, ◌≤◌, ◌==◌, true, false, List, [], ◌∷◌, length, get_or, set, Option, Some, None, refl, sym, ◌∙◌, ap, subst, ⊎_elim, arith}
+use Rattle.std.proofs.Common.{ℕ, zero, suc, ◌≡◌, ◌<◌, ◌≤◌, ◌==◌, Bool, true, false, List, [], ◌∷◌, length, get_or, set, Option, Some, None, refl, sym, ◌∙◌, ap, subst, ⊎_elim, arith}
 use Rattle.std.proofs.lemmas.Bool.{cases_lt, cases_order, false≢true}
 use Rattle.std.proofs.lemmas.Bool.Decides.{nat_tests}
+use Rattle.std.proofs.lemmas.Option.{slice_get_past, slice_get_read}
 use Rattle.std.specs.List.{insert, remove}
 use Rattle.std.specs.List.Sorted.{IsNonDecreasingBy}
-use Rattle.std.specs.Prelude.{IsSome, nat_lt, unwrap_or, if◌then◌else◌}
+use Rattle.std.specs.Prelude.{IsSome, is_some, slice_get, nat_lt, unwrap_or, if◌then◌else◌}
 use Rattle.vm_base.specs.Entries.{AreEntries, most_entries}
 use Rattle.vm_base.specs.Listing.{Listed}
 use Rattle.vm_base.specs.declared.ids.TaskId.{TaskId}
@@ -53,6 +54,32 @@ none_among from task (table ∷ tables) by_task less =
     let rest = none_among (suc table.task.0) task tables by_task.1 (omega (arith, by_task.0)) in
     let other : task < table.task.0 = omega (arith, by_task.0) in
     grind (arith, nat_tests)
+
+-- what stands at a task's rank tells whether it has a map
+abbrev pub is_named : ℕ → Option TaskMap → Bool
+is_named task None = false
+is_named task (Some table) = table.task.0 == task
+
+pub has_among : (from task : ℕ) (tables : List TaskMap) → ByTask from tables → is_some (entries_among task (task_rows tables)) ≡ is_named task (slice_get tables (rank task tables))
+has_among from task [] by_task = refl
+has_among from task (table ∷ tables) by_task =
+    let front : table.task.0 < task → is_some (entries_among task (task_rows (table ∷ tables))) ≡ is_named task (slice_get (table ∷ tables) (rank task (table ∷ tables)))
+    = λ less.
+    let yes : nat_lt table.task.0 task ≡ true = grind (arith, nat_tests) in
+    let no : (table.task.0 == task) ≡ false = grind (arith, nat_tests) in
+    rw (yes, no) (has_among (suc table.task.0) task tables by_task.1) in
+    let same : table.task.0 ≡ task → is_some (entries_among task (task_rows (table ∷ tables))) ≡ is_named task (slice_get (table ∷ tables) (rank task (table ∷ tables)))
+    = λ e.
+    let no : nat_lt table.task.0 task ≡ false = grind (arith, nat_tests) in
+    let yes : (table.task.0 == task) ≡ true = grind (arith, nat_tests) in
+    rw (no, yes) refl in
+    let behind : task < table.task.0 → is_some (entries_among task (task_rows (table ∷ tables))) ≡ is_named task (slice_get (table ∷ tables) (rank task (table ∷ tables)))
+    = λ less.
+    let no : nat_lt table.task.0 task ≡ false = grind (arith, nat_tests) in
+    let apart : (table.task.0 == task) ≡ false = grind (arith, nat_tests) in
+    let none = none_among (suc table.task.0) task tables by_task.1 (omega arith) in
+    rw (no, apart, none) refl in
+    ⊎_elim same (⊎_elim front behind) (cases_order table.task.0 task)
 
 first_stands : (task : ℕ) (table : TaskMap) (tables : List TaskMap) → table.task.0 ≡ task → Stands task (table ∷ tables)
 first_stands task table tables same =
@@ -242,3 +269,19 @@ task_map_read size tables maps task i table view stand read =
 
 pub entries_read : (size : ℕ) (maps : Mapped) (task : ℕ) (table : TaskMap) → IsTaskMap size maps task table → AreEntries maps.size (rows_in task maps)
 entries_read size maps task table read = rw (read.size, read.rows) read.kept.entries
+
+pub has_here : (size : ℕ) (tables found : List TaskMap) (maps : Mapped) (task i count : ℕ) (table : TaskMap) → seen size tables ≡ maps → AreKept size tables → found ≡ tables → i ≡ rank task found
+    → count ≡ length tables → i < count → table ≡ get_or tables i table → (table.task.0 == task) ≡ is_some (entries_in task maps)
+has_here size tables found maps task i count table view kept same place counted inside is =
+    let read : slice_get tables i ≡ Some table = slice_get_read tables count i table counted inside is in
+    let at : i ≡ rank task tables = place ∙ ap (rank task) same in
+    let told = has_among 0 task tables kept.by_task in
+    rw (← view, told, ← at, read) refl
+
+pub has_past : (size : ℕ) (tables found : List TaskMap) (maps : Mapped) (task i count : ℕ) → seen size tables ≡ maps → AreKept size tables → found ≡ tables → i ≡ rank task found
+    → count ≡ length tables → count ≤ i → false ≡ is_some (entries_in task maps)
+has_past size tables found maps task i count view kept same place counted behind =
+    let read : slice_get tables i ≡ None = slice_get_past tables i (omega arith) in
+    let at : i ≡ rank task tables = place ∙ ap (rank task) same in
+    let told = has_among 0 task tables kept.by_task in
+    rw (← view, told, ← at, read) refl

@@ -1,7 +1,7 @@
 // The maps of all tasks.
-ghost use Rattle.std.specs.Prelude.{◌≡◌, ◌≤◌, [], Some, None, IfOk, IfSome, IsOk, IsSome, IsSomeAnd, IsTrue, OnErr, OnOk, length};
+ghost use Rattle.std.specs.Prelude.{◌≡◌, ◌≤◌, [], Some, None, IfOk, IfSome, IsOk, IsSome, IsSomeAnd, IsTrue, OnErr, OnOk, is_some, length, reverse};
 ghost use Rattle.std.specs.Option.{option_map};
-ghost use Rattle.vm_base.specs.Entries.{AreEntries, by_address, entered, inherited, is_range, mapping, most_entries, protected, removed, rewritten};
+ghost use Rattle.vm_base.specs.Entries.{AreEntries, by_address, entered, inherited, is_range, mapping, most_entries, parts_in, protected, removed, rewritten};
 ghost use Rattle.vm_maps.specs.Judge.{judged, looked_up};
 ghost use Rattle.vm_maps.specs.Maps.{ChangesOnly, IsNewEntry, Remaps, entries_in, parts_for, rows_in, with_inherit, with_prot};
 ghost use Rattle.vm_maps.specs.Rows.{becomes, changed_by};
@@ -87,6 +87,14 @@ impl Maps {
         let i = find(&self.tables, task);
         let table = self.tables.remove(i);
         table.entries
+    }
+
+    /// Whether a task has a map.
+    pub fn has(&self, task: TaskId) -> bool
+        ensures { result ≡ is_some (entries_in task.0 self.now) }
+    {
+        let i = find(&self.tables, task);
+        i < self.tables.len() && self.tables[i].task.0 == task.0
     }
 
     /// The entries of a task.

@@ -1,13 +1,8 @@
 -- Where an access leads: the places of its page, and the first of them that has it.
-use Rattle.std.specs.Prelude.{ℕ, ◌+◌, ◌-◌, ◌/◌, List, [], ◌∷◌, if◌then◌else◌, Option, Some, None}
-use Rattle.vm_base.specs.declared.entry.Entry.{Entry}
+use Rattle.std.specs.Prelude.{ℕ, List, [], ◌∷◌, if◌then◌else◌, Option, Some, None}
 use Rattle.vm_model.specs.declared.event.Event.{Event}
 use Rattle.vm_model.specs.Local.{Place, local}
 use Rattle.vm_model.specs.Regions.{top_of}
-
--- the page of its region that an address means through an entry, for a page size
-abbrev pub page_of : ℕ → Entry → ℕ → ℕ
-page_of size entry address = entry.offset + (address - entry.address) / size
 
 -- the places of a page of a region, the top first
 abbrev pub places : ℕ → ℕ → List Event → List Place

@@ -19,6 +19,7 @@ head header past (command.Allocate task address bytes) =
     (event.RegionMade (record { 0 = next_region header past }) (record { 0 = next_object header past }) (bytes / header.size)
     ∷ event.Entered task address bytes (record { 0 = next_region header past }) 0 (record { read = true; write = true }) Copy ∷ [])
 head header past (command.Load task address size) = Some (event.BegunLoad task address size ∷ [])
+head header past (command.Store task address size value) = Some (event.BegunStore task address size value ∷ [])
 head header past other = None
 
 -- the head, and behind it events that have their causes

@@ -1,6 +1,7 @@
 pub mod Bytes
 pub mod Chains
 pub mod Fault
+pub mod Flat
 pub mod Follows
 pub mod Frames
 pub mod Legal

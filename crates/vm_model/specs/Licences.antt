@@ -1,28 +1,26 @@
 -- Why an event stands behind the head of a command: its cause, in the events in front of it.
-use Rattle.std.specs.Prelude.{ℕ, ◌≡◌, List, [], ◌∷◌, ◌++◌, Some, None}
+use Rattle.std.specs.Prelude.{ℕ, ◌≡◌, ◌%◌, true, List, [], ◌∷◌, ◌++◌, Some, None}
 use Rattle.vm_base.specs.declared.entry.Entry.{Entry}
-use Rattle.vm_base.specs.Entries.{entry_at}
+use Rattle.vm_base.specs.Entries.{entry_at, page_at}
 use Rattle.vm_model.specs.declared.event.Event.{Event}
 use Rattle.vm_model.specs.declared.event.Event.TheVariants as event
 use Rattle.vm_model.specs.declared.script.Header.{Header}
 use Rattle.vm_model.specs.Tasks.{host_of, entries_of}
-use Rattle.vm_model.specs.Waiting.{waiting, Loading}
-use Rattle.vm_model.specs.Chains.{page_of, places, walk}
-use Rattle.vm_model.specs.Local.{Place}
+use Rattle.vm_model.specs.Waiting.{Access, Loading, Storing, address_of, waiting}
+use Rattle.vm_model.specs.Chains.{places, walk}
+use Rattle.vm_model.specs.Local.{Place, local}
 
--- a task's load waits, and where it leads
-pub record Loads (header : Header) (task : ℕ) (past : List Event) : Type 0 where
-  pub address : ℕ
-  pub bytes : ℕ
+-- a task waits with an access: its host, and the entry through which the access leads
+pub record Waits (task : ℕ) (access : Access) (past : List Event) : Type 0 where
   pub host : ℕ
   pub entry : Entry
-  pub waits : waiting task past ≡ Some (Loading address bytes)
+  pub waits : waiting task past ≡ Some access
   pub lives : host_of task past ≡ Some host
-  pub found : entry_at address (entries_of task past) ≡ Some entry
+  pub found : entry_at (address_of access) (entries_of task past) ≡ Some entry
 
--- the places of the page that it reads
-abbrev pub its_places : (header : Header) (task : ℕ) (past : List Event) → Loads header task past → List Place
-its_places header task past load = places load.entry.region.0 (page_of header.size load.entry load.address) past
+-- the places of its page, for a page size
+abbrev pub its_places : (size task : ℕ) (access : Access) (past : List Event) → Waits task access past → List Place
+its_places size task access past it = places it.entry.region.0 (page_at size (address_of access) it.entry) past
 
 -- the top place of these
 abbrev pub IsTop : List Place → Place → Type 0
@@ -33,14 +31,20 @@ IsTop (place ∷ others) top = place ≡ top
 abbrev pub Licensed : Header → Event → List Event → Type 0
 -- zeros come to the top place of a waiting access that finds its page nowhere
 Licensed header (event.Zeroed host object page) past =
-    (task : ℕ) × (load : Loads header task past)
-    × (load.host ≡ host.0)
-    × IsTop (its_places header task past load) (record { object = object.0; page = page.0 })
-    × (walk header.size load.host (its_places header task past load) past ≡ None)
+    (task : ℕ) × (access : Access) × (it : Waits task access past)
+    × (it.host ≡ host.0)
+    × IsTop (its_places header.size task access past it) (record { object = object.0; page = page.0 })
+    × (walk header.size it.host (its_places header.size task access past it) past ≡ None)
 -- a load ends with the page where its walk found it
 Licensed header (event.Loaded task object page value) past =
-    (load : Loads header task.0 past)
-    × (walk header.size load.host (its_places header task.0 past load) past ≡ Some (record { object = object.0; page = page.0 }))
+    (address : ℕ) × (bytes : ℕ) × (it : Waits task.0 (Loading address bytes) past)
+    × (walk header.size it.host (its_places header.size task.0 (Loading address bytes) past it) past ≡ Some (record { object = object.0; page = page.0 }))
+-- a store ends with the page at its top place, which is here: it puts its own value there
+Licensed header (event.Stored task object page at size value) past =
+    (address : ℕ) × (it : Waits task.0 (Storing address size value) past)
+    × IsTop (its_places header.size task.0 (Storing address size value) past it) (record { object = object.0; page = page.0 })
+    × ((local header.size it.host (record { object = object.0; page = page.0 }) past).here ≡ true)
+    × (at ≡ address % header.size)
 Licensed header other past = ⊥
 
 -- each of these events, on top of a past, has its cause

@@ -1,5 +1,5 @@
--- Regions: their numbers, their objects, and the bytes that the flat map has for them.
-use Rattle.std.specs.Prelude.{ℕ, ◌+◌, List, [], ◌∷◌, length, replicate, if◌then◌else◌, ◌==◌, Option, Some, None}
+-- Regions: their numbers and their objects.
+use Rattle.std.specs.Prelude.{ℕ, ◌+◌, List, [], ◌∷◌, length, if◌then◌else◌, ◌==◌, Option, Some, None}
 use Rattle.vm_model.specs.declared.event.Event.{Event}
 use Rattle.vm_model.specs.declared.event.Event.TheVariants.{RegionMade}
 use Rattle.vm_model.specs.declared.script.Header.{Header}
@@ -21,9 +21,3 @@ abbrev pub top_of : ℕ → List Event → Option ℕ
 top_of region [] = None
 top_of region (RegionMade made object pages ∷ past) = if made.0 == region then Some object.0 else top_of region past
 top_of region (event ∷ past) = top_of region past
-
--- the bytes of a page of a region in the flat map, for a page size: a new region is zeros
-abbrev pub flat_page : ℕ → ℕ → ℕ → List Event → List ℕ
-flat_page size region page [] = []
-flat_page size region page (RegionMade made object pages ∷ past) = if made.0 == region then replicate size 0 else flat_page size region page past
-flat_page size region page (event ∷ past) = flat_page size region page past

@@ -1,22 +1,22 @@
 -- What was read is what the source had, and how a run ends tells the status.
 use Rattle.std.proofs.Common.{◌≡◌, ℕ, ◌<◌, ◌≤◌, ◌⊎◌, inl, inr, List, [], ◌++◌, length, true, refl, ap, sym, ◌∙◌, subst, arith, Some, None, Option, nat_lt, length-append}
-use Rattle.std.specs.Prelude.{Result, Ok, Err, IfSome}
+use Rattle.std.specs.Prelude.{IfSome}
 use Rattle.std.specs.Io.KnownBytes.{Appends, Consumes, IsAtEnd}
 use Rattle.std.proofs.KnownBytes.{Consumes-all}
 use Rattle.std.proofs.lemmas.Bool.Decides.{nat_tests}
-use Rattle.vm_base.specs.declared.failure.WriteStop.{WriteStop}
-use Rattle.vm_base.specs.declared.failure.WriteStop.TheVariants as stop
 use Rattle.vm_model.specs.declared.event.Event.{Event}
 use Rattle.vm_model.specs.declared.script.Script.{Script}
 use Rattle.vm_model.specs.Legal.{Legal, LegalSoFar}
 use Rattle.vm_model.specs.Text.{text}
+use Rattle.vm_top.specs.declared.run.RunEnd.{RunEnd}
+use Rattle.vm_top.specs.declared.run.RunEnd.TheVariants as ends
 use Rattle.vm_top.specs.declared.top.Status.{Status}
 use Rattle.vm_top.specs.declared.top.Status.TheVariants as status
 use Rattle.vm_top.specs.Form.{Unformed, read_form, IsReadAs}
 use Rattle.vm_top.specs.Reading.{ReadWhole}
-use Rattle.vm_top.specs.Run.{RanAs, WroteButLast}
+use Rattle.vm_top.specs.Run.{IsFull, RanAs, WroteButLast}
 use Rattle.vm_top.specs.Status.{status_of}
-use Rattle.vm_top.specs.Top.{IsReadFrom, IsUnformedFrom, IsDone, IsOutputFault, IsNoMemory, HasRun}
+use Rattle.vm_top.specs.Top.{IsReadFrom, IsUnformedFrom, IsDone, IsEventLimit, IsOutputFault, IsNoMemory, HasRun}
 use Rattle.vm_top.specs.Writing.{WroteStart}
 
 long_unformed : (bytes : List ℕ) → 1048576 < length bytes → read_form bytes ≡ Unformed 0
@@ -49,20 +49,29 @@ read_from told after bytes text script read same as_script = λ whole is. (as_sc
 pub unformed_from : (told after : Option (List ℕ)) (bytes text : List ℕ) (line : ℕ) → ReadWhole told after bytes → text ≡ bytes → read_form text ≡ Unformed line → IsUnformedFrom told line
 unformed_from told after bytes text line read same unformed = λ whole is. read_same told after bytes whole read is ∙ (ap read_form (sym same) ∙ unformed)
 
-done_case : (run : Script) (h : List Event) (end : Result (Unit {0}) WriteStop) (before after : Option (List ℕ)) → status_of end ≡ status.Done → RanAs run h end before after → Legal run h × Appends before after (text h)
-done_case run h (Ok done) before after is ran = ran
-done_case run h (Err stop.Failed) before after is ran = absurd (cc)
-done_case run h (Err stop.NoMemory) before after is ran = absurd (cc)
+done_case : (run : Script) (h : List Event) (end : RunEnd) (before after : Option (List ℕ)) → status_of end ≡ status.Done → RanAs run h end before after → Legal run h × Appends before after (text h)
+done_case run h ends.Done before after is ran = ran
+done_case run h ends.Failed before after is ran = absurd (cc)
+done_case run h ends.NoMemory before after is ran = absurd (cc)
+done_case run h ends.EventLimit before after is ran = absurd (cc)
 
-output_case : (run : Script) (h : List Event) (end : Result (Unit {0}) WriteStop) (before after : Option (List ℕ)) → status_of end ≡ status.OutputFault → RanAs run h end before after → LegalSoFar run h × WroteButLast before after h
-output_case run h (Ok done) before after is ran = absurd (cc)
-output_case run h (Err stop.Failed) before after is ran = ran
-output_case run h (Err stop.NoMemory) before after is ran = absurd (cc)
+output_case : (run : Script) (h : List Event) (end : RunEnd) (before after : Option (List ℕ)) → status_of end ≡ status.OutputFault → RanAs run h end before after → LegalSoFar run h × WroteButLast before after h
+output_case run h ends.Done before after is ran = absurd (cc)
+output_case run h ends.Failed before after is ran = ran
+output_case run h ends.NoMemory before after is ran = absurd (cc)
+output_case run h ends.EventLimit before after is ran = absurd (cc)
 
-memory_case : (run : Script) (h : List Event) (end : Result (Unit {0}) WriteStop) (before after : Option (List ℕ)) → status_of end ≡ status.NoMemory → RanAs run h end before after → LegalSoFar run h × WroteStart before after (text h)
-memory_case run h (Ok done) before after is ran = absurd (cc)
-memory_case run h (Err stop.Failed) before after is ran = absurd (cc)
-memory_case run h (Err stop.NoMemory) before after is ran = ran
+memory_case : (run : Script) (h : List Event) (end : RunEnd) (before after : Option (List ℕ)) → status_of end ≡ status.NoMemory → RanAs run h end before after → LegalSoFar run h × WroteStart before after (text h)
+memory_case run h ends.Done before after is ran = absurd (cc)
+memory_case run h ends.Failed before after is ran = absurd (cc)
+memory_case run h ends.NoMemory before after is ran = ran
+memory_case run h ends.EventLimit before after is ran = absurd (cc)
+
+full_case : (run : Script) (h : List Event) (end : RunEnd) (before after : Option (List ℕ)) → status_of end ≡ status.EventLimit → RanAs run h end before after → IsFull run h × Appends before after (text h)
+full_case run h ends.Done before after is ran = absurd (cc)
+full_case run h ends.Failed before after is ran = absurd (cc)
+full_case run h ends.NoMemory before after is ran = absurd (cc)
+full_case run h ends.EventLimit before after is ran = ran
 
 pub done_of : (told before after : Option (List ℕ)) (run : Script) (script : Option Script) (h : List Event) (s : Status)
     → IsReadFrom told run → HasRun run script h s before after → s ≡ status.Done → IsDone told script h before after
@@ -81,3 +90,9 @@ pub memory_of : (told before after : Option (List ℕ)) (run : Script) (script :
 memory_of told before after run script h s read has is =
     let ran = memory_case run h has.end before after (sym has.is ∙ is) has.ran in
     inl (record { run = run; held = has.held; read = read; legal = ran.0 }, ran.1)
+
+pub full_of : (told before after : Option (List ℕ)) (run : Script) (script : Option Script) (h : List Event) (s : Status)
+    → IsReadFrom told run → HasRun run script h s before after → s ≡ status.EventLimit → IsEventLimit told script h before after
+full_of told before after run script h s read has is =
+    let ran = full_case run h has.end before after (sym has.is ∙ is) has.ran in
+    record { run = run; held = has.held; read = read; full = ran.0; written = ran.1 }

@@ -1,7 +1,11 @@
 pub mod Ends
+pub mod Firsts
 pub mod Forms
-pub mod Loads
+pub mod Grants
+pub mod Kepts
+pub mod Refusals
 pub mod Starts
 pub mod Steps
+pub mod Tables
 pub mod Words
 pub mod Writings

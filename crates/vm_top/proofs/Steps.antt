@@ -1,68 +1,110 @@
--- The history stays legal over a refused command, a new task and a new range, and the parts stay as it says.
-use Rattle.std.proofs.Common.{◌≡◌, nat_lt, ℕ, zero, suc, ◌+◌, ◌*◌, ◌/◌, ◌<◌, ◌≤◌, ◌^◌, ◌||◌, Bool, true, false, not, List, [], ◌∷◌, length, get_or, replicate, refl, ap, sym, ◌∙◌, subst, arith, Some, None, Option, cond}
+-- A command's step was made, by what each part of the runner is then.
+use Rattle.std.proofs.Common.{◌≡◌, ℕ, ◌+◌, ◌-◌, ◌/◌, ◌%◌, ◌<◌, ◌≤◌, ◌==◌, ◌||◌, nat_lt, nat_le, not, Bool, true, false, List, [], ◌∷◌, length, replicate, slice_range, refl, sym, ◌∙◌, subst, arith, Some, None, Option}
 use Rattle.std.proofs.lemmas.Bool.Decides.{nat_tests}
-use Rattle.std.proofs.lemmas.List.{length-replicate}
-use Rattle.std.proofs.Math.Nat.{div-le_of_le-mul, mul_comm}
+use Rattle.std.proofs.Math.Nat.{div-mul-le_self}
+use Rattle.std.proofs.lemmas.Nat.{le-div}
+use Rattle.std.specs.Prelude.{is_some, IfSome, OnOk, Result, Ok, Err, ◌≢◌}
 use Rattle.vm_base.specs.declared.code.Code.{Code}
 use Rattle.vm_base.specs.declared.code.Code.TheVariants as code
+use Rattle.vm_base.specs.declared.entry.Entry.{Entry}
+use Rattle.vm_base.specs.declared.ids.HostId.{HostId}
+use Rattle.vm_base.specs.declared.ids.TaskId.{TaskId}
+use Rattle.vm_base.specs.Entries.{entered, is_range, meets_range, most_entries, page_at}
+use Rattle.vm_base.specs.Pages.{IsAccessSize, access_fits, little_endian, little_endian_bytes, page_positive, with_bytes}
 use Rattle.vm_model.specs.declared.event.Event.{Event}
 use Rattle.vm_model.specs.declared.event.Event.TheVariants as event
 use Rattle.vm_model.specs.declared.command.Command.{Command}
 use Rattle.vm_model.specs.declared.command.Command.TheVariants as command
 use Rattle.vm_model.specs.declared.command.Numbered.{Numbered}
 use Rattle.vm_model.specs.declared.script.Header.{Header}
-use Rattle.vm_model.specs.Moments.{EachMoment}
-use Rattle.vm_model.specs.Refusal.{refusal, where_true, is_range, is_full}
-use Rattle.std.specs.Prelude.{is_none, is_some}
-use Rattle.vm_base.specs.Entries.{meets_range}
-use Rattle.vm_model.specs.Tasks.{host_of, entries_of}
-use Rattle.vm_model.specs.Waiting.{waiting}
-use Rattle.vm_model.specs.Frames.{FramesSuffice}
-use Rattle.vm_model.specs.Legal.{LegalFor}
-use Rattle.vm_top.specs.Runner.{Parts, KeepsLegal, count_here, the_task, the_host, the_region, the_object, entered_whole}
+use Rattle.vm_model.specs.Refusal.{refusal, where_true}
+use Rattle.vm_model.specs.Waiting.{Loading, Storing, waiting}
+use Rattle.vm_maps.specs.declared.place.Place.{Place}
+use Rattle.vm_maps.specs.Maps.{ChangesOnly, entries_in, rows_in}
+use Rattle.vm_top.specs.Pages.{held, put_in, room_all}
+use Rattle.vm_top.specs.Refusing.{LeadsTo, range_code}
+use Rattle.vm_top.specs.Runner.{Agrees, HasFrames, IsBuilt, IsChange, Stepped, pages_asked, the_host, whole_entry}
+use Rattle.vm_top.specs.declared.runner.Runner.{Runner}
+use Rattle.vm_top.proofs.Grants.{Leads, begun_load, begun_store, itself, legal_hit, legal_miss, legal_range, legal_refused, legal_store, legal_store_miss, legal_task, ranged, wait_over}
+use Rattle.vm_top.proofs.Kepts.{kept_range, kept_stored, kept_task, kept_zeroed}
+use Rattle.vm_top.proofs.Refusals.{allocate_code}
+use Rattle.vm_top.proofs.Tables.{held_put, length_put, pages_put, put_twice, room_added, room_put, with_region}
 
-pub moment_now : (P : List Event → Type 0) (h : List Event) → EachMoment P h → P h
-moment_now P [] each = each
-moment_now P (e ∷ past) each = each.0
+-- what follows where a call succeeds
+pub on_ok : {E : Type 0} (result : Result (Unit {0}) E) (P Q : Type 0) → (P → Q) → OnOk result P → OnOk result Q
+on_ok (Ok done) P Q f p = f p
+on_ok (Err e) P Q f p = tt
+
+-- a command that is built and no access is on tasks and entries
+pub is_change : (c : Command) → IsBuilt c → ((task : TaskId) (address size : ℕ) → c ≢ command.Load task address size) → ((task : TaskId) (address size value : ℕ) → c ≢ command.Store task address size value) → IsChange c
+is_change (command.Task task host) built load store = built.1
+is_change (command.Allocate task address bytes) built load store = tt
+is_change (command.Load task address size) built load store = absurd (load task address size refl)
+is_change (command.Store task address size value) built load store = absurd (store task address size value refl)
+is_change (command.Fork task child) built load store = absurd built
+is_change (command.Exit task) built load store = absurd built
+is_change (command.Map task address bytes object offset) built load store = absurd built
+is_change (command.Deallocate task address bytes) built load store = absurd built
+is_change (command.Protect task address bytes prot) built load store = absurd built
+is_change (command.Inherit task address bytes inherit) built load store = absurd built
+is_change (command.Copy task address bytes target to) built load store = absurd built
+is_change (command.Take channel) built load store = absurd built
+is_change (command.Settle count) built load store = absurd built
+is_change (command.Pageout host count) built load store = absurd built
+is_change (command.Clean object page count flush) built load store = absurd built
+is_change (command.Wire host count) built load store = absurd built
+is_change (command.Unwire host count) built load store = absurd built
+is_change (command.FailFiles count) built load store = absurd built
+is_change (command.FailPaging count) built load store = absurd built
+is_change (command.Say host object message) built load store = absurd built
+
+pub no_change : (c : Command) → IsChange c → ((task : TaskId) (host : HostId) → c ≢ command.Task task host) → ((task : TaskId) (address bytes : ℕ) → c ≢ command.Allocate task address bytes) → ⊥
+no_change (command.Task task host) change made range = made task host refl
+no_change (command.Allocate task address bytes) change made range = range task address bytes refl
+no_change (command.Load task address size) change made range = change
+no_change (command.Store task address size value) change made range = change
+no_change (command.Fork task child) change made range = change
+no_change (command.Exit task) change made range = change
+no_change (command.Map task address bytes object offset) change made range = change
+no_change (command.Deallocate task address bytes) change made range = change
+no_change (command.Protect task address bytes prot) change made range = change
+no_change (command.Inherit task address bytes inherit) change made range = change
+no_change (command.Copy task address bytes target to) change made range = change
+no_change (command.Take channel) change made range = change
+no_change (command.Settle count) change made range = change
+no_change (command.Pageout host count) change made range = change
+no_change (command.Clean object page count flush) change made range = change
+no_change (command.Wire host count) change made range = change
+no_change (command.Unwire host count) change made range = change
+no_change (command.FailFiles count) change made range = change
+no_change (command.FailPaging count) change made range = change
+no_change (command.Say host object message) change made range = change
 
 -- a command by its parts
-pub keeps_as : (header : Header) (numbered : Numbered) (c : Command) (old new : List Event)
-    → numbered.command ≡ c → KeepsLegal header (record { line = numbered.line; command = c }) old new → KeepsLegal header numbered old new
-keeps_as header numbered c old new is keeps run legal =
-    let P : Command → Type 0 = λ z. LegalFor header (record { line = numbered.line; command = z } ∷ run) new in
-    subst P (sym is) (keeps run legal)
+pub stepped_as : (header : Header) (numbered : Numbered) (c : Command) (old new : Runner) → numbered.command ≡ c → Stepped header (record { line = numbered.line; command = c }) old new → Stepped header numbered old new
+stepped_as header numbered c old new is stepped =
+    let P : Command → Type 0 = λ z. Stepped header (record { line = numbered.line; command = z }) old new in
+    subst P (sym is) stepped
 
--- a refused command adds its line and its code
-pub legal_refused : (header : Header) (c : Numbered) (why : Code) (h : List Event)
-    → refusal header h c.command ≡ Some why → KeepsLegal header c h (event.Refused why ∷ event.Line c.line ∷ h)
-legal_refused header c why h refused run legal =
-    let now = moment_now (FramesSuffice header) h legal.frames in
-    record {
-      follows = (h, event.Refused why ∷ [], refl, rw refused refl, legal.follows);
-      own_bytes = (tt, (tt, legal.own_bytes));
-      flat_bytes = (tt, (tt, legal.flat_bytes));
-      frames = (now, (now, legal.frames));
-      prompt = (legal.prompt_at_end, legal.prompt);
-      prompt_at_end = legal.prompt_at_end;
-    }
+pub stepped_refused : (header : Header) (numbered : Numbered) (why : Code) (old new : Runner) → Agrees header old → refusal header old.history.items numbered.command ≡ Some why
+    → new.maps ≡ old.maps → new.pages ≡ old.pages → new.history.items ≡ event.Refused why ∷ event.Line numbered.line ∷ old.history.items → Stepped header numbered old new
+stepped_refused header numbered why old new a refused maps pages history = record {
+  agrees = record { plain = a.plain; kept = rw (maps, pages, history) a.kept; none = rw history a.none; enough = rw pages a.enough };
+  legal = rw history (legal_refused header numbered why old.history.items refused);
+  step = record { more = event.Refused why ∷ event.Line numbered.line ∷ []; longer = history; front = rw history refl };
+  limit = λ less below. rw history (less, below);
+  room = rw pages (omega arith);
+}
 
-pub parts_refused : (header : Header) (lives : Bool) (address bytes : ℕ) (pages : List (Option (List ℕ))) (h : List Event) (line : ℕ) (why : Code)
-    → Parts header lives address bytes pages h → Parts header lives address bytes pages (event.Refused why ∷ event.Line line ∷ h)
-parts_refused header lives address bytes pages h line why p = record {
-  start = p.start;
-  whole = p.whole;
-  range = p.range;
-  lodged = p.lodged;
-  host = p.host;
-  entries = p.entries;
-  regions = p.regions;
-  objects = p.objects;
-  top = p.top;
-  flat = p.flat;
-  here = p.here;
-  zeros = p.zeros;
-  used = p.used;
-  none = p.none;
+pub stepped_task : (header : Header) (task : TaskId) (line : ℕ) (old new : Runner) → Agrees header old → refusal header old.history.items (command.Task task the_host) ≡ None
+    → ChangesOnly old.maps new.maps task.0 (Some []) → new.pages ≡ old.pages → new.history.items ≡ event.TaskMade task the_host ∷ event.Line line ∷ old.history.items
+    → Stepped header (record { line = line; command = command.Task task the_host }) old new
+stepped_task header task line old new a fine changes pages history = record {
+  agrees = record { plain = a.plain; kept = rw (pages, history) (kept_task header old.maps new.maps old.pages (event.Line line ∷ old.history.items) task a.kept changes); none = rw history a.none; enough = rw pages a.enough };
+  legal = rw history (legal_task header task line old.history.items fine);
+  step = record { more = event.TaskMade task the_host ∷ event.Line line ∷ []; longer = history; front = rw history refl };
+  limit = λ less below. rw history (less, below);
+  room = rw pages (omega arith);
 }
 
 -- of a list of tests that finds nothing, each found nothing
@@ -70,139 +112,218 @@ pub passed : (b : Bool) (why : Code) (later : Option Code) → where_true b why 
 passed true why later none = absurd (let bad : Some why ≡ None = none in cc)
 passed false why later none = (refl, none)
 
--- a new task
-pub parts_task : (header : Header) (lives : Bool) (address bytes : ℕ) (pages : List (Option (List ℕ))) (h : List Event) (line : ℕ)
-    → lives ≡ false → Parts header lives address bytes pages h → Parts header true address bytes pages (event.TaskMade the_task the_host ∷ event.Line line ∷ h)
-parts_task header lives address zero pages h line dead p = record {
-  start = p.start;
-  whole = p.whole;
-  range = p.range;
-  lodged = λ some. refl;
-  host = refl;
-  entries = refl;
-  regions = p.regions;
-  objects = p.objects;
-  top = p.top;
-  flat = p.flat;
-  here = p.here;
-  zeros = p.zeros;
-  used = p.used;
-  none = p.none;
-}
-parts_task header lives address (suc bytes) pages h line dead p =
-    absurd (let lively : lives ≡ true = p.lodged (omega arith) in let bad : true ≡ false = sym lively ∙ dead in cc)
-
-pub legal_task : (header : Header) (lives : Bool) (address bytes : ℕ) (pages : List (Option (List ℕ))) (h : List Event) (line : ℕ)
-    → refusal header h (command.Task the_task the_host) ≡ None → Parts header lives address bytes pages h
-    → KeepsLegal header (record { line = line; command = command.Task the_task the_host }) h (event.TaskMade the_task the_host ∷ event.Line line ∷ h)
-legal_task header lives address bytes pages h line fine p run legal =
-    let now = moment_now (FramesSuffice header) h legal.frames in
-    record {
-      follows = (h, event.TaskMade the_task the_host ∷ [], refl, rw fine ([], refl, tt), legal.follows);
-      own_bytes = (tt, (tt, legal.own_bytes));
-      flat_bytes = (tt, (tt, legal.flat_bytes));
-      frames = (now, (now, legal.frames));
-      prompt = (legal.prompt_at_end, legal.prompt);
-      prompt_at_end = legal.prompt_at_end;
-    }
-
--- a new range
-none_here : (n : ℕ) → count_here (replicate n None) ≡ 0
-none_here zero = refl
-none_here (suc n) = none_here n
-
-none_at : (n p : ℕ) → get_or {A = Option (List ℕ)} (replicate n None) p None ≡ None
-none_at zero p = refl
-none_at (suc n) zero = refl
-none_at (suc n) (suc p) = none_at n p
-
-no_pages : (header : Header) (pages : List (Option (List ℕ))) (p : ℕ) → 0 < header.size → 0 ≡ length pages * header.size → get_or pages p None ≡ None
-no_pages header [] p some whole = refl
-no_pages header (x ∷ pages) p some whole = absurd (let product : (length pages + 1) * header.size ≡ length pages * header.size + header.size = grind arith in omega arith)
-
-no_count : (header : Header) (pages : List (Option (List ℕ))) → 0 < header.size → 0 ≡ length pages * header.size → count_here pages ≡ 0
-no_count header [] some whole = refl
-no_count header (x ∷ pages) some whole = absurd (let product : (length pages + 1) * header.size ≡ length pages * header.size + header.size = grind arith in omega arith)
-
-abbrev ranged : ℕ → ℕ → ℕ → ℕ → List Event → List Event
-ranged size address bytes line h = entered_whole address bytes ∷ event.RegionMade the_region the_object (bytes / size) ∷ event.Line line ∷ h
-
-pub legal_range : (header : Header) (lives : Bool) (had bytes address line : ℕ) (pages : List (Option (List ℕ))) (h : List Event) (frames : ℕ)
-    → refusal header h (command.Allocate the_task address bytes) ≡ None → Parts header lives had 0 pages h
-    → KeepsLegal header (record { line = line; command = command.Allocate the_task address bytes }) h (ranged header.size address bytes line h)
-legal_range header lives had bytes address line pages h frames fine p run legal =
-    let now = moment_now (FramesSuffice header) h legal.frames in
-    record {
-      follows = (h, entered_whole address bytes ∷ event.RegionMade the_region the_object (bytes / header.size) ∷ [], refl, rw (fine, p.regions) ([], refl, tt), legal.follows);
-      own_bytes = (tt, (tt, (tt, legal.own_bytes)));
-      flat_bytes = (tt, (tt, (tt, legal.flat_bytes)));
-      frames = (now, (now, (now, legal.frames)));
-      prompt = (legal.prompt_at_end, legal.prompt);
-      prompt_at_end = legal.prompt_at_end;
-    }
-
 -- what an allocation that isn't refused has
-pub record Fits (header : Header) (address bytes : ℕ) : Type 0 where
-  pub start : address ≡ header.size * (address / header.size)
-  pub whole : bytes ≡ bytes / header.size * header.size
-  pub some : 0 < bytes
-  pub range : address + bytes ≤ 2 ^ 32
+pub record Fits (header : Header) (runner : Runner) (task address bytes : ℕ) : Type 0 where
+  pub lives : entries_in task runner.maps ≡ Some (rows_in task runner.maps)
+  pub start : address % header.size ≡ 0
+  pub whole : bytes % header.size ≡ 0
   pub few : bytes / header.size ≤ 4096
+  pub range : is_range header.size address bytes ≡ true
+  pub free : meets_range address bytes (rows_in task runner.maps) ≡ false
+  pub room : length (rows_in task runner.maps) < most_entries
+  pub regions : length runner.pages < 8192
 
-pub fits_of : (header : Header) (address bytes : ℕ) → 0 < header.size → (not (is_range header.size address bytes) || nat_lt 4096 (bytes / header.size)) ≡ false → Fits header address bytes
-fits_of header address bytes page fine = record {
-  start = grind (arith, nat_tests);
-  whole = grind (arith, nat_tests);
-  some = grind (arith, nat_tests);
-  range = grind (arith, nat_tests);
-  few = grind (arith, nat_tests);
-}
+pub fits_of : (header : Header) (runner : Runner) (task : TaskId) (address bytes : ℕ) → Agrees header runner → refusal header runner.history.items (command.Allocate task address bytes) ≡ None → Fits header runner task.0 address bytes
+fits_of header runner task address bytes a fine = go (entries_in task.0 runner.maps) refl (sym (allocate_code header runner task address bytes a) ∙ fine)
+  where
+    go : (o : Option (List Entry)) → entries_in task.0 runner.maps ≡ o → range_code header.size o (length runner.pages) address bytes ≡ None → Fits header runner task.0 address bytes
+    go None is none = absurd (let bad : Some code.NoSuchName ≡ None = none in cc)
+    go (Some rows) is none =
+        let full = nat_lt most_entries (length rows + 1) || nat_le 8192 (length runner.pages) in
+        let last = where_true full code.TableFull None in
+        let first = passed (not (is_range header.size address bytes) || nat_lt 4096 (bytes / header.size)) code.InvalidArgument (where_true (meets_range address bytes rows) code.NoSpace last) none in
+        let second = passed (meets_range address bytes rows) code.NoSpace last first.1 in
+        let third = passed full code.TableFull None second.1 in
+        let tests : (not (is_range header.size address bytes) || nat_lt 4096 (bytes / header.size)) ≡ false = first.0 in
+        let range : is_range header.size address bytes ≡ true = only_true (is_range header.size address bytes) (nat_lt 4096 (bytes / header.size)) tests in
+        let limits : full ≡ false = third.0 in
+        record {
+          lives = rw is refl;
+          start = grind (arith, nat_tests);
+          whole = grind (arith, nat_tests);
+          few = grind (arith, nat_tests);
+          range = range;
+          free = rw is second.0;
+          room = rw is (grind (arith, nat_tests));
+          regions = grind (arith, nat_tests);
+        }
+      where
+        only_true : (b c : Bool) → (not b || c) ≡ false → b ≡ true
+        only_true true c e = refl
+        only_true false c e = absurd (let bad : true ≡ false = e in cc)
 
-pub parts_range : (header : Header) (lives : Bool) (had bytes address line : ℕ) (pages : List (Option (List ℕ))) (h : List Event)
-    → 0 < header.size → lives ≡ true → Fits header address bytes → Parts header lives had 0 pages h
-    → Parts header lives address bytes (replicate (bytes / header.size) None) (ranged header.size address bytes line h)
-parts_range header lives had zero address line pages h page lively fits p = absurd (let some : 0 < 0 = fits.some in omega arith)
-parts_range header lives had (suc bytes) address line pages h page lively fits p =
-    let same : length {A = Option (List ℕ)} (replicate (suc bytes / header.size) None) ≡ suc bytes / header.size = length-replicate (suc bytes / header.size) None in
+-- the pages of a range of whole pages are among those asked for
+asked_whole : (size bytes : ℕ) → 0 < size → bytes / size ≤ (bytes + (size - 1)) / size
+asked_whole size bytes positive = le-div (bytes / size) (bytes + (size - 1)) size positive (let less = div-mul-le_self bytes size in omega arith)
+
+pub stepped_range : (header : Header) (task : TaskId) (address bytes line : ℕ) (old new : Runner) → Agrees header old → refusal header old.history.items (command.Allocate task address bytes) ≡ None
+    → HasFrames header (room_all old.pages + pages_asked header.size (command.Allocate task address bytes))
+    → ChangesOnly old.maps new.maps task.0 (Some (entered (whole_entry address bytes (record { 0 = length old.pages })) (rows_in task.0 old.maps)))
+    → new.pages ≡ with_region old.pages (bytes / header.size) → new.history.items ≡ ranged header task address bytes (length old.pages) line old.history.items
+    → Stepped header (record { line = line; command = command.Allocate task address bytes }) old new
+stepped_range header task address bytes line old new a fine has changes pages history =
+    let fits = fits_of header old task address bytes a fine in
+    let positive = page_positive header.size a.plain.size in
+    let asked = asked_whole header.size bytes positive in
+    let grown = room_added old.pages (bytes / header.size) in
+    let few = fits.few in
     record {
-      start = (address / header.size, fits.start);
-      whole = rw same fits.whole;
-      range = fits.range;
-      lodged = λ some. lively;
-      host = p.host;
-      entries = rw p.entries refl;
-      regions = ap (λ z. z + 1) p.regions;
-      objects = ap (λ z. z + 1) p.objects;
-      top = λ some. refl;
-      flat = λ some q. refl;
-      here = λ q. rw (none_at (suc bytes / header.size) q) (p.here q ∙ rw (no_pages header pages q page p.whole) refl);
-      zeros = λ q held is. absurd (let bad : None ≡ Some held = sym (none_at (suc bytes / header.size) q) ∙ is in cc);
-      used = p.used ∙ (no_count header pages page p.whole ∙ sym (none_here (suc bytes / header.size)));
-      none = p.none;
+      agrees = record {
+        plain = a.plain;
+        kept = rw (pages, history) (kept_range header old.maps new.maps old.pages (event.Line line ∷ old.history.items) task address bytes a.kept changes fits.lives fits.start fits.whole (omega arith));
+        none = rw history a.none;
+        enough = (has.0, has.1, rw pages (let most = has.2 in omega arith));
+      };
+      legal = rw history (legal_range header old.maps old.pages task address bytes line old.history.items a.kept fine);
+      step = record { more = ranged header task address bytes (length old.pages) line []; longer = history; front = rw history refl };
+      limit = λ less below. rw history (less, below);
+      room = rw pages (omega arith);
     }
 
--- an allocation that isn't refused has a living task, and fits
-pub accepted_range : (header : Header) (lives : Bool) (had bytes address : ℕ) (pages : List (Option (List ℕ))) (h : List Event)
-    → 0 < header.size → Parts header lives had 0 pages h → refusal header h (command.Allocate the_task address bytes) ≡ None → (lives ≡ true) × Fits header address bytes
-accepted_range header lives had bytes address pages h page p fine =
-    let last = where_true (meets_range address bytes (entries_of 0 h)) code.NoSpace (where_true (is_full header 0 h) code.TableFull None) in
-    let third = where_true (not (is_range header.size address bytes) || nat_lt 4096 (bytes / header.size)) code.InvalidArgument last in
-    let first = passed (is_none (host_of 0 h)) code.NoSuchName (where_true (is_some (waiting 0 h)) code.Blocked third) fine in
-    let second = passed (is_some (waiting 0 h)) code.Blocked third first.1 in
-    let range = passed (not (is_range header.size address bytes) || nat_lt 4096 (bytes / header.size)) code.InvalidArgument last second.1 in
-    let hosted : is_none {T = ℕ} (cond lives (Some 0) None) ≡ false = ap (is_none {T = ℕ}) (sym p.host) ∙ first.0 in (
-      elim lives as (λ b. is_none {T = ℕ} (cond b (Some 0) None) ≡ false → b ≡ true) [ true ↦ λ e. refl | false ↦ λ e. absurd (let bad : true ≡ false = e in cc) ] hosted,
-      fits_of header address bytes page range.0,
-    )
+-- where an access leads, by parts
+leads_of : (header : Header) (runner : Runner) (task address n : ℕ) (place : Place) (to : LeadsTo header.size runner task address n place) → Leads header runner.maps runner.pages task address to.entry
+leads_of header runner task address n place to = record {
+  lives = to.lives;
+  found = to.found;
+  region = rw to.is at to.region;
+  page = rw to.is at to.page;
+}
 
--- a new task that isn't refused finds none
-pub accepted_task : (header : Header) (lives : Bool) (address bytes : ℕ) (pages : List (Option (List ℕ))) (h : List Event)
-    → Parts header lives address bytes pages h → refusal header h (command.Task the_task the_host) ≡ None → lives ≡ false
-accepted_task header lives address bytes pages h p fine =
-    let first = passed (is_some (host_of 0 h)) code.NameTaken None fine in
-    let hosted : is_some {T = ℕ} (cond lives (Some 0) None) ≡ false = ap (is_some {T = ℕ}) (sym p.host) ∙ first.0 in
-    elim lives as (λ b. is_some {T = ℕ} (cond b (Some 0) None) ≡ false → b ≡ false) [ true ↦ λ e. absurd (let bad : true ≡ false = e in cc) | false ↦ λ e. refl ] hosted
+leads_put : (header : Header) (runner : Runner) (task address : ℕ) (entry : Entry) → Leads header runner.maps runner.pages task address entry → (x : Option (List ℕ))
+    → Leads header runner.maps (put_in runner.pages entry.region.0 (page_at header.size address entry) x) task address entry
+leads_put header runner task address entry leads x = record {
+  lives = leads.lives;
+  found = leads.found;
+  region = rw (length_put runner.pages entry.region.0 (page_at header.size address entry) x) leads.region;
+  page = rw (pages_put runner.pages entry.region.0 (page_at header.size address entry) entry.region.0 x leads.region) leads.page;
+}
 
--- as many pages as fit the frames
-pub pages_fit : (bytes size frames : ℕ) → 0 < size → bytes ≤ frames * size → bytes / size ≤ frames
-pages_fit bytes size frames positive le = let more : bytes ≤ size * frames = omega (arith, mul_comm frames size) in div-le_of_le-mul size more
+pub stepped_hit : (header : Header) (task : TaskId) (address n line value : ℕ) (place : Place) (bytes : List ℕ) (old new : Runner) → Agrees header old → refusal header old.history.items (command.Load task address n) ≡ None
+    → LeadsTo header.size old task.0 address n place → held old.pages place.region.0 place.page.0 ≡ Some bytes → value ≡ little_endian (slice_range bytes place.at (place.at + n))
+    → new.maps ≡ old.maps → new.pages ≡ old.pages → new.history.items ≡ event.Loaded task (record { 0 = place.region.0 }) place.page value ∷ begun_load task address n line old.history.items
+    → Stepped header (record { line = line; command = command.Load task address n }) old new
+stepped_hit header task address n line value place bytes old new a fine to here number maps pages history =
+    let leads = leads_of header old task.0 address n place to in
+    let held_here = rw to.is at here in
+    let is = rw (number, to.is) at history in
+    record {
+      agrees = record {
+        plain = a.plain;
+        kept = rw (maps, pages, history) a.kept;
+        none = rw history (λ t. wait_over (task.0 == t) (Some (Loading address n)) (waiting t old.history.items) (a.none t));
+        enough = rw pages a.enough;
+      };
+      legal = rw is (legal_hit header old.maps old.pages task address n line to.entry bytes old.history.items a.kept leads held_here fine);
+      step = record { more = event.Loaded task (record { 0 = place.region.0 }) place.page value ∷ begun_load task address n line []; longer = history; front = rw history refl };
+      limit = λ less below. rw history (less, below);
+      room = rw pages (omega arith);
+    }
+
+pub stepped_miss : (header : Header) (task : TaskId) (address n line value : ℕ) (place : Place) (old new : Runner) → Agrees header old → refusal header old.history.items (command.Load task address n) ≡ None
+    → LeadsTo header.size old task.0 address n place → held old.pages place.region.0 place.page.0 ≡ None → value ≡ little_endian (slice_range (replicate header.size 0) place.at (place.at + n))
+    → new.maps ≡ old.maps → new.pages ≡ put_in old.pages place.region.0 place.page.0 (Some (replicate header.size 0))
+    → new.history.items ≡ event.Loaded task (record { 0 = place.region.0 }) place.page value ∷ event.Zeroed the_host (record { 0 = place.region.0 }) place.page ∷ begun_load task address n line old.history.items
+    → Stepped header (record { line = line; command = command.Load task address n }) old new
+stepped_miss header task address n line value place old new a fine to absent number maps pages history =
+    let leads = leads_of header old task.0 address n place to in
+    let absent_here = rw to.is at absent in
+    let is = rw (number, to.is) at history in
+    let put = rw to.is at pages in
+    let room = room_put old.pages to.entry.region.0 (page_at header.size address to.entry) (Some (replicate header.size 0)) in
+    record {
+      agrees = record {
+        plain = a.plain;
+        kept = rw (maps, put, is) (kept_zeroed header old.maps old.pages (begun_load task address n line old.history.items) to.entry.region.0 (page_at header.size address to.entry) a.kept leads.region leads.page absent_here);
+        none = rw is (λ t. wait_over (task.0 == t) (Some (Loading address n)) (waiting t old.history.items) (a.none t));
+        enough = rw (put, room) a.enough;
+      };
+      legal = rw is (legal_miss header old.maps old.pages task address n line to.entry old.history.items a.kept a.enough leads absent_here fine);
+      step = record { more = event.Loaded task (record { 0 = place.region.0 }) place.page value ∷ event.Zeroed the_host (record { 0 = place.region.0 }) place.page ∷ begun_load task address n line []; longer = history; front = rw history refl };
+      limit = λ less below. rw history (less, below);
+      room = rw (put, room) (omega arith);
+    }
+
+pub stepped_store : (header : Header) (task : TaskId) (address n value line : ℕ) (place : Place) (bytes : List ℕ) (old new : Runner) → IsAccessSize n → Agrees header old → refusal header old.history.items (command.Store task address n value) ≡ None
+    → LeadsTo header.size old task.0 address n place → held old.pages place.region.0 place.page.0 ≡ Some bytes
+    → new.maps ≡ old.maps → new.pages ≡ put_in old.pages place.region.0 place.page.0 (Some (with_bytes place.at (little_endian_bytes n value) bytes))
+    → new.history.items ≡ event.Stored task (record { 0 = place.region.0 }) place.page place.at n value ∷ begun_store task address n value line old.history.items
+    → Stepped header (record { line = line; command = command.Store task address n value }) old new
+stepped_store header task address n value line place bytes old new width a fine to here maps pages history =
+    let leads = leads_of header old task.0 address n place to in
+    let held_here = rw to.is at here in
+    let is = rw to.is at history in
+    let put = rw to.is at pages in
+    let r = to.entry.region.0 in
+    let p = page_at header.size address to.entry in
+    let room = room_put old.pages r p (Some (with_bytes (address % header.size) (little_endian_bytes n value) bytes)) in
+    let fits = access_fits header.size n address a.plain.size width to.even in
+    let past = begun_store task address n value line old.history.items in
+    let waits : waiting task.0 past ≡ Some (Storing address n value) = rw (itself task.0) refl in
+    record {
+      agrees = record {
+        plain = a.plain;
+        kept = rw (maps, put, is) (kept_stored header old.maps old.pages past task address n value to.entry bytes a.kept waits leads.lives leads.found leads.region leads.page held_here fits);
+        none = rw is (λ t. wait_over (task.0 == t) (Some (Storing address n value)) (waiting t old.history.items) (a.none t));
+        enough = rw (put, room) a.enough;
+      };
+      legal = rw is (legal_store header old.maps old.pages task address n value line to.entry bytes old.history.items a.kept leads held_here fine);
+      step = record { more = event.Stored task (record { 0 = place.region.0 }) place.page place.at n value ∷ begun_store task address n value line []; longer = history; front = rw history refl };
+      limit = λ less below. rw history (less, below);
+      room = rw (put, room) (omega arith);
+    }
+
+pub stepped_store_miss : (header : Header) (task : TaskId) (address n value line : ℕ) (place : Place) (old new : Runner) → IsAccessSize n → Agrees header old → refusal header old.history.items (command.Store task address n value) ≡ None
+    → LeadsTo header.size old task.0 address n place → held old.pages place.region.0 place.page.0 ≡ None
+    → new.maps ≡ old.maps → new.pages ≡ put_in old.pages place.region.0 place.page.0 (Some (with_bytes place.at (little_endian_bytes n value) (replicate header.size 0)))
+    → new.history.items ≡ event.Stored task (record { 0 = place.region.0 }) place.page place.at n value ∷ event.Zeroed the_host (record { 0 = place.region.0 }) place.page ∷ begun_store task address n value line old.history.items
+    → Stepped header (record { line = line; command = command.Store task address n value }) old new
+stepped_store_miss header task address n value line place old new width a fine to absent maps pages history =
+    let leads = leads_of header old task.0 address n place to in
+    let absent_here = rw to.is at absent in
+    let is = rw to.is at history in
+    let put = rw to.is at pages in
+    let r = to.entry.region.0 in
+    let p = page_at header.size address to.entry in
+    let zeros : List ℕ = replicate header.size 0 in
+    let made : Option (List ℕ) = Some (with_bytes (address % header.size) (little_endian_bytes n value) zeros) in
+    let room = room_put old.pages r p made in
+    let fits = access_fits header.size n address a.plain.size width to.even in
+    let past = begun_store task address n value line old.history.items in
+    let zeroed : Event = event.Zeroed the_host (record { 0 = r }) (record { 0 = p }) in
+    let waits : waiting task.0 past ≡ Some (Storing address n value) = rw (itself task.0) refl in
+    let k2 = kept_zeroed header old.maps old.pages past r p a.kept leads.region leads.page absent_here in
+    let wide = leads_put header old task.0 address to.entry leads (Some zeros) in
+    let here = held_put old.pages r p (Some zeros) leads.region leads.page in
+    let k3 = kept_stored header old.maps (put_in old.pages r p (Some zeros)) (zeroed ∷ past) task address n value to.entry zeros k2 waits leads.lives leads.found wide.region wide.page here fits in
+    record {
+      agrees = record {
+        plain = a.plain;
+        kept = rw (maps, put, is) (rw (put_twice old.pages r p (Some zeros) made leads.region) at k3);
+        none = rw is (λ t. wait_over (task.0 == t) (Some (Storing address n value)) (waiting t old.history.items) (a.none t));
+        enough = rw (put, room) a.enough;
+      };
+      legal = rw is (legal_store_miss header old.maps old.pages task address n value line to.entry old.history.items a.kept a.enough leads absent_here fine);
+      step = record { more = event.Stored task (record { 0 = place.region.0 }) place.page place.at n value ∷ event.Zeroed the_host (record { 0 = place.region.0 }) place.page ∷ begun_store task address n value line []; longer = history; front = rw history refl };
+      limit = λ less below. rw history (less, below);
+      room = rw (put, room) (omega arith);
+    }
+
+-- the same, where the page is told by a test
+pub stepped_store_here : (header : Header) (task : TaskId) (address n value line : ℕ) (place : Place) (o : Option (List ℕ)) (old new : Runner) → IsAccessSize n → Agrees header old → refusal header old.history.items (command.Store task address n value) ≡ None
+    → LeadsTo header.size old task.0 address n place → held old.pages place.region.0 place.page.0 ≡ o → is_some o ≡ true
+    → new.maps ≡ old.maps → IfSome o (λ bytes. new.pages ≡ put_in old.pages place.region.0 place.page.0 (Some (with_bytes place.at (little_endian_bytes n value) bytes)))
+    → new.history.items ≡ event.Stored task (record { 0 = place.region.0 }) place.page place.at n value ∷ begun_store task address n value line old.history.items
+    → Stepped header (record { line = line; command = command.Store task address n value }) old new
+stepped_store_here header task address n value line place None old new width a fine to here some maps pages history = absurd (let bad : false ≡ true = some in cc)
+stepped_store_here header task address n value line place (Some bytes) old new width a fine to here some maps pages history =
+    stepped_store header task address n value line place bytes old new width a fine to here maps pages history
+
+pub none_is : (o : Option (List ℕ)) → is_some o ≡ false → o ≡ None
+none_is None none = refl
+none_is (Some bytes) none = absurd (let bad : true ≡ false = none in cc)
+
+-- an access fits the page that it leads to
+pub place_fits : (header : Header) (runner : Runner) (task address n : ℕ) (place : Place) (page : List ℕ) → IsAccessSize n → Agrees header runner → LeadsTo header.size runner task address n place → length page ≡ header.size → place.at + n ≤ length page
+place_fits header runner task address n place page width a to whole =
+    let fits = access_fits header.size n address a.plain.size width to.even in
+    rw (to.is, whole) fits

@@ -1,5 +1,7 @@
 pub mod Form
+pub mod Pages
 pub mod Reading
+pub mod Refusing
 pub mod Run
 pub mod Runner
 pub mod Status

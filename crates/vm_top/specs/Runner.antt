@@ -1,118 +1,138 @@
 -- What the runner keeps: its parts are what its history says.
-use Rattle.std.specs.Prelude.{ℕ, zero, suc, ◌≡◌, ◌+◌, ◌*◌, ◌<◌, ◌≤◌, ◌^◌, Bool, true, false, List, [], ◌∷◌, ◌++◌, length, get_or, replicate, if◌then◌else◌, Option, Some, None}
-use Rattle.vm_base.specs.declared.ids.Inherit.TheVariants.{Copy}
+use Rattle.std.specs.Prelude.{ℕ, ◌≡◌, ◌+◌, ◌-◌, ◌/◌, ◌<◌, ◌≤◌, ◌^◌, true, false, List, [], ◌∷◌, ◌++◌, length, replicate, Option, Some, None}
 use Rattle.vm_base.specs.declared.ids.HostId.{HostId}
-use Rattle.vm_base.specs.declared.ids.ObjectId.{ObjectId}
 use Rattle.vm_base.specs.declared.ids.RegionId.{RegionId}
-use Rattle.vm_base.specs.declared.ids.TaskId.{TaskId}
-use Rattle.vm_base.specs.declared.ids.PageNo.{PageNo}
+use Rattle.vm_base.specs.declared.ids.Inherit.TheVariants.{Copy}
 use Rattle.vm_base.specs.declared.entry.Entry.{Entry}
+use Rattle.vm_base.specs.Entries.{HasWholePages}
 use Rattle.vm_base.specs.Pages.{IsPageSize, IsAccessSize}
 use Rattle.vm_model.specs.declared.event.Event.{Event}
-use Rattle.vm_model.specs.declared.event.Event.TheVariants as event
 use Rattle.vm_model.specs.declared.command.Command.{Command}
 use Rattle.vm_model.specs.declared.command.Command.TheVariants as command
 use Rattle.vm_model.specs.declared.command.Numbered.{Numbered}
 use Rattle.vm_model.specs.declared.script.Header.{Header}
-use Rattle.vm_model.specs.Moments.{before_last_line}
+use Rattle.vm_model.specs.Moments.{BeforeSteps, before_last_line}
 use Rattle.vm_model.specs.Tasks.{host_of, entries_of}
-use Rattle.vm_model.specs.Regions.{next_region, next_object, top_of, flat_page}
+use Rattle.vm_model.specs.Regions.{next_region, next_object, top_of}
+use Rattle.vm_model.specs.Flat.{flat_page}
 use Rattle.vm_model.specs.Local.{Place, Local, local}
 use Rattle.vm_model.specs.Waiting.{waiting}
 use Rattle.vm_model.specs.Frames.{frames_used}
 use Rattle.vm_model.specs.Legal.{LegalFor}
+use Rattle.vm_maps.specs.Maps.{Mapped, entries_in, rows_in}
+use Rattle.vm_top.specs.Pages.{Table, held, pages_of, count_all, room_all}
 use Rattle.vm_top.specs.declared.runner.Runner.{Runner}
 
--- all that there is has number 0
-abbrev pub the_task : TaskId
-the_task = record { 0 = 0 }
-
+-- all tasks live on host 0
 abbrev pub the_host : HostId
 the_host = record { 0 = 0 }
 
-abbrev pub the_object : ObjectId
-the_object = record { 0 = 0 }
+abbrev pub place_of : ℕ → ℕ → Place
+place_of object page = record { object = object; page = page }
 
-abbrev pub the_region : RegionId
-the_region = record { 0 = 0 }
+-- an entry on the whole of a region: readable, writable, and copied by a fork
+abbrev pub whole_entry : ℕ → ℕ → RegionId → Entry
+whole_entry address bytes region = record { address = address; bytes = bytes; region = region; offset = 0; prot = record { read = true; write = true }; inherit = Copy }
 
--- the one entry: the whole of region 0, readable and writable
-abbrev pub only_entry : ℕ → ℕ → Entry
-only_entry address bytes = record { address = address; bytes = bytes; region = the_region; offset = 0; prot = record { read = true; write = true }; inherit = Copy }
-
--- the events of the one range and its pages
-abbrev pub entered_whole : ℕ → ℕ → Event
-entered_whole address bytes = event.Entered the_task address bytes the_region 0 (record { read = true; write = true }) Copy
-
-abbrev pub loaded : PageNo → ℕ → Event
-loaded page value = event.Loaded the_task the_object page value
-
-abbrev pub zeroed : PageNo → Event
-zeroed page = event.Zeroed the_host the_object page
-
--- the entries of the task: none while it has no bytes
-abbrev pub rows_of : ℕ → ℕ → List Entry
-rows_of address zero = []
-rows_of address (suc bytes) = only_entry address (suc bytes) ∷ []
-
--- how many regions were made
-abbrev pub made_of : ℕ → ℕ
-made_of zero = 0
-made_of (suc bytes) = 1
-
-abbrev pub at_page : ℕ → Place
-at_page page = record { object = 0; page = page }
-
--- a page as a host has it
-abbrev pub shown : Option (List ℕ) → Local
-shown None = record { here = false; bytes = []; lock = 0; dirty = false }
-shown (Some bytes) = record { here = true; bytes = bytes; lock = 0; dirty = false }
-
--- how many pages are here
-abbrev pub count_here : List (Option (List ℕ)) → ℕ
-count_here [] = 0
-count_here (None ∷ pages) = count_here pages
-count_here (Some bytes ∷ pages) = count_here pages + 1
-
--- the header of a script of the first form: one host with so many frames, and no objects
-pub record IsPlain (header : Header) (frames : ℕ) : Type 0 where
+-- the header of a script of temporary memory: one host, and no objects
+pub record IsPlain (header : Header) : Type 0 where
   pub size : IsPageSize header.size
+  pub frames : ℕ
   pub hosts : header.frames.items ≡ frames ∷ []
   pub objects : header.objects.items ≡ []
 
--- parts and history agree: a task or none, a range or none, and these pages here
-pub record Parts (header : Header) (lives : Bool) (address bytes : ℕ) (pages : List (Option (List ℕ))) (h : List Event) : Type 0 where
-  pub start : (n : ℕ) × (address ≡ header.size * n)
-  pub whole : bytes ≡ length pages * header.size
-  pub range : address + bytes ≤ 2 ^ 32
-  pub lodged : 0 < bytes → lives ≡ true
-  pub host : host_of 0 h ≡ (if lives then Some 0 else None)
-  pub entries : entries_of 0 h ≡ rows_of address bytes
-  pub regions : next_region header h ≡ made_of bytes
-  pub objects : next_object header h ≡ made_of bytes
-  pub top : 0 < bytes → top_of 0 h ≡ Some 0
-  pub flat : 0 < bytes → (page : ℕ) → flat_page header.size 0 page h ≡ replicate header.size 0
-  pub here : (page : ℕ) → local header.size 0 (at_page page) h ≡ shown (get_or pages page None)
-  pub zeros : (page : ℕ) (held : List ℕ) → get_or pages page None ≡ Some held → held ≡ replicate header.size 0
-  pub used : frames_used 0 h ≡ count_here pages
-  pub none : (task : ℕ) → waiting task h ≡ None
+-- the one host has at least so many frames
+abbrev pub HasFrames : Header → ℕ → Type 0
+HasFrames header count = (frames : ℕ) × (header.frames.items ≡ frames ∷ []) × (count ≤ frames)
+
+-- where a task with these entries lives
+abbrev pub host_for : Option (List Entry) → Option ℕ
+host_for None = None
+host_for (Some rows) = Some 0
+
+-- a host's page is the one that is kept, which no lock prohibits
+abbrev pub IsShown : Local → Option (List ℕ) → Type 0
+IsShown page None = page.here ≡ false
+IsShown page (Some bytes) = (page.here ≡ true) × (page.bytes ≡ bytes) × (page.lock ≡ 0)
+
+abbrev pub or_zeros : ℕ → Option (List ℕ) → List ℕ
+or_zeros size None = replicate size 0
+or_zeros size (Some bytes) = bytes
+
+abbrev pub IsSized : ℕ → Option (List ℕ) → Type 0
+IsSized size None = Unit {0}
+IsSized size (Some bytes) = length bytes ≡ size
+
+-- an entry lies within its region
+pub record IsInside (size : ℕ) (table : Table) (row : Entry) : Type 0 where
+  pub region : row.region.0 < length table
+  pub whole : HasWholePages size row
+  pub within : row.offset + row.bytes / size ≤ pages_of table row.region.0
+
+abbrev pub AllInside : ℕ → Table → List Entry → Type 0
+AllInside size table [] = Unit {0}
+AllInside size table (row ∷ rows) = IsInside size table row × AllInside size table rows
+
+-- maps and pages agree with what a history says of tasks, entries, regions, pages and frames
+pub record IsKept (header : Header) (maps : Mapped) (table : Table) (host_at : ℕ → Option ℕ) (rows_at : ℕ → List Entry) (region_count object_count : ℕ) (top_at : ℕ → Option ℕ) (flat_at : ℕ → ℕ → List ℕ) (local_at : ℕ → ℕ → Local) (frame_count : ℕ) : Type 0 where
+  pub size : maps.size ≡ header.size
+  pub hosts : (task : ℕ) → host_at task ≡ host_for (entries_in task maps)
+  pub rows : (task : ℕ) → rows_at task ≡ rows_in task maps
+  pub inside : (task : ℕ) → AllInside header.size table (rows_in task maps)
+  -- region and object have one number
+  pub regions : region_count ≡ length table
+  pub objects : object_count ≡ length table
+  pub tops : (region : ℕ) → region < length table → top_at region ≡ Some region
+  pub flat : (region page : ℕ) → region < length table → flat_at region page ≡ or_zeros header.size (held table region page)
+  pub pages : (region page : ℕ) → IsShown (local_at region page) (held table region page)
+  pub sized : (region page : ℕ) → IsSized header.size (held table region page)
+  pub used : frame_count ≡ count_all table
+
+-- also inside a step
+abbrev pub Kept : Header → Mapped → Table → List Event → Type 0
+Kept header maps table h =
+    IsKept header maps table (λ task. host_of task h) (λ task. entries_of task h) (next_region header h) (next_object header h) (λ region. top_of region h)
+    (λ region page. flat_page header.size region page h) (λ region page. local header.size 0 (place_of region page) h) (frames_used 0 h)
 
 pub record Agrees (header : Header) (runner : Runner) : Type 0 where
-  pub frames : ℕ
-  pub plain : IsPlain header frames
-  pub parts : Parts header runner.lives runner.address runner.bytes runner.pages.items runner.history.items
-  pub enough : length runner.pages.items ≤ frames
+  pub plain : IsPlain header
+  pub kept : Kept header runner.maps runner.pages runner.history.items
+  -- nobody waits
+  pub none : (task : ℕ) → waiting task runner.history.items ≡ None
+  -- all pages of all regions would find a frame
+  pub enough : HasFrames header (room_all runner.pages)
 
--- what the runner is given: task 0 of host 0, at most one range that fits the frames, and loads
-abbrev pub IsBuilt : Header → ℕ → Command → Type 0
-IsBuilt header had (command.Task task host) = (task ≡ the_task) × (host ≡ the_host)
-IsBuilt header had (command.Allocate task address bytes) = (task ≡ the_task) × (had ≡ 0) × ((frames : ℕ) → IsPlain header frames → bytes ≤ frames * header.size)
-IsBuilt header had (command.Load task address size) = (task ≡ the_task) × IsAccessSize size
-IsBuilt header had other = ⊥
+-- what the runner is given: tasks of host 0, temporary memory, loads and stores, with numbers in their ranges
+abbrev pub IsBuilt : Command → Type 0
+IsBuilt (command.Task task host) = (task.0 < 1024) × (host ≡ the_host)
+IsBuilt (command.Allocate task address bytes) = (task.0 < 1024) × (address < 2 ^ 32) × (bytes ≤ 2 ^ 32)
+IsBuilt (command.Load task address size) = (task.0 < 1024) × (address < 2 ^ 32) × IsAccessSize size
+IsBuilt (command.Store task address size value) = (task.0 < 1024) × (address < 2 ^ 32) × IsAccessSize size × (value < 256 ^ size)
+IsBuilt other = ⊥
 
-abbrev pub IsTask : Command → Type 0
-IsTask (command.Task task host) = Unit {0}
-IsTask other = ⊥
+-- those of them that are on tasks and entries
+abbrev pub IsChange : Command → Type 0
+IsChange (command.Task task host) = host ≡ the_host
+IsChange (command.Allocate task address bytes) = Unit {0}
+IsChange other = ⊥
+
+-- how many pages a command asks for, refused or not: a part of a page counts as one
+abbrev pub pages_asked : ℕ → Command → ℕ
+pages_asked size (command.Allocate task address bytes) = (bytes + (size - 1)) / size
+pages_asked size other = 0
+
+-- how many pages the commands ask for
+abbrev pub pages_wanted : ℕ → List Numbered → ℕ
+pages_wanted size [] = 0
+pages_wanted size (numbered ∷ before) = pages_asked size numbered.command + pages_wanted size before
+
+-- no step begins once the history has so many events
+abbrev pub event_limit : ℕ
+event_limit = 200000
+
+-- each step began below the limit
+abbrev pub IsBelowLimit : List Event → Type 0
+IsBelowLimit history = BeforeSteps (λ past. length past < event_limit) history
 
 -- the new history has one command's events more
 pub record IsStep (old new : List Event) : Type 0 where
@@ -123,3 +143,11 @@ pub record IsStep (old new : List Event) : Type 0 where
 -- a history that is legal stays so with one command more
 abbrev pub KeepsLegal : Header → Numbered → List Event → List Event → Type 0
 KeepsLegal header numbered old new = (run : List Numbered) → LegalFor header run old → LegalFor header (numbered ∷ run) new
+
+-- a command's step was made
+pub record Stepped (header : Header) (numbered : Numbered) (old new : Runner) : Type 0 where
+  pub agrees : Agrees header new
+  pub legal : KeepsLegal header numbered old.history.items new.history.items
+  pub step : IsStep old.history.items new.history.items
+  pub limit : length old.history.items < event_limit → IsBelowLimit old.history.items → IsBelowLimit new.history.items
+  pub room : room_all new.pages ≤ room_all old.pages + pages_asked header.size numbered.command

@@ -1,15 +1,15 @@
 -- What the top call promises, status by status.
-use Rattle.std.specs.Prelude.{ℕ, ◌≡◌, ◌⊎◌, List, [], ◌∷◌, ◌++◌, map, codes, Option, Some, None, string_bytes, String, Result}
+use Rattle.std.specs.Prelude.{ℕ, ◌≡◌, ◌⊎◌, List, [], ◌∷◌, ◌++◌, map, codes, Option, Some, None, string_bytes, String}
 use Rattle.std.specs.Io.KnownBytes.{Appends, Keeps}
 use Rattle.std.specs.declared.alloc.Global.{Global}
-use Rattle.vm_base.specs.declared.failure.WriteStop.{WriteStop}
 use Rattle.vm_model.specs.declared.event.Event.{Event}
 use Rattle.vm_model.specs.declared.script.Script.{Script}
 use Rattle.vm_model.specs.Legal.{Legal, LegalSoFar}
 use Rattle.vm_model.specs.Text.{text, field}
 use Rattle.vm_outside.specs.Arming.{Arming}
 use Rattle.vm_top.specs.Form.{Form, Formed, Unformed, read_form, IsScriptOf}
-use Rattle.vm_top.specs.Run.{WroteButLast, RanAs}
+use Rattle.vm_top.specs.Run.{IsFull, WroteButLast, RanAs}
+use Rattle.vm_top.specs.declared.run.RunEnd.{RunEnd}
 use Rattle.vm_top.specs.Status.{status_of}
 use Rattle.vm_top.specs.declared.top.Status.{Status}
 use Rattle.vm_top.specs.Writing.{WroteStart}
@@ -43,6 +43,14 @@ pub record IsDone (told : Option (List ℕ)) (script : Option Script) (history :
   pub held : script ≡ Some run
   pub read : IsReadFrom told run
   pub legal : Legal run history
+  pub written : Appends before after (text history)
+
+-- the history is full while commands are left: it is legal as far as it goes, and its text was written and nothing else
+pub record IsEventLimit (told : Option (List ℕ)) (script : Option Script) (history : List Event) (before after : Option (List ℕ)) : Type 0 where
+  pub run : Script
+  pub held : script ≡ Some run
+  pub read : IsReadFrom told run
+  pub full : IsFull run history
   pub written : Appends before after (text history)
 
 -- a run that ended early: its history is legal as far as it goes
@@ -81,7 +89,7 @@ pub record NothingDone (script : Option Script) (history : List Event) (before a
 -- the script was run, and the run ended so
 pub record HasRun (run : Script) (script : Option Script) (history : List Event) (status : Status) (before after : Option (List ℕ)) : Type 0 where
   pub held : script ≡ Some run
-  pub end : Result (Unit {0}) WriteStop
+  pub end : RunEnd
   pub is : status ≡ status_of end
   pub ran : RanAs run history end before after
 

@@ -2,6 +2,7 @@
 #![tactic(auto)]
 
 mod form;
+mod pages;
 mod reading;
 mod render;
 mod run;

@@ -1,13 +1,12 @@
-// Runs a script of the first form, and writes each command's events when its step has ended.
-ghost use Rattle.std.specs.Prelude.{◌≡◌, ◌≤◌, List, ℕ, OnOk, OnErr, IsErrOf};
+// Runs a script, and writes each command's events when its step has ended.
+ghost use Rattle.std.specs.Prelude.{◌≡◌, ◌+◌, ◌<◌, ◌≤◌, List, ℕ, length, OnOk, IsErrOf};
 ghost use Rattle.std.specs.Io.KnownBytes.{Appends};
 ghost use Rattle.std.specs.declared.option.Option.{Option};
 ghost use Rattle.vm_model.specs.Text.{text};
-ghost use Rattle.vm_model.specs.Moments.{before_last_line};
 ghost use Rattle.vm_outside.specs.Causes.{Rose};
-ghost use Rattle.vm_top.specs.Run.{IsFirst, RanAs, WroteButLast, MayStep};
-ghost use Rattle.vm_top.specs.Runner.{Agrees, IsBuilt, IsTask, KeepsLegal};
-ghost use Rattle.vm_top.specs.Writing.{WroteStart};
+ghost use Rattle.vm_top.specs.Pages.{room_all};
+ghost use Rattle.vm_top.specs.Run.{IsBuiltScript, RanAs, WroteButLast, MayStep};
+ghost use Rattle.vm_top.specs.Runner.{Agrees, HasFrames, IsBelowLimit, IsBuilt, KeepsLegal, event_limit, pages_asked};
 
 use crate::render::write_step;
 use crate::runner::Runner;
@@ -16,11 +15,27 @@ use vm_base::WriteStop;
 use vm_model::{Header, History, Numbered, Script};
 use vm_outside::Sink;
 
+// No step begins once the history has so many events.
+const MOST_EVENTS: u32 = 200_000;
+
+/// How a run ended.
+#[derive(Clone, Copy, Debug, PartialEq, Eq)]
+pub enum RunEnd {
+    /// All commands were run.
+    Done,
+    /// A write failed.
+    Failed,
+    /// No memory was there.
+    NoMemory,
+    /// A command is left, and the history has 200,000 events or more.
+    EventLimit,
+}
+
 /// The history of a run, and how the run ended.
 #[derive(Drop)]
 pub struct Ran {
     pub history: History,
-    pub end: Result<(), WriteStop>,
+    pub end: RunEnd,
 }
 
 // One command's step, and its text.
@@ -32,9 +47,11 @@ fn turn<K: Sink>(
     out: &mut K,
 ) -> Result<(), WriteStop>
     requires agrees { Agrees header.now runner.old }
-    requires built { IsBuilt header.now runner.old.bytes numbered.now.command }
+    requires built { IsBuilt numbered.now.command }
+    requires room { HasFrames header.now (room_all runner.old.pages + pages_asked header.now.size numbered.now.command) }
     ensures agrees { OnOk result (Agrees header.now runner.new) }
-    ensures bytes { IsTask numbered.now.command → runner.new.bytes ≡ runner.old.bytes }
+    ensures room { OnOk result (room_all runner.new.pages ≤ room_all runner.old.pages + pages_asked header.now.size numbered.now.command) }
+    ensures limit { length runner.old.history.items < event_limit → IsBelowLimit runner.old.history.items → IsBelowLimit runner.new.history.items }
     ensures later { K.faults out.old ≤ K.faults out.new }
     ensures cause { IsErrOf result WriteStop.Failed → Rose (K.faults out.old) (K.faults out.new) }
 
@@ -58,25 +75,35 @@ fn turn<K: Sink>(
     write_step(alloc, &runner.history, from, out)
 }
 
-/// Runs the script to its end, or to a write that fails, or until memory ends.
-pub fn run_script<K: Sink>(alloc: Global, script: &Script, out: &mut K) -> Ran
-    requires { IsFirst script.now }
-    ensures ran { RanAs script.now result.history.items result.end (K.written out.old) (K.written out.new) }
-    ensures later { K.faults out.old ≤ K.faults out.new }
-    ensures cause { IsErrOf result.end WriteStop.Failed → Rose (K.faults out.old) (K.faults out.new) }
+fn ended(runner: Runner, end: RunEnd) -> Ran
+    ensures { (result.history.items ≡ runner.history.items) × (result.end ≡ end) }
 {
-    let mut runner = Runner::new(alloc);
-    for i in 0..script.commands.len() {
-        let numbered = script.commands.at(i);
-        if let Err(stop) = turn(alloc, &script.header, &mut runner, numbered, out) {
-            return Ran {
-                history: runner.history,
-                end: Err(stop),
-            };
-        }
-    }
     Ran {
         history: runner.history,
-        end: Ok(()),
+        end,
     }
+}
+
+/// Runs the script to its end, or to a write that fails, or until memory ends, or until the history
+/// has 200,000 events at the begin of a step.
+pub fn run_script<K: Sink>(alloc: Global, script: &Script, out: &mut K) -> Ran
+    requires { IsBuiltScript script.now }
+    ensures ran { RanAs script.now result.history.items result.end (K.written out.old) (K.written out.new) }
+    ensures limit { IsBelowLimit result.history.items }
+    ensures later { K.faults out.old ≤ K.faults out.new }
+    ensures cause { result.end ≡ RunEnd.Failed → Rose (K.faults out.old) (K.faults out.new) }
+{
+    let mut runner = Runner::new(alloc, script.header.size);
+    for i in 0..script.commands.len() {
+        if runner.history.len() >= MOST_EVENTS {
+            return ended(runner, RunEnd::EventLimit);
+        }
+        let numbered = script.commands.at(i);
+        match turn(alloc, &script.header, &mut runner, numbered, out) {
+            Ok(()) => {}
+            Err(WriteStop::Failed) => return ended(runner, RunEnd::Failed),
+            Err(WriteStop::NoMemory) => return ended(runner, RunEnd::NoMemory),
+        }
+    }
+    ended(runner, RunEnd::Done)
 }

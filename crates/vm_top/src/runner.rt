@@ -1,51 +1,51 @@
-// Runs the commands of a script of the first form, one after another.
-ghost use Rattle.std.specs.Prelude.{◌≡◌, ◌+◌, ◌/◌, ◌%◌, ◌^◌, ◌≤◌, ◌<◌, ◌++◌, ◌∷◌, ◌==◌, ◌||◌, ◌&&◌, [], List, not, nat_lt, nat_le, true, false, OnOk, OnErr, IfOk, replicate, None};
+// Runs the commands of a script of temporary memory, one after another.
+ghost use Rattle.std.specs.Prelude.{◌≡◌, ◌+◌, ◌/◌, ◌^◌, ◌≤◌, ◌<◌, ◌∷◌, [], is_some, length, OnOk, OnErr, None, Some};
 ghost use Rattle.vm_base.specs.declared.code.Code.TheVariants as code;
-ghost use Rattle.vm_base.specs.Entries.{entry_at};
 ghost use Rattle.vm_base.specs.Pages.{IsAccessSize};
-ghost use Rattle.vm_model.specs.declared.event.Event.{Event};
-ghost use Rattle.vm_model.specs.declared.event.Event.TheVariants as event;
+ghost use Rattle.vm_model.specs.declared.script.Header.{Header};
 ghost use Rattle.vm_model.specs.declared.command.Command.TheVariants as command;
-ghost use Rattle.vm_model.specs.Refusal.{refusal, is_range, where_true, read_refusal};
-ghost use Rattle.vm_top.specs.Runner.{Agrees, IsBuilt, KeepsLegal, IsStep, IsTask, rows_of, the_task, the_host, the_region, the_object, entered_whole, loaded, zeroed};
+ghost use Rattle.vm_model.specs.Refusal.{refusal, where_true};
+ghost use Rattle.vm_maps.specs.Maps.{entries_in, rows_in};
+ghost use Rattle.vm_maps.specs.declared.change.MapKind.TheVariants as kind;
+ghost use Rattle.vm_top.specs.Pages.{room_all};
+ghost use Rattle.vm_top.specs.Runner.{Agrees, HasFrames, IsBuilt, IsChange, Stepped, pages_asked, the_host, whole_entry};
+ghost use Rattle.vm_top.specs.Refusing.{FoundAs, LeadsTo, access_code, range_code};
 
+use crate::pages::PageTable;
 use std::alloc::Global;
 use vm_base::{
-    Code, HostId, Inherit, NoMemory, ObjectId, PageBytes, PageNo, Prot, RegionId, TaskId,
+    Access, Code, Entry, HostId, Inherit, NoMemory, ObjectId, PageBytes, PageSize, Prot, RegionId,
+    TaskId,
 };
+use vm_maps::{MapChange, MapKind, Maps, Place};
 use vm_model::{Command, Event, Header, History, Numbered};
-
-const TASK: TaskId = TaskId(0);
 
 const HOST: HostId = HostId(0);
 
-const OBJECT: ObjectId = ObjectId(0);
+const MOST_PAGES: u64 = 4096;
 
-const REGION: RegionId = RegionId(0);
+const MOST_REGIONS: usize = 8192;
 
-/// Task 0 of host 0, its one range of temporary memory with its pages, and the history so far.
-/// While `bytes` is 0 the task has no range.
+/// The tasks of host 0 with their entries, the pages of the regions, and the history so far.
+///
+/// A region has the number of its one object.
 #[derive(Drop)]
 pub struct Runner {
     pub alloc: Global,
-    pub lives: bool,
-    pub address: u64,
-    pub bytes: u64,
-    pub pages: Vec<Option<PageBytes>>,
+    pub maps: Maps,
+    pub pages: PageTable,
     pub history: History,
 }
 
 impl Runner {
     /// Nothing has happened yet.
-    pub fn new(alloc: Global) -> Runner
-        ensures { (result.lives ≡ false) × (result.address ≡ 0) × (result.bytes ≡ 0) × (result.pages.items ≡ []) × (result.history.items ≡ []) }
+    pub fn new(alloc: Global, size: PageSize) -> Runner
+        ensures { (result.maps ≡ record { size = size; tasks = [] }) × (result.pages ≡ []) × (result.history.items ≡ []) }
     {
         Runner {
             alloc,
-            lives: false,
-            address: 0,
-            bytes: 0,
-            pages: Vec::new(alloc),
+            maps: Maps::new(alloc, size),
+            pages: PageTable::new(alloc),
             history: History::new(alloc),
         }
     }
@@ -53,140 +53,153 @@ impl Runner {
     /// Why the command is refused now, if it is.
     pub fn refusal(&self, header: &Header, command: &Command) -> Option<Code>
         requires agrees { Agrees header.now self.now }
-        requires built { IsBuilt header.now self.now.bytes command.now }
+        requires built { IsBuilt command.now }
         ensures { result ≡ refusal header.now self.now.history.items command.now }
     {
         match command {
-            Command::Task { .. } => self.task_refusal(),
-            Command::Allocate { address, bytes, .. } => {
-                self.allocate_refusal(u64::from(header.size.bytes()), *address, *bytes)
-            }
-            Command::Load { address, size, .. } => self.load_refusal(*address, *size),
+            Command::Task { task, .. } => self.task_refusal(*task),
+            Command::Allocate {
+                task,
+                address,
+                bytes,
+            } => self.allocate_refusal(header.size, *task, *address, *bytes),
+            Command::Load {
+                task,
+                address,
+                size,
+            } => self.access_refusal(*task, *address, *size, Access::Load),
+            Command::Store {
+                task,
+                address,
+                size,
+                ..
+            } => self.access_refusal(*task, *address, *size, Access::Store),
             _ => None,
         }
     }
 
-    fn task_refusal(&self) -> Option<Code>
-        ensures { result ≡ where_true self.now.lives code.NameTaken None }
+    fn task_refusal(&self, task: TaskId) -> Option<Code>
+        ensures { result ≡ where_true (is_some (entries_in task.0 self.now.maps)) code.NameTaken None }
     {
-        if self.lives {
+        if self.maps.has(task) {
             Some(Code::NameTaken)
         } else {
             None
         }
     }
 
-    fn allocate_refusal(&self, size: u64, address: u64, bytes: u64) -> Option<Code>
-        requires { 0 < size }
-        ensures { result ≡ where_true (not self.now.lives) code.NoSuchName (where_true (not (is_range size address bytes) || nat_lt 4096 (bytes / size)) code.InvalidArgument None) }
+    fn allocate_refusal(
+        &self,
+        size: PageSize,
+        task: TaskId,
+        address: u64,
+        bytes: u64,
+    ) -> Option<Code>
+        requires { self.now.maps.size ≡ size }
+        ensures { result ≡ range_code size (entries_in task.0 self.now.maps) (length self.now.pages) address bytes }
     {
-        if !self.lives {
+        if !self.maps.has(task) {
             return Some(Code::NoSuchName);
         }
-        if !is_range(size, address, bytes) {
+        if bytes / u64::from(size.bytes()) > MOST_PAGES {
             return Some(Code::InvalidArgument);
         }
-        if bytes / size > 4096 {
-            return Some(Code::InvalidArgument);
+        let change = enter_change(address, bytes, RegionId(0));
+        if let Some(code) = self.maps.judge(task, &change) {
+            return Some(code);
+        }
+        if self.pages.len() >= MOST_REGIONS {
+            return Some(Code::TableFull);
         }
         None
     }
 
-    fn load_refusal(&self, address: u64, size: u32) -> Option<Code>
+    fn access_refusal(&self, task: TaskId, address: u64, size: u32, need: Access) -> Option<Code>
         requires size { 0 < size }
-        requires range { self.now.address + self.now.bytes ≤ 2 ^ 32 }
-        ensures { result ≡ where_true (not self.now.lives) code.NoSuchName (where_true (not (address % size == 0)) code.InvalidArgument (read_refusal (entry_at address (rows_of self.now.address self.now.bytes)))) }
+        ensures { (header : Header) → Agrees header self.now → result ≡ access_code self.now.history.items task.0 address size need }
     {
-        if !self.lives {
-            return Some(Code::NoSuchName);
+        match self.find(task, address, size, need) {
+            Ok(_) => None,
+            Err(code) => Some(code),
+        }
+    }
+
+    // Where a load or store leads, or why it is refused.
+    fn find(&self, task: TaskId, address: u64, size: u32, need: Access) -> Result<Place, Code>
+        requires size { 0 < size }
+        ensures { (header : Header) → Agrees header self.now → FoundAs header.size self.now task.0 address size need result }
+    {
+        if !self.maps.has(task) {
+            return Err(Code::NoSuchName);
         }
         if address % u64::from(size) != 0 {
-            return Some(Code::InvalidArgument);
+            return Err(Code::InvalidArgument);
         }
-        if address < self.address {
-            return Some(Code::InvalidAddress);
-        }
-        if address >= self.address + self.bytes {
-            return Some(Code::InvalidAddress);
-        }
-        None
+        self.maps.lookup(task, address, need)
     }
 
     /// The group of one command.
     pub fn step(&mut self, header: &Header, numbered: &Numbered) -> Result<(), NoMemory>
         requires agrees { Agrees header.now self.old }
-        requires built { IsBuilt header.now self.old.bytes numbered.now.command }
-        ensures agrees { OnOk result (Agrees header.now self.new) }
-        ensures legal { OnOk result (KeepsLegal header.now numbered.now self.old.history.items self.new.history.items) }
-        ensures step { OnOk result (IsStep self.old.history.items self.new.history.items) }
-        ensures bytes { IsTask numbered.now.command → self.new.bytes ≡ self.old.bytes }
-        ensures err { OnErr result (self.new.history.items ≡ self.old.history.items) }
-    {
-        match self.refusal(header, &numbered.command) {
-            Some(code) => {
-                self.refuse(numbered.line, code)?;
-                Ok(())
-            }
-            None => {
-                self.run(header, numbered)?;
-                Ok(())
-            }
-        }
-    }
-
-    // The group of a command that isn't refused.
-    fn run(&mut self, header: &Header, numbered: &Numbered) -> Result<(), NoMemory>
-        requires agrees { Agrees header.now self.old }
-        requires built { IsBuilt header.now self.old.bytes numbered.now.command }
-        requires accepted { refusal header.now self.old.history.items numbered.now.command ≡ None }
-        ensures agrees { OnOk result (Agrees header.now self.new) }
-        ensures legal { OnOk result (KeepsLegal header.now numbered.now self.old.history.items self.new.history.items) }
-        ensures step { OnOk result (IsStep self.old.history.items self.new.history.items) }
-        ensures bytes { IsTask numbered.now.command → self.new.bytes ≡ self.old.bytes }
+        requires built { IsBuilt numbered.now.command }
+        requires room { HasFrames header.now (room_all self.old.pages + pages_asked header.now.size numbered.now.command) }
+        ensures ok { OnOk result (Stepped header.now numbered.now self.old self.new) }
         ensures err { OnErr result (self.new.history.items ≡ self.old.history.items) }
     {
         let line = numbered.line;
         match &numbered.command {
-            Command::Task { .. } => {
-                self.make_task(line)?;
-                Ok(())
-            }
-            Command::Allocate { address, bytes, .. } => {
-                self.allocate(header, line, *address, *bytes)?;
-                Ok(())
-            }
-            Command::Load { address, size, .. } => {
-                self.load(header, line, *address, *size)?;
-                Ok(())
-            }
+            Command::Load {
+                task,
+                address,
+                size,
+            } => self.load_step(header, line, *task, *address, *size),
+            Command::Store {
+                task,
+                address,
+                size,
+                value,
+            } => self.store_step(header, line, *task, *address, *size, *value),
+            command => match self.refusal(header, command) {
+                Some(code) => push_two(
+                    &mut self.history,
+                    Event::Line { line },
+                    Event::Refused { code },
+                ),
+                None => self.change(header, line, command),
+            },
+        }
+    }
+
+    // The group of a command on tasks and entries that isn't refused.
+    fn change(&mut self, header: &Header, line: u32, command: &Command) -> Result<(), NoMemory>
+        requires agrees { Agrees header.now self.old }
+        requires built { IsChange command.now }
+        requires room { HasFrames header.now (room_all self.old.pages + pages_asked header.now.size command.now) }
+        requires accepted { refusal header.now self.old.history.items command.now ≡ None }
+        ensures ok { OnOk result (Stepped header.now (record { line = line; command = command.now }) self.old self.new) }
+        ensures err { OnErr result (self.new.history.items ≡ self.old.history.items) }
+    {
+        match command {
+            Command::Task { task, .. } => self.make_task(header, line, *task),
+            Command::Allocate {
+                task,
+                address,
+                bytes,
+            } => self.allocate(header, line, *task, *address, *bytes),
             _ => Ok(()),
         }
     }
 
-    fn refuse(&mut self, line: u32, code: Code) -> Result<(), NoMemory>
-        ensures same { (self.new.lives ≡ self.old.lives) × (self.new.address ≡ self.old.address) × (self.new.bytes ≡ self.old.bytes) × (self.new.pages.items ≡ self.old.pages.items) }
-        ensures ok { OnOk result (self.new.history.items ≡ event.Refused code ∷ event.Line line ∷ self.old.history.items) }
+    fn make_task(&mut self, header: &Header, line: u32, task: TaskId) -> Result<(), NoMemory>
+        requires agrees { Agrees header.now self.old }
+        requires accepted { refusal header.now self.old.history.items (command.Task task the_host) ≡ None }
+        ensures ok { OnOk result (Stepped header.now (record { line = line; command = command.Task task the_host }) self.old self.new) }
         ensures err { OnErr result (self.new.history.items ≡ self.old.history.items) }
     {
         self.history.reserve(2)?;
+        self.maps.add_task(task)?;
         self.history.push(Event::Line { line })?;
-        self.history.push(Event::Refused { code })?;
-        Ok(())
-    }
-
-    fn make_task(&mut self, line: u32) -> Result<(), NoMemory>
-        ensures same { (self.new.address ≡ self.old.address) × (self.new.bytes ≡ self.old.bytes) × (self.new.pages.items ≡ self.old.pages.items) }
-        ensures lives { OnOk result (self.new.lives ≡ true) }
-        ensures ok { OnOk result (self.new.history.items ≡ event.TaskMade the_task the_host ∷ event.Line line ∷ self.old.history.items) }
-        ensures err { OnErr result (self.new.history.items ≡ self.old.history.items) }
-    {
-        self.history.reserve(2)?;
-        self.history.push(Event::Line { line })?;
-        self.history.push(Event::TaskMade {
-            task: TASK,
-            host: HOST,
-        })?;
-        self.lives = true;
+        self.history.push(Event::TaskMade { task, host: HOST })?;
         Ok(())
     }
 
@@ -194,152 +207,275 @@ impl Runner {
         &mut self,
         header: &Header,
         line: u32,
+        task: TaskId,
         address: u64,
         bytes: u64,
     ) -> Result<(), NoMemory>
-        requires few { bytes / header.now.size ≤ 4096 }
-        ensures same { self.new.lives ≡ self.old.lives }
-        ensures range { OnOk result ((self.new.address ≡ address) × (self.new.bytes ≡ bytes) × (self.new.pages.items ≡ replicate (bytes / header.now.size) None)) }
-        ensures ok { OnOk result (self.new.history.items ≡ entered_whole address bytes ∷ event.RegionMade the_region the_object (bytes / header.now.size) ∷ event.Line line ∷ self.old.history.items) }
+        requires agrees { Agrees header.now self.old }
+        requires room { HasFrames header.now (room_all self.old.pages + pages_asked header.now.size (command.Allocate task address bytes)) }
+        requires accepted { refusal header.now self.old.history.items (command.Allocate task address bytes) ≡ None }
+        ensures ok { OnOk result (Stepped header.now (record { line = line; command = command.Allocate task address bytes }) self.old self.new) }
         ensures err { OnErr result (self.new.history.items ≡ self.old.history.items) }
     {
         let pages = (bytes / u64::from(header.size.bytes())) as u32;
-        let absent = no_pages(self.alloc, pages)?;
+        let number = self.pages.len() as u32;
+        let region = RegionId(number);
+        let object = ObjectId(number);
+        let entry = new_entry(address, bytes, region);
         self.history.reserve(3)?;
+        self.pages.add(pages)?;
+        self.maps
+            .enter(task, &enter_change(address, bytes, region))?;
         self.history.push(Event::Line { line })?;
         self.history.push(Event::RegionMade {
-            region: REGION,
-            object: OBJECT,
+            region,
+            object,
             pages,
         })?;
         self.history.push(Event::Entered {
-            task: TASK,
+            task,
             address,
             bytes,
-            region: REGION,
-            offset: 0,
-            prot: Prot {
-                read: true,
-                write: true,
-            },
-            inherit: Inherit::Copy,
+            region,
+            offset: entry.offset,
+            prot: entry.prot,
+            inherit: entry.inherit,
         })?;
-        self.address = address;
-        self.bytes = bytes;
-        self.pages = absent;
         Ok(())
     }
 
-    fn load(&mut self, header: &Header, line: u32, address: u64, size: u32) -> Result<(), NoMemory>
+    fn load_step(
+        &mut self,
+        header: &Header,
+        line: u32,
+        task: TaskId,
+        address: u64,
+        size: u32,
+    ) -> Result<(), NoMemory>
         requires agrees { Agrees header.now self.old }
         requires size { IsAccessSize size }
-        requires accepted { refusal header.now self.old.history.items (command.Load the_task address size) ≡ None }
-        ensures agrees { OnOk result (Agrees header.now self.new) }
-        ensures legal { OnOk result (KeepsLegal header.now (record { line = line; command = command.Load the_task address size }) self.old.history.items self.new.history.items) }
-        ensures step { OnOk result (IsStep self.old.history.items self.new.history.items) }
+        ensures ok { OnOk result (Stepped header.now (record { line = line; command = command.Load task address size }) self.old self.new) }
         ensures err { OnErr result (self.new.history.items ≡ self.old.history.items) }
     {
-        let page_size = u64::from(header.size.bytes());
-        let index = ((address - self.address) / page_size) as u32;
-        let at = (address % page_size) as u32;
-        let page = PageNo(index);
-        if let Some(bytes) = &self.pages[index as usize] {
-            let value = bytes.get(at, size);
-            self.hit(line, address, size, page, value)?;
-            return Ok(());
+        match self.find(task, address, size, Access::Load) {
+            Ok(place) => self.load(header, line, task, address, size, place),
+            Err(code) => push_two(
+                &mut self.history,
+                Event::Line { line },
+                Event::Refused { code },
+            ),
+        }
+    }
+
+    fn load(
+        &mut self,
+        header: &Header,
+        line: u32,
+        task: TaskId,
+        address: u64,
+        size: u32,
+        place: Place,
+    ) -> Result<(), NoMemory>
+        requires agrees { Agrees header.now self.old }
+        requires size { IsAccessSize size }
+        requires accepted { refusal header.now self.old.history.items (command.Load task address size) ≡ None }
+        requires leads { LeadsTo header.now.size self.old task.0 address size place }
+        ensures ok { OnOk result (Stepped header.now (record { line = line; command = command.Load task address size }) self.old self.new) }
+        ensures err { OnErr result (self.new.history.items ≡ self.old.history.items) }
+    {
+        let begun = Event::BegunLoad {
+            task,
+            address,
+            size,
+        };
+        let region = place.region.0;
+        let object = ObjectId(region);
+        let page = place.page;
+        if let Some(bytes) = self.pages.page(region, page.0) {
+            let value = bytes.get(place.at, size);
+            let loaded = Event::Loaded {
+                task,
+                object,
+                page,
+                value,
+            };
+            return push_three(&mut self.history, Event::Line { line }, begun, loaded);
         }
         let bytes = PageBytes::zero(self.alloc, header.size)?;
-        let value = bytes.get(at, size);
-        self.miss(line, address, size, page, value)?;
-        self.pages[index as usize] = Some(bytes);
-        Ok(())
-    }
-
-    // A load from a page that is here.
-    fn hit(
-        &mut self,
-        line: u32,
-        address: u64,
-        size: u32,
-        page: PageNo,
-        value: u64,
-    ) -> Result<(), NoMemory>
-        ensures same { (self.new.lives ≡ self.old.lives) × (self.new.address ≡ self.old.address) × (self.new.bytes ≡ self.old.bytes) × (self.new.pages.items ≡ self.old.pages.items) }
-        ensures ok { OnOk result (self.new.history.items ≡ loaded page value ∷ event.BegunLoad the_task address size ∷ event.Line line ∷ self.old.history.items) }
-        ensures err { OnErr result (self.new.history.items ≡ self.old.history.items) }
-    {
-        let task = TASK;
-        let object = OBJECT;
-        self.history.reserve(3)?;
-        self.history.push(Event::Line { line })?;
-        self.history.push(Event::BegunLoad {
-            task,
-            address,
-            size,
-        })?;
-        self.history.push(Event::Loaded {
-            task,
-            object,
-            page,
-            value,
-        })?;
-        Ok(())
-    }
-
-    // A load from a page that comes now.
-    fn miss(
-        &mut self,
-        line: u32,
-        address: u64,
-        size: u32,
-        page: PageNo,
-        value: u64,
-    ) -> Result<(), NoMemory>
-        ensures same { (self.new.lives ≡ self.old.lives) × (self.new.address ≡ self.old.address) × (self.new.bytes ≡ self.old.bytes) × (self.new.pages.items ≡ self.old.pages.items) }
-        ensures ok { OnOk result (self.new.history.items ≡ loaded page value ∷ zeroed page ∷ event.BegunLoad the_task address size ∷ event.Line line ∷ self.old.history.items) }
-        ensures err { OnErr result (self.new.history.items ≡ self.old.history.items) }
-    {
+        let value = bytes.get(place.at, size);
         let host = HOST;
-        let task = TASK;
-        let object = OBJECT;
-        self.history.reserve(4)?;
-        self.history.push(Event::Line { line })?;
-        self.history.push(Event::BegunLoad {
-            task,
-            address,
-            size,
-        })?;
-        self.history.push(Event::Zeroed { host, object, page })?;
-        self.history.push(Event::Loaded {
+        let zeroed = Event::Zeroed { host, object, page };
+        let loaded = Event::Loaded {
             task,
             object,
             page,
             value,
-        })?;
+        };
+        push_four(
+            &mut self.history,
+            Event::Line { line },
+            begun,
+            zeroed,
+            loaded,
+        )?;
+        self.pages.put(region, page.0, bytes);
+        Ok(())
+    }
+
+    fn store_step(
+        &mut self,
+        header: &Header,
+        line: u32,
+        task: TaskId,
+        address: u64,
+        size: u32,
+        value: u64,
+    ) -> Result<(), NoMemory>
+        requires agrees { Agrees header.now self.old }
+        requires size { IsAccessSize size }
+        requires fits { value < 256 ^ size }
+        ensures ok { OnOk result (Stepped header.now (record { line = line; command = command.Store task address size value }) self.old self.new) }
+        ensures err { OnErr result (self.new.history.items ≡ self.old.history.items) }
+    {
+        match self.find(task, address, size, Access::Store) {
+            Ok(place) => self.store(header, line, task, address, size, value, place),
+            Err(code) => push_two(
+                &mut self.history,
+                Event::Line { line },
+                Event::Refused { code },
+            ),
+        }
+    }
+
+    fn store(
+        &mut self,
+        header: &Header,
+        line: u32,
+        task: TaskId,
+        address: u64,
+        size: u32,
+        value: u64,
+        place: Place,
+    ) -> Result<(), NoMemory>
+        requires agrees { Agrees header.now self.old }
+        requires size { IsAccessSize size }
+        requires fits { value < 256 ^ size }
+        requires accepted { refusal header.now self.old.history.items (command.Store task address size value) ≡ None }
+        requires leads { LeadsTo header.now.size self.old task.0 address size place }
+        ensures ok { OnOk result (Stepped header.now (record { line = line; command = command.Store task address size value }) self.old self.new) }
+        ensures err { OnErr result (self.new.history.items ≡ self.old.history.items) }
+    {
+        let begun = Event::BegunStore {
+            task,
+            address,
+            size,
+            value,
+        };
+        let region = place.region.0;
+        let object = ObjectId(region);
+        let page = place.page;
+        let at = place.at;
+        let stored = Event::Stored {
+            task,
+            object,
+            page,
+            at,
+            size,
+            value,
+        };
+        if self.pages.has(region, page.0) {
+            push_three(&mut self.history, Event::Line { line }, begun, stored)?;
+            self.pages.store(region, page.0, at, size, value);
+            return Ok(());
+        }
+        let mut bytes = PageBytes::zero(self.alloc, header.size)?;
+        bytes.put(at, size, value);
+        let host = HOST;
+        let zeroed = Event::Zeroed { host, object, page };
+        push_four(
+            &mut self.history,
+            Event::Line { line },
+            begun,
+            zeroed,
+            stored,
+        )?;
+        self.pages.put(region, page.0, bytes);
         Ok(())
     }
 }
 
-fn no_pages(alloc: Global, n: u32) -> Result<Vec<Option<PageBytes>>, NoMemory>
-    ensures { IfOk result (λ pages. pages.items ≡ replicate n None) }
+// An entry on the whole of a region: readable, writable, and copied by a fork.
+fn new_entry(address: u64, bytes: u64, region: RegionId) -> Entry
+    ensures { result ≡ whole_entry address bytes region }
 {
-    let mut pages = Vec::new(alloc);
-    for i in 0..n {
-        pages.push(None)?;
+    Entry {
+        address,
+        bytes,
+        region,
+        offset: 0,
+        prot: Prot {
+            read: true,
+            write: true,
+        },
+        inherit: Inherit::Copy,
     }
-    Ok(pages)
 }
 
-// Whole pages from a page on, at least one, below address 2^32.
-fn is_range(size: u64, address: u64, bytes: u64) -> bool
-    requires { 0 < size }
-    ensures { result ≡ is_range size address bytes }
+fn enter_change(address: u64, bytes: u64, region: RegionId) -> MapChange
+    ensures { (result.kind ≡ kind.Enter) × (result.address ≡ address) × (result.bytes ≡ bytes) × (result.entry ≡ Some (whole_entry address bytes region)) }
 {
-    if address % size != 0 || bytes % size != 0 {
-        return false;
+    let entry = new_entry(address, bytes, region);
+    MapChange {
+        kind: MapKind::Enter,
+        address,
+        bytes,
+        entry: Some(entry),
+        prot: entry.prot,
+        inherit: entry.inherit,
     }
-    if bytes == 0 || address > 0x1_0000_0000 {
-        return false;
-    }
-    bytes <= 0x1_0000_0000 - address
+}
+
+// These events in this order, or none of them.
+fn push_two(history: &mut History, first: Event, second: Event) -> Result<(), NoMemory>
+    ensures ok { OnOk result (history.new.items ≡ second ∷ first ∷ history.old.items) }
+    ensures err { OnErr result (history.new.items ≡ history.old.items) }
+{
+    history.reserve(2)?;
+    history.push(first)?;
+    history.push(second)?;
+    Ok(())
+}
+
+fn push_three(
+    history: &mut History,
+    first: Event,
+    second: Event,
+    third: Event,
+) -> Result<(), NoMemory>
+    ensures ok { OnOk result (history.new.items ≡ third ∷ second ∷ first ∷ history.old.items) }
+    ensures err { OnErr result (history.new.items ≡ history.old.items) }
+{
+    history.reserve(3)?;
+    history.push(first)?;
+    history.push(second)?;
+    history.push(third)?;
+    Ok(())
+}
+
+fn push_four(
+    history: &mut History,
+    first: Event,
+    second: Event,
+    third: Event,
+    fourth: Event,
+) -> Result<(), NoMemory>
+    ensures ok { OnOk result (history.new.items ≡ fourth ∷ third ∷ second ∷ first ∷ history.old.items) }
+    ensures err { OnErr result (history.new.items ≡ history.old.items) }
+{
+    history.reserve(4)?;
+    history.push(first)?;
+    history.push(second)?;
+    history.push(third)?;
+    history.push(fourth)?;
+    Ok(())
 }

@@ -2,15 +2,16 @@
 ghost use Rattle.std.specs.Prelude.{◌≡◌, ◌⊎◌, ◌↔◌, ◌≤◌, IsTrue, ℕ};
 ghost use Rattle.std.specs.Io.KnownBytes.{Appends};
 ghost use Rattle.vm_outside.specs.Causes.{Rose};
-ghost use Rattle.vm_top.specs.Top.{IsRun, IsDone, NothingRun, IsOutputFault, IsNoMemory, IsNotBuilt, NothingDone, HasRun, IsDisarmed, usage_text, not_built_text};
+ghost use Rattle.vm_top.specs.Top.{IsRun, IsDone, IsEventLimit, NothingRun, IsOutputFault, IsNoMemory, IsNotBuilt, NothingDone, HasRun, IsDisarmed, usage_text, not_built_text};
 ghost use Rattle.vm_top.specs.Run.{IsFirst};
+ghost use Rattle.vm_top.specs.Runner.{IsBelowLimit};
 ghost use Rattle.vm_top.specs.Writing.{WroteStart};
 ghost use Rattle.vm_top.specs.Status.{number_of, status_of};
 
 use crate::form::{FormStop, read_form};
 use crate::reading::{ReadStop, read_all};
 use crate::render::not_built_text;
-use crate::run::run_script;
+use crate::run::{RunEnd, run_script};
 use std::alloc::Global;
 use vm_base::WriteStop;
 use vm_model::{History, Script};
@@ -27,6 +28,8 @@ pub enum Status {
     ReadFault,
     /// The sink failed.
     OutputFault,
+    /// A command is left, and the history has 200,000 events or more.
+    EventLimit,
     /// No memory was there.
     NoMemory,
     /// The script isn't of the form that is built: `line` is its first line that isn't, one past
@@ -45,6 +48,7 @@ impl Status {
             Status::Usage => 2,
             Status::ReadFault => 3,
             Status::OutputFault => 4,
+            Status::EventLimit => 5,
             Status::NoMemory => 6,
             Status::NotBuilt { .. } => 7,
         }
@@ -111,19 +115,21 @@ fn not_built<K: Sink>(alloc: Global, line: u32, out: &mut K) -> Status
     }
 }
 
-fn status_of(end: Result<(), WriteStop>) -> Status
+fn status_of(end: RunEnd) -> Status
     ensures { result ≡ status_of end }
 {
     match end {
-        Ok(()) => Status::Done,
-        Err(WriteStop::Failed) => Status::OutputFault,
-        Err(WriteStop::NoMemory) => Status::NoMemory,
+        RunEnd::Done => Status::Done,
+        RunEnd::Failed => Status::OutputFault,
+        RunEnd::NoMemory => Status::NoMemory,
+        RunEnd::EventLimit => Status::EventLimit,
     }
 }
 
 fn run_form<K: Sink>(alloc: Global, script: Script, out: &mut K) -> Outcome
     requires { IsFirst script }
     ensures ran { HasRun script result.script result.history.items result.status (K.written out.old) (K.written out.new) }
+    ensures limit { IsBelowLimit result.history.items }
     ensures cause { result.status ≡ Status.OutputFault → Rose (K.faults out.old) (K.faults out.new) }
     ensures later { K.faults out.old ≤ K.faults out.new }
 {
@@ -141,6 +147,8 @@ fn run<S: Source, K: Sink>(alloc: Global, source: &mut S, out: &mut K) -> Outcom
     ensures read { result.status ≡ Status.ReadFault → NothingDone result.script result.history.items (K.written out.old) (K.written out.new) }
     ensures output { result.status ≡ Status.OutputFault → IsOutputFault (S.left source.old) result.script result.history.items (K.written out.old) (K.written out.new) }
     ensures memory { result.status ≡ Status.NoMemory → IsNoMemory (S.left source.old) result.script result.history.items (K.written out.old) (K.written out.new) }
+    ensures full { result.status ≡ Status.EventLimit → IsEventLimit (S.left source.old) result.script result.history.items (K.written out.old) (K.written out.new) }
+    ensures limit { IsBelowLimit result.history.items }
     ensures not_built { (line : ℕ) → result.status ≡ Status.NotBuilt line → IsNotBuilt (S.left source.old) line result.script result.history.items (K.written out.old) (K.written out.new) }
     ensures read_cause { result.status ≡ Status.ReadFault → Rose (S.faults source.old) (S.faults source.new) }
     ensures output_cause { result.status ≡ Status.OutputFault → Rose (K.faults out.old) (K.faults out.new) }
@@ -192,6 +200,10 @@ pub fn pagers_main<S: Source, K: Sink, F: Backing, P: Backing>(
     // Memory ended.
     ensures memory { result.status ≡ Status.NoMemory → IsRun words.now → IsNoMemory (S.left script.old) result.script result.history.items (K.written out.old) (K.written out.new) }
     ensures memory_usage { result.status ≡ Status.NoMemory → ¬ IsRun words.now → NothingRun result.script result.history.items × WroteStart (K.written out.old) (K.written out.new) usage_text }
+
+    // The history is full while commands are left; and no step of any history began where it was full.
+    ensures full { result.status ≡ Status.EventLimit → IsRun words.now × IsEventLimit (S.left script.old) result.script result.history.items (K.written out.old) (K.written out.new) }
+    ensures limit { IsBelowLimit result.history.items }
 
     // The script isn't of the form that is built, from exactly this line on.
     ensures not_built { (line : ℕ) → result.status ≡ Status.NotBuilt line → IsRun words.now × IsNotBuilt (S.left script.old) line result.script result.history.items (K.written out.old) (K.written out.new) }

@@ -1,5 +1,5 @@
 use Rattle.std.proofs.Common.{inr}
-use Rattle.vm_top.proofs.Ends.{read_from, unformed_from, done_of, output_of, memory_of}
+use Rattle.vm_top.proofs.Ends.{read_from, unformed_from, done_of, output_of, memory_of, full_of}
 use Rattle.vm_top.proofs.top.run.Goals as goal
 
 pub returns-in-Ok-read_form-clause-done : goal.returns-in-Ok-read_form-clause-done
@@ -16,6 +16,11 @@ pub returns-in-Ok-read_form-clause-memory : goal.returns-in-Ok-read_form-clause-
 returns-in-Ok-read_form-clause-memory g c =
     let read = read_from (g.S.Source.left c.args.source.now) _ c.in-Ok.bytes.items c.deref.result.now c.in-Ok-read_form.script c.in-Ok.ensures.whole c.deref.ensures.value c.in-Ok-read_form.ensures.read in
     memory_of _ _ _ c.in-Ok-read_form.script _ _ _ read c.run_form.ensures.ran
+
+pub returns-in-Ok-read_form-clause-full : goal.returns-in-Ok-read_form-clause-full
+returns-in-Ok-read_form-clause-full g c =
+    let read = read_from (g.S.Source.left c.args.source.now) _ c.in-Ok.bytes.items c.deref.result.now c.in-Ok-read_form.script c.in-Ok.ensures.whole c.deref.ensures.value c.in-Ok-read_form.ensures.read in
+    full_of _ _ _ c.in-Ok-read_form.script _ _ _ read c.run_form.ensures.ran
 
 pub returns-in-Err-NotBuilt-clause-output : goal.returns-in-Err-NotBuilt-clause-output
 returns-in-Err-NotBuilt-clause-output g c = λ is.

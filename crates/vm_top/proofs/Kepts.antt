@@ -1,0 +1,182 @@
+-- What is kept agrees with the history over each event that changes it.
+use Rattle.std.proofs.Common.{◌≡◌, ℕ, zero, suc, ◌+◌, ◌/◌, ◌%◌, ◌<◌, ◌≤◌, ◌^◌, true, false, List, [], ◌∷◌, ◌++◌, length, take, drop, replicate, refl, ap, sym, ◌∙◌, subst, arith, Some, None, Option, inl, inr, cond, length-append}
+use Rattle.std.proofs.lemmas.Bool.Decides.{eqb_tells}
+use Rattle.std.proofs.lemmas.List.{length-replicate, length-take, length-drop}
+use Rattle.std.specs.Prelude.{if◌then◌else◌, nat_lt}
+use Rattle.vm_base.specs.declared.entry.Entry.{Entry}
+use Rattle.vm_base.specs.declared.ids.TaskId.{TaskId}
+use Rattle.vm_base.specs.Entries.{entered, entry_at, page_at}
+use Rattle.vm_base.specs.Pages.{little_endian_bytes, with_bytes}
+use Rattle.vm_model.specs.declared.event.Event.{Event}
+use Rattle.vm_model.specs.declared.event.Event.TheVariants as event
+use Rattle.vm_model.specs.declared.script.Header.{Header}
+use Rattle.vm_model.specs.Flat.{flat_page}
+use Rattle.vm_model.specs.Local.{local, moved, Zeroes, Stores, Elsewhere}
+use Rattle.vm_model.specs.Waiting.{waiting, Storing}
+use Rattle.vm_model.specs.Tasks.{entries_of, host_of}
+use Rattle.vm_maps.specs.Maps.{Mapped, ChangesOnly, entries_in, rows_in}
+use Rattle.vm_top.specs.Pages.{Table, held, pages_of, put_in}
+use Rattle.vm_top.specs.Runner.{AllInside, IsInside, IsShown, IsSized, Kept, host_for, or_zeros, place_of, the_host, whole_entry}
+use Rattle.vm_top.proofs.Tables.{count_added, count_put_more, count_put_other, each_held, held_added, length_added, length_put, none_past, pages_added, pages_kept, pages_put, with_region}
+
+-- entries lie within their regions still
+inside_put : (size : ℕ) (table : Table) (r p : ℕ) (x : Option (List ℕ)) (rows : List Entry) → r < length table → AllInside size table rows → AllInside size (put_in table r p x) rows
+inside_put size table r p x [] inside all = tt
+inside_put size table r p x (row ∷ rows) inside all =
+    (record { region = let n = length_put table r p x in let less = all.0.region in omega arith; whole = all.0.whole; within = rw (pages_put table r p row.region.0 x inside) all.0.within }, inside_put size table r p x rows inside all.1)
+
+inside_added : (size : ℕ) (table : Table) (n : ℕ) (rows : List Entry) → AllInside size table rows → AllInside size (with_region table n) rows
+inside_added size table n [] all = tt
+inside_added size table n (row ∷ rows) all =
+    (record { region = let more = length_added table n in let less = all.0.region in omega arith; whole = all.0.whole; within = rw (pages_kept table n row.region.0 all.0.region) all.0.within }, inside_added size table n rows all.1)
+
+inside_entered : (size : ℕ) (table : Table) (new : Entry) (rows : List Entry) → IsInside size table new → AllInside size table rows → AllInside size table (entered new rows)
+inside_entered size table new [] one all = (one, tt)
+inside_entered size table new (row ∷ rows) one all =
+    elim (nat_lt new.address row.address) as (λ b. AllInside size table (cond b (new ∷ row ∷ rows) (row ∷ entered new rows))) [
+      | true ↦ (one, all)
+      | false ↦ (all.0, inside_entered size table new rows one all.1)
+    ]
+
+-- a page of zeros comes
+pub kept_zeroed : (header : Header) (maps : Mapped) (table : Table) (h : List Event) (r p : ℕ) → Kept header maps table h → r < length table → p < pages_of table r → held table r p ≡ None
+    → Kept header maps (put_in table r p (Some (replicate header.size 0))) (event.Zeroed the_host (record { 0 = r }) (record { 0 = p }) ∷ h)
+kept_zeroed header maps table h r p k inside within absent =
+    let zeros : Option (List ℕ) = Some (replicate header.size 0) in
+    let same : length (put_in table r p zeros) ≡ length table = length_put table r p zeros in
+    record {
+      size = k.size;
+      hosts = k.hosts;
+      rows = k.rows;
+      inside = λ task. inside_put header.size table r p zeros (rows_in task maps) inside (k.inside task);
+      regions = k.regions ∙ sym same;
+      objects = k.objects ∙ sym same;
+      tops = λ region less. k.tops region (omega arith);
+      flat = each_held table r p zeros inside within (λ r2 p2 b page. r2 < length (put_in table r p zeros) → flat_page header.size r2 p2 h ≡ or_zeros header.size page)
+          (λ less. k.flat r p inside ∙ ap (or_zeros header.size) absent) (λ r2 p2 less. k.flat r2 p2 (omega arith));
+      pages = each_held table r p zeros inside within (λ r2 p2 b page. IsShown (moved header.size (if b then Zeroes else Elsewhere) (local header.size 0 (place_of r2 p2) h)) page)
+          (refl, refl, refl) (λ r2 p2. k.pages r2 p2);
+      sized = each_held table r p zeros inside within (λ r2 p2 b page. IsSized header.size page) (length-replicate header.size 0) (λ r2 p2. k.sized r2 p2);
+      used = ap (λ z. z + 1) k.used ∙ sym (count_put_more table r p (replicate header.size 0) inside within absent);
+    }
+
+-- bytes put into a page leave its length
+length_bytes : (n value : ℕ) → length (little_endian_bytes n value) ≡ n
+length_bytes zero value = refl
+length_bytes (suc n) value = omega (arith, length_bytes n (value / 256))
+
+pub length_with : (at n value : ℕ) (page : List ℕ) → at + n ≤ length page → length (with_bytes at (little_endian_bytes n value) page) ≡ length page
+length_with at n value page fits =
+    let bytes = little_endian_bytes n value in
+    let count = length_bytes n value in
+    let front = length-take at page in
+    let back = length-drop (at + length bytes) page in
+    let first = length-append (take at page ++ bytes) (drop (at + length bytes) page) in
+    let second = length-append (take at page) bytes in
+    let whole : length (take at page ++ bytes) + length (drop (at + length bytes) page) ≡ length page = omega arith in
+    first ∙ whole
+
+-- a store ends
+pub kept_stored : (header : Header) (maps : Mapped) (table : Table) (h : List Event) (task : TaskId) (address n value : ℕ) (entry : Entry) (bytes : List ℕ)
+    → Kept header maps table h → waiting task.0 h ≡ Some (Storing address n value) → entries_in task.0 maps ≡ Some (rows_in task.0 maps) → entry_at address (rows_in task.0 maps) ≡ Some entry
+    → entry.region.0 < length table → page_at header.size address entry < pages_of table entry.region.0 → held table entry.region.0 (page_at header.size address entry) ≡ Some bytes
+    → address % header.size + n ≤ header.size
+    → Kept header maps (put_in table entry.region.0 (page_at header.size address entry) (Some (with_bytes (address % header.size) (little_endian_bytes n value) bytes)))
+    (event.Stored task (record { 0 = entry.region.0 }) (record { 0 = page_at header.size address entry }) (address % header.size) n value ∷ h)
+kept_stored header maps table h task address n value entry bytes k waits lives found inside within here fits =
+    let r = entry.region.0 in
+    let p = page_at header.size address entry in
+    let at = address % header.size in
+    let put = little_endian_bytes n value in
+    let made : Option (List ℕ) = Some (with_bytes at put bytes) in
+    let same : length (put_in table r p made) ≡ length table = length_put table r p made in
+    let was : flat_page header.size r p h ≡ bytes = k.flat r p inside ∙ ap (or_zeros header.size) here in
+    let shown : IsShown (local header.size 0 (place_of r p) h) (Some bytes) = subst (IsShown (local header.size 0 (place_of r p) h)) here (k.pages r p) in
+    let sized : length bytes ≡ header.size = subst (IsSized header.size) here (k.sized r p) in
+    let home : host_of task.0 h ≡ Some 0 = k.hosts task.0 ∙ ap host_for lives in
+    record {
+      size = k.size;
+      hosts = k.hosts;
+      rows = k.rows;
+      inside = λ t. inside_put header.size table r p made (rows_in t maps) inside (k.inside t);
+      regions = k.regions ∙ sym same;
+      objects = k.objects ∙ sym same;
+      tops = λ region less. k.tops region (omega arith);
+      flat = rw (waits, k.rows task.0, found) (each_held table r p made inside within
+          (λ r2 p2 b page. r2 < length (put_in table r p made) → (if b then with_bytes at put (flat_page header.size r2 p2 h) else flat_page header.size r2 p2 h) ≡ or_zeros header.size page)
+          (λ less. ap (with_bytes at put) was) (λ r2 p2 less. k.flat r2 p2 (omega arith)));
+      pages = rw home (each_held table r p made inside within (λ r2 p2 b page. IsShown (moved header.size (if b then Stores at put else Elsewhere) (local header.size 0 (place_of r2 p2) h)) page)
+          (shown.0, ap (with_bytes at put) shown.1, shown.2) (λ r2 p2. k.pages r2 p2));
+      sized = each_held table r p made inside within (λ r2 p2 b page. IsSized header.size page) (length_with at n value bytes (omega arith) ∙ sized) (λ r2 p2. k.sized r2 p2);
+      used = k.used ∙ sym (count_put_other table r p (with_bytes at put bytes) bytes here);
+    }
+
+-- a new task
+pub kept_task : (header : Header) (maps new : Mapped) (table : Table) (h : List Event) (task : TaskId) → Kept header maps table h → ChangesOnly maps new task.0 (Some []) → Kept header new table (event.TaskMade task the_host ∷ h)
+kept_task header maps new table h task k changes = record {
+  size = changes.size ∙ k.size;
+  hosts = λ t. elim (eqb_tells task.0 t) [
+    | inl same ↦ rw (same.0, ← same.1, changes.changed) refl
+    | inr apart ↦ rw (apart.0, changes.others t (λ e. apart.1 (sym e))) (k.hosts t)
+  ];
+  rows = λ t. elim (eqb_tells task.0 t) [
+    | inl same ↦ rw (same.0, ← same.1, changes.changed) refl
+    | inr apart ↦ rw (apart.0, changes.others t (λ e. apart.1 (sym e))) (k.rows t)
+  ];
+  inside = λ t. elim (eqb_tells task.0 t) [
+    | inl same ↦ rw (← same.1, changes.changed) tt
+    | inr apart ↦ rw (changes.others t (λ e. apart.1 (sym e))) (k.inside t)
+  ];
+  regions = k.regions;
+  objects = k.objects;
+  tops = k.tops;
+  flat = k.flat;
+  pages = k.pages;
+  sized = k.sized;
+  used = k.used;
+}
+
+-- a new region, and an entry on the whole of it
+pub kept_range : (header : Header) (maps new : Mapped) (table : Table) (h : List Event) (task : TaskId) (address bytes : ℕ) → Kept header maps table h
+    → ChangesOnly maps new task.0 (Some (entered (whole_entry address bytes (record { 0 = length table })) (rows_in task.0 maps)))
+    → entries_in task.0 maps ≡ Some (rows_in task.0 maps) → address % header.size ≡ 0 → bytes % header.size ≡ 0 → bytes / header.size < 2 ^ 32
+    → Kept header new (with_region table (bytes / header.size))
+    (event.Entered task address bytes (record { 0 = length table }) 0 (whole_entry address bytes (record { 0 = length table })).prot (whole_entry address bytes (record { 0 = length table })).inherit
+    ∷ event.RegionMade (record { 0 = length table }) (record { 0 = length table }) (bytes / header.size) ∷ h)
+kept_range header maps new table h task address bytes k changes lives even whole few =
+    let n = bytes / header.size in
+    let entry : Entry = whole_entry address bytes (record { 0 = length table }) in
+    let grown = length_added table n in
+    let one : IsInside header.size (with_region table n) entry = record {
+      region = omega arith;
+      whole = record { address = even; bytes = whole; pages = omega arith };
+      within = rw (pages_added table n) (omega arith);
+    } in
+    record {
+      size = changes.size ∙ k.size;
+      hosts = λ t. elim (eqb_tells task.0 t) [
+        | inl same ↦ subst (λ (z : ℕ). host_of z h ≡ host_for (entries_in z new)) same.1 (rw changes.changed (k.hosts task.0 ∙ ap host_for lives))
+        | inr apart ↦ rw (changes.others t (λ e. apart.1 (sym e))) (k.hosts t)
+      ];
+      rows = λ t. elim (eqb_tells task.0 t) [
+        | inl same ↦ rw same.0 (subst (λ (z : ℕ). entered entry (entries_of z h) ≡ rows_in z new) same.1 (rw (changes.changed, k.rows task.0) refl))
+        | inr apart ↦ rw (apart.0, changes.others t (λ e. apart.1 (sym e))) (k.rows t)
+      ];
+      inside = λ t. elim (eqb_tells task.0 t) [
+        | inl same ↦ rw (← same.1, changes.changed) (inside_entered header.size (with_region table n) entry (rows_in task.0 maps) one (inside_added header.size table n (rows_in task.0 maps) (k.inside task.0)))
+        | inr apart ↦ rw (changes.others t (λ e. apart.1 (sym e))) (inside_added header.size table n (rows_in t maps) (k.inside t))
+      ];
+      regions = ap (λ z. z + 1) k.regions ∙ sym grown;
+      objects = ap (λ z. z + 1) k.objects ∙ sym grown;
+      tops = λ region less. elim (eqb_tells (length table) region) [
+        | inl same ↦ rw (same.0, same.1) refl
+        | inr apart ↦ rw apart.0 (k.tops region (let other = apart.1 in grind arith))
+      ];
+      flat = λ region page less. rw (held_added table n region page) (elim (eqb_tells (length table) region) [
+        | inl same ↦ rw (same.0, none_past table region page (omega (arith, same.1))) refl
+        | inr apart ↦ rw apart.0 (k.flat region page (let other = apart.1 in grind arith))
+      ]);
+      pages = λ region page. rw (held_added table n region page) (k.pages region page);
+      sized = λ region page. rw (held_added table n region page) (k.sized region page);
+      used = k.used ∙ sym (count_added table n);
+    }
