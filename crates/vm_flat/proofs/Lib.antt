@@ -1,0 +1,12 @@
+pub mod Control
+pub mod Copies
+pub mod File
+pub mod Good
+pub mod Queues
+pub mod Regions
+pub mod Slow
+pub mod Sound
+pub mod Stored
+pub mod Traffic
+pub mod World
+pub mod Worlds

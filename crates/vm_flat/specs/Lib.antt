@@ -1,0 +1,4 @@
+pub mod Causes
+pub mod Deeds
+pub mod Spot
+pub mod Words

@@ -1,0 +1,118 @@
+-- One place: the page on the host, what is on the way, and what the pager has.
+use Rattle.std.specs.Prelude.{not, take, drop, length, ℕ, ◌+◌, ◌==◌, List, [], ◌∷◌, ◌++◌, Bool, true, false, if◌then◌else◌, ◌&&◌, Option, Some, None, ◌≡◌}
+use Rattle.vm_base.specs.Pages.{with_bytes}
+use Rattle.vm_flat.specs.Words.{UpWord, Requesting, Returning, DownWord, Supplying, Unavailing, Erring, Effect, Creates, Requests, Returns, TakesRequest, TakesReturn, Answers, Takes, Zeroes, Raises, Stores, Drops, Ends, StepEnds, Nothing}
+
+pub record Spot : Type 0 where
+  -- what is on the way about the page, oldest first
+  pub up : List UpWord
+  pub down : List DownWord
+  -- the object's control: 0 never made, 1 live, 2 ended
+  pub control : ℕ
+  pub here : Bool
+  pub bytes : List ℕ
+  pub dirty : Bool
+  pub asked : Bool
+  pub absent : Bool
+  -- the last return that was sent, and the last that was taken
+  pub returned : Option (List ℕ)
+  pub kept : Option (List ℕ)
+  -- the step began with the page's request, and has not answered it
+  pub step : Bool
+  -- the page of a file object
+  pub file : Bool
+  -- the step began with the file pager's word that there is nothing
+  pub void : Bool
+
+abbrev pub first_spot : Bool → List ℕ → Spot
+first_spot file bytes =
+    record {
+      up = [];
+      down = [];
+      control = 0;
+      here = false;
+      bytes = [];
+      dirty = false;
+      asked = false;
+      absent = false;
+      returned = if file then Some bytes else None;
+      kept = if file then Some bytes else None;
+      step = false;
+      file = file;
+      void = false;
+    }
+
+abbrev pub rest : {A : Type 0} → List A → List A
+rest [] = []
+rest (x ∷ xs) = xs
+
+abbrev pub first : {A : Type 0} → List A → Option A
+first [] = None
+first (x ∷ xs) = Some x
+
+-- an answer counts where the live control asked
+abbrev pub hears : Spot → Bool
+hears s = s.control == 1 && s.asked
+
+abbrev pub taken : Spot → DownWord → Bool → Spot
+taken s (Supplying bytes) b =
+    record s {
+      down = rest s.down;
+      here = if b then true else s.here;
+      bytes = if b then bytes else s.bytes;
+      dirty = if b then false else s.dirty;
+      asked = if b then false else s.asked;
+      step = false;
+      void = false;
+    }
+taken s Unavailing b = record s { down = rest s.down; absent = if b && not s.file then true else s.absent; asked = if b then false else s.asked; step = false; void = b && s.file }
+taken s Erring b = record s { down = rest s.down; asked = if b then false else s.asked; step = false; void = false }
+
+abbrev pub move : List ℕ → Spot → Effect → Spot
+move z s Creates = record s { control = 1 }
+move z s Requests = record s { up = s.up ++ Requesting ∷ []; asked = true }
+move z s (Returns keep bytes) = record s { up = s.up ++ Returning bytes ∷ []; here = keep; dirty = false; absent = false; returned = Some bytes }
+move z s TakesRequest = record s { up = rest s.up; step = true; void = false }
+move z s (TakesReturn bytes) = record s { up = rest s.up; kept = Some bytes; step = false; void = false }
+move z s (Answers word) = record s { down = s.down ++ word ∷ []; step = false }
+move z s (Takes word) = taken s word (hears s)
+move z s Zeroes = record s { here = true; bytes = z; dirty = false; void = false }
+move z s (Raises bytes) = record s { here = true; bytes = bytes; dirty = true }
+move z s (Stores at bytes) = record s { bytes = with_bytes at bytes s.bytes; dirty = true }
+move z s Drops = record s { here = false; dirty = false }
+move z s Ends = record s { control = if s.file then 0 else 2 }
+move z s StepEnds = record s { step = false; void = false }
+move z s Nothing = s
+
+-- the walk passes over the place
+pub record Passed (s : Spot) : Type 0 where
+  pub away : s.here ≡ false
+  pub plain : s.file ≡ false
+  pub unasked : s.asked ≡ false
+  pub without : s.control ≡ 1 → s.absent ≡ true
+
+-- what the place itself must say for the effect
+abbrev pub MayAnswer : List ℕ → Spot → DownWord → Type 0
+MayAnswer z s (Supplying bytes) = (s.step ≡ true) × (s.kept ≡ Some bytes)
+MayAnswer z s Unavailing = (s.step ≡ true) × (s.kept ≡ (if s.file then Some z else None))
+MayAnswer z s Erring = s.step ≡ true
+
+abbrev pub May : List ℕ → Spot → Effect → Type 0
+May z s Creates = s.control ≡ 0
+May z s Requests = (s.control ≡ 1) × (s.here ≡ false) × (s.asked ≡ false) × (s.absent ≡ false)
+May z s (Returns keep bytes) = (s.control ≡ 1) × (s.here ≡ true) × (s.dirty ≡ true) × (bytes ≡ s.bytes)
+May z s TakesRequest = first s.up ≡ Some Requesting
+May z s (TakesReturn bytes) = first s.up ≡ Some (Returning bytes)
+May z s (Answers word) = MayAnswer z s word
+May z s (Takes word) = first s.down ≡ Some word
+May z s Zeroes = (s.here ≡ false) × (s.asked ≡ false)
+May z s (Raises bytes) = (s.here ≡ false) × (s.asked ≡ false) × (s.file ≡ false)
+May z s (Stores at bytes) = s.here ≡ true
+May z s Drops = s.here ≡ true
+May z s Ends = (s.control ≡ 1) × (s.here ≡ false) × (s.asked ≡ false)
+May z s StepEnds = Unit {0}
+May z s Nothing = Unit {0}
+
+-- what the place has to show below which the walk need not look: unsaved bytes, else the last return that was sent
+abbrev pub content : Spot → Option (List ℕ)
+content s = if s.here && s.dirty then Some s.bytes else s.returned

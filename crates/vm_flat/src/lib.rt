@@ -1,0 +1,2 @@
+//! What loads of temporary and file memory answer.
+#![tactic(auto)]
