@@ -3,8 +3,8 @@ use Rattle.std.proofs.Common.{◌≡◌, ℕ, zero, suc, ◌+◌, ◌<◌, ◌�
 use Rattle.std.proofs.lemmas.Bool.Decides.{nat_tests}
 use Rattle.std.specs.Prelude.{◌⊎◌, ◌==◌}
 use native.Mathlib.Decide.{ℕ_discrete}
-use Rattle.vm_flat.specs.Deeds.{pages, Ground, Deed, Cow, Shadowed, Row, cow_row, row, regions, objects, Link, link, spot, flat, covered}
-use Rattle.vm_flat.specs.Causes.{Path, Below, Reach, Cause}
+use Rattle.vm_flat.proofs.Deeds.{pages, Ground, Deed, Cow, Shadowed, Row, cow_row, row, regions, objects, Link, link, spot, flat, covered}
+use Rattle.vm_flat.proofs.Causes.{Path, Below, Reach, Cause}
 use Rattle.vm_flat.proofs.Good.{Good, good_again, fits_blank}
 use Rattle.vm_flat.proofs.World.{ReachAt, ShapeOf, World, GoodAt, view, tops_below, path_small, path_old, reach_small, under_view, Barren}
 use Rattle.vm_flat.proofs.Regions.{named_objects, unnamed, eq_no, if_no, if_yes, cow_other, shadow_other, below_old}

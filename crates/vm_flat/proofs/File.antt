@@ -2,7 +2,7 @@
 use Rattle.std.proofs.Common.{◌≡◌, ℕ, List, [], ◌∷◌, refl, ◌∙◌}
 use Rattle.vm_flat.specs.Words.{DownWord, Supplying, Unavailing, Erring, Effect, Creates, Requests, Returns, TakesRequest, TakesReturn, Answers, Takes, Zeroes, Raises, Stores, Drops, Ends, StepEnds, Nothing}
 use Rattle.vm_flat.specs.Spot.{Spot, move}
-use Rattle.vm_flat.specs.Deeds.{Ground, is_file, Deed, spot, effect}
+use Rattle.vm_flat.proofs.Deeds.{Ground, is_file, Deed, spot, effect}
 
 takes_file : (z : List ℕ) (s : Spot) (word : DownWord) → (move z s (Takes word)).file ≡ s.file
 takes_file z s (Supplying bytes) = refl

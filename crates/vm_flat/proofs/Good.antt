@@ -5,7 +5,7 @@ use Rattle.std.specs.Prelude.{◌⊎◌}
 use Rattle.vm_base.specs.Pages.{with_bytes}
 use Rattle.vm_flat.specs.Words.{DownWord, Supplying, Unavailing, Erring, Creates, Requests, Returns, TakesRequest, TakesReturn, Answers, Takes, Zeroes, Raises, Stores, Drops, Ends, StepEnds, Nothing}
 use Rattle.vm_flat.specs.Spot.{Spot, Passed, move, May, content}
-use Rattle.vm_flat.specs.Causes.{Void}
+use Rattle.vm_flat.proofs.Causes.{Void}
 use Rattle.vm_flat.proofs.Sound.{Sound, content_saved, supplied_returned, or_zero, shows, passed_returned, keep_creates, keep_requests, keep_returns, keep_takes_request, keep_takes_return, keep_answers, keep_takes, keep_zeroes, keep_raises, keep_stores, keep_drops, keep_ends, keep_step}
 
 -- v is what the object shows at the page, w what its backing object shows there

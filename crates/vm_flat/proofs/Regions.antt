@@ -3,8 +3,8 @@ use Rattle.std.proofs.Common.{◌≡◌, ℕ, zero, suc, ◌+◌, ◌<◌, ◌�
 use Rattle.std.proofs.lemmas.Bool.Decides.{nat_tests}
 use Rattle.std.specs.Prelude.{◌⊎◌, ◌==◌, ◌&&◌}
 use native.Mathlib.Decide.{ℕ_discrete}
-use Rattle.vm_flat.specs.Deeds.{pages, Ground, Deed, Region, Cow, Kept, Shadowed, Row, made_row, cow_row, shadow_row, row, regions, objects, Link, link, spot, flat, covered}
-use Rattle.vm_flat.specs.Causes.{Below, Reach, Cause}
+use Rattle.vm_flat.proofs.Deeds.{pages, Ground, Deed, Region, Cow, Kept, Shadowed, Row, made_row, cow_row, shadow_row, row, regions, objects, Link, link, spot, flat, covered}
+use Rattle.vm_flat.proofs.Causes.{Below, Reach, Cause}
 use Rattle.vm_flat.proofs.Good.{good_again, fits_blank}
 use Rattle.vm_flat.proofs.World.{ReachAt, ShapeOf, World, GoodAt, view, tops_below, path_small, reach_small, under_view, Barren}
 

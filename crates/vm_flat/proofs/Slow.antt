@@ -5,8 +5,8 @@ use Rattle.std.specs.Prelude.{◌⊎◌, ◌==◌, ◌&&◌}
 use native.Mathlib.Decide.{ℕ_discrete}
 use Rattle.vm_flat.specs.Words.{Raises, Nothing}
 use Rattle.vm_flat.specs.Spot.{Spot, move, content}
-use Rattle.vm_flat.specs.Deeds.{is_file, covered, Ground, Deed, Copied, row, objects, link, spot, flat}
-use Rattle.vm_flat.specs.Causes.{Reach, Cause, CopiesThere, Foreign}
+use Rattle.vm_flat.proofs.Deeds.{is_file, covered, Ground, Deed, Copied, row, objects, link, spot, flat}
+use Rattle.vm_flat.proofs.Causes.{Reach, Cause, CopiesThere, Foreign}
 use Rattle.vm_flat.proofs.Good.{Good, good_puts, good_again}
 use Rattle.vm_flat.proofs.World.{ReachAt, World, view, tops_below, GoodAt, path_covered, under_view, Barren}
 use Rattle.vm_flat.proofs.Stored.{and_no, and_yes, path_other, kind, top_covered, no_if, not_ours}

@@ -1,0 +1,23 @@
+-- What loads answer.
+use Rattle.std.specs.Prelude.{ℕ, ◌≡◌, List, true}
+use Rattle.vm_model.specs.declared.event.Event.{Event}
+use Rattle.vm_model.specs.declared.event.Event.TheVariants as event
+use Rattle.vm_model.specs.declared.script.Header.{Header}
+use Rattle.vm_model.specs.Chains.{page_of}
+use Rattle.vm_model.specs.Bytes.{number_in}
+use Rattle.vm_flat.specs.Declared.{is_private}
+use Rattle.vm_flat.specs.Waiting.{Loading}
+use Rattle.vm_flat.specs.Flat.{flat_page}
+use Rattle.vm_flat.specs.Licences.{Files, Waits}
+
+-- a load of a region of temporary or file memory answers the number in the flat map's page, at its address
+pub record AnswersFlat (header : Header) (files : Files) (task value : ℕ) (past : List Event) : Type 0 where
+  pub address : ℕ
+  pub bytes : ℕ
+  pub waits : Waits header task (Loading address bytes) past
+  pub number : is_private header waits.at.entry.region.0 ≡ true
+      → value ≡ number_in (flat_page header files waits.at.entry.region.0 (page_of header.size waits.at.entry address) past) header.size address bytes
+
+abbrev pub FlatBytes : Header → Files → Event → List Event → Type 0
+FlatBytes header files (event.Loaded task object page value) past = AnswersFlat header files task.0 value past
+FlatBytes header files other past = Unit {0}

@@ -1,0 +1,266 @@
+-- Why an event may happen, as far as temporary and file memory go: its cause, in the events in front of it.
+use Rattle.std.specs.Prelude.{ℕ, zero, suc, ◌+◌, ◌*◌, ◌/◌, ◌%◌, ◌<◌, ◌≤◌, ◌≡◌, ◌⊎◌, List, [], ◌∷◌, Bool, true, false, Option, Some, None, if◌then◌else◌, nat_lt}
+use Rattle.vm_base.specs.declared.entry.Entry.{Entry}
+use Rattle.vm_base.specs.Entries.{entry_at}
+use Rattle.vm_model.specs.declared.event.Event.{Event}
+use Rattle.vm_model.specs.declared.event.Event.TheVariants as event
+use Rattle.vm_model.specs.declared.message.Channel.{Channel}
+use Rattle.vm_model.specs.declared.message.Channel.TheVariants.{Up, Down}
+use Rattle.vm_model.specs.declared.message.Message.{Message}
+use Rattle.vm_model.specs.declared.message.Message.TheVariants as message
+use Rattle.vm_model.specs.declared.script.Header.{Header}
+use Rattle.vm_model.specs.Tasks.{host_of}
+use Rattle.vm_model.specs.Chains.{page_of}
+use Rattle.vm_model.specs.Bytes.{number_in}
+use Rattle.vm_flat.specs.Declared.{named, is_file, is_private, zeros}
+use Rattle.vm_flat.specs.Tasks.{lives_on, entries_of}
+use Rattle.vm_flat.specs.Waiting.{Access, Loading, Storing, Copying, waiting, next_page, Target, copy_target, address_of, is_store}
+use Rattle.vm_flat.specs.Regions.{next_region, next_object, Region, region_of, Backing, backing_of, in_use}
+use Rattle.vm_flat.specs.Channels.{queue}
+use Rattle.vm_flat.specs.Spot.{Spot, first}
+use Rattle.vm_flat.specs.Places.{spot, control, control_number}
+use Rattle.vm_flat.specs.Walks.{Reaches, Walks, Sinks, IsTop}
+use Rattle.vm_flat.specs.Flat.{made_over}
+
+-- what the files hold at the start, by object and page
+abbrev pub Files : Type 0
+Files = ℕ → ℕ → List ℕ
+
+-- where an address of a living task leads
+pub record At (header : Header) (task address : ℕ) (past : List Event) : Type 0 where
+  pub host : ℕ
+  pub entry : Entry
+  pub lives : host_of task past ≡ Some host
+  pub found : entry_at address (entries_of header.size task past) ≡ Some entry
+
+-- a task waits with an access, and where that leads
+pub record Waits (header : Header) (task : ℕ) (access : Access) (past : List Event) : Type 0 where
+  pub waits : waiting task past ≡ Some access
+  pub at : At header task (address_of header.size (next_page task past) access) past
+
+-- the region of its page, and the page there
+abbrev pub its_region : (header : Header) (task : ℕ) (access : Access) (past : List Event) → Waits header task access past → ℕ
+its_region header task access past w = w.at.entry.region.0
+
+abbrev pub its_page : (header : Header) (task : ℕ) (access : Access) (past : List Event) → Waits header task access past → ℕ
+its_page header task access past w = page_of header.size w.at.entry (address_of header.size (next_page task past) access)
+
+-- in the chain of a region that is in use on the host
+abbrev pub Reach : Header → ℕ → ℕ → List Event → Type 0
+Reach header host object past = Reaches (λ r. in_use header host r past) (λ r. region_of header r past) (λ o. backing_of header o past) object
+
+-- the walk of a page of a region gets as far as a place, in so many steps
+pub record Comes (header : Header) (files : Files) (host region page object object_page : ℕ) (past : List Event) : Type 0 where
+  pub top : ℕ
+  pub top_page : ℕ
+  pub steps : ℕ
+  pub is_top : IsTop (region_of header region past) page top top_page
+  pub walks : Walks (λ k q. spot header files host k q past) (λ k. backing_of header k past) steps top top_page object object_page
+
+-- a load ends with the page where its walk found it, and the number that stands there
+pub record Loads (header : Header) (files : Files) (task object page value : ℕ) (past : List Event) : Type 0 where
+  pub address : ℕ
+  pub bytes : ℕ
+  pub waits : Waits header task (Loading address bytes) past
+  pub comes : Comes header files waits.at.host waits.at.entry.region.0 (page_of header.size waits.at.entry address) object page past
+  pub here : (spot header files waits.at.host object page past).here ≡ true
+  pub number : value ≡ number_in (spot header files waits.at.host object page past).bytes header.size address bytes
+
+-- a store ends in the top place of its page, which is here, and its region has no copy mark
+pub record Stores (header : Header) (files : Files) (task object page at bytes value : ℕ) (past : List Event) : Type 0 where
+  pub address : ℕ
+  pub waits : Waits header task (Storing address bytes value) past
+  pub is_top : IsTop (region_of header waits.at.entry.region.0 past) (page_of header.size waits.at.entry address) object page
+  pub unmarked : (region_of header waits.at.entry.region.0 past).mark ≡ false
+  pub here : (spot header files waits.at.host object page past).here ≡ true
+  pub place : at ≡ address % header.size
+
+-- a page is copied up to the top place of a waiting store that found it below
+pub record Raises (header : Header) (files : Files) (host lower lower_page upper upper_page : ℕ) (past : List Event) : Type 0 where
+  pub task : ℕ
+  pub address : ℕ
+  pub bytes : ℕ
+  pub value : ℕ
+  pub waits : Waits header task (Storing address bytes value) past
+  pub on_host : waits.at.host ≡ host
+  pub unmarked : (region_of header waits.at.entry.region.0 past).mark ≡ false
+  pub is_top : IsTop (region_of header waits.at.entry.region.0 past) (page_of header.size waits.at.entry address) upper upper_page
+  pub steps : ℕ
+  pub walks : Walks (λ k q. spot header files host k q past) (λ k. backing_of header k past) (suc steps) upper upper_page lower lower_page
+  pub here : (spot header files host lower lower_page past).here ≡ true
+
+-- zeros come to the top place of a waiting access that finds its page nowhere
+pub record Bottoms (header : Header) (files : Files) (host object page : ℕ) (past : List Event) : Type 0 where
+  pub task : ℕ
+  pub access : Access
+  pub waits : Waits header task access past
+  pub on_host : waits.at.host ≡ host
+  pub temporary : named header ≤ object
+  pub unmarked : is_store access ≡ true → (region_of header waits.at.entry.region.0 past).mark ≡ false
+  pub is_top : IsTop (region_of header waits.at.entry.region.0 past) (page_of header.size waits.at.entry (address_of header.size (next_page task past) access)) object page
+  pub steps : ℕ
+  pub sinks : Sinks (λ k q. spot header files host k q past) (λ k. backing_of header k past) steps object page
+
+-- the step took the pager's word that there is no such page, and the page was asked
+pub record Fills (s : Spot) : Type 0 where
+  pub void : s.void ≡ true
+  pub away : s.here ≡ false
+  pub unasked : s.asked ≡ false
+
+-- a slow copy makes its next page, of a declared object's page that is here, a page of the region that it fills
+pub record CopiesPage (header : Header) (files : Files) (task index object page target : ℕ) (past : List Event) : Type 0 where
+  pub address : ℕ
+  pub bytes : ℕ
+  pub to : ℕ
+  pub waits : Waits header task (Copying address bytes to) past
+  pub next : index ≡ next_page task past
+  pub declared : waits.at.entry.region.0 < named header
+  pub is_top : IsTop (region_of header waits.at.entry.region.0 past) (page_of header.size waits.at.entry (address + next_page task past * header.size)) object page
+  pub here : (spot header files waits.at.host object page past).here ≡ true
+  pub region : ℕ
+  pub temporary : named header ≤ target
+  pub filled : copy_target task past ≡ Some (record { region = region; object = target })
+  pub made : made_over target past ≡ Some region
+  pub used : in_use header waits.at.host region past ≡ true
+  pub unused : (host : ℕ) → (host ≡ waits.at.host → ⊥) → in_use header host region past ≡ false
+  pub target_top : IsTop (region_of header region past) index target index
+  pub unmarked : (region_of header region past).mark ≡ false
+  pub inside : index < (region_of header region past).pages
+  pub away : (spot header files waits.at.host target index past).here ≡ false
+  pub unasked : (spot header files waits.at.host target index past).asked ≡ false
+
+-- the walk of a waiting access stops at a page that its pager may have, and nobody asked
+pub record Asks (header : Header) (files : Files) (host control_of object page : ℕ) (past : List Event) : Type 0 where
+  pub task : ℕ
+  pub access : Access
+  pub waits : Waits header task access past
+  pub on_host : waits.at.host ≡ host
+  pub unmarked : is_store access ≡ true → (region_of header waits.at.entry.region.0 past).mark ≡ false
+  pub comes : Comes header files host waits.at.entry.region.0 (page_of header.size waits.at.entry (address_of header.size (next_page task past) access)) object page past
+  pub live : control header host object past ≡ 1
+  pub number : control_number host object past ≡ control_of
+  pub away : (spot header files host object page past).here ≡ false
+  pub unasked : (spot header files host object page past).asked ≡ false
+  pub known : (spot header files host object page past).absent ≡ false
+
+-- a dirty page goes back to its pager, as it is
+pub record GivesBack (header : Header) (files : Files) (host control_of object page : ℕ) (changed : Bool) (bytes : List ℕ) (past : List Event) : Type 0 where
+  pub live : control header host object past ≡ 1
+  pub number : control_number host object past ≡ control_of
+  pub here : (spot header files host object page past).here ≡ true
+  pub dirty : (spot header files host object page past).dirty ≡ true
+  pub same : bytes ≡ (spot header files host object page past).bytes
+  pub flag : changed ≡ (spot header files host object page past).dirty
+
+-- an object ends on a host: it is a declared one, or no region leads to it, and nothing of it is here or asked
+pub record Ends (header : Header) (files : Files) (host control_of object : ℕ) (past : List Event) : Type 0 where
+  pub live : control header host object past ≡ 1
+  pub number : control_number host object past ≡ control_of
+  pub unreached : named header ≤ object → Reach header host object past → ⊥
+  pub away : (page : ℕ) → (spot header files host object page past).here ≡ false
+  pub unasked : (page : ℕ) → (spot header files host object page past).asked ≡ false
+
+-- what an answer may say of a page: the last return that was taken, or for a file the page at the start
+abbrev pub MaySupply : Spot → List ℕ → Type 0
+MaySupply s bytes = s.kept ≡ Some bytes
+
+-- nothing was returned; or the file has zeros there
+abbrev pub MayLack : List ℕ → Spot → Type 0
+MayLack none s = s.kept ≡ (if s.file then Some none else None)
+
+-- a request for a page
+pub record Request : Type 0 where
+  pub host : ℕ
+  pub object : ℕ
+  pub control_of : ℕ
+  pub page : ℕ
+
+-- what the present step took, if that was a request
+abbrev pub request_taken : List Event → Option Request
+request_taken [] = None
+request_taken (event.Line line ∷ past) = None
+request_taken (event.Taken (Up host object) (message.Request control page access) ∷ past) = Some (record { host = host.0; object = object.0; control_of = control; page = page.0 })
+request_taken (event.Taken channel other ∷ past) = None
+request_taken (e ∷ past) = request_taken past
+
+-- the step took a request for the page from this control, and has not answered it
+pub record Answers (header : Header) (files : Files) (host object control_of page : ℕ) (past : List Event) : Type 0 where
+  pub taken : request_taken past ≡ Some (record { host = host; object = object; control_of = control_of; page = page })
+  pub unanswered : (spot header files host object page past).step ≡ true
+
+-- what a host sends up about a temporary object or a file
+abbrev pub MaySendUp : Header → Files → ℕ → ℕ → Message → List Event → Type 0
+MaySendUp header files host object (message.Init number size) past = (object < named header) × (control header host object past ≡ 0)
+MaySendUp header files host object (message.Create number size) past =
+    (number ≡ 1) × (named header ≤ object) × (control header host object past ≡ 0) × (page : ℕ) × ((spot header files host object page past).here ≡ true)
+MaySendUp header files host object (message.Request number page access) past = Asks header files host number object page.0 past
+MaySendUp header files host object (message.Return number page dirty keep bytes) past = GivesBack header files host number object page.0 dirty bytes past
+MaySendUp header files host object (message.Terminate number) past = Ends header files host number object past
+MaySendUp header files host object other past = Unit {0}
+
+-- what its pager sends down
+abbrev pub MaySendDown : Header → Files → ℕ → ℕ → ℕ → Message → List Event → Type 0
+MaySendDown header files host object number (message.Supply page lock precious bytes) past =
+    Answers header files host object number page.0 past × MaySupply (spot header files host object page.0 past) bytes
+MaySendDown header files host object number (message.Unavailable page) past =
+    Answers header files host object number page.0 past × MayLack (zeros header) (spot header files host object page.0 past)
+MaySendDown header files host object number (message.Error page reason) past = Answers header files host object number page.0 past
+MaySendDown header files host object number other past = Unit {0}
+
+-- a symmetric copy is of pages of an entry on a temporary region
+pub record CopiesRegion (header : Header) (region source offset pages : ℕ) (past : List Event) : Type 0 where
+  pub next : region ≡ next_region header past
+  pub temporary : named header ≤ source
+  pub task : ℕ
+  pub address : ℕ
+  pub at : At header task address past
+  pub source_is : source ≡ at.entry.region.0
+  pub inside : offset + pages ≤ at.entry.offset + at.entry.bytes / header.size
+
+-- an entry is of whole pages that its region has, on the host where the region is in use
+pub record Enters (header : Header) (task bytes region offset : ℕ) (past : List Event) : Type 0 where
+  pub host : ℕ
+  pub lives : host_of task past ≡ Some host
+  pub whole : bytes % header.size ≡ 0
+  pub inside : offset + bytes / header.size ≤ (region_of header region past).pages
+  pub made : region < next_region header past
+  pub used : is_private header region ≡ true → in_use header host region past ≡ true
+
+-- the top object of a marked region of a waiting store gets a shadow
+pub record Shadows (header : Header) (region new old : ℕ) (past : List Event) : Type 0 where
+  pub next : new ≡ next_object header past
+  pub is_top : (region_of header region past).top ≡ old
+  pub marked : (region_of header region past).mark ≡ true
+  pub task : ℕ
+  pub address : ℕ
+  pub bytes : ℕ
+  pub value : ℕ
+  pub waits : Waits header task (Storing address bytes value) past
+  pub region_is : region ≡ waits.at.entry.region.0
+
+-- a page goes away without a word: it is clean, or no region leads to its temporary object
+pub record Drops (header : Header) (files : Files) (host object page : ℕ) (past : List Event) : Type 0 where
+  pub here : (spot header files host object page past).here ≡ true
+  pub why : ((spot header files host object page past).dirty ≡ false) ⊎ ((named header ≤ object) × (Reach header host object past → ⊥))
+
+abbrev pub Licensed : Header → Files → Event → List Event → Type 0
+Licensed header files (event.RegionMade region object pages) past = (region.0 ≡ next_region header past) × (object.0 ≡ next_object header past)
+Licensed header files (event.RegionCopied region source offset pages) past = CopiesRegion header region.0 source.0 offset pages past
+Licensed header files (event.Entered task address bytes region offset prot inherit) past = Enters header task.0 bytes region.0 offset past
+Licensed header files (event.Shadowed region new old) past = Shadows header region.0 new.0 old.0 past
+Licensed header files (event.Loaded task object page value) past = Loads header files task.0 object.0 page.0 value past
+Licensed header files (event.Stored task object page at bytes value) past = Stores header files task.0 object.0 page.0 at bytes value past
+Licensed header files (event.CopiedPage task page object object_page target) past = CopiesPage header files task.0 page.0 object.0 object_page.0 target.0 past
+Licensed header files (event.Zeroed host object page) past =
+    is_private header object.0 ≡ true → ((object.0 < named header) × Fills (spot header files host.0 object.0 page.0 past)) ⊎ Bottoms header files host.0 object.0 page.0 past
+Licensed header files (event.Raised host lower lower_page upper upper_page) past = Raises header files host.0 lower.0 lower_page.0 upper.0 upper_page.0 past
+Licensed header files (event.Dropped host object page) past = is_private header object.0 ≡ true → Drops header files host.0 object.0 page.0 past
+Licensed header files (event.Sent (Up host object) m) past = is_private header object.0 ≡ true → MaySendUp header files host.0 object.0 m past
+Licensed header files (event.Sent (Down host object number) m) past = is_private header object.0 ≡ true → MaySendDown header files host.0 object.0 number m past
+-- each channel is first in, first out
+Licensed header files (event.Taken channel m) past = first (queue channel past) ≡ Some m
+Licensed header files other past = Unit {0}
+
+abbrev pub AllLicensed : Header → Files → List Event → Type 0
+AllLicensed header files [] = Unit {0}
+AllLicensed header files (e ∷ past) = Licensed header files e past × AllLicensed header files past
