@@ -7,6 +7,9 @@ pub mod Entries
 pub mod File
 pub mod Good
 pub mod Held
+pub mod Letters
+pub mod Numbers
+pub mod Ports
 pub mod Queues
 pub mod Regions
 pub mod Rows

@@ -8,8 +8,8 @@ use Rattle.vm_model.specs.declared.message.Message.{Message}
 use Rattle.vm_flat.specs.Spot.{rest}
 
 abbrev pub same_channel : Channel → Channel → Bool
-same_channel (Up host object) (Up host' object') = host.0 == host'.0 && object.0 == object'.0
-same_channel (Down host object control) (Down host' object' control') = host.0 == host'.0 && (object.0 == object'.0 && control == control')
+same_channel (Up host object) (Up host' object') = host'.0 == host.0 && object.0 == object'.0
+same_channel (Down host object control) (Down host' object' control') = (host'.0 == host.0 && object.0 == object'.0) && control == control'
 same_channel c d = false
 
 abbrev pub queue : Channel → List Event → List Message

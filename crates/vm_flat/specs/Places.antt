@@ -16,8 +16,8 @@ use Rattle.vm_flat.specs.Spot.{Spot, first_spot, move}
 -- the number of the host's newest control of an object
 abbrev pub control_number : ℕ → ℕ → List Event → ℕ
 control_number host object [] = 0
-control_number host object (event.Sent (Up at to) (message.Init control size) ∷ past) = if at.0 == host && to.0 == object then control else control_number host object past
-control_number host object (event.Sent (Up at to) (message.Create control size) ∷ past) = if at.0 == host && to.0 == object then control else control_number host object past
+control_number host object (event.Sent (Up at to) (message.Init control size) ∷ past) = if at.0 == host && object == to.0 then control else control_number host object past
+control_number host object (event.Sent (Up at to) (message.Create control size) ∷ past) = if at.0 == host && object == to.0 then control else control_number host object past
 control_number host object (e ∷ past) = control_number host object past
 
 -- the effect of what is about page `page` of `object`, on page p of o; on all others that of `other`
