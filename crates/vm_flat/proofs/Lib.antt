@@ -1,3 +1,4 @@
+pub mod Caused
 pub mod Causes
 pub mod Classes
 pub mod Control
@@ -7,6 +8,8 @@ pub mod Entries
 pub mod File
 pub mod Good
 pub mod Held
+pub mod Holds
+pub mod Law
 pub mod Letters
 pub mod Numbers
 pub mod Ports

@@ -1,5 +1,5 @@
 -- What loads answer.
-use Rattle.std.specs.Prelude.{ℕ, ◌≡◌, List, true}
+use Rattle.std.specs.Prelude.{ℕ, ◌≡◌, List, true, false}
 use Rattle.vm_model.specs.declared.event.Event.{Event}
 use Rattle.vm_model.specs.declared.event.Event.TheVariants as event
 use Rattle.vm_model.specs.declared.script.Header.{Header}
@@ -8,6 +8,8 @@ use Rattle.vm_model.specs.Bytes.{number_in}
 use Rattle.vm_flat.specs.Declared.{is_private}
 use Rattle.vm_flat.specs.Waiting.{Loading}
 use Rattle.vm_flat.specs.Flat.{flat_page}
+use Rattle.vm_flat.specs.Places.{spot}
+use Rattle.vm_flat.specs.Tasks.{lives_on}
 use Rattle.vm_flat.specs.Licences.{Files, Waits}
 
 -- a load of a region of temporary or file memory answers the number in the flat map's page, at its address
@@ -21,3 +23,9 @@ pub record AnswersFlat (header : Header) (files : Files) (task value : ℕ) (pas
 abbrev pub FlatBytes : Header → Files → Event → List Event → Type 0
 FlatBytes header files (event.Loaded task object page value) past = AnswersFlat header files task.0 value past
 FlatBytes header files other past = Unit {0}
+
+-- a slow copy of another object's page takes the flat map's bytes: this is for the laws of those objects to say
+abbrev pub CopiesCurrent : Header → Files → Event → List Event → Type 0
+CopiesCurrent header files (event.CopiedPage task page object object_page target) past =
+    is_private header object.0 ≡ false → (host : ℕ) → lives_on host task.0 past ≡ true → (spot header files host object.0 object_page.0 past).bytes ≡ flat_page header files object.0 object_page.0 past
+CopiesCurrent header files other past = Unit {0}

@@ -1,2 +1,20 @@
-//! What loads of temporary and file memory answer.
+//! What loads of temporary and file memory answer: a law of event lists.
 #![tactic(auto)]
+
+ghost use Rattle.std.specs.Prelude.{List};
+ghost use Rattle.vm_model.specs.Moments.{EachEvent};
+ghost use Rattle.vm_model.specs.declared.event.Event.{Event};
+ghost use Rattle.vm_model.specs.declared.script.Header.{Header};
+ghost use Rattle.vm_flat.specs.Bytes.{CopiesCurrent, FlatBytes};
+ghost use Rattle.vm_flat.specs.Licences.{AllLicensed, Files};
+
+/// Each load of temporary or file memory answers the flat map's bytes, whatever was shadowed,
+/// raised, paged out, supplied, lost or dropped before it: of every history whose events have their
+/// causes.
+///
+/// `files` is what the files hold at the start. Of a slow copy from a shared object it is supposed
+/// that it takes that object's bytes: the law of shared memory says so.
+#[tactic(auto, using(crate::proofs::Law::law))]
+pub fn loads_answer()
+    ensures { (header : Header) (files : Files) (history : List Event) → AllLicensed header files history → EachEvent (CopiesCurrent header files) history → EachEvent (FlatBytes header files) history }
+{}

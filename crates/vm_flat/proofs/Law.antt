@@ -1,0 +1,171 @@
+-- Every load of a licensed history answers the flat map.
+use Rattle.std.proofs.Common.{ℕ, suc, zero, ◌≡◌, ◌+◌, ◌%◌, ◌<◌, ◌≤◌, List, [], ◌∷◌, Bool, true, false, refl, sym, ap, subst, ◌∙◌, arith, Option, Some, None, if◌then◌else◌}
+use Rattle.std.proofs.lemmas.Bool.Decides.{nat_tests}
+use Rattle.std.specs.Prelude.{◌==◌, ◌&&◌, ◌||◌, not, nat_lt}
+use Rattle.vm_base.specs.Pages.{little_endian_bytes, with_bytes}
+use Rattle.vm_base.specs.declared.ids.RegionId.{RegionId}
+use Rattle.vm_model.specs.declared.event.Event.{Event}
+use Rattle.vm_model.specs.declared.event.Event.TheVariants as event
+use Rattle.vm_model.specs.declared.message.Channel.TheVariants.{Up, Down}
+use Rattle.vm_model.specs.declared.script.Header.{Header}
+use Rattle.vm_model.specs.Moments.{EachEvent}
+use Rattle.vm_model.specs.Chains.{page_of}
+use Rattle.vm_model.specs.Bytes.{number_in}
+use Rattle.vm_flat.specs.Declared.{named, is_private, zeros}
+use Rattle.vm_flat.specs.Tasks.{lives_on}
+use Rattle.vm_flat.specs.Regions.{is_kept, in_use}
+use Rattle.vm_flat.specs.Spot.{Spot}
+use Rattle.vm_flat.specs.Places.{spot, control_number}
+use Rattle.vm_flat.specs.Flat.{Change, change_of, changed, made_over, is_number, flat_page}
+use Rattle.vm_flat.specs.Licences as L
+use Rattle.vm_flat.specs.Licences.{Files, Licensed, AllLicensed}
+use Rattle.vm_flat.specs.Bytes.{FlatBytes, CopiesCurrent}
+use Rattle.vm_flat.proofs.Deeds as D
+use Rattle.vm_flat.proofs.Causes as C
+use Rattle.vm_flat.proofs.World.{load}
+use Rattle.vm_flat.proofs.Worlds.{after, start}
+use Rattle.vm_flat.proofs.Classes.{ground, deed, deeds, up_deed, region_in, page_in, number_or_zero, up_case, taken_up_case, down_case, taken_down_case}
+use Rattle.vm_flat.proofs.Ties.{spot_is}
+use Rattle.vm_flat.proofs.Entries.{Entries, PrivateUsed, entries_task_made, entries_task_ended, entries_failed, entries_removed, entries_protected, entries_inherited, entries_region_made, entries_region_copied, entries_entered}
+use Rattle.vm_flat.proofs.Numbers.{NumberedAt, numbered_start, numbered_region_made, numbered_region_copied, numbered_shadowed, later_private}
+use Rattle.vm_flat.proofs.Ports.{ups_start, ups_next, numbers_next, asked_next, downs_start, downs_next}
+use Rattle.vm_flat.proofs.Holds.{Holds, Flats, led, tops, region_private, walks}
+use Rattle.vm_flat.proofs.Caused.{cause, change_is, source_made, shadowed_made}
+
+-- the flat map is that of the deeds
+
+two : {A : Type 0} (b : Bool) (x y u v : A) → x ≡ u → y ≡ v → (if b then x else y) ≡ (if b then u else v)
+two true x y u v e f = e
+two false x y u v e f = f
+
+flat_stored : (header : Header) (files : Files) (host r i : ℕ) (own : Bool) (task object page at size value : ℕ) (past : List Event) → Flats header files past → L.Stores header files task object page at size value past
+    → D.flat (ground header files) r i (D.Stored own (region_in (change_of header.size task past)) (page_in (change_of header.size task past)) object page at (little_endian_bytes size value) ∷ deeds header host past)
+    ≡ changed r i (change_of header.size task past) (flat_page header files r i past)
+flat_stored header files host r i own task object page at size value past flats c =
+    subst (λ (o : Option Change). D.flat (ground header files) r i (D.Stored own (region_in o) (page_in o) object page at (little_endian_bytes size value) ∷ deeds header host past) ≡ changed r i o (flat_page header files r i past))
+    (sym (change_is header task c.address size value past c.waits))
+    (two (r == c.waits.at.entry.region.0 && i == page_of header.size c.waits.at.entry c.address) _ _ _ _
+    (ap (λ x. with_bytes x (little_endian_bytes size value) (D.flat (ground header files) r i (deeds header host past))) c.place ∙ ap (λ x. with_bytes (c.address % header.size) (little_endian_bytes size value) x) (flats host r i))
+    (flats host r i))
+
+flat_copied : (header : Header) (files : Files) (host r i : ℕ) (own : Bool) (task index object page target : ℕ) (past : List Event) → Flats header files past → L.CopiesPage header files task index object page target past
+    → D.flat (ground header files) r i (D.Copied own object page object page (number_or_zero (made_over target past)) index target index ∷ deeds header host past)
+    ≡ (if is_number r (made_over target past) && i == index then flat_page header files object page past else flat_page header files r i past)
+flat_copied header files host r i own task index object page target past flats c =
+    subst (λ (o : Option ℕ). D.flat (ground header files) r i (D.Copied own object page object page (number_or_zero o) index target index ∷ deeds header host past) ≡ (if is_number r o && i == index then flat_page header files object page past else flat_page header files r i past))
+    (sym c.made)
+    (two (r == c.region && i == index) _ _ _ _ (flats host object page) (flats host r i))
+
+flats_next : (header : Header) (files : Files) (e : Event) (past : List Event) → Flats header files past → Licensed header files e past → Flats header files (e ∷ past)
+flats_next header files (event.RegionMade region object pages) past flats c host r i = two (r == region.0) _ _ _ _ refl (flats host r i)
+flats_next header files (event.RegionCopied region source offset pages) past flats c host r i = two (r == region.0) _ _ _ _ (flats host source.0 (offset + i)) (flats host r i)
+flats_next header files (event.Stored task object page at size value) past flats c host r i = flat_stored header files host r i (lives_on host task.0 past) task.0 object.0 page.0 at size value past flats c
+flats_next header files (event.CopiedPage task page object object_page target) past flats c host r i = flat_copied header files host r i (lives_on host task.0 past) task.0 page.0 object.0 object_page.0 target.0 past flats c
+flats_next header files (event.Sent (Up at object) m) past flats c host r i =
+    up_case (λ d. D.flat (ground header files) r i (d ∷ deeds header host past) ≡ D.flat (ground header files) r i (deeds header host past)) (λ own o. refl) (λ own o p. refl) (λ own o p keep bytes. refl) (λ own o. refl) refl (at.0 == host) object.0 m
+    ∙ flats host r i
+flats_next header files (event.Sent (Down at object n) m) past flats c host r i =
+    down_case (λ d. D.flat (ground header files) r i (d ∷ deeds header host past) ≡ D.flat (ground header files) r i (deeds header host past)) (λ own o p word. refl) refl (at.0 == host && n == control_number host object.0 past) object.0 m
+    ∙ flats host r i
+flats_next header files (event.Taken (Up at object) m) past flats c host r i =
+    taken_up_case (λ d. D.flat (ground header files) r i (d ∷ deeds header host past) ≡ D.flat (ground header files) r i (deeds header host past)) (λ own o p. refl) (λ own o p bytes. refl) refl (at.0 == host) object.0 m
+    ∙ flats host r i
+flats_next header files (event.Taken (Down at object n) m) past flats c host r i =
+    taken_down_case (λ d. D.flat (ground header files) r i (d ∷ deeds header host past) ≡ D.flat (ground header files) r i (deeds header host past)) (λ own o p word. refl) refl (at.0 == host && n == control_number host object.0 past) object.0 m
+    ∙ flats host r i
+flats_next header files e past flats c host r i = flats host r i
+
+-- the other parts
+
+second : (a b : Bool) → (a && b) ≡ true → b ≡ true
+second true b is = is
+second false b is = absurd (cc)
+
+new_private : (header : Header) (r region : ℕ) (a b : Bool) → region ≡ region → named header ≤ region → (b ≡ true → is_private header r ≡ true) → (if r == region then a else b) ≡ true → is_private header r ≡ true
+new_private header r region a b same later was used = by (r == region) refl used
+  where
+    by : (t : Bool) → (r == region) ≡ t → (if t then a else b) ≡ true → is_private header r ≡ true
+    by true is e = let r_is : r ≡ region = grind (arith, nat_tests) in later_private header r (omega (arith, r_is, later))
+    by false is e = was e
+
+private_next : (header : Header) (files : Files) (e : Event) (past : List Event) → Holds header files past → Licensed header files e past → PrivateUsed header (e ∷ past)
+private_next header files (event.RegionMade region object pages) past h c host r used =
+    new_private header r region.0 true (in_use header host r past) refl (omega (arith, c.0, h.numbered.later_regions)) (h.private_used host r) used
+private_next header files (event.RegionCopied region source offset pages) past h c host r used =
+    new_private header r region.0 (in_use header host source.0 past) (in_use header host r past) refl (omega (arith, c.next, h.numbered.later_regions)) (h.private_used host r) used
+private_next header files (event.Entered task address bytes region offset prot inherit) past h c host r used =
+    h.private_used host r (second (not (r == region.0) || lives_on host task.0 past) (in_use header host r past) used)
+private_next header files (event.Removed task address bytes) past h c host r used = h.private_used host r (second (is_kept header r (event.Removed task address bytes ∷ past)) (in_use header host r past) used)
+private_next header files (event.TaskEnded task) past h c host r used = h.private_used host r (second (is_kept header r (event.TaskEnded task ∷ past)) (in_use header host r past) used)
+private_next header files (event.Failed task object page) past h c host r used = h.private_used host r (second (is_kept header r (event.Failed task object page ∷ past)) (in_use header host r past) used)
+private_next header files e past h c host r used = h.private_used host r used
+
+private_start : (header : Header) → PrivateUsed header []
+private_start header host r used = grind (arith, nat_tests)
+
+entries_next : (header : Header) (files : Files) (e : Event) (past : List Event) → Holds header files past → Licensed header files e past → Entries header (e ∷ past)
+entries_next header files (event.TaskMade made at) past h c task host lives = entries_task_made header made at past h.entries task host lives
+entries_next header files (event.TaskEnded gone) past h c task host lives = entries_task_ended header gone past h.entries task host lives
+entries_next header files (event.Failed owner object page) past h c task host lives = entries_failed header owner object page past h.entries task host lives
+entries_next header files (event.Removed owner address bytes) past h c task host lives = entries_removed header owner address bytes past h.entries task host lives
+entries_next header files (event.Protected owner address bytes prot) past h c task host lives = entries_protected header owner address bytes prot past h.entries task host lives
+entries_next header files (event.Inherited owner address bytes inherit) past h c task host lives = entries_inherited header owner address bytes inherit past h.entries task host lives
+entries_next header files (event.RegionMade region object pages) past h c task host lives = entries_region_made header region object pages past c.0 h.entries task host lives
+entries_next header files (event.RegionCopied region source offset pages) past h c task host lives = entries_region_copied header region source offset pages past c.next h.entries task host lives
+entries_next header files (event.Entered owner address bytes region offset prot inherit) past h c task host lives = entries_entered header owner address bytes region offset prot inherit past c h.entries task host lives
+entries_next header files e past h c task host lives = h.entries task host lives
+
+no_host : (h : ℕ) → ◌≡◌ {A = Option ℕ} None (Some h) → ⊥
+no_host h e = cc
+
+numbered_next : (header : Header) (files : Files) (e : Event) (past : List Event) → Holds header files past → Licensed header files e past → NumberedAt header (e ∷ past)
+numbered_next header files (event.RegionMade region object pages) past h c = numbered_region_made header region object pages past h.numbered c.0 c.1
+numbered_next header files (event.RegionCopied region source offset pages) past h c = numbered_region_copied header region source offset pages past h.numbered c.next c.temporary (source_made header files region.0 source.0 offset pages past h c)
+numbered_next header files (event.Shadowed region new old) past h c = numbered_shadowed header region new old past h.numbered c.next c.marked (shadowed_made header files region.0 new.0 old.0 past h c)
+numbered_next header files e past h c = h.numbered
+
+pub holds : (header : Header) (files : Files) (past : List Event) → AllLicensed header files past → EachEvent (CopiesCurrent header files) past → Holds header files past
+holds header files [] licensed current =
+    record {
+      worlds = λ host. start (ground header files);
+      flats = λ host r i. refl;
+      numbered = numbered_start header;
+      private_used = private_start header;
+      entries = λ task host lives. absurd (no_host host lives);
+      ups = ups_start header files;
+      up_numbers = λ h o ours. tt;
+      asked = λ h o n p ours taken step. absurd (cc);
+      downs = downs_start header files;
+    }
+holds header files (e ∷ past) licensed current =
+    let h : Holds header files past = holds header files past licensed.1 current.1 in
+    record {
+      worlds = λ host. after (ground header files) (deed header host e past) (deeds header host past) (h.worlds host) (cause header files host e past h licensed.0 current.0);
+      flats = flats_next header files e past h.flats licensed.0;
+      numbered = numbered_next header files e past h licensed.0;
+      private_used = private_next header files e past h licensed.0;
+      entries = entries_next header files e past h licensed.0;
+      ups = ups_next header files e past h.ups licensed.0;
+      up_numbers = numbers_next header files e past h.worlds h.ups h.up_numbers licensed.0;
+      asked = asked_next header files e past h.worlds h.up_numbers h.asked licensed.0;
+      downs = downs_next header files e past h.worlds h.asked h.downs licensed.0;
+    }
+
+loaded : (header : Header) (files : Files) (e : Event) (past : List Event) → Holds header files past → Licensed header files e past → FlatBytes header files e past
+loaded header files (event.Loaded task object page value) past h c =
+    record { address = c.address; bytes = c.bytes; waits = c.waits; number = λ ours. c.number ∙ ap (λ x. number_in x header.size c.address c.bytes) (same ours) }
+  where
+    same : is_private header c.waits.at.entry.region.0 ≡ true → (spot header files c.waits.at.host object.0 page.0 past).bytes ≡ flat_page header files c.waits.at.entry.region.0 (page_of header.size c.waits.at.entry c.address) past
+    same ours =
+        let row = led header task.0 c.address past h.entries c.waits.at in
+        let at : C.Tops (ground header files) c.waits.at.entry.region.0 (page_of header.size c.waits.at.entry c.address) c.comes.top c.comes.top_page (deeds header c.waits.at.host past) =
+        tops header files c.waits.at.host c.waits.at.entry.region.0 (page_of header.size c.waits.at.entry c.address) c.comes.top c.comes.top_page past (row.is.used_here ours) c.comes.is_top (row.is.inside.each c.address row.from row.below) in
+        let got = load (ground header files) c.waits.at.entry.region.0 (page_of header.size c.waits.at.entry c.address) c.comes.steps c.comes.top c.comes.top_page object.0 page.0 (deeds header c.waits.at.host past) (h.worlds c.waits.at.host) at
+        (walks header files c.waits.at.host past h.numbered c.comes.steps c.comes.top c.comes.top_page object.0 page.0 c.comes.walks)
+        (ap (λ (s : Spot). s.here) (spot_is header files c.waits.at.host object.0 page.0 past) ∙ c.here) in
+        sym (ap (λ (s : Spot). s.bytes) (spot_is header files c.waits.at.host object.0 page.0 past)) ∙ got ∙ h.flats c.waits.at.host c.waits.at.entry.region.0 (page_of header.size c.waits.at.entry c.address)
+loaded header files e past h c = tt
+
+pub law : (header : Header) (files : Files) (history : List Event) → AllLicensed header files history → EachEvent (CopiesCurrent header files) history → EachEvent (FlatBytes header files) history
+law header files [] licensed current = tt
+law header files (e ∷ past) licensed current = (loaded header files e past (holds header files past licensed.1 current.1) licensed.0, law header files past licensed.1 current.1)
