@@ -90,7 +90,7 @@ pub record Foreign (z : Ground) (own : Bool) (region object : ℕ) (past : List 
 
 abbrev pub Cause : Ground → Deed → List Deed → Type 0
 Cause z Line past = Unit {0}
-Cause z (Region region object count) past = (region ≡ regions z past) × (object ≡ objects z past)
+Cause z (Region own region object count) past = (region ≡ regions z past) × (object ≡ objects z past)
 Cause z (Cow region source off count) past = (region ≡ regions z past) × (source < regions z past) × (off + count ≤ (row z source past).pages)
 Cause z (Kept held) past = Unit {0}
 Cause z (Shadowed region new) past = (new ≡ objects z past) × (region < regions z past) × ((row z region past).mark ≡ true) × (covered z (row z region past).top ≡ true)

@@ -10,7 +10,7 @@ use Rattle.vm_model.specs.declared.message.Message.TheVariants as message
 use Rattle.vm_model.specs.declared.script.Header.{Header}
 use Rattle.vm_flat.specs.Declared.{named, declared, is_file_kept, declared_pages, zeros}
 use Rattle.vm_flat.specs.Tasks.{lives_on}
-use Rattle.vm_flat.specs.Regions.{is_kept}
+use Rattle.vm_flat.specs.Regions.{is_kept, made_here}
 use Rattle.vm_flat.specs.Places.{control_number}
 use Rattle.vm_flat.specs.Flat.{Change, change_of, made_over}
 use Rattle.vm_flat.specs.Words.{DownWord, Supplying, Unavailing, Erring}
@@ -59,7 +59,7 @@ number_or_zero (Some n) = n
 
 abbrev pub deed : Header → ℕ → Event → List Event → Deed
 deed header host (event.Line line) past = Line
-deed header host (event.RegionMade region object pages) past = Region region.0 object.0 pages
+deed header host (event.RegionMade region object pages) past = Region (made_here host past) region.0 object.0 pages
 deed header host (event.RegionCopied region source offset pages) past = Cow region.0 source.0 offset pages
 deed header host (event.Entered task address bytes region offset prot inherit) past = Kept (λ r. not (r == region.0) || lives_on host task.0 past)
 deed header host (event.Removed task address bytes) past = Kept (λ r. is_kept header r (event.Removed task address bytes ∷ past))

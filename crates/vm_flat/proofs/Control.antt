@@ -21,7 +21,7 @@ pub control_is : (z : Ground) (o p : ℕ) (past : List Deed) → (spot z o p pas
 control_is z o p [] = refl
 control_is z o p (Copied own x y l lp a i k q ∷ past) = same z o p own k q (Raises (spot z l lp past).bytes) Nothing past (control_is z k q past) (λ o p. control_is z o p past)
 control_is z o p (Line ∷ past) = control_is z o p past
-control_is z o p (Region region object count ∷ past) = control_is z o p past
+control_is z o p (Region own region object count ∷ past) = control_is z o p past
 control_is z o p (Cow region source off count ∷ past) = control_is z o p past
 control_is z o p (Kept held ∷ past) = control_is z o p past
 control_is z o p (Shadowed region new ∷ past) = control_is z o p past

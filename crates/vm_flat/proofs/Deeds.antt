@@ -25,7 +25,8 @@ covered z o = not (nat_lt o z.named) || z.file o
 pub data Deed : Type 0 where
   -- a step begins
   Line : Deed
-  Region : (region : ℕ) → (object : ℕ) → (count : ℕ) → Deed
+  -- a region over a new object; it may be in use on the host
+  Region : (own : Bool) → (region : ℕ) → (object : ℕ) → (count : ℕ) → Deed
   Cow : (region : ℕ) → (source : ℕ) → (off : ℕ) → (count : ℕ) → Deed
   -- of the regions only those that are held stay in use on the host
   Kept : (held : ℕ → Bool) → Deed
@@ -57,10 +58,10 @@ pub record Row : Type 0 where
   pub shift : ℕ
   pub pages : ℕ
 
-abbrev pub made_row : Bool → ℕ → ℕ → Row → Row
-made_row b object count old =
+abbrev pub made_row : Bool → Bool → ℕ → ℕ → Row → Row
+made_row b own object count old =
     record {
-      used = if b then true else old.used;
+      used = if b then own else old.used;
       mark = if b then false else old.mark;
       top = if b then object else old.top;
       shift = if b then 0 else old.shift;
@@ -91,7 +92,7 @@ shadow_row b new old =
     }
 
 abbrev pub row_move : ℕ → Deed → (ℕ → Row) → Row
-row_move r (Region region object count) rows = made_row (r == region) object count (rows r)
+row_move r (Region own region object count) rows = made_row (r == region) own object count (rows r)
 row_move r (Cow region source off count) rows = cow_row (r == region) (r == source) off count (rows source) (rows r)
 row_move r (Kept held) rows = kept_row (held r) (rows r)
 row_move r (Shadowed region new) rows = shadow_row (r == region) new (rows r)
@@ -104,13 +105,13 @@ row z r (e ∷ past) = row_move r e (λ k. row z k past)
 -- the next numbers
 abbrev pub regions : Ground → List Deed → ℕ
 regions z [] = z.named
-regions z (Region region object count ∷ past) = suc (regions z past)
+regions z (Region own region object count ∷ past) = suc (regions z past)
 regions z (Cow region source off count ∷ past) = suc (regions z past)
 regions z (e ∷ past) = regions z past
 
 abbrev pub objects : Ground → List Deed → ℕ
 objects z [] = z.named
-objects z (Region region object count ∷ past) = suc (objects z past)
+objects z (Region own region object count ∷ past) = suc (objects z past)
 objects z (Shadowed region new ∷ past) = suc (objects z past)
 objects z (e ∷ past) = objects z past
 
@@ -133,7 +134,7 @@ link z o (e ∷ past) = link z o past
 -- an object's pages
 abbrev pub pages : Ground → ℕ → List Deed → ℕ
 pages z o [] = z.length o
-pages z o (Region region object count ∷ past) = if o == object then count else pages z o past
+pages z o (Region own region object count ∷ past) = if o == object then count else pages z o past
 pages z o (Shadowed region new ∷ past) = if o == new then (row z region past).pages else pages z o past
 pages z o (e ∷ past) = pages z o past
 
@@ -173,7 +174,7 @@ control z o (e ∷ past) = control z o past
 -- the flat map: a region's page with eager copies
 abbrev pub flat : Ground → ℕ → ℕ → List Deed → List ℕ
 flat z r i [] = if is_file z r then z.start r i else z.zeros
-flat z r i (Region region object count ∷ past) = if r == region then z.zeros else flat z r i past
+flat z r i (Region own region object count ∷ past) = if r == region then z.zeros else flat z r i past
 flat z r i (Cow region source off count ∷ past) = if r == region then flat z source (off + i) past else flat z r i past
 flat z r i (Copied own source index object page region j upper upper_page ∷ past) = if r == region && i == j then flat z source index past else flat z r i past
 flat z r i (Stored own region index object page at bytes ∷ past) = if r == region && i == index then with_bytes at bytes (flat z r i past) else flat z r i past

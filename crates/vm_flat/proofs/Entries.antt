@@ -18,7 +18,7 @@ use Rattle.vm_model.specs.declared.script.Header.{Header}
 use Rattle.vm_model.specs.Tasks.{host_of}
 use Rattle.vm_flat.specs.Declared.{named, is_private}
 use Rattle.vm_flat.specs.Tasks.{is_host, lives_on, entries_of}
-use Rattle.vm_flat.specs.Regions.{next_region, region_of, in_use, is_kept, has_entry}
+use Rattle.vm_flat.specs.Regions.{next_region, region_of, made_here, in_use, is_kept, has_entry}
 use Rattle.vm_flat.specs.Licences.{Enters}
 use Rattle.vm_flat.proofs.Regions.{if_no}
 use Rattle.vm_flat.proofs.Rows.{AllRows, rows_map, rows_rewritten, rows_entered, rows_known, part, Parts, Inside, inside_part, page_below}
@@ -139,8 +139,8 @@ entries_region_made header region object pages past is all task host lives =
         record {
           made = omega (arith, ok.made);
           inside = subst (λ (n : ℕ). Inside header.size n row) (sym (if_no row.region.0 region.0 pages (region_of header row.region.0 past).pages apart)) ok.inside;
-          used_here = λ ours. if_no row.region.0 region.0 true (in_use header host row.region.0 past) apart ∙ ok.used_here ours;
-          alone = λ other else_. if_no row.region.0 region.0 true (in_use header other row.region.0 past) apart ∙ ok.alone other else_;
+          used_here = λ ours. if_no row.region.0 region.0 (made_here host past) (in_use header host row.region.0 past) apart ∙ ok.used_here ours;
+          alone = λ other else_. if_no row.region.0 region.0 (made_here other past) (in_use header other row.region.0 past) apart ∙ ok.alone other else_;
         })
     (entries_of header.size task past) (all task host lives)
 

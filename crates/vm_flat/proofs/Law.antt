@@ -13,7 +13,7 @@ use Rattle.vm_model.specs.Chains.{page_of}
 use Rattle.vm_model.specs.Bytes.{number_in}
 use Rattle.vm_flat.specs.Declared.{named, is_private, zeros}
 use Rattle.vm_flat.specs.Tasks.{lives_on}
-use Rattle.vm_flat.specs.Regions.{is_kept, in_use}
+use Rattle.vm_flat.specs.Regions.{is_kept, made_here, in_use}
 use Rattle.vm_flat.specs.Spot.{Spot}
 use Rattle.vm_flat.specs.Places.{spot, control_number}
 use Rattle.vm_flat.specs.Flat.{Change, change_of, changed, made_over, is_number, flat_page}
@@ -90,7 +90,7 @@ new_private header r region a b same later was used = by (r == region) refl used
 
 private_next : (header : Header) (files : Files) (e : Event) (past : List Event) → Holds header files past → Licensed header files e past → PrivateUsed header (e ∷ past)
 private_next header files (event.RegionMade region object pages) past h c host r used =
-    new_private header r region.0 true (in_use header host r past) refl (omega (arith, c.0, h.numbered.later_regions)) (h.private_used host r) used
+    new_private header r region.0 (made_here host past) (in_use header host r past) refl (omega (arith, c.0, h.numbered.later_regions)) (h.private_used host r) used
 private_next header files (event.RegionCopied region source offset pages) past h c host r used =
     new_private header r region.0 (in_use header host source.0 past) (in_use header host r past) refl (omega (arith, c.next, h.numbered.later_regions)) (h.private_used host r) used
 private_next header files (event.Entered task address bytes region offset prot inherit) past h c host r used =

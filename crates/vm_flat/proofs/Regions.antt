@@ -20,8 +20,8 @@ if_no o k x y apart = subst (λ (b : Bool). (if b then x else y) ≡ y) (sym (eq
 pub if_yes : {A : Type 0} (o k : ℕ) (x y : A) → o ≡ k → (if o == k then x else y) ≡ x
 if_yes o k x y e = subst (λ (b : Bool). (if b then x else y) ≡ x) (sym (eq_yes o k e)) refl
 
-made_other : (z : Ground) (r region object count : ℕ) (past : List Deed) → r ≢ region → row z r (Region region object count ∷ past) ≡ row z r past
-made_other z r region object count past apart = subst (λ (b : Bool). made_row b object count (row z r past) ≡ row z r past) (sym (eq_no r region apart)) refl
+made_other : (z : Ground) (own : Bool) (r region object count : ℕ) (past : List Deed) → r ≢ region → row z r (Region own region object count ∷ past) ≡ row z r past
+made_other z own r region object count past apart = subst (λ (b : Bool). made_row b own object count (row z r past) ≡ row z r past) (sym (eq_no r region apart)) refl
 
 pub cow_other : (z : Ground) (r region source off count : ℕ) (past : List Deed) → r ≢ region → r ≢ source → row z r (Cow region source off count ∷ past) ≡ row z r past
 cow_other z r region source off count past apart too =
@@ -46,7 +46,7 @@ below_old links new m (suc n) o u small same older is =
 -- the declared objects come first
 pub named_objects : (z : Ground) (past : List Deed) → z.named ≤ objects z past
 named_objects z [] = omega arith
-named_objects z (Region region object count ∷ past) = omega (arith, named_objects z past)
+named_objects z (Region own region object count ∷ past) = omega (arith, named_objects z past)
 named_objects z (Shadowed region new ∷ past) = omega (arith, named_objects z past)
 named_objects z (e ∷ past) = named_objects z past
 
@@ -55,18 +55,18 @@ unnamed z o above = grind (arith, nat_tests)
 
 -- region
 
-reach_region : (z : Ground) (region object count o : ℕ) (past : List Deed) → ShapeOf z past → object ≡ objects z past → Reach z o (Region region object count ∷ past) → Reach z o past ⊎ (object ≡ o)
-reach_region z region object count o past sh new reach = elim (ℕ_discrete reach.0 region) [
+reach_region : (z : Ground) (here : Bool) (region object count o : ℕ) (past : List Deed) → ShapeOf z past → object ≡ objects z past → Reach z o (Region here region object count ∷ past) → Reach z o past ⊎ (object ≡ o)
+reach_region z here region object count o past sh new reach = elim (ℕ_discrete reach.0 region) [
   | yes e ↦
       let at : Below (λ k. link z k past) reach.1 object o = subst (λ (t : ℕ). Below (λ k. link z k past) reach.1 t o) (if_yes reach.0 region object (row z reach.0 past).top e) reach.3 in
       inr (below_bare (λ k. link z k past) reach.1 object o (λ backed. omega (arith, sh.made object backed, new)) at)
-  | no apart ↦
-      let same : row z reach.0 (Region region object count ∷ past) ≡ row z reach.0 past = made_other z reach.0 region object count past apart in
+  | no other ↦
+      let same : row z reach.0 (Region here region object count ∷ past) ≡ row z reach.0 past = made_other z here reach.0 region object count past other in
       inl (reach.0, reach.1, subst (λ (x : Row). x.used ≡ true) same reach.2, subst (λ (x : Row). Below (λ k. link z k past) reach.1 x.top o) same reach.3)
 ]
 
-shape_region : (z : Ground) (region object count : ℕ) (past : List Deed) → ShapeOf z past → z.named ≤ objects z past → region ≡ regions z past → object ≡ objects z past → ShapeOf z (Region region object count ∷ past)
-shape_region z region object count past sh named is new =
+shape_region : (z : Ground) (here : Bool) (region object count : ℕ) (past : List Deed) → ShapeOf z past → z.named ≤ objects z past → region ≡ regions z past → object ≡ objects z past → ShapeOf z (Region here region object count ∷ past)
+shape_region z here region object count past sh named is new =
     record {
       rows_below = λ r used. grind (arith, nat_tests, sh.rows_below r);
       tops_made = λ r less. grind (arith, nat_tests, sh.tops_made r);
@@ -77,83 +77,83 @@ shape_region z region object count past sh named is new =
       covers_under = sh.covers_under;
       tops_inside = λ r i used less. grind (arith, nat_tests, sh.tops_inside r i, sh.tops_made r, sh.rows_below r, new);
       inside = inside;
-      own = own;
+      own = apart;
       alone = λ r q used mark used' apart. grind (arith, nat_tests, sh.alone r q, sh.tops_made r, sh.tops_made q, sh.rows_below r, sh.rows_below q);
     }
   where
-    covers_tops : (r : ℕ) → (row z r (Region region object count ∷ past)).used ≡ true → covered z (row z r (Region region object count ∷ past)).top ≡ true
+    covers_tops : (r : ℕ) → (row z r (Region here region object count ∷ past)).used ≡ true → covered z (row z r (Region here region object count ∷ past)).top ≡ true
     covers_tops r used = elim (ℕ_discrete r region) [
       | yes e ↦ subst (λ (k : ℕ). covered z k ≡ true) (sym (if_yes r region object (row z r past).top e)) (unnamed z object (omega (arith, named, new)))
-      | no apart ↦ subst (λ (x : Row). x.used ≡ true → covered z x.top ≡ true) (sym (made_other z r region object count past apart)) (sh.covers_tops r) used
+      | no other ↦ subst (λ (x : Row). x.used ≡ true → covered z x.top ≡ true) (sym (made_other z here r region object count past other)) (sh.covers_tops r) used
     ]
 
     under_small : (v : ℕ) → (link z v past).backed ≡ true → (link z v past).under < objects z past
     under_small v backed = sh.born v backed
 
-    pages_old : (k : ℕ) → k < objects z past → pages z k (Region region object count ∷ past) ≡ pages z k past
+    pages_old : (k : ℕ) → k < objects z past → pages z k (Region here region object count ∷ past) ≡ pages z k past
     pages_old k small = if_no k object count (pages z k past) (λ e. omega (arith, small, e, new))
 
-    inside : (o p : ℕ) → Reach z o (Region region object count ∷ past) → (link z o past).backed ≡ true → p < pages z o (Region region object count ∷ past) → (link z o past).shift + p < pages z (link z o past).under (Region region object count ∷ past)
-    inside o p reach backed less = elim (reach_region z region object count o past sh new reach) [
+    inside : (o p : ℕ) → Reach z o (Region here region object count ∷ past) → (link z o past).backed ≡ true → p < pages z o (Region here region object count ∷ past) → (link z o past).shift + p < pages z (link z o past).under (Region here region object count ∷ past)
+    inside o p reach backed less = elim (reach_region z here region object count o past sh new reach) [
       | inl was ↦ subst (λ (m : ℕ). (link z o past).shift + p < m) (sym (pages_old (link z o past).under (sh.born o backed))) (sh.inside o p was backed (subst (λ (m : ℕ). p < m) (pages_old o (sh.made o backed)) less))
       | inr e ↦ absurd (omega (arith, e, new, sh.made o backed))
     ]
 
-    own : (r v : ℕ) → (row z r (Region region object count ∷ past)).used ≡ true → (row z r (Region region object count ∷ past)).mark ≡ false → z.named ≤ (row z r (Region region object count ∷ past)).top → Reach z v (Region region object count ∷ past) → (link z v past).backed ≡ true
-        → (link z v past).under ≢ (row z r (Region region object count ∷ past)).top
-    own r v used mark kind reach backed = elim (ℕ_discrete r region) [
+    apart : (r v : ℕ) → (row z r (Region here region object count ∷ past)).used ≡ true → (row z r (Region here region object count ∷ past)).mark ≡ false → z.named ≤ (row z r (Region here region object count ∷ past)).top → Reach z v (Region here region object count ∷ past) → (link z v past).backed ≡ true
+        → (link z v past).under ≢ (row z r (Region here region object count ∷ past)).top
+    apart r v used mark kind reach backed = elim (ℕ_discrete r region) [
       | yes e ↦ λ same. omega (arith, under_small v backed, same ∙ if_yes r region object (row z r past).top e, new)
-      | no apart ↦
-          let row_is : row z r (Region region object count ∷ past) ≡ row z r past = made_other z r region object count past apart in
-          elim (reach_region z region object count v past sh new reach) [
+      | no other ↦
+          let row_is : row z r (Region here region object count ∷ past) ≡ row z r past = made_other z here r region object count past other in
+          elim (reach_region z here region object count v past sh new reach) [
             | inl was ↦ subst (λ (x : Row). (link z v past).under ≢ x.top) (sym row_is) (sh.own r v (subst (λ (x : Row). x.used ≡ true) row_is used) (subst (λ (x : Row). x.mark ≡ false) row_is mark) (subst (λ (x : Row). z.named ≤ x.top) row_is kind) was backed)
             | inr e ↦ absurd (omega (arith, e, new, sh.made v backed))
           ]
     ]
 
-pub after_region : (z : Ground) (region object count : ℕ) (past : List Deed) → World z past → Cause z (Region region object count) past → World z (Region region object count ∷ past)
-after_region z region object count past w c =
+pub after_region : (z : Ground) (here : Bool) (region object count : ℕ) (past : List Deed) → World z past → Cause z (Region here region object count) past → World z (Region here region object count ∷ past)
+after_region z here region object count past w c =
     record {
-      shape = shape_region z region object count past w.shape (named_objects z past) c.0 c.1;
+      shape = shape_region z here region object count past w.shape (named_objects z past) c.0 c.1;
       regional = regional;
       places = places;
     }
   where
-    view_old : (o p : ℕ) → o < objects z past → view z o p (Region region object count ∷ past) ≡ view z o p past
+    view_old : (o p : ℕ) → o < objects z past → view z o p (Region here region object count ∷ past) ≡ view z o p past
     view_old o p small = if_no o object z.zeros (view z o p past) (λ e. omega (arith, small, e, c.1))
 
-    regional : (r i : ℕ) → (row z r (Region region object count ∷ past)).used ≡ true → i < (row z r (Region region object count ∷ past)).pages
-        → flat z r i (Region region object count ∷ past) ≡ view z (row z r (Region region object count ∷ past)).top ((row z r (Region region object count ∷ past)).shift + i) (Region region object count ∷ past)
+    regional : (r i : ℕ) → (row z r (Region here region object count ∷ past)).used ≡ true → i < (row z r (Region here region object count ∷ past)).pages
+        → flat z r i (Region here region object count ∷ past) ≡ view z (row z r (Region here region object count ∷ past)).top ((row z r (Region here region object count ∷ past)).shift + i) (Region here region object count ∷ past)
     regional r i used inside = elim (ℕ_discrete r region) [
-      | yes e ↦ if_yes r region z.zeros (flat z r i past) e ∙ sym (if_yes (row z r (Region region object count ∷ past)).top object z.zeros (view z (row z r (Region region object count ∷ past)).top ((row z r (Region region object count ∷ past)).shift + i) past) (if_yes r region object (row z r past).top e))
-      | no apart ↦
-          let row_is : row z r (Region region object count ∷ past) ≡ row z r past = made_other z r region object count past apart in
+      | yes e ↦ if_yes r region z.zeros (flat z r i past) e ∙ sym (if_yes (row z r (Region here region object count ∷ past)).top object z.zeros (view z (row z r (Region here region object count ∷ past)).top ((row z r (Region here region object count ∷ past)).shift + i) past) (if_yes r region object (row z r past).top e))
+      | no other ↦
+          let row_is : row z r (Region here region object count ∷ past) ≡ row z r past = made_other z here r region object count past other in
           let was : (row z r past).used ≡ true = subst (λ (x : Row). x.used ≡ true) row_is used in
-          if_no r region z.zeros (flat z r i past) apart ∙ w.regional r i was (subst (λ (x : Row). i < x.pages) row_is inside)
-          ∙ subst (λ (x : Row). view z (row z r past).top ((row z r past).shift + i) past ≡ view z x.top (x.shift + i) (Region region object count ∷ past)) (sym row_is)
+          if_no r region z.zeros (flat z r i past) other ∙ w.regional r i was (subst (λ (x : Row). i < x.pages) row_is inside)
+          ∙ subst (λ (x : Row). view z (row z r past).top ((row z r past).shift + i) past ≡ view z x.top (x.shift + i) (Region here region object count ∷ past)) (sym row_is)
           (sym (view_old (row z r past).top ((row z r past).shift + i) (tops_below w.shape r was)))
     ]
 
-    old_small : (o : ℕ) → o ≢ object → Reach z o (Region region object count ∷ past) → o < objects z past
-    old_small o apart reach = elim (reach_region z region object count o past w.shape c.1 reach) [ inl was ↦ reach_small z o past w.shape was | inr e ↦ absurd (apart (sym e)) ]
+    old_small : (o : ℕ) → o ≢ object → Reach z o (Region here region object count ∷ past) → o < objects z past
+    old_small o other reach = elim (reach_region z here region object count o past w.shape c.1 reach) [ inl was ↦ reach_small z o past w.shape was | inr e ↦ absurd (other (sym e)) ]
 
-    places : (o p : ℕ) → covered z o ≡ true → GoodAt z (Region region object count ∷ past) o p (spot z o p past)
+    places : (o p : ℕ) → covered z o ≡ true → GoodAt z (Region here region object count ∷ past) o p (spot z o p past)
     places o p ours = elim (ℕ_discrete o object) [
       | yes e ↦
           record {
             sound = (w.places o p ours).sound;
-            fits = λ r. fits_blank z.zeros (Barren z o p (Region region object count ∷ past)) (view z o p (Region region object count ∷ past)) (link z o past).backed (under_view z o p (Region region object count ∷ past)) (spot z o p past) (w.places o p ours).sound
+            fits = λ r. fits_blank z.zeros (Barren z o p (Region here region object count ∷ past)) (view z o p (Region here region object count ∷ past)) (link z o past).backed (under_view z o p (Region here region object count ∷ past)) (spot z o p past) (w.places o p ours).sound
                 ((w.places o p ours).blank (omega (arith, e, c.1))) (λ backed. absurd (omega (arith, w.shape.made o backed, e, c.1))) (λ bare. if_yes o object z.zeros (view z o p past) e);
             blank = λ u. (w.places o p ours).blank (omega (arith, u));
           }
-      | no apart ↦
-          good_again z.zeros (ReachAt z o p past) (ReachAt z o p (Region region object count ∷ past)) (objects z past ≤ o) (suc (objects z past) ≤ o) (Barren z o p past) (Barren z o p (Region region object count ∷ past)) (view z o p past) (view z o p (Region region object count ∷ past)) (link z o past).backed (under_view z o p past) (under_view z o p (Region region object count ∷ past)) (spot z o p past)
+      | no other ↦
+          good_again z.zeros (ReachAt z o p past) (ReachAt z o p (Region here region object count ∷ past)) (objects z past ≤ o) (suc (objects z past) ≤ o) (Barren z o p past) (Barren z o p (Region here region object count ∷ past)) (view z o p past) (view z o p (Region here region object count ∷ past)) (link z o past).backed (under_view z o p past) (under_view z o p (Region here region object count ∷ past)) (spot z o p past)
           (w.places o p ours)
-          (λ reach. (elim (reach_region z region object count o past w.shape c.1 reach.0) [ inl was ↦ was | inr e ↦ absurd (apart (sym e)) ], subst (λ (m : ℕ). p < m) (if_no o object count (pages z o past) apart) reach.1))
+          (λ reach. (elim (reach_region z here region object count o past w.shape c.1 reach.0) [ inl was ↦ was | inr e ↦ absurd (other (sym e)) ], subst (λ (m : ℕ). p < m) (if_no o object count (pages z o past) other) reach.1))
           (λ u. omega (arith, u))
-          (λ reach. if_no o object z.zeros (view z o p past) apart)
+          (λ reach. if_no o object z.zeros (view z o p past) other)
           (λ reach none backed. view_old (link z o past).under ((link z o past).shift + p) (w.shape.born o backed))
-          (λ reach barren n l lp path. (view_old l lp (path_small (λ k. link z k past) (objects z past) n o p l lp w.shape.born (old_small o apart reach.0) path) ∙ (barren n l lp path).0, (barren n l lp path).1))
+          (λ reach barren n l lp path. (view_old l lp (path_small (λ k. link z k past) (objects z past) n o p l lp w.shape.born (old_small o other reach.0) path) ∙ (barren n l lp path).0, (barren n l lp path).1))
     ]
 
 -- kept

@@ -10,7 +10,7 @@ use Rattle.vm_model.specs.declared.message.Message.TheVariants as message
 use Rattle.vm_model.specs.declared.script.Header.{Header}
 use Rattle.vm_flat.specs.Declared.{zeros}
 use Rattle.vm_flat.specs.Tasks.{lives_on}
-use Rattle.vm_flat.specs.Regions.{next_region, next_object, Region, region_of, Backing, backing_of, in_use}
+use Rattle.vm_flat.specs.Regions.{next_region, next_object, Region, region_of, Backing, backing_of, made_here, in_use}
 use Rattle.vm_flat.specs.Words.{Effect, Raises, Nothing}
 use Rattle.vm_flat.specs.Spot.{Spot, move}
 use Rattle.vm_flat.specs.Places.{sent_up, taken_up, sent_down, taken_down, effect_of, at_place, spot, control, control_number}
@@ -26,7 +26,7 @@ as_link backing = record { backed = backing.backed; under = backing.under; shift
 
 pub row_is : (header : Header) (files : Files) (host r : ℕ) (past : List Event) → D.row (ground header files) r (deeds header host past) ≡ as_row (in_use header host r past) (region_of header r past)
 row_is header files host r [] = refl
-row_is header files host r (event.RegionMade region object pages ∷ past) = ap (λ w. D.made_row (r == region.0) object.0 pages w) (row_is header files host r past)
+row_is header files host r (event.RegionMade region object pages ∷ past) = ap (λ w. D.made_row (r == region.0) (made_here host past) object.0 pages w) (row_is header files host r past)
 row_is header files host r (event.RegionCopied region source offset pages ∷ past) =
     ap (λ w. D.cow_row (r == region.0) (r == source.0) offset pages w (D.row (ground header files) r (deeds header host past))) (row_is header files host source.0 past)
     ∙ ap (λ w. D.cow_row (r == region.0) (r == source.0) offset pages (as_row (in_use header host source.0 past) (region_of header source.0 past)) w) (row_is header files host r past)

@@ -14,7 +14,7 @@ use Rattle.vm_flat.proofs.Good.{Good, shown}
 -- what an object shows at a page, with eager copies
 abbrev pub view : Ground → ℕ → ℕ → List Deed → List ℕ
 view z o p [] = if is_file z o then z.start o p else z.zeros
-view z o p (Region region object count ∷ past) = if o == object then z.zeros else view z o p past
+view z o p (Region own region object count ∷ past) = if o == object then z.zeros else view z o p past
 view z o p (Shadowed region new ∷ past) = if o == new then view z (row z region past).top ((row z region past).shift + p) past else view z o p past
 view z o p (Copied own source index object page region i upper upper_page ∷ past) = if own && (o == upper && p == upper_page) then flat z source index past else view z o p past
 view z o p (Stored own region index object page at bytes ∷ past) = if own && (o == object && p == page) then with_bytes at bytes (view z o p past) else view z o p past

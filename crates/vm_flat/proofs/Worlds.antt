@@ -15,7 +15,7 @@ use Rattle.vm_flat.proofs.Copies.{after_cow, after_shadowed}
 
 pub after : (z : Ground) (e : Deed) (past : List Deed) → World z past → Cause z e past → World z (e ∷ past)
 after z Line past w c = after_line z past w
-after z (Region region object count) past w c = after_region z region object count past w c
+after z (Region own region object count) past w c = after_region z own region object count past w c
 after z (Cow region source off count) past w c = after_cow z region source off count past w c
 after z (Kept held) past w c = after_kept z held past w
 after z (Shadowed region new) past w c = after_shadowed z region new past w c

@@ -102,12 +102,17 @@ is_held size region (task ∷ others) past =
 abbrev pub is_kept : Header → ℕ → List Event → Bool
 is_kept header region past = nat_lt region (named header) || is_held header.size region (tasks past) past
 
+-- a region that is made now may be used on the host: a slow copy's region is for the host of its task
+abbrev pub made_here : ℕ → List Event → Bool
+made_here host (event.BegunCopy task address bytes to ∷ past) = lives_on host task.0 past
+made_here host other = true
+
 -- The region is in use on the host: from the event that makes it until the last entry on it goes, and
--- on the host of its entries alone. A copy is in use where its source is. A file's region is in use from the start, a
--- shared or wild object's never is here.
+-- once it has an entry, on the host of its entries alone. A copy is in use where its source is. A file's
+-- region is in use from the start, a shared or wild object's never is here.
 abbrev pub in_use : Header → ℕ → ℕ → List Event → Bool
 in_use header host region [] = is_file header region
-in_use header host region (event.RegionMade new object pages ∷ past) = if region == new.0 then true else in_use header host region past
+in_use header host region (event.RegionMade new object pages ∷ past) = if region == new.0 then made_here host past else in_use header host region past
 in_use header host region (event.RegionCopied new source offset pages ∷ past) = if region == new.0 then in_use header host source.0 past else in_use header host region past
 in_use header host region (event.Entered task address bytes entered offset prot inherit ∷ past) = (not (region == entered.0) || lives_on host task.0 past) && in_use header host region past
 in_use header host region (event.Removed task address bytes ∷ past) = is_kept header region (event.Removed task address bytes ∷ past) && in_use header host region past
