@@ -1,11 +1,13 @@
 pub mod Caused
 pub mod Causes
+pub mod ChainRun
 pub mod Classes
 pub mod Control
 pub mod Copies
 pub mod Deeds
 pub mod Entries
 pub mod File
+pub mod FileRun
 pub mod Good
 pub mod Held
 pub mod Holds
