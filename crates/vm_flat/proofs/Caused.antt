@@ -43,6 +43,7 @@ use Rattle.vm_flat.proofs.Classes.{ground, deed, deeds, up_deed, taken_up_deed, 
 use Rattle.vm_flat.proofs.Ties.{as_row, as_link, row_is, link_is, spot_is, regions_is, objects_is, control_tie}
 use Rattle.vm_flat.proofs.Rows.{FoundRow}
 use Rattle.vm_flat.proofs.Entries.{OwnedAt}
+use Rattle.vm_flat.proofs.Filling.{FilledAt}
 use Rattle.vm_flat.proofs.Numbers.{marked_later, later_private}
 use Rattle.vm_flat.proofs.Ports.{up_port, down_port}
 use Rattle.vm_flat.proofs.Letters.{up_words, down_words, first_rest, down_of}
@@ -207,27 +208,29 @@ copied_cause : (header : Header) (files : Files) (host task index object page ta
     → (is_private header object ≡ false → (host : ℕ) → lives_on host task past ≡ true → (spot header files host object page past).bytes ≡ flat_page header files object page past)
     → Cause (ground header files) (D.Copied (lives_on host task past) object page object page (number_or_zero (made_over target past)) index target index) (deeds header host past)
 copied_cause header files host task index object page target past h c current =
-    subst (λ (o : Option ℕ). Cause (ground header files) (D.Copied (lives_on host task past) object page object page (number_or_zero o) index target index) (deeds header host past)) (sym c.made)
-    (by_host (lives_on host task past) refl)
+    let f : FilledAt header past c.waits.at.host (record { region = c.region; object = target }) = h.filling task c.waits.at.host c.address c.bytes c.to (record { region = c.region; object = target }) c.waits.at.lives c.waits.waits c.filled in
+    subst (λ (o : Option ℕ). Cause (ground header files) (D.Copied (lives_on host task past) object page object page (number_or_zero o) index target index) (deeds header host past)) (sym f.is_over)
+    (by_host f (lives_on host task past) refl)
   where
-    by_host : (b : Bool) → lives_on host task past ≡ b → Cause (ground header files) (D.Copied b object page object page c.region index target index) (deeds header host past)
-    by_host false isnt =
+    by_host : FilledAt header past c.waits.at.host (record { region = c.region; object = target }) → (b : Bool) → lives_on host task past ≡ b → Cause (ground header files) (D.Copied b object page object page c.region index target index) (deeds header host past)
+    by_host f false isnt =
         inr (record {
-          unused = ap (λ (w : D.Row). w.used) (row_is header files host c.region past) ∙ c.unused host (λ e. apart e);
+          unused = ap (λ (w : D.Row). w.used) (row_is header files host c.region past) ∙ f.alone host (λ e. apart e);
           apart = λ own. absurd (clash false refl own);
         })
       where
         apart : host ≡ c.waits.at.host → ⊥
         apart e = let t : lives_on host task past ≡ (c.waits.at.host == host) = lives_is task host c.waits.at.host past c.waits.at.lives in absurd (grind (arith, nat_tests))
-    by_host true is =
+    by_host f true is =
+        let later : named header ≤ target = omega (arith, h.numbered.temporary c.region f.later f.made, f.top) in
         inl (
-          record { on_host = refl; covered = later_private header target c.temporary },
+          record { on_host = refl; covered = later_private header target later },
           record {
-            tops = tops header files host c.region index target index past (subst (λ (k : ℕ). in_use header k c.region past ≡ true) on c.used) c.target_top c.inside;
-            unmarked = mark_is header files host c.region past c.unmarked;
+            tops = tops header files host c.region index target index past (subst (λ (k : ℕ). in_use header k c.region past ≡ true) on f.used_here) (record { object = f.top; page = omega (arith, f.shift) }) c.inside;
+            unmarked = mark_is header files host c.region past f.mark;
             away = here_is header files host target index false past (subst (λ (k : ℕ). (spot header files k target index past).here ≡ false) on c.away);
             unasked = ap (λ (s : Spot). s.asked) (spot_is header files host target index past) ∙ subst (λ (k : ℕ). (spot header files k target index past).asked ≡ false) on c.unasked;
-            plain = plain_spot header files host target index past c.temporary;
+            plain = plain_spot header files host target index past later;
             same = by_kind (is_private header object) refl;
           },
         )

@@ -168,7 +168,7 @@ licensed_3 : AllLicensed header files past_3
 licensed_3 = ((refl, refl), licensed_2)
 
 licensed_4 : AllLicensed header files past_4
-licensed_4 = (record { host = 0; lives = refl; whole = refl; inside = omega arith; made = omega arith; used = λ ours. refl }, licensed_3)
+licensed_4 = (record { host = 0; lives = refl; whole = refl; inside = omega arith; made = omega arith; used = λ ours. refl; unfilled = refl }, licensed_3)
 
 licensed_5 : AllLicensed header files past_5
 licensed_5 = (tt, licensed_4)
@@ -204,7 +204,7 @@ licensed_15 : AllLicensed header files past_15
 licensed_15 = (record { next = refl; temporary = omega arith; task = 0; address = 0; at = record { host = 0; entry = parent; lives = refl; found = refl }; source_is = refl; inside = omega arith }, licensed_14)
 
 licensed_16 : AllLicensed header files past_16
-licensed_16 = (record { host = 0; lives = refl; whole = refl; inside = omega arith; made = omega arith; used = λ ours. refl }, licensed_15)
+licensed_16 = (record { host = 0; lives = refl; whole = refl; inside = omega arith; made = omega arith; used = λ ours. refl; unfilled = refl }, licensed_15)
 
 licensed_17 : AllLicensed header files past_17
 licensed_17 = (tt, licensed_16)
@@ -231,7 +231,7 @@ licensed_24 : AllLicensed header files past_24
 licensed_24 = (record { next = refl; temporary = omega arith; task = 1; address = 0; at = record { host = 0; entry = child; lives = refl; found = refl }; source_is = refl; inside = omega arith }, licensed_23)
 
 licensed_25 : AllLicensed header files past_25
-licensed_25 = (record { host = 0; lives = refl; whole = refl; inside = omega arith; made = omega arith; used = λ ours. refl }, licensed_24)
+licensed_25 = (record { host = 0; lives = refl; whole = refl; inside = omega arith; made = omega arith; used = λ ours. refl; unfilled = refl }, licensed_24)
 
 licensed_26 : AllLicensed header files past_26
 licensed_26 = (tt, licensed_25)

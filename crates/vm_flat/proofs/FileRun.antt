@@ -189,7 +189,7 @@ licensed_2 : AllLicensed header files past_2
 licensed_2 = (tt, licensed_1)
 
 licensed_3 : AllLicensed header files past_3
-licensed_3 = (record { host = 0; lives = refl; whole = refl; inside = omega arith; made = omega arith; used = λ ours. refl }, licensed_2)
+licensed_3 = (record { host = 0; lives = refl; whole = refl; inside = omega arith; made = omega arith; used = λ ours. refl; unfilled = refl }, licensed_2)
 
 licensed_4 : AllLicensed header files past_4
 licensed_4 = (λ ours. (omega arith, refl), licensed_3)
@@ -240,7 +240,7 @@ licensed_19 : AllLicensed header files past_19
 licensed_19 = ((refl, refl), licensed_18)
 
 licensed_20 : AllLicensed header files past_20
-licensed_20 = (record { host = 0; lives = refl; whole = refl; inside = omega arith; made = omega arith; used = λ ours. refl }, licensed_19)
+licensed_20 = (record { host = 0; lives = refl; whole = refl; inside = omega arith; made = omega arith; used = λ ours. refl; unfilled = refl }, licensed_19)
 
 licensed_21 : AllLicensed header files past_21
 licensed_21 = (tt, licensed_20)

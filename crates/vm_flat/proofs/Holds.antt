@@ -23,6 +23,7 @@ use Rattle.vm_flat.proofs.Classes.{ground, deeds}
 use Rattle.vm_flat.proofs.Ties.{as_row, as_link, row_is, link_is, spot_is}
 use Rattle.vm_flat.proofs.Rows.{FoundRow, found_row}
 use Rattle.vm_flat.proofs.Entries.{Entries, OwnedAt, PrivateUsed}
+use Rattle.vm_flat.proofs.Filling.{Filling}
 use Rattle.vm_flat.proofs.Numbers.{Numbered, NumberedAt, later_private}
 use Rattle.vm_flat.proofs.Ports.{Worlds, Ups, UpNumbers, AskedBy, Downs}
 
@@ -35,6 +36,7 @@ pub record Holds (header : Header) (files : Files) (past : List Event) : Type 0 
   pub numbered : NumberedAt header past
   pub private_used : PrivateUsed header past
   pub entries : Entries header past
+  pub filling : Filling header past
   pub ups : Ups header files past
   pub up_numbers : UpNumbers header past
   pub asked : AskedBy header files past

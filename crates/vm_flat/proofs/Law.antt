@@ -27,6 +27,7 @@ use Rattle.vm_flat.proofs.Worlds.{after, start}
 use Rattle.vm_flat.proofs.Classes.{ground, deed, deeds, up_deed, region_in, page_in, number_or_zero, up_case, taken_up_case, down_case, taken_down_case}
 use Rattle.vm_flat.proofs.Ties.{spot_is}
 use Rattle.vm_flat.proofs.Entries.{Entries, PrivateUsed, entries_task_made, entries_task_ended, entries_failed, entries_removed, entries_protected, entries_inherited, entries_region_made, entries_region_copied, entries_entered}
+use Rattle.vm_flat.proofs.Filling.{Filling, filling_next}
 use Rattle.vm_flat.proofs.Numbers.{NumberedAt, numbered_start, numbered_region_made, numbered_region_copied, numbered_shadowed, later_private}
 use Rattle.vm_flat.proofs.Ports.{ups_start, ups_next, numbers_next, asked_next, downs_start, downs_next}
 use Rattle.vm_flat.proofs.Holds.{Holds, Flats, led, tops, region_private, walks}
@@ -48,32 +49,32 @@ flat_stored header files host r i own task object page at size value past flats 
     (ap (λ x. with_bytes x (little_endian_bytes size value) (D.flat (ground header files) r i (deeds header host past))) c.place ∙ ap (λ x. with_bytes (c.address % header.size) (little_endian_bytes size value) x) (flats host r i))
     (flats host r i))
 
-flat_copied : (header : Header) (files : Files) (host r i : ℕ) (own : Bool) (task index object page target : ℕ) (past : List Event) → Flats header files past → L.CopiesPage header files task index object page target past
+flat_copied : (header : Header) (files : Files) (host r i : ℕ) (own : Bool) (region index object page target : ℕ) (past : List Event) → Flats header files past → made_over target past ≡ Some region
     → D.flat (ground header files) r i (D.Copied own object page object page (number_or_zero (made_over target past)) index target index ∷ deeds header host past)
     ≡ (if is_number r (made_over target past) && i == index then flat_page header files object page past else flat_page header files r i past)
-flat_copied header files host r i own task index object page target past flats c =
+flat_copied header files host r i own region index object page target past flats is =
     subst (λ (o : Option ℕ). D.flat (ground header files) r i (D.Copied own object page object page (number_or_zero o) index target index ∷ deeds header host past) ≡ (if is_number r o && i == index then flat_page header files object page past else flat_page header files r i past))
-    (sym c.made)
-    (two (r == c.region && i == index) _ _ _ _ (flats host object page) (flats host r i))
+    (sym is)
+    (two (r == region && i == index) _ _ _ _ (flats host object page) (flats host r i))
 
-flats_next : (header : Header) (files : Files) (e : Event) (past : List Event) → Flats header files past → Licensed header files e past → Flats header files (e ∷ past)
-flats_next header files (event.RegionMade region object pages) past flats c host r i = two (r == region.0) _ _ _ _ refl (flats host r i)
-flats_next header files (event.RegionCopied region source offset pages) past flats c host r i = two (r == region.0) _ _ _ _ (flats host source.0 (offset + i)) (flats host r i)
-flats_next header files (event.Stored task object page at size value) past flats c host r i = flat_stored header files host r i (lives_on host task.0 past) task.0 object.0 page.0 at size value past flats c
-flats_next header files (event.CopiedPage task page object object_page target) past flats c host r i = flat_copied header files host r i (lives_on host task.0 past) task.0 page.0 object.0 object_page.0 target.0 past flats c
-flats_next header files (event.Sent (Up at object) m) past flats c host r i =
+flats_next : (header : Header) (files : Files) (e : Event) (past : List Event) → Filling header past → Flats header files past → Licensed header files e past → Flats header files (e ∷ past)
+flats_next header files (event.RegionMade region object pages) past filling flats c host r i = two (r == region.0) _ _ _ _ refl (flats host r i)
+flats_next header files (event.RegionCopied region source offset pages) past filling flats c host r i = two (r == region.0) _ _ _ _ (flats host source.0 (offset + i)) (flats host r i)
+flats_next header files (event.Stored task object page at size value) past filling flats c host r i = flat_stored header files host r i (lives_on host task.0 past) task.0 object.0 page.0 at size value past flats c
+flats_next header files (event.CopiedPage task page object object_page target) past filling flats c host r i = flat_copied header files host r i (lives_on host task.0 past) c.region page.0 object.0 object_page.0 target.0 past flats (filling task.0 c.waits.at.host c.address c.bytes c.to (record { region = c.region; object = target.0 }) c.waits.at.lives c.waits.waits c.filled).is_over
+flats_next header files (event.Sent (Up at object) m) past filling flats c host r i =
     up_case (λ d. D.flat (ground header files) r i (d ∷ deeds header host past) ≡ D.flat (ground header files) r i (deeds header host past)) (λ own o. refl) (λ own o p. refl) (λ own o p keep bytes. refl) (λ own o. refl) refl (at.0 == host) object.0 m
     ∙ flats host r i
-flats_next header files (event.Sent (Down at object n) m) past flats c host r i =
+flats_next header files (event.Sent (Down at object n) m) past filling flats c host r i =
     down_case (λ d. D.flat (ground header files) r i (d ∷ deeds header host past) ≡ D.flat (ground header files) r i (deeds header host past)) (λ own o p word. refl) refl (at.0 == host && n == control_number host object.0 past) object.0 m
     ∙ flats host r i
-flats_next header files (event.Taken (Up at object) m) past flats c host r i =
+flats_next header files (event.Taken (Up at object) m) past filling flats c host r i =
     taken_up_case (λ d. D.flat (ground header files) r i (d ∷ deeds header host past) ≡ D.flat (ground header files) r i (deeds header host past)) (λ own o p. refl) (λ own o p bytes. refl) refl (at.0 == host) object.0 m
     ∙ flats host r i
-flats_next header files (event.Taken (Down at object n) m) past flats c host r i =
+flats_next header files (event.Taken (Down at object n) m) past filling flats c host r i =
     taken_down_case (λ d. D.flat (ground header files) r i (d ∷ deeds header host past) ≡ D.flat (ground header files) r i (deeds header host past)) (λ own o p word. refl) refl (at.0 == host && n == control_number host object.0 past) object.0 m
     ∙ flats host r i
-flats_next header files e past flats c host r i = flats host r i
+flats_next header files e past filling flats c host r i = flats host r i
 
 -- the other parts
 
@@ -132,6 +133,7 @@ holds header files [] licensed current =
       numbered = numbered_start header;
       private_used = private_start header;
       entries = λ task host lives. absurd (no_host host lives);
+      filling = λ task host address bytes to t lives waits target. absurd (no_host host lives);
       ups = ups_start header files;
       up_numbers = λ h o ours. tt;
       asked = λ h o n p ours taken step. absurd (cc);
@@ -141,10 +143,11 @@ holds header files (e ∷ past) licensed current =
     let h : Holds header files past = holds header files past licensed.1 current.1 in
     record {
       worlds = λ host. after (ground header files) (deed header host e past) (deeds header host past) (h.worlds host) (cause header files host e past h licensed.0 current.0);
-      flats = flats_next header files e past h.flats licensed.0;
+      flats = flats_next header files e past h.filling h.flats licensed.0;
       numbered = numbered_next header files e past h licensed.0;
       private_used = private_next header files e past h licensed.0;
       entries = entries_next header files e past h licensed.0;
+      filling = filling_next header files e past h.numbered h.entries licensed.0 h.filling;
       ups = ups_next header files e past h.ups licensed.0;
       up_numbers = numbers_next header files e past h.worlds h.ups h.up_numbers licensed.0;
       asked = asked_next header files e past h.worlds h.up_numbers h.asked licensed.0;

@@ -8,6 +8,7 @@ pub mod Deeds
 pub mod Entries
 pub mod File
 pub mod FileRun
+pub mod Filling
 pub mod Good
 pub mod Held
 pub mod Holds

@@ -13,14 +13,13 @@ use Rattle.vm_model.specs.Tasks.{host_of}
 use Rattle.vm_model.specs.Chains.{page_of}
 use Rattle.vm_model.specs.Bytes.{number_in}
 use Rattle.vm_flat.specs.Declared.{named, is_file, is_private, zeros}
-use Rattle.vm_flat.specs.Tasks.{lives_on, entries_of}
+use Rattle.vm_flat.specs.Tasks.{lives_on, tasks, entries_of}
 use Rattle.vm_flat.specs.Waiting.{Access, Loading, Storing, Copying, waiting, next_page, Target, copy_target, address_of, is_store}
-use Rattle.vm_flat.specs.Regions.{next_region, next_object, Region, region_of, Backing, backing_of, in_use}
+use Rattle.vm_flat.specs.Regions.{next_region, next_object, Region, region_of, Backing, backing_of, is_filled, in_use}
 use Rattle.vm_flat.specs.Channels.{queue}
 use Rattle.vm_flat.specs.Spot.{Spot, first}
 use Rattle.vm_flat.specs.Places.{spot, control, control_number}
 use Rattle.vm_flat.specs.Walks.{Reaches, Walks, Sinks, IsTop}
-use Rattle.vm_flat.specs.Flat.{made_over}
 
 -- what the files hold at the start, by object and page
 abbrev pub Files : Type 0
@@ -118,13 +117,7 @@ pub record CopiesPage (header : Header) (files : Files) (task index object page 
   pub is_top : IsTop (region_of header waits.at.entry.region.0 past) (page_of header.size waits.at.entry (address + next_page task past * header.size)) object page
   pub here : (spot header files waits.at.host object page past).here ≡ true
   pub region : ℕ
-  pub temporary : named header ≤ target
   pub filled : copy_target task past ≡ Some (record { region = region; object = target })
-  pub made : made_over target past ≡ Some region
-  pub used : in_use header waits.at.host region past ≡ true
-  pub unused : (host : ℕ) → (host ≡ waits.at.host → ⊥) → in_use header host region past ≡ false
-  pub target_top : IsTop (region_of header region past) index target index
-  pub unmarked : (region_of header region past).mark ≡ false
   pub inside : index < (region_of header region past).pages
   pub away : (spot header files waits.at.host target index past).here ≡ false
   pub unasked : (spot header files waits.at.host target index past).asked ≡ false
@@ -225,6 +218,7 @@ pub record Enters (header : Header) (task bytes region offset : ℕ) (past : Lis
   pub inside : offset + bytes / header.size ≤ (region_of header region past).pages
   pub made : region < next_region header past
   pub used : is_private header region ≡ true → in_use header host region past ≡ true
+  pub unfilled : is_filled region (tasks past) past ≡ false
 
 -- the top object of a marked region of a waiting store gets a shadow
 pub record Shadows (header : Header) (region new old : ℕ) (past : List Event) : Type 0 where

@@ -98,6 +98,11 @@ is_held size region [] past = false
 is_held size region (task ∷ others) past =
     (has_entry region (entries_of size task past) || fills region (waiting task past) (copy_target task past)) || is_held size region others past
 
+-- one of these tasks fills the region by a slow copy that waits
+abbrev pub is_filled : ℕ → List ℕ → List Event → Bool
+is_filled region [] past = false
+is_filled region (task ∷ others) past = fills region (waiting task past) (copy_target task past) || is_filled region others past
+
 -- a region is kept while it is held; the declared objects' regions are always kept
 abbrev pub is_kept : Header → ℕ → List Event → Bool
 is_kept header region past = nat_lt region (named header) || is_held header.size region (tasks past) past

@@ -13,6 +13,8 @@ pub data Access : Type 0 where
 -- the access with which a task waits
 abbrev pub waiting : ℕ → List Event → Option Access
 waiting task [] = None
+waiting task (event.TaskMade made host ∷ past) = if made.0 == task then None else waiting task past
+waiting task (event.TaskEnded gone ∷ past) = if gone.0 == task then None else waiting task past
 waiting task (event.BegunLoad owner address bytes ∷ past) = if owner.0 == task then Some (Loading address bytes) else waiting task past
 waiting task (event.BegunStore owner address bytes value ∷ past) = if owner.0 == task then Some (Storing address bytes value) else waiting task past
 waiting task (event.BegunCopy owner address bytes to ∷ past) = if owner.0 == task then Some (Copying address bytes to) else waiting task past
@@ -42,6 +44,7 @@ pub record Target : Type 0 where
 -- that of the task's newest slow copy: it is made right behind the beginning
 abbrev pub copy_target : ℕ → List Event → Option Target
 copy_target task [] = None
+copy_target task (event.BegunCopy owner address bytes to ∷ past) = if owner.0 == task then None else copy_target task past
 copy_target task (event.RegionMade region object pages ∷ past) = if begins_copy task past then Some (record { region = region.0; object = object.0 }) else copy_target task past
 copy_target task (e ∷ past) = copy_target task past
 
