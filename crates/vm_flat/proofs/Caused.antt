@@ -259,13 +259,20 @@ dropped_cause : (header : Header) (files : Files) (host : ℕ) (at : HostId) (ob
     → Cause (ground header files) (D.Dropped (at.0 == host) object page) (deeds header host past)
 dropped_cause header files host at object page past h c ours =
     let drops : L.Drops header files host object page past = subst (λ (k : ℕ). L.Drops header files k object page past) (number_is at.0 host ours.on_host) (c ours.covered) in
-    (
-      here_is header files host object page true past drops.here,
-      elim drops.why [
-        | inl clean ↦ inl (ap (λ (s : Spot). s.dirty) (spot_is header files host object page past) ∙ clean)
-        | inr gone ↦ inr (λ reached. gone.1 (reach header files host object past reached))
-      ],
-    )
+    (here_is header files host object page true past drops.here, leaves drops.why)
+  where
+    clean : (spot header files host object page past).dirty ≡ false → (D.spot (ground header files) object page (deeds header host past)).dirty ≡ false
+    clean is = ap (λ (s : Spot). s.dirty) (spot_is header files host object page past) ∙ is
+
+    spared : (returns : ℕ) (b : Bool) → returns ≡ 2 → L.gives_back returns b ≡ false → b ≡ false
+    spared returns b two is = grind (arith, nat_tests)
+
+    leaves : L.Leaves header host object page (spot header files host object page past).dirty past → ((D.spot (ground header files) object page (deeds header host past)).dirty ≡ false) ⊎ (C.Reach (ground header files) object (deeds header host past) → ⊥)
+    leaves (L.Clean is) = inl (clean is)
+    leaves (L.Unreached above gone) = inr (λ reached. gone (reach header files host object past reached))
+    leaves (L.Flushed f) =
+        let two : f.returns ≡ 2 = h.locks.taken (record { host = host; object = object; page = f.first; count = f.count; returns = f.returns; flush = true }) ours.covered f.taken in
+        inl (clean (spared f.returns (spot header files host object page past).dirty two f.spared))
 
 may : (header : Header) (files : Files) (host o p : ℕ) (past : List Event) (P : Spot → Type 0) → P (spot header files host o p past) → P (D.spot (ground header files) o p (deeds header host past))
 may header files host o p past P is = subst P (sym (spot_is header files host o p past)) is

@@ -25,7 +25,7 @@ use Rattle.vm_flat.proofs.Rows.{FoundRow, found_row}
 use Rattle.vm_flat.proofs.Entries.{Entries, OwnedAt, PrivateUsed}
 use Rattle.vm_flat.proofs.Filling.{Filling}
 use Rattle.vm_flat.proofs.Numbers.{Numbered, NumberedAt, later_private}
-use Rattle.vm_flat.proofs.Ports.{Worlds, Ups, UpNumbers, AskedBy, Downs}
+use Rattle.vm_flat.proofs.Ports.{Worlds, Ups, UpNumbers, AskedBy, Downs, Locks}
 
 abbrev pub Flats : Header → Files → List Event → Type 0
 Flats header files past = (host r i : ℕ) → D.flat (ground header files) r i (deeds header host past) ≡ flat_page header files r i past
@@ -41,6 +41,7 @@ pub record Holds (header : Header) (files : Files) (past : List Event) : Type 0 
   pub up_numbers : UpNumbers header past
   pub asked : AskedBy header files past
   pub downs : Downs header files past
+  pub locks : Locks header past
 
 clash : (b : Bool) → b ≡ false → b ≡ true → ⊥
 clash b isnt is = cc

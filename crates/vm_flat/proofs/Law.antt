@@ -29,7 +29,7 @@ use Rattle.vm_flat.proofs.Ties.{spot_is}
 use Rattle.vm_flat.proofs.Entries.{Entries, PrivateUsed, entries_task_made, entries_task_ended, entries_failed, entries_removed, entries_protected, entries_inherited, entries_region_made, entries_region_copied, entries_entered}
 use Rattle.vm_flat.proofs.Filling.{Filling, filling_next}
 use Rattle.vm_flat.proofs.Numbers.{NumberedAt, numbered_start, numbered_region_made, numbered_region_copied, numbered_shadowed, later_private}
-use Rattle.vm_flat.proofs.Ports.{ups_start, ups_next, numbers_next, asked_next, downs_start, downs_next}
+use Rattle.vm_flat.proofs.Ports.{ups_start, ups_next, numbers_next, asked_next, downs_start, downs_next, locks_start, locks_next}
 use Rattle.vm_flat.proofs.Holds.{Holds, Flats, led, tops, region_private, walks}
 use Rattle.vm_flat.proofs.Caused.{cause, change_is, source_made, shadowed_made}
 
@@ -138,6 +138,7 @@ holds header files [] licensed current =
       up_numbers = λ h o ours. tt;
       asked = λ h o n p ours taken step. absurd (cc);
       downs = downs_start header files;
+      locks = locks_start header;
     }
 holds header files (e ∷ past) licensed current =
     let h : Holds header files past = holds header files past licensed.1 current.1 in
@@ -152,6 +153,7 @@ holds header files (e ∷ past) licensed current =
       up_numbers = numbers_next header files e past h.worlds h.ups h.up_numbers licensed.0;
       asked = asked_next header files e past h.worlds h.up_numbers h.asked licensed.0;
       downs = downs_next header files e past h.worlds h.asked h.downs licensed.0;
+      locks = locks_next header files e past h.locks licensed.0;
     }
 
 loaded : (header : Header) (files : Files) (e : Event) (past : List Event) → Holds header files past → Licensed header files e past → FlatBytes header files e past

@@ -19,7 +19,7 @@ use Rattle.vm_flat.specs.Channels.{queue}
 use Rattle.vm_flat.specs.Words.{UpWord, Requesting, Returning, DownWord, Supplying, Unavailing, Erring, Effect, Creates, Requests, Returns, TakesReturn, Answers, Takes, Zeroes, Raises, Stores, Drops, Ends, StepEnds, Nothing}
 use Rattle.vm_flat.specs.Spot.{Spot, move, rest, first}
 use Rattle.vm_flat.specs.Places.{at_place, sent_up, taken_up, sent_down, taken_down, spot, control, control_number}
-use Rattle.vm_flat.specs.Licences.{Files, Licensed, Request, request_taken, MaySendUp, MaySendDown}
+use Rattle.vm_flat.specs.Licences.{Files, Licensed, Request, request_taken, LockRequest, lock_taken, MaySendUp, MaySendDown}
 use Rattle.vm_flat.proofs.Queues.{requests}
 use Rattle.vm_flat.proofs.Sound.{Sound, count}
 use Rattle.vm_flat.proofs.Deeds as D
@@ -365,3 +365,73 @@ downs_next header files (event.Taken (Down at object n) m) past w asked downs c 
     (λ is one two. test_only k n (control_number h o past) one (ap (λ x. n == x) (number_same past h o object.0 (same_object at.0 h o object.0 is)) ∙ two))
     (downs h o ours k p)
 downs_next header files e past w asked downs c h o ours k p = downs h o ours k p
+
+-- a lock_request for a private object wants changed pages back
+
+abbrev pub AllBack : List Message → Type 0
+AllBack [] = Unit {0}
+AllBack (message.Lock page count returns flush lock reply ∷ q) = (returns ≡ 2) × AllBack q
+AllBack (m ∷ q) = AllBack q
+
+back_end : (q : List Message) (m : Message) → AllBack q → AllBack (m ∷ []) → AllBack (q ++ m ∷ [])
+back_end [] m all last = last
+back_end (message.Lock page count returns flush lock reply ∷ q) m all last = (all.0, back_end q m all.1 last)
+back_end (other ∷ q) m all last = back_end q m all last
+
+back_rest : (q : List Message) → AllBack q → AllBack (rest q)
+back_rest [] all = tt
+back_rest (message.Lock page count returns flush lock reply ∷ q) all = all.1
+back_rest (other ∷ q) all = all
+
+back_if : (b : Bool) (q : List Message) (m : Message) → AllBack q → (b ≡ true → AllBack (m ∷ [])) → AllBack (if b then q ++ m ∷ [] else q)
+back_if true q m all last = back_end q m all (last refl)
+back_if false q m all last = all
+
+back_rest_if : (b : Bool) (q : List Message) → AllBack q → AllBack (if b then rest q else q)
+back_rest_if true q all = back_rest q all
+back_rest_if false q all = all
+
+pub record Locks (header : Header) (past : List Event) : Type 0 where
+  pub queued : (h o k : ℕ) → is_private header o ≡ true → AllBack (queue (down_port h o k) past)
+  pub taken : (l : LockRequest) → is_private header l.object ≡ true → lock_taken past ≡ Some l → l.returns ≡ 2
+
+none_lock : (l : LockRequest) → ◌≡◌ {A = Option LockRequest} None (Some l) → ⊥
+none_lock l e = cc
+
+some_lock : (l m : LockRequest) → ◌≡◌ {A = Option LockRequest} (Some l) (Some m) → l ≡ m
+some_lock l m e = cc
+
+pub locks_start : (header : Header) → Locks header []
+locks_start header = record { queued = λ h o k ours. tt; taken = λ l ours e. absurd (none_lock l e) }
+
+one_back : (header : Header) (files : Files) (host object n : ℕ) (m : Message) (past : List Event) → MaySendDown header files host object n m past → AllBack (m ∷ [])
+one_back header files host object n (message.Lock page count returns flush lock reply) past c = (c, tt)
+one_back header files host object n m past c = tt
+
+down_there : (a h o b k n : ℕ) → ((a == h && o == b) && k == n) ≡ true → (a == h && o == b) ≡ true
+down_there a h o b k n is = grind arith
+
+taken_lock : (header : Header) (at : HostId) (object : ObjectId) (n : ℕ) (m : Message) (past : List Event) → Locks header past → first (queue (Down at object n) past) ≡ Some m → (l : LockRequest) → is_private header l.object ≡ true → lock_taken (event.Taken (Down at object n) m ∷ past) ≡ Some l → l.returns ≡ 2
+taken_lock header at object n (message.Lock page count returns flush lock reply) past locks head l ours e =
+    let same : record { host = at.0; object = object.0; page = page.0; count = count; returns = returns; flush = flush } ≡ l = some_lock _ _ e in
+    let there : is_private header object.0 ≡ true = subst (λ (x : LockRequest). is_private header x.object ≡ true) (sym same) ours in
+    let all : AllBack (queue (Down at object n) past) = locks.queued at.0 object.0 n there in
+    sym (ap (λ (x : LockRequest). x.returns) same) ∙ (subst (λ (q : List Message). AllBack q) (first_rest (queue (Down at object n) past) (message.Lock page count returns flush lock reply) head) all).0
+taken_lock header at object n m past locks head l ours e = absurd (none_lock l e)
+
+pub locks_next : (header : Header) (files : Files) (e : Event) (past : List Event) → Locks header past → Licensed header files e past → Locks header (e ∷ past)
+locks_next header files (event.Line line) past locks c = record { queued = locks.queued; taken = λ l ours e. absurd (none_lock l e) }
+locks_next header files (event.Sent (Up at object) m) past locks c = record { queued = locks.queued; taken = locks.taken }
+locks_next header files (event.Sent (Down at object n) m) past locks c =
+    record {
+      queued = λ h o k ours. back_if ((at.0 == h && o == object.0) && k == n) (queue (down_port h o k) past) m (locks.queued h o k ours)
+          (λ is. one_back header files at.0 object.0 n m past (c (private_there header at.0 object.0 h o (down_there at.0 h o object.0 k n is) ours)));
+      taken = locks.taken;
+    }
+locks_next header files (event.Taken (Up at object) m) past locks c = record { queued = locks.queued; taken = λ l ours e. absurd (none_lock l e) }
+locks_next header files (event.Taken (Down at object n) m) past locks c =
+    record {
+      queued = λ h o k ours. back_rest_if ((at.0 == h && o == object.0) && k == n) (queue (down_port h o k) past) (locks.queued h o k ours);
+      taken = λ l ours e. taken_lock header at object n m past locks c l ours e;
+    }
+locks_next header files e past locks c = record { queued = locks.queued; taken = locks.taken }

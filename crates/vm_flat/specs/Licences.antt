@@ -1,5 +1,5 @@
 -- Why an event may happen, as far as temporary and file memory go: its cause, in the events in front of it.
-use Rattle.std.specs.Prelude.{ℕ, zero, suc, ◌+◌, ◌*◌, ◌/◌, ◌%◌, ◌<◌, ◌≤◌, ◌≡◌, ◌⊎◌, List, [], ◌∷◌, Bool, true, false, Option, Some, None, if◌then◌else◌, nat_lt}
+use Rattle.std.specs.Prelude.{ℕ, zero, suc, ◌+◌, ◌*◌, ◌/◌, ◌%◌, ◌<◌, ◌≤◌, ◌≡◌, ◌⊎◌, List, [], ◌∷◌, Bool, true, false, Option, Some, None, if◌then◌else◌, nat_lt, ◌==◌, ◌&&◌, ◌||◌}
 use Rattle.vm_base.specs.declared.entry.Entry.{Entry}
 use Rattle.vm_base.specs.Entries.{entry_at}
 use Rattle.vm_model.specs.declared.event.Event.{Event}
@@ -198,6 +198,8 @@ MaySendDown header files host object number (message.Supply page lock precious b
 MaySendDown header files host object number (message.Unavailable page) past =
     Answers header files host object number page.0 past × MayLack (zeros header) (spot header files host object page.0 past)
 MaySendDown header files host object number (message.Error page reason) past = Answers header files host object number page.0 past
+-- the file pager's clean wants all changed pages back
+MaySendDown header files host object number (message.Lock page count returns flush lock reply) past = returns ≡ 2
 MaySendDown header files host object number other past = Unit {0}
 
 -- a symmetric copy is of pages of an entry on a temporary region
@@ -232,10 +234,49 @@ pub record Shadows (header : Header) (region new old : ℕ) (past : List Event) 
   pub waits : Waits header task (Storing address bytes value) past
   pub region_is : region ≡ waits.at.entry.region.0
 
--- a page goes away without a word: it is clean, or no region leads to its temporary object
+-- a lock_request for so many pages of an object
+pub record LockRequest : Type 0 where
+  pub host : ℕ
+  pub object : ℕ
+  pub page : ℕ
+  pub count : ℕ
+  pub returns : ℕ
+  pub flush : Bool
+
+-- what the present step took, if that was a lock_request
+abbrev pub lock_taken : List Event → Option LockRequest
+lock_taken [] = None
+lock_taken (event.Line line ∷ past) = None
+lock_taken (event.Taken (Down host object control) (message.Lock page count returns flush lock reply) ∷ past) = Some (record { host = host.0; object = object.0; page = page.0; count = count; returns = returns; flush = flush })
+lock_taken (event.Taken channel other ∷ past) = None
+lock_taken (e ∷ past) = lock_taken past
+
+-- a lock_request of this kind gives such a page back: kind 1 and 2 the changed ones; of these objects none is precious
+abbrev pub gives_back : ℕ → Bool → Bool
+gives_back returns dirty = (returns == 1 || returns == 2) && dirty
+
+-- the step took a lock_request that removes the page and does not give it back
+pub record Flushes (host object page : ℕ) (dirty : Bool) (past : List Event) : Type 0 where
+  pub first : ℕ
+  pub count : ℕ
+  pub returns : ℕ
+  pub taken : lock_taken past ≡ Some (record { host = host; object = object; page = first; count = count; returns = returns; flush = true })
+  pub from : first ≤ page
+  pub below : page < first + count
+  pub spared : gives_back returns dirty ≡ false
+
+-- why a page goes away without a word
+pub data Leaves (header : Header) (host object page : ℕ) (dirty : Bool) (past : List Event) : Type 0 where
+  -- it is clean
+  Clean : dirty ≡ false → Leaves header host object page dirty past
+  -- no region leads to its temporary object
+  Unreached : named header ≤ object → (Reach header host object past → ⊥) → Leaves header host object page dirty past
+  -- its pager flushes it
+  Flushed : Flushes host object page dirty past → Leaves header host object page dirty past
+
 pub record Drops (header : Header) (files : Files) (host object page : ℕ) (past : List Event) : Type 0 where
   pub here : (spot header files host object page past).here ≡ true
-  pub why : ((spot header files host object page past).dirty ≡ false) ⊎ ((named header ≤ object) × (Reach header host object past → ⊥))
+  pub why : Leaves header host object page (spot header files host object page past).dirty past
 
 abbrev pub Licensed : Header → Files → Event → List Event → Type 0
 Licensed header files (event.RegionMade region object pages) past = (region.0 ≡ next_region header past) × (object.0 ≡ next_object header past)
