@@ -20,7 +20,7 @@ use Rattle.vm_model.specs.declared.message.Message.TheVariants as message
 use Rattle.vm_model.specs.declared.script.Header.{Header}
 use Rattle.vm_model.specs.Tasks.{host_of}
 use Rattle.vm_model.specs.Chains.{page_of}
-use Rattle.vm_flat.specs.Declared.{named, is_private, is_file, zeros}
+use Rattle.vm_flat.specs.Declared.{Files, named, is_private, is_file, is_said, are_untold, zeros}
 use Rattle.vm_flat.specs.Tasks.{is_host, lives_on, entries_of}
 use Rattle.vm_flat.specs.Waiting.{Access, Storing, waiting, next_page, address_of}
 use Rattle.vm_flat.specs.Regions.{next_region, next_object, Region, region_of, Backing, backing_of, in_use}
@@ -31,7 +31,7 @@ use Rattle.vm_flat.specs.Places.{spot, control, control_number}
 use Rattle.vm_flat.specs.Walks.{IsTop}
 use Rattle.vm_flat.specs.Flat.{Change, change_by, change_in, change_of, made_over, flat_page}
 use Rattle.vm_flat.specs.Licences as L
-use Rattle.vm_flat.specs.Licences.{Files, Licensed, Waits, MaySendUp, MaySendDown}
+use Rattle.vm_flat.specs.Licences.{Licensed, Waits, MaySendUp, MaySendDown}
 use Rattle.vm_flat.specs.Bytes.{CopiesCurrent}
 use Rattle.vm_flat.proofs.Deeds as D
 use Rattle.vm_flat.proofs.Causes as C
@@ -45,7 +45,8 @@ use Rattle.vm_flat.proofs.Rows.{FoundRow}
 use Rattle.vm_flat.proofs.Entries.{OwnedAt}
 use Rattle.vm_flat.proofs.Filling.{FilledAt}
 use Rattle.vm_flat.proofs.Numbers.{marked_later, later_private}
-use Rattle.vm_flat.proofs.Ports.{up_port, down_port}
+use Rattle.vm_flat.proofs.Ports.{up_port, down_port, sound_of, spot_control}
+use Rattle.vm_flat.proofs.Sound.{Sound}
 use Rattle.vm_flat.proofs.Letters.{up_words, down_words, first_rest, down_of}
 use Rattle.vm_flat.proofs.Holds.{Holds, led, tops, mark_is, region_private, region_later, not_file, plain_spot, walks, sinks, reach}
 
@@ -61,7 +62,7 @@ lives_is task h g past lives = ap (is_host h) lives
 
 -- regions
 
-cow_cause : (header : Header) (files : Files) (host region source offset pages : ℕ) (past : List Event) → Holds header files past → L.CopiesRegion header region source offset pages past → Cause (ground header files) (D.Cow region source offset pages) (deeds header host past)
+cow_cause : (header : Header) (files : Files) (host region source offset pages : ℕ) (past : List Event) → Holds header files past → L.CopiesRegion header region source offset pages past → Cause (ground header files) (D.Cow region source offset pages) (deeds header files host past)
 cow_cause header files host region source offset pages past h c =
     let row = led header c.task c.address past h.entries c.at in
     let within : c.at.entry.offset + c.at.entry.bytes / header.size ≤ (region_of header c.at.entry.region.0 past).pages = row.is.inside.whole in
@@ -78,10 +79,10 @@ source_made header files region source offset pages past h c = omega (arith, (le
 pub shadowed_made : (header : Header) (files : Files) (region new old : ℕ) (past : List Event) → Holds header files past → L.Shadows header region new old past → region < next_region header past
 shadowed_made header files region new old past h c = omega (arith, (led header c.task c.address past h.entries c.waits.at).is.made, c.region_is)
 
-shadow_cause : (header : Header) (files : Files) (host region new old : ℕ) (past : List Event) → Holds header files past → L.Shadows header region new old past → Cause (ground header files) (D.Shadowed region new) (deeds header host past)
+shadow_cause : (header : Header) (files : Files) (host region new old : ℕ) (past : List Event) → Holds header files past → L.Shadows header region new old past → Cause (ground header files) (D.Shadowed region new) (deeds header files host past)
 shadow_cause header files host region new old past h c =
     let made : region < next_region header past = shadowed_made header files region new old past h c in
-    let same : D.row (ground header files) region (deeds header host past) ≡ as_row (in_use header host region past) (region_of header region past) = row_is header files host region past in
+    let same : D.row (ground header files) region (deeds header files host past) ≡ as_row (in_use header host region past) (region_of header region past) = row_is header files host region past in
     (
       c.next ∙ sym (objects_is header files host past),
       omega (arith, made, regions_is header files host past),
@@ -91,22 +92,22 @@ shadow_cause header files host region new old past h c =
 
 -- places
 
-here_is : (header : Header) (files : Files) (host o p : ℕ) (b : Bool) (past : List Event) → (spot header files host o p past).here ≡ b → (D.spot (ground header files) o p (deeds header host past)).here ≡ b
+here_is : (header : Header) (files : Files) (host o p : ℕ) (b : Bool) (past : List Event) → (spot header files host o p past).here ≡ b → (D.spot (ground header files) o p (deeds header files host past)).here ≡ b
 here_is header files host o p b past is = ap (λ (s : Spot). s.here) (spot_is header files host o p past) ∙ is
 
 zeroed_cause : (header : Header) (files : Files) (host : ℕ) (at : HostId) (object page : ℕ) (past : List Event) → Holds header files past
     → (is_private header object ≡ true → ((object < named header) × L.Fills (spot header files at.0 object page past)) ⊎ L.Bottoms header files at.0 object page past)
-    → Cause (ground header files) (D.Zeroed (at.0 == host) object page) (deeds header host past)
+    → Cause (ground header files) (D.Zeroed (at.0 == host) object page) (deeds header files host past)
 zeroed_cause header files host at object page past h c ours = by (c ours.covered)
   where
     is : at.0 ≡ host
     is = number_is at.0 host ours.on_host
 
     by : ((object < named header) × L.Fills (spot header files at.0 object page past)) ⊎ L.Bottoms header files at.0 object page past
-        → ((D.is_file (ground header files) object ≡ true) × C.Void (D.spot (ground header files) object page (deeds header host past))) ⊎ C.Bottoms (ground header files) object page (deeds header host past)
+        → ((D.is_file (ground header files) object ≡ true) × C.Void (D.spot (ground header files) object page (deeds header files host past))) ⊎ C.Bottoms (ground header files) object page (deeds header files host past)
     by (inl fills) =
         let f : L.Fills (spot header files host object page past) = subst (λ (k : ℕ). L.Fills (spot header files k object page past)) is fills.1 in
-        let same : D.spot (ground header files) object page (deeds header host past) ≡ spot header files host object page past = spot_is header files host object page past in
+        let same : D.spot (ground header files) object page (deeds header files host past) ≡ spot header files host object page past = spot_is header files host object page past in
         inl (file_below header object fills.0 ours.covered, record { void = ap (λ (s : Spot). s.void) same ∙ f.void; away = ap (λ (s : Spot). s.here) same ∙ f.away; unasked = ap (λ (s : Spot). s.asked) same ∙ f.unasked })
       where
         file_below : (header : Header) (o : ℕ) → o < named header → is_private header o ≡ true → is_file header o ≡ true
@@ -121,11 +122,11 @@ zeroed_cause header files host at object page past h c ours = by (c ours.covered
           index = page_of header.size b.waits.at.entry (address_of header.size (next_page b.task past) b.access);
           steps = b.steps;
           tops = tops header files host b.waits.at.entry.region.0 (page_of header.size b.waits.at.entry (address_of header.size (next_page b.task past) b.access)) object page past used b.is_top (row.is.inside.each (address_of header.size (next_page b.task past) b.access) row.from row.below);
-          sinks = subst (λ (k : ℕ). C.Sinks (ground header files) b.steps object page (deeds header k past)) is (sinks header files at.0 past h.numbered b.steps object page b.temporary b.sinks);
+          sinks = subst (λ (k : ℕ). C.Sinks (ground header files) b.steps object page (deeds header files k past)) is (sinks header files at.0 past h.numbered b.steps object page b.temporary b.sinks);
         })
 
 raised_cause : (header : Header) (files : Files) (host : ℕ) (at : HostId) (lower lower_page upper upper_page : ℕ) (past : List Event) → Holds header files past → L.Raises header files at.0 lower lower_page upper upper_page past
-    → Cause (ground header files) (D.Raised (at.0 == host) lower lower_page upper upper_page) (deeds header host past)
+    → Cause (ground header files) (D.Raised (at.0 == host) lower lower_page upper upper_page) (deeds header files host past)
 raised_cause header files host at lower lower_page upper upper_page past h c ours =
     let is : at.0 ≡ host = number_is at.0 host ours.on_host in
     let row = led header c.task c.address past h.entries c.waits.at in
@@ -137,7 +138,7 @@ raised_cause header files host at lower lower_page upper upper_page past h c our
       steps = c.steps;
       tops = tops header files host c.waits.at.entry.region.0 (page_of header.size c.waits.at.entry c.address) upper upper_page past used c.is_top (row.is.inside.each c.address row.from row.below);
       unmarked = mark_is header files host c.waits.at.entry.region.0 past c.unmarked;
-      walks = subst (λ (k : ℕ). C.Walks (ground header files) (suc c.steps) upper upper_page lower lower_page (deeds header k past)) is (walks header files at.0 past h.numbered (suc c.steps) upper upper_page lower lower_page c.walks);
+      walks = subst (λ (k : ℕ). C.Walks (ground header files) (suc c.steps) upper upper_page lower lower_page (deeds header files k past)) is (walks header files at.0 past h.numbered (suc c.steps) upper upper_page lower lower_page c.walks);
       here = here_is header files host lower lower_page true past (subst (λ (k : ℕ). (spot header files k lower lower_page past).here ≡ true) is c.here);
     }
 
@@ -151,18 +152,18 @@ unused_where header files host r i o p past h top isnt = by (in_use header host 
   where
     by : (b : Bool) → in_use header host r past ≡ b → b ≡ false
     by true used =
-        let same : D.row (ground header files) r (deeds header host past) ≡ as_row (in_use header host r past) (region_of header r past) = row_is header files host r past in
-        let covers : D.covered (ground header files) (D.row (ground header files) r (deeds header host past)).top ≡ true = (h.worlds host).shape.covers_tops r (ap (λ (w : D.Row). w.used) same ∙ used) in
+        let same : D.row (ground header files) r (deeds header files host past) ≡ as_row (in_use header host r past) (region_of header r past) = row_is header files host r past in
+        let covers : D.covered (ground header files) (D.row (ground header files) r (deeds header files host past)).top ≡ true = (h.worlds host).shape.covers_tops r (ap (λ (w : D.Row). w.used) same ∙ used) in
         absurd (clash (is_private header o) isnt (subst (λ (k : ℕ). is_private header k ≡ true) (ap (λ (w : D.Row). w.top) same ∙ top.object) covers))
     by false used = refl
 
 stored_cause : (header : Header) (files : Files) (host : ℕ) (task object page at size value : ℕ) (past : List Event) → Holds header files past → L.Stores header files task object page at size value past
-    → Cause (ground header files) (D.Stored (lives_on host task past) (region_in (change_of header.size task past)) (page_in (change_of header.size task past)) object page at (little_endian_bytes size value)) (deeds header host past)
+    → Cause (ground header files) (D.Stored (lives_on host task past) (region_in (change_of header.size task past)) (page_in (change_of header.size task past)) object page at (little_endian_bytes size value)) (deeds header files host past)
 stored_cause header files host task object page at size value past h c =
-    subst (λ (o : Option Change). Cause (ground header files) (D.Stored (lives_on host task past) (region_in o) (page_in o) object page at (little_endian_bytes size value)) (deeds header host past)) (sym (change_is header task c.address size value past c.waits))
+    subst (λ (o : Option Change). Cause (ground header files) (D.Stored (lives_on host task past) (region_in o) (page_in o) object page at (little_endian_bytes size value)) (deeds header files host past)) (sym (change_is header task c.address size value past c.waits))
     (by_host (lives_on host task past) refl)
   where
-    by_host : (b : Bool) → lives_on host task past ≡ b → Cause (ground header files) (D.Stored b c.waits.at.entry.region.0 (page_of header.size c.waits.at.entry c.address) object page at (little_endian_bytes size value)) (deeds header host past)
+    by_host : (b : Bool) → lives_on host task past ≡ b → Cause (ground header files) (D.Stored b c.waits.at.entry.region.0 (page_of header.size c.waits.at.entry c.address) object page at (little_endian_bytes size value)) (deeds header files host past)
     by_host false isnt =
         let row = led header task c.address past h.entries c.waits.at in
         inr (record {
@@ -177,7 +178,7 @@ stored_cause header files host task object page at size value past h c =
         on : c.waits.at.host ≡ host
         on = let t : lives_on host task past ≡ (c.waits.at.host == host) = lives_is task host c.waits.at.host past c.waits.at.lives in grind (arith, nat_tests)
 
-        by_kind : (b : Bool) → is_private header object ≡ b → Cause (ground header files) (D.Stored true c.waits.at.entry.region.0 (page_of header.size c.waits.at.entry c.address) object page at (little_endian_bytes size value)) (deeds header host past)
+        by_kind : (b : Bool) → is_private header object ≡ b → Cause (ground header files) (D.Stored true c.waits.at.entry.region.0 (page_of header.size c.waits.at.entry c.address) object page at (little_endian_bytes size value)) (deeds header files host past)
         by_kind false isnt =
             inr (record {
               unused = ap (λ (w : D.Row). w.used) (row_is header files host c.waits.at.entry.region.0 past) ∙ unused_where header files host c.waits.at.entry.region.0 (page_of header.size c.waits.at.entry c.address) object page past h c.is_top isnt;
@@ -197,22 +198,22 @@ stored_cause header files host task object page at size value past h c =
               },
             )
           where
-            stands : is_file header object ≡ true → (v : ℕ) → (D.link (ground header files) v (deeds header host past)).backed ≡ true → (D.link (ground header files) v (deeds header host past)).under ≡ object → ⊥
+            stands : is_file header object ≡ true → (v : ℕ) → (D.link (ground header files) v (deeds header files host past)).backed ≡ true → (D.link (ground header files) v (deeds header files host past)).under ≡ object → ⊥
             stands file v backed under =
-                let same : D.link (ground header files) v (deeds header host past) ≡ as_link (backing_of header v past) = link_is header files host v past in
+                let same : D.link (ground header files) v (deeds header files host past) ≡ as_link (backing_of header v past) = link_is header files host v past in
                 let above : named header ≤ (backing_of header v past).under = h.numbered.lower v (sym (ap (λ (x : D.Link). x.backed) same) ∙ backed) in
                 let e : (backing_of header v past).under ≡ object = sym (ap (λ (x : D.Link). x.under) same) ∙ under in
                 clash (is_file header object) (not_file header object (omega (arith, above, e))) file
 
 copied_cause : (header : Header) (files : Files) (host task index object page target : ℕ) (past : List Event) → Holds header files past → L.CopiesPage header files task index object page target past
     → (is_private header object ≡ false → (host : ℕ) → lives_on host task past ≡ true → (spot header files host object page past).bytes ≡ flat_page header files object page past)
-    → Cause (ground header files) (D.Copied (lives_on host task past) object page object page (number_or_zero (made_over target past)) index target index) (deeds header host past)
+    → Cause (ground header files) (D.Copied (lives_on host task past) object page object page (number_or_zero (made_over target past)) index target index) (deeds header files host past)
 copied_cause header files host task index object page target past h c current =
     let f : FilledAt header past c.waits.at.host (record { region = c.region; object = target }) = h.filling task c.waits.at.host c.address c.bytes c.to (record { region = c.region; object = target }) c.waits.at.lives c.waits.waits c.filled in
-    subst (λ (o : Option ℕ). Cause (ground header files) (D.Copied (lives_on host task past) object page object page (number_or_zero o) index target index) (deeds header host past)) (sym f.is_over)
+    subst (λ (o : Option ℕ). Cause (ground header files) (D.Copied (lives_on host task past) object page object page (number_or_zero o) index target index) (deeds header files host past)) (sym f.is_over)
     (by_host f (lives_on host task past) refl)
   where
-    by_host : FilledAt header past c.waits.at.host (record { region = c.region; object = target }) → (b : Bool) → lives_on host task past ≡ b → Cause (ground header files) (D.Copied b object page object page c.region index target index) (deeds header host past)
+    by_host : FilledAt header past c.waits.at.host (record { region = c.region; object = target }) → (b : Bool) → lives_on host task past ≡ b → Cause (ground header files) (D.Copied b object page object page c.region index target index) (deeds header files host past)
     by_host f false isnt =
         inr (record {
           unused = ap (λ (w : D.Row). w.used) (row_is header files host c.region past) ∙ f.alone host (λ e. apart e);
@@ -241,56 +242,56 @@ copied_cause header files host task index object page target past h c current =
         address : ℕ
         address = c.address + next_page task past * header.size
 
-        by_kind : (b : Bool) → is_private header object ≡ b → D.flat (ground header files) object page (deeds header host past) ≡ (D.spot (ground header files) object page (deeds header host past)).bytes
+        by_kind : (b : Bool) → is_private header object ≡ b → D.flat (ground header files) object page (deeds header files host past) ≡ (D.spot (ground header files) object page (deeds header files host past)).bytes
         by_kind false isnt = h.flats host object page ∙ sym (current isnt host is) ∙ sym (ap (λ (s : Spot). s.bytes) (spot_is header files host object page past))
         by_kind true private =
             let row = led header task (c.address + next_page task past * header.size) past h.entries c.waits.at in
             let ours : is_private header c.waits.at.entry.region.0 ≡ true = region_private header c.waits.at.entry.region.0 (page_of header.size c.waits.at.entry (c.address + next_page task past * header.size)) object page past h.numbered c.is_top private in
             let used : in_use header host c.waits.at.entry.region.0 past ≡ true = subst (λ (k : ℕ). in_use header k c.waits.at.entry.region.0 past ≡ true) on (row.is.used_here ours) in
-            let at : C.Tops (ground header files) c.waits.at.entry.region.0 (page_of header.size c.waits.at.entry (c.address + next_page task past * header.size)) object page (deeds header host past) =
+            let at : C.Tops (ground header files) c.waits.at.entry.region.0 (page_of header.size c.waits.at.entry (c.address + next_page task past * header.size)) object page (deeds header files host past) =
             tops header files host c.waits.at.entry.region.0 (page_of header.size c.waits.at.entry (c.address + next_page task past * header.size)) object page past used c.is_top (row.is.inside.each (c.address + next_page task past * header.size) row.from row.below) in
-            let got : (D.spot (ground header files) object page (deeds header host past)).bytes ≡ D.flat (ground header files) c.waits.at.entry.region.0 (page_of header.size c.waits.at.entry (c.address + next_page task past * header.size)) (deeds header host past) =
-            load (ground header files) c.waits.at.entry.region.0 (page_of header.size c.waits.at.entry (c.address + next_page task past * header.size)) 0 object page object page (deeds header host past) (h.worlds host) at (refl, refl) (here_is header files host object page true past (subst (λ (k : ℕ). (spot header files k object page past).here ≡ true) on c.here)) in
+            let got : (D.spot (ground header files) object page (deeds header files host past)).bytes ≡ D.flat (ground header files) c.waits.at.entry.region.0 (page_of header.size c.waits.at.entry (c.address + next_page task past * header.size)) (deeds header files host past) =
+            load (ground header files) c.waits.at.entry.region.0 (page_of header.size c.waits.at.entry (c.address + next_page task past * header.size)) 0 object page object page (deeds header files host past) (h.worlds host) at (refl, refl) (here_is header files host object page true past (subst (λ (k : ℕ). (spot header files k object page past).here ≡ true) on c.here)) in
             let region_is : c.waits.at.entry.region.0 ≡ object = sym (h.numbered.declared_top c.waits.at.entry.region.0 c.declared) ∙ c.is_top.object in
             let page_is : page_of header.size c.waits.at.entry (c.address + next_page task past * header.size) ≡ page = omega (arith, h.numbered.declared_shift c.waits.at.entry.region.0 c.declared, c.is_top.page) in
-            sym (got ∙ ap (λ k. D.flat (ground header files) k (page_of header.size c.waits.at.entry (c.address + next_page task past * header.size)) (deeds header host past)) region_is ∙ ap (λ q. D.flat (ground header files) object q (deeds header host past)) page_is)
+            sym (got ∙ ap (λ k. D.flat (ground header files) k (page_of header.size c.waits.at.entry (c.address + next_page task past * header.size)) (deeds header files host past)) region_is ∙ ap (λ q. D.flat (ground header files) object q (deeds header files host past)) page_is)
 
 dropped_cause : (header : Header) (files : Files) (host : ℕ) (at : HostId) (object page : ℕ) (past : List Event) → Holds header files past → (is_private header object ≡ true → L.Drops header files at.0 object page past)
-    → Cause (ground header files) (D.Dropped (at.0 == host) object page) (deeds header host past)
+    → Cause (ground header files) (D.Dropped (at.0 == host) object page) (deeds header files host past)
 dropped_cause header files host at object page past h c ours =
     let drops : L.Drops header files host object page past = subst (λ (k : ℕ). L.Drops header files k object page past) (number_is at.0 host ours.on_host) (c ours.covered) in
     (here_is header files host object page true past drops.here, leaves drops.why)
   where
-    clean : (spot header files host object page past).dirty ≡ false → (D.spot (ground header files) object page (deeds header host past)).dirty ≡ false
+    clean : (spot header files host object page past).dirty ≡ false → (D.spot (ground header files) object page (deeds header files host past)).dirty ≡ false
     clean is = ap (λ (s : Spot). s.dirty) (spot_is header files host object page past) ∙ is
 
     spared : (returns : ℕ) (b : Bool) → returns ≡ 2 → L.gives_back returns b ≡ false → b ≡ false
     spared returns b two is = grind (arith, nat_tests)
 
-    leaves : L.Leaves header host object page (spot header files host object page past).dirty past → ((D.spot (ground header files) object page (deeds header host past)).dirty ≡ false) ⊎ (C.Reach (ground header files) object (deeds header host past) → ⊥)
+    leaves : L.Leaves header host object page (spot header files host object page past).dirty past → ((D.spot (ground header files) object page (deeds header files host past)).dirty ≡ false) ⊎ (C.Reach (ground header files) object (deeds header files host past) → ⊥)
     leaves (L.Clean is) = inl (clean is)
     leaves (L.Unreached above gone) = inr (λ reached. gone (reach header files host object past reached))
     leaves (L.Flushed f) =
         let two : f.returns ≡ 2 = h.locks.taken (record { host = host; object = object; page = f.first; count = f.count; returns = f.returns; flush = true }) ours.covered f.taken in
         inl (clean (spared f.returns (spot header files host object page past).dirty two f.spared))
 
-may : (header : Header) (files : Files) (host o p : ℕ) (past : List Event) (P : Spot → Type 0) → P (spot header files host o p past) → P (D.spot (ground header files) o p (deeds header host past))
+may : (header : Header) (files : Files) (host o p : ℕ) (past : List Event) (P : Spot → Type 0) → P (spot header files host o p past) → P (D.spot (ground header files) o p (deeds header files host past))
 may header files host o p past P is = subst P (sym (spot_is header files host o p past)) is
 
-control_here : (header : Header) (files : Files) (host o p n : ℕ) (past : List Event) → control header host o past ≡ n → (D.spot (ground header files) o p (deeds header host past)).control ≡ n
-control_here header files host o p n past is = control_is (ground header files) o p (deeds header host past) ∙ control_tie header files host o past ∙ is
+control_here : (header : Header) (files : Files) (host o p n : ℕ) (past : List Event) → control header host o past ≡ n → (D.spot (ground header files) o p (deeds header files host past)).control ≡ n
+control_here header files host o p n past is = control_is (ground header files) o p (deeds header files host past) ∙ control_tie header files host o past ∙ is
 
 -- what is here belongs to an object that was made
-born : (header : Header) (files : Files) (host o p : ℕ) (past : List Event) → Holds header files past → is_private header o ≡ true → (spot header files host o p past).here ≡ true → o < D.objects (ground header files) (deeds header host past)
+born : (header : Header) (files : Files) (host o p : ℕ) (past : List Event) → Holds header files past → is_private header o ≡ true → (spot header files host o p past).here ≡ true → o < D.objects (ground header files) (deeds header files host past)
 born header files host o p past h ours here = ⊎_elim (λ less. less)
-    (λ le. absurd (clash (D.spot (ground header files) o p (deeds header host past)).here (((h.worlds host).places o p ours).blank le).0 (here_is header files host o p true past here)))
-    (cases_lt o (D.objects (ground header files) (deeds header host past)))
+    (λ le. absurd (clash (D.spot (ground header files) o p (deeds header files host past)).here (((h.worlds host).places o p ours).blank le).0 (here_is header files host o p true past here)))
+    (cases_lt o (D.objects (ground header files) (deeds header files host past)))
 
 up_cause : (header : Header) (files : Files) (host : ℕ) (at : HostId) (object : ℕ) (m : Message) (past : List Event) → Holds header files past → (is_private header object ≡ true → MaySendUp header files at.0 object m past)
-    → Cause (ground header files) (up_deed (at.0 == host) object m) (deeds header host past)
+    → Cause (ground header files) (up_deed (at.0 == host) object m) (deeds header files host past)
 up_cause header files host at object (message.Init number size) past h c = λ ours.
     let may_send : MaySendUp header files host object (message.Init number size) past = subst (λ (k : ℕ). MaySendUp header files k object (message.Init number size) past) (number_is at.0 host ours.on_host) (c ours.covered) in
-    (omega (arith, may_send.0, h.numbered.later_objects, objects_is header files host past), control_tie header files host object past ∙ may_send.1)
+    (omega (arith, may_send.declared, h.numbered.later_objects, objects_is header files host past), control_tie header files host object past ∙ may_send.none)
 up_cause header files host at object (message.Create number size) past h c = λ ours.
     let may_send : MaySendUp header files host object (message.Create number size) past = subst (λ (k : ℕ). MaySendUp header files k object (message.Create number size) past) (number_is at.0 host ours.on_host) (c ours.covered) in
     (born header files host object may_send.3 past h ours.covered may_send.4, control_tie header files host object past ∙ may_send.2)
@@ -318,10 +319,10 @@ up_cause header files host at object (message.Terminate number) past h c = λ ou
       λ p. (here_is header files host object p false past (ends.away p), ap (λ (s : Spot). s.asked) (spot_is header files host object p past) ∙ ends.unasked p),
     )
   where
-    kind : L.Ends header files host number object past → Ours (ground header files) (at.0 == host) object → (C.Reach (ground header files) object (deeds header host past) → ⊥) ⊎ (D.is_file (ground header files) object ≡ true)
+    kind : L.Ends header files host number object past → Ours (ground header files) (at.0 == host) object → (C.Reach (ground header files) object (deeds header files host past) → ⊥) ⊎ (D.is_file (ground header files) object ≡ true)
     kind ends ours = by (D.is_file (ground header files) object) refl
       where
-        by : (b : Bool) → D.is_file (ground header files) object ≡ b → (C.Reach (ground header files) object (deeds header host past) → ⊥) ⊎ (b ≡ true)
+        by : (b : Bool) → D.is_file (ground header files) object ≡ b → (C.Reach (ground header files) object (deeds header files host past) → ⊥) ⊎ (b ≡ true)
         by true is = inr refl
         by false is = inl (λ reached. ends.unreached (above header object is ours.covered) (reach header files host object past reached))
           where
@@ -333,20 +334,102 @@ both_hold : (a b : Bool) → (a && b) ≡ true → (a ≡ true) × (b ≡ true)
 both_hold true b is = (refl, is)
 both_hold false b is = absurd (cc)
 
+-- a file is mapped on one host alone, and its region is its own
+tells_cause : (header : Header) (files : Files) (host : ℕ) (at : HostId) (object n page : ℕ) (past : List Event) → Holds header files past → is_file header object ≡ true → L.Answers header files at.0 object n page past
+    → (Ours (ground header files) (at.0 == host && n == control_number host object past) object × C.OwnRegion (ground header files) object (deeds header files host past)) ⊎ C.Foreign (ground header files) (at.0 == host && n == control_number host object past) object object (deeds header files host past)
+tells_cause header files host at object n page past h file a = by (at.0 == host) refl
+  where
+    private : is_private header object ≡ true
+    private = grind (arith, nat_tests)
+
+    below : object < named header
+    below = grind (arith, nat_tests)
+
+    live_sound : (z : List ℕ) (s : Spot) → Sound z s → s.step ≡ true → s.control ≡ 1
+    live_sound z s ok step = let asked : s.asked ≡ true = grind (arith, ok.one) in ok.living asked
+
+    live : control header at.0 object past ≡ 1
+    live = sym (spot_control header files at.0 object page past) ∙ live_sound (zeros header) (spot header files at.0 object page past) (sound_of header files at.0 object page past h.worlds private) a.unanswered
+
+    newest : n ≡ control_number at.0 object past
+    newest = h.asked at.0 object n page private a.taken a.unanswered
+
+    row_top : (r : ℕ) → D.Row
+    row_top r = as_row (in_use header host r past) (region_of header r past)
+
+    by : (b : Bool) → (at.0 == host) ≡ b
+        → (Ours (ground header files) (b && n == control_number host object past) object × C.OwnRegion (ground header files) object (deeds header files host past)) ⊎ C.Foreign (ground header files) (b && n == control_number host object past) object object (deeds header files host past)
+    by false isnt =
+        inr (record {
+          unused = ap (λ (w : D.Row). w.used) (row_is header files host object past) ∙ h.homes at.0 object below private live host (λ e. absurd (grind (arith, nat_tests)));
+          apart = λ own. absurd (clash false refl own);
+        })
+    by true is =
+        let on : at.0 ≡ host = number_is at.0 host is in
+        let here : n ≡ control_number host object past = subst (λ (k : ℕ). n ≡ control_number k object past) on newest in
+        inl (
+          record { on_host = grind (arith, nat_tests); covered = private },
+          record {
+            file = file;
+            top = ap (λ (w : D.Row). w.top) (row_is header files host object past) ∙ h.numbered.declared_top object below;
+            shift = ap (λ (w : D.Row). w.shift) (row_is header files host object past) ∙ h.numbered.declared_shift object below;
+            alone = λ r used apart. other r (sym (ap (λ (w : D.Row). w.used) (row_is header files host r past)) ∙ used) apart;
+            bare = λ o backed. under o (sym (ap (λ (x : D.Link). x.backed) (link_is header files host o past)) ∙ backed);
+          },
+        )
+      where
+        other : (r : ℕ) → in_use header host r past ≡ true → r ≢ object → (D.row (ground header files) r (deeds header files host past)).top ≢ object
+        other r used apart e =
+            let top : (region_of header r past).top ≡ object = sym (ap (λ (w : D.Row). w.top) (row_is header files host r past)) ∙ e in
+            let made : r < next_region header past = omega (arith, (h.worlds host).shape.rows_below r (ap (λ (w : D.Row). w.used) (row_is header files host r past) ∙ used), regions_is header files host past) in
+            ⊎_elim (λ less. apart (sym (h.numbered.declared_top r less) ∙ top)) (λ le. omega (arith, h.numbered.temporary r le made, top, below)) (cases_lt r (named header))
+
+        under : (o : ℕ) → (backing_of header o past).backed ≡ true → (D.link (ground header files) o (deeds header files host past)).under ≢ object
+        under o backed e =
+            let is : (backing_of header o past).under ≡ object = sym (ap (λ (x : D.Link). x.under) (link_is header files host o past)) ∙ e in
+            omega (arith, h.numbered.lower o backed, is, below)
+
+said_file : (u f : Bool) → (u && f) ≡ true → f ≡ true
+said_file true f is = is
+said_file false f is = absurd (cc)
+
+file_private : (header : Header) (o : ℕ) → is_file header o ≡ true → is_private header o ≡ true
+file_private header o file = grind (arith, nat_tests)
+
+-- the pager's answer
+answer_cause : (header : Header) (files : Files) (host : ℕ) (at : HostId) (object n page : ℕ) (word : DownWord) (past : List Event) (b : Bool) → is_said header files object ≡ b → Holds header files past
+    → (is_private header object ≡ true → L.Answers header files at.0 object n page past) → (Ours (ground header files) (at.0 == host && n == control_number host object past) object → b ≡ false → May (zeros header) (spot header files host object page past) (Answers false word))
+    → Cause (ground header files) (D.Answered (at.0 == host && n == control_number host object past) b object page word) (deeds header files host past)
+answer_cause header files host at object n page word past false is h answers says = (λ ours. may header files host object page past (λ s. May (zeros header) s (Answers false word)) (says ours refl), λ e. absurd (clash false refl e))
+answer_cause header files host at object n page word past true is h answers says =
+    let file : is_file header object ≡ true = said_file (are_untold files) (is_file header object) is in
+    (
+      λ ours.
+          let a : L.Answers header files host object n page past = subst (λ (k : ℕ). L.Answers header files k object n page past) (number_is at.0 host (both_hold (at.0 == host) (n == control_number host object past) ours.on_host).0) (answers ours.covered) in
+          (ap (λ (s : Spot). s.step) (spot_is header files host object page past) ∙ a.unanswered, file_is (ground header files) object page (deeds header files host past) ∙ file),
+      λ e. tells_cause header files host at object n page past h file (answers (file_private header object file)),
+    )
+
 down_cause : (header : Header) (files : Files) (host : ℕ) (at : HostId) (object n : ℕ) (m : Message) (past : List Event) → Holds header files past → (is_private header object ≡ true → MaySendDown header files at.0 object n m past)
-    → Cause (ground header files) (down_deed (at.0 == host && n == control_number host object past) object m) (deeds header host past)
-down_cause header files host at object n (message.Supply page lock precious bytes) past h c = λ ours.
-    let says : MaySendDown header files host object n (message.Supply page lock precious bytes) past =
-    subst (λ (k : ℕ). MaySendDown header files k object n (message.Supply page lock precious bytes) past) (number_is at.0 host (both_hold (at.0 == host) (n == control_number host object past) ours.on_host).0) (c ours.covered) in
-    may header files host object page.0 past (λ s. May (zeros header) s (Answers (Supplying bytes))) (says.0.unanswered, says.1)
-down_cause header files host at object n (message.Unavailable page) past h c = λ ours.
-    let says : MaySendDown header files host object n (message.Unavailable page) past =
-    subst (λ (k : ℕ). MaySendDown header files k object n (message.Unavailable page) past) (number_is at.0 host (both_hold (at.0 == host) (n == control_number host object past) ours.on_host).0) (c ours.covered) in
-    may header files host object page.0 past (λ s. May (zeros header) s (Answers Unavailing)) (says.0.unanswered, says.1)
-down_cause header files host at object n (message.Error page reason) past h c = λ ours.
-    let says : MaySendDown header files host object n (message.Error page reason) past =
-    subst (λ (k : ℕ). MaySendDown header files k object n (message.Error page reason) past) (number_is at.0 host (both_hold (at.0 == host) (n == control_number host object past) ours.on_host).0) (c ours.covered) in
-    may header files host object page.0 past (λ s. May (zeros header) s (Answers Erring)) says.unanswered
+    → Cause (ground header files) (down_deed (at.0 == host && n == control_number host object past) (is_said header files object) object m) (deeds header files host past)
+down_cause header files host at object n (message.Supply page lock precious bytes) past h c =
+    answer_cause header files host at object n page.0 (Supplying bytes) past (is_said header files object) refl h (λ ours. (c ours).0)
+    (λ ours said.
+        let says : MaySendDown header files host object n (message.Supply page lock precious bytes) past =
+        subst (λ (k : ℕ). MaySendDown header files k object n (message.Supply page lock precious bytes) past) (number_is at.0 host (both_hold (at.0 == host) (n == control_number host object past) ours.on_host).0) (c ours.covered) in
+        (says.0.unanswered, says.1 said))
+down_cause header files host at object n (message.Unavailable page) past h c =
+    answer_cause header files host at object n page.0 Unavailing past (is_said header files object) refl h (λ ours. (c ours).0)
+    (λ ours said.
+        let says : MaySendDown header files host object n (message.Unavailable page) past =
+        subst (λ (k : ℕ). MaySendDown header files k object n (message.Unavailable page) past) (number_is at.0 host (both_hold (at.0 == host) (n == control_number host object past) ours.on_host).0) (c ours.covered) in
+        (says.0.unanswered, says.1 said))
+down_cause header files host at object n (message.Error page reason) past h c =
+    answer_cause header files host at object n page.0 Erring past (is_said header files object) refl h c
+    (λ ours said.
+        let says : MaySendDown header files host object n (message.Error page reason) past =
+        subst (λ (k : ℕ). MaySendDown header files k object n (message.Error page reason) past) (number_is at.0 host (both_hold (at.0 == host) (n == control_number host object past) ours.on_host).0) (c ours.covered) in
+        says.unanswered)
 down_cause header files host at object n m past h c = tt
 
 -- takings
@@ -361,7 +444,7 @@ first_up header files host at object p m w past h is head word =
     (ap (λ q. first q) (h.ups at.0 object.0 p ∙ ap (λ q. up_words p q) (first_rest (queue (Up at object) past) m head) ∙ word))
 
 taken_up_cause : (header : Header) (files : Files) (host : ℕ) (at : HostId) (object : ObjectId) (m : Message) (past : List Event) → Holds header files past → first (queue (Up at object) past) ≡ Some m
-    → Cause (ground header files) (taken_up_deed (at.0 == host) object.0 m) (deeds header host past)
+    → Cause (ground header files) (taken_up_deed (at.0 == host) object.0 m) (deeds header files host past)
 taken_up_cause header files host at object (message.Request number page access) past h head = λ ours.
     may header files host object.0 page.0 past (λ s. May (zeros header) s TakesRequest)
     (first_up header files host at object page.0 (message.Request number page access) Requesting past h (number_is at.0 host ours.on_host) head
@@ -383,7 +466,7 @@ first_down header files host at object n p m w past h ours own head word =
     (ap (λ q. first q) (sym all ∙ ap (λ q. down_words p q) (first_rest (queue (Down at object n) past) m head) ∙ word))
 
 taken_down_cause : (header : Header) (files : Files) (host : ℕ) (at : HostId) (object : ObjectId) (n : ℕ) (m : Message) (past : List Event) → Holds header files past → first (queue (Down at object n) past) ≡ Some m
-    → Cause (ground header files) (taken_down_deed (at.0 == host && n == control_number host object.0 past) object.0 m) (deeds header host past)
+    → Cause (ground header files) (taken_down_deed (at.0 == host && n == control_number host object.0 past) object.0 m) (deeds header files host past)
 taken_down_cause header files host at object n (message.Supply page lock precious bytes) past h head = λ ours.
     may header files host object.0 page.0 past (λ s. May (zeros header) s (Takes (Supplying bytes)))
     (first_down header files host at object n page.0 (message.Supply page lock precious bytes) (Supplying bytes) past h ours.covered ours.on_host head
@@ -398,7 +481,7 @@ taken_down_cause header files host at object n (message.Error page reason) past 
     (same_page page.0 (Erring ∷ down_words page.0 (rest (queue (Down at object n) past))) (down_words page.0 (rest (queue (Down at object n) past)))))
 taken_down_cause header files host at object n m past h head = tt
 
-pub cause : (header : Header) (files : Files) (host : ℕ) (e : Event) (past : List Event) → Holds header files past → Licensed header files e past → CopiesCurrent header files e past → Cause (ground header files) (deed header host e past) (deeds header host past)
+pub cause : (header : Header) (files : Files) (host : ℕ) (e : Event) (past : List Event) → Holds header files past → Licensed header files e past → CopiesCurrent header files e past → Cause (ground header files) (deed header files host e past) (deeds header files host past)
 cause header files host (event.RegionMade region object pages) past h c current = (c.0 ∙ sym (regions_is header files host past), c.1 ∙ sym (objects_is header files host past))
 cause header files host (event.RegionCopied region source offset pages) past h c current = cow_cause header files host region.0 source.0 offset pages past h c
 cause header files host (event.Shadowed region new old) past h c current = shadow_cause header files host region.0 new.0 old.0 past h c

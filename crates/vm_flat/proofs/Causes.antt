@@ -88,6 +88,14 @@ pub record Foreign (z : Ground) (own : Bool) (region object : ℕ) (past : List 
   pub unused : (row z region past).used ≡ false
   pub apart : own ≡ true → covered z object ≡ false
 
+-- a file's region is the file's alone
+pub record OwnRegion (z : Ground) (object : ℕ) (past : List Deed) : Type 0 where
+  pub file : is_file z object ≡ true
+  pub top : (row z object past).top ≡ object
+  pub shift : (row z object past).shift ≡ 0
+  pub alone : (r : ℕ) → (row z r past).used ≡ true → r ≢ object → (row z r past).top ≢ object
+  pub bare : (o : ℕ) → (link z o past).backed ≡ true → (link z o past).under ≢ object
+
 abbrev pub Cause : Ground → Deed → List Deed → Type 0
 Cause z Line past = Unit {0}
 Cause z (Region own region object count) past = (region ≡ regions z past) × (object ≡ objects z past)
@@ -105,7 +113,8 @@ Cause z (Asked own object page) past = Ours z own object → May z.zeros (spot z
 Cause z (Returned own object page keep bytes) past = Ours z own object → May z.zeros (spot z object page past) (Returns keep bytes)
 Cause z (TookRequest own object page) past = Ours z own object → May z.zeros (spot z object page past) TakesRequest
 Cause z (TookReturn own object page bytes) past = Ours z own object → May z.zeros (spot z object page past) (TakesReturn bytes)
-Cause z (Answered own object page word) past = Ours z own object → May z.zeros (spot z object page past) (Answers word)
+Cause z (Answered own tells object page word) past =
+    (Ours z own object → May z.zeros (spot z object page past) (Answers tells word)) × (tells ≡ true → (Ours z own object × OwnRegion z object past) ⊎ Foreign z own object object past)
 Cause z (Took own object page word) past = Ours z own object → May z.zeros (spot z object page past) (Takes word)
 Cause z (Terminated own object) past =
     Ours z own object

@@ -13,7 +13,8 @@ use Rattle.vm_model.specs.declared.script.Header.{Header}
 use Rattle.vm_model.specs.Moments.{EachEvent}
 use Rattle.vm_flat.specs.Waiting.{Loading, Storing, Copying}
 use Rattle.vm_flat.specs.Walks.{Passes}
-use Rattle.vm_flat.specs.Licences.{Files, AllLicensed}
+use Rattle.vm_flat.specs.Declared.{Files, Told, Untold}
+use Rattle.vm_flat.specs.Licences.{AllLicensed}
 use Rattle.vm_flat.specs.Bytes.{CopiesCurrent, FlatBytes}
 use Rattle.vm_flat.proofs.Law.{law}
 
@@ -21,7 +22,7 @@ abbrev header : Header
 header = record { size = 16; slots = 1; frames = record { items = 8 ∷ []; room = 0 }; objects = record { items = []; room = 0 } }
 
 abbrev files : Files
-files object page = []
+files = Told (λ object at. [])
 
 abbrev all : Prot
 all = record { read = true; write = true }

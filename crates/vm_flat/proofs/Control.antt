@@ -34,7 +34,7 @@ control_is z o p (Asked own k q ∷ past) = same z o p own k q Requests Nothing 
 control_is z o p (Returned own k q keep bytes ∷ past) = same z o p own k q (Returns keep bytes) Nothing past (control_is z k q past) (λ o p. control_is z o p past)
 control_is z o p (TookRequest own k q ∷ past) = same z o p own k q TakesRequest StepEnds past (control_is z k q past) (λ o p. control_is z o p past)
 control_is z o p (TookReturn own k q bytes ∷ past) = same z o p own k q (TakesReturn bytes) StepEnds past (control_is z k q past) (λ o p. control_is z o p past)
-control_is z o p (Answered own k q word ∷ past) = same z o p own k q (Answers word) Nothing past (control_is z k q past) (λ o p. control_is z o p past)
+control_is z o p (Answered own tells k q word ∷ past) = same z o p own k q (Answers tells word) Nothing past (control_is z k q past) (λ o p. control_is z o p past)
 control_is z o p (Took own k q word ∷ past) = same z o p own k q (Takes word) StepEnds past (takes_control z.zeros (spot z k q past) word ∙ control_is z k q past) (λ o p. control_is z o p past)
 control_is z o p (Created own k ∷ past) = object_is z o p 1 Creates past (own && o == k) (control_is z o p past) refl
 control_is z o p (Terminated own k ∷ past) = object_is z o p (if is_file z o then 0 else 2) Ends past (own && o == k) (control_is z o p past) (ap (λ (b : Bool). if b then 0 else 2) (file_is z o p past))

@@ -2,7 +2,7 @@
 -- objects, places, and the flat map. Lists have the newest first.
 use Rattle.std.specs.Prelude.{not, nat_lt, ℕ, suc, ◌+◌, ◌==◌, List, [], ◌∷◌, Bool, true, false, if◌then◌else◌, ◌&&◌, ◌||◌}
 use Rattle.vm_base.specs.Pages.{with_bytes}
-use Rattle.vm_flat.specs.Words.{DownWord, Effect, Creates, Requests, Returns, TakesRequest, TakesReturn, Answers, Takes, Zeroes, Raises, Stores, Drops, Ends, StepEnds, Nothing}
+use Rattle.vm_flat.specs.Words.{DownWord, Supplying, Unavailing, Erring, Effect, Creates, Requests, Returns, TakesRequest, TakesReturn, Answers, Takes, Zeroes, Raises, Stores, Drops, Ends, StepEnds, Nothing}
 use Rattle.vm_flat.specs.Spot.{Spot, first_spot, move}
 
 -- What does not change: the page of zeros; how many objects are declared, and which of them are
@@ -43,7 +43,8 @@ pub data Deed : Type 0 where
   Returned : (own : Bool) → (object : ℕ) → (page : ℕ) → (keep : Bool) → (bytes : List ℕ) → Deed
   TookRequest : (own : Bool) → (object : ℕ) → (page : ℕ) → Deed
   TookReturn : (own : Bool) → (object : ℕ) → (page : ℕ) → (bytes : List ℕ) → Deed
-  Answered : (own : Bool) → (object : ℕ) → (page : ℕ) → (word : DownWord) → Deed
+  -- `tells`: it gives the object's region the page that it says
+  Answered : (own : Bool) → (tells : Bool) → (object : ℕ) → (page : ℕ) → (word : DownWord) → Deed
   Took : (own : Bool) → (object : ℕ) → (page : ℕ) → (word : DownWord) → Deed
   Terminated : (own : Bool) → (object : ℕ) → Deed
   Elsewhere : Deed
@@ -155,7 +156,7 @@ effect o p (Asked own object page) spots = at_place o p own object page Requests
 effect o p (Returned own object page keep bytes) spots = at_place o p own object page (Returns keep bytes) Nothing
 effect o p (TookRequest own object page) spots = at_place o p own object page TakesRequest StepEnds
 effect o p (TookReturn own object page bytes) spots = at_place o p own object page (TakesReturn bytes) StepEnds
-effect o p (Answered own object page word) spots = at_place o p own object page (Answers word) Nothing
+effect o p (Answered own tells object page word) spots = at_place o p own object page (Answers tells word) Nothing
 effect o p (Took own object page word) spots = at_place o p own object page (Takes word) StepEnds
 effect o p (Terminated own object) spots = if own && o == object then Ends else Nothing
 effect o p e spots = Nothing
@@ -171,6 +172,12 @@ control z o (Created own object ∷ past) = if own && o == object then 1 else co
 control z o (Terminated own object ∷ past) = if own && o == object then (if is_file z o then 0 else 2) else control z o past
 control z o (e ∷ past) = control z o past
 
+-- the page that an answer gives
+abbrev pub said : List ℕ → DownWord → List ℕ → List ℕ
+said z (Supplying bytes) was = bytes
+said z Unavailing was = z
+said z Erring was = was
+
 -- the flat map: a region's page with eager copies
 abbrev pub flat : Ground → ℕ → ℕ → List Deed → List ℕ
 flat z r i [] = if is_file z r then z.start r i else z.zeros
@@ -178,4 +185,5 @@ flat z r i (Region own region object count ∷ past) = if r == region then z.zer
 flat z r i (Cow region source off count ∷ past) = if r == region then flat z source (off + i) past else flat z r i past
 flat z r i (Copied own source index object page region j upper upper_page ∷ past) = if r == region && i == j then flat z source index past else flat z r i past
 flat z r i (Stored own region index object page at bytes ∷ past) = if r == region && i == index then with_bytes at bytes (flat z r i past) else flat z r i past
+flat z r i (Answered own tells object page word ∷ past) = if tells && (r == object && i == page) then said z.zeros word (flat z r i past) else flat z r i past
 flat z r i (e ∷ past) = flat z r i past

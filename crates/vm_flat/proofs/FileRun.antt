@@ -13,7 +13,8 @@ use Rattle.vm_model.specs.declared.script.Header.{Header}
 use Rattle.vm_model.specs.Moments.{EachEvent}
 use Rattle.vm_flat.specs.Waiting.{Loading, Storing, Copying}
 use Rattle.vm_flat.specs.Walks.{Passes}
-use Rattle.vm_flat.specs.Licences.{Files, AllLicensed}
+use Rattle.vm_flat.specs.Declared.{Files, Told, Untold}
+use Rattle.vm_flat.specs.Licences.{AllLicensed}
 use Rattle.vm_flat.specs.Bytes.{CopiesCurrent, FlatBytes}
 use Rattle.vm_flat.proofs.Law.{law}
 
@@ -21,7 +22,7 @@ abbrev header : Header
 header = record { size = 16; slots = 1; frames = record { items = 8 ∷ []; room = 0 }; objects = record { items = record { name = 102 ∷ []; kind = File; pages = 1 } ∷ []; room = 0 } }
 
 abbrev files : Files
-files object page = (4 ∷ 5 ∷ 0 ∷ 0 ∷ 0 ∷ 0 ∷ 0 ∷ 0 ∷ 0 ∷ 0 ∷ 0 ∷ 0 ∷ 0 ∷ 0 ∷ 0 ∷ 0 ∷ [])
+files = Told (λ object at. (4 ∷ 5 ∷ 0 ∷ 0 ∷ 0 ∷ 0 ∷ 0 ∷ 0 ∷ 0 ∷ 0 ∷ 0 ∷ 0 ∷ 0 ∷ 0 ∷ 0 ∷ 0 ∷ []))
 
 abbrev all : Prot
 all = record { read = true; write = true }
@@ -192,7 +193,7 @@ licensed_3 : AllLicensed header files past_3
 licensed_3 = (record { host = 0; lives = refl; whole = refl; inside = omega arith; made = omega arith; used = λ ours. refl; unfilled = refl }, licensed_2)
 
 licensed_4 : AllLicensed header files past_4
-licensed_4 = (λ ours. (omega arith, refl), licensed_3)
+licensed_4 = (λ ours. record { declared = omega arith; none = refl; task = 0; address = 64; at = record { host = 0; entry = mapped; lives = refl; found = refl }; on_host = refl; region = refl }, licensed_3)
 
 licensed_5 : AllLicensed header files past_5
 licensed_5 = (tt, licensed_4)
@@ -216,7 +217,7 @@ licensed_11 : AllLicensed header files past_11
 licensed_11 = (refl, licensed_10)
 
 licensed_12 : AllLicensed header files past_12
-licensed_12 = (λ ours. (record { taken = refl; unanswered = refl }, refl), licensed_11)
+licensed_12 = (λ ours. (record { taken = refl; unanswered = refl }, λ told. refl), licensed_11)
 
 licensed_13 : AllLicensed header files past_13
 licensed_13 = (refl, licensed_12)
@@ -318,7 +319,7 @@ licensed_45 : AllLicensed header files past_45
 licensed_45 = (refl, licensed_44)
 
 licensed_46 : AllLicensed header files past_46
-licensed_46 = (λ ours. (record { taken = refl; unanswered = refl }, refl), licensed_45)
+licensed_46 = (λ ours. (record { taken = refl; unanswered = refl }, λ told. refl), licensed_45)
 
 licensed_47 : AllLicensed header files past_47
 licensed_47 = (refl, licensed_46)

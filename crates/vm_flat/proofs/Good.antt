@@ -1,12 +1,19 @@
 -- A place against what its object shows there.
-use Rattle.std.proofs.Common.{◌≡◌, ℕ, List, arith, Bool, true, false, Some, None, refl, ap, if◌then◌else◌, ◌∙◌, sym, ◌≢◌, inl, inr}
+use Rattle.std.proofs.Common.{◌≡◌, ℕ, List, arith, Bool, true, false, Option, Some, None, refl, ap, if◌then◌else◌, ◌∙◌, sym, ◌≢◌, inl, inr}
 use Rattle.std.proofs.lemmas.Bool.Decides.{nat_tests}
 use Rattle.std.specs.Prelude.{◌⊎◌}
 use Rattle.vm_base.specs.Pages.{with_bytes}
 use Rattle.vm_flat.specs.Words.{DownWord, Supplying, Unavailing, Erring, Creates, Requests, Returns, TakesRequest, TakesReturn, Answers, Takes, Zeroes, Raises, Stores, Drops, Ends, StepEnds, Nothing}
 use Rattle.vm_flat.specs.Spot.{Spot, Passed, move, May, content}
 use Rattle.vm_flat.proofs.Causes.{Void}
-use Rattle.vm_flat.proofs.Sound.{Sound, content_saved, supplied_returned, or_zero, shows, passed_returned, keep_creates, keep_requests, keep_returns, keep_takes_request, keep_takes_return, keep_answers, keep_takes, keep_zeroes, keep_raises, keep_stores, keep_drops, keep_ends, keep_step}
+use Rattle.vm_flat.proofs.Deeds.{said}
+use Rattle.vm_flat.proofs.Sound.{Sound, content_saved, supplied_returned, or_zero, shows, passed_returned, keep_creates, keep_requests, keep_returns, keep_takes_request, keep_takes_return, keep_answers, keep_tells, keep_takes, keep_zeroes, keep_raises, keep_stores, keep_drops, keep_ends, keep_step}
+
+some_is : (a b : List ℕ) → ◌≡◌ {A = Option (List ℕ)} (Some a) (Some b) → a ≡ b
+some_is a b e = cc
+
+none_is : (a : List ℕ) → ◌≡◌ {A = Option (List ℕ)} (Some a) None → ⊥
+none_is a e = cc
 
 -- v is what the object shows at the page, w what its backing object shows there
 -- B: the object shows zeros at the page, and so do all objects below it
@@ -88,13 +95,48 @@ good_takes_return z R U B v b w s bytes g may =
       blank = g.blank;
     }
 
-pub good_answers : (z : List ℕ) (R U B : Type 0) (v : List ℕ) (b : Bool) (w : List ℕ) (s : Spot) (word : DownWord) → Good z R U B v b w s → May z s (Answers word) → Good z R U B v b w (move z s (Answers word))
+pub good_answers : (z : List ℕ) (R U B : Type 0) (v : List ℕ) (b : Bool) (w : List ℕ) (s : Spot) (word : DownWord) → Good z R U B v b w s → May z s (Answers false word) → Good z R U B v b w (move z s (Answers false word))
 good_answers z R U B v b w s word g may =
     record {
       sound = keep_answers z s word g.sound may;
-      fits = λ r. fits_same z B v b w s (move z s (Answers word)) refl (λ none here. inl here) (g.fits r).living (g.fits r);
+      fits = λ r. fits_same z B v b w s (move z s (Answers false word)) refl (λ none here. inl here) (g.fits r).living (g.fits r);
       blank = g.blank;
     }
+
+-- where the answer says what the file has, the object shows that
+pub good_tells : (z : List ℕ) (R U B : Type 0) (v : List ℕ) (b : Bool) (w : List ℕ) (s : Spot) (word : DownWord) → Good z R U B v b w s → May z s (Answers true word) → Good z R U B (said z word v) b w (move z s (Answers true word))
+good_tells z R U B v b w s word g may =
+    record {
+      sound = keep_tells z s word g.sound may;
+      fits = λ r. fits word r;
+      blank = λ u. absurd (never (g.blank u).2);
+    }
+  where
+    asked : s.asked ≡ true
+    asked = let one = g.sound.one in let step = may.0 in grind (arith, nat_tests)
+
+    away : s.here ≡ false
+    away = g.sound.not_here asked
+
+    never : s.file ≡ false → ⊥
+    never is = let file : s.file ≡ true = may.1 in absurd (cc)
+
+    no_here : s.here ≡ true → ⊥
+    no_here is = let away : s.here ≡ false = away in absurd (cc)
+
+    lives : R → s.control ≢ 2
+    lives r = (g.fits r).living
+
+    now : (bytes : List ℕ) → content (move z s (Answers true (Supplying bytes))) ≡ Some bytes
+    now bytes = grind arith
+
+    now_zero : content (move z s (Answers true Unavailing)) ≡ Some z
+    now_zero = grind arith
+
+    fits : (word : DownWord) → R → Fits z B (said z word v) b w (move z s (Answers true word))
+    fits (Supplying bytes) r = record { solid = λ c e. some_is bytes c (sym (now bytes) ∙ e); through = λ e. absurd (none_is bytes (sym (now bytes) ∙ e)); bottom = λ e. absurd (none_is bytes (sym (now bytes) ∙ e)); zeros = λ e here. absurd (no_here here); living = lives r }
+    fits Unavailing r = record { solid = λ c e. some_is z c (sym now_zero ∙ e); through = λ e. absurd (none_is z (sym now_zero ∙ e)); bottom = λ e. absurd (none_is z (sym now_zero ∙ e)); zeros = λ e here. absurd (no_here here); living = lives r }
+    fits Erring r = record { solid = (g.fits r).solid; through = (g.fits r).through; bottom = (g.fits r).bottom; zeros = λ e here. absurd (no_here here); living = lives r }
 
 takes_come : (z : List ℕ) (B : Type 0) (s : Spot) (word : DownWord) → Sound z s → May z s (Takes word) → content (move z s (Takes word)) ≡ None → (move z s (Takes word)).here ≡ true → (s.here ≡ true) ⊎ B
 takes_come z B s (Supplying bytes) ok may none here =

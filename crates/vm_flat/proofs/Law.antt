@@ -4,33 +4,38 @@ use Rattle.std.proofs.lemmas.Bool.Decides.{nat_tests}
 use Rattle.std.specs.Prelude.{◌==◌, ◌&&◌, ◌||◌, not, nat_lt}
 use Rattle.vm_base.specs.Pages.{little_endian_bytes, with_bytes}
 use Rattle.vm_base.specs.declared.ids.RegionId.{RegionId}
+use Rattle.vm_base.specs.declared.ids.HostId.{HostId}
+use Rattle.vm_base.specs.declared.ids.ObjectId.{ObjectId}
 use Rattle.vm_model.specs.declared.event.Event.{Event}
 use Rattle.vm_model.specs.declared.event.Event.TheVariants as event
 use Rattle.vm_model.specs.declared.message.Channel.TheVariants.{Up, Down}
+use Rattle.vm_model.specs.declared.message.Message.{Message}
+use Rattle.vm_model.specs.declared.message.Message.TheVariants as message
 use Rattle.vm_model.specs.declared.script.Header.{Header}
 use Rattle.vm_model.specs.Moments.{EachEvent}
 use Rattle.vm_model.specs.Chains.{page_of}
 use Rattle.vm_model.specs.Bytes.{number_in}
-use Rattle.vm_flat.specs.Declared.{named, is_private, zeros}
+use Rattle.vm_flat.specs.Declared.{Files, named, is_private, is_file, is_said, zeros}
 use Rattle.vm_flat.specs.Tasks.{lives_on}
 use Rattle.vm_flat.specs.Regions.{is_kept, made_here, in_use}
 use Rattle.vm_flat.specs.Spot.{Spot}
-use Rattle.vm_flat.specs.Places.{spot, control_number}
-use Rattle.vm_flat.specs.Flat.{Change, change_of, changed, made_over, is_number, flat_page}
+use Rattle.vm_flat.specs.Places.{spot, control, control_number}
+use Rattle.vm_flat.specs.Flat.{Change, change_of, changed, made_over, is_number, answered, flat_page}
 use Rattle.vm_flat.specs.Licences as L
-use Rattle.vm_flat.specs.Licences.{Files, Licensed, AllLicensed}
+use Rattle.vm_flat.specs.Licences.{Licensed, AllLicensed}
 use Rattle.vm_flat.specs.Bytes.{FlatBytes, CopiesCurrent}
 use Rattle.vm_flat.proofs.Deeds as D
 use Rattle.vm_flat.proofs.Causes as C
+use Rattle.vm_flat.proofs.Regions.{if_no}
 use Rattle.vm_flat.proofs.World.{load}
 use Rattle.vm_flat.proofs.Worlds.{after, start}
-use Rattle.vm_flat.proofs.Classes.{ground, deed, deeds, up_deed, region_in, page_in, number_or_zero, up_case, taken_up_case, down_case, taken_down_case}
+use Rattle.vm_flat.proofs.Classes.{ground, deed, deeds, up_deed, down_deed, region_in, page_in, number_or_zero, up_case, taken_up_case, down_case, taken_down_case}
 use Rattle.vm_flat.proofs.Ties.{spot_is}
 use Rattle.vm_flat.proofs.Entries.{Entries, PrivateUsed, entries_task_made, entries_task_ended, entries_failed, entries_removed, entries_protected, entries_inherited, entries_region_made, entries_region_copied, entries_entered}
 use Rattle.vm_flat.proofs.Filling.{Filling, filling_next}
 use Rattle.vm_flat.proofs.Numbers.{NumberedAt, numbered_start, numbered_region_made, numbered_region_copied, numbered_shadowed, later_private}
-use Rattle.vm_flat.proofs.Ports.{ups_start, ups_next, numbers_next, asked_next, downs_start, downs_next, locks_start, locks_next}
-use Rattle.vm_flat.proofs.Holds.{Holds, Flats, led, tops, region_private, walks}
+use Rattle.vm_flat.proofs.Ports.{ups_start, ups_next, numbers_next, asked_next, downs_start, downs_next, locks_start, locks_next, private_there}
+use Rattle.vm_flat.proofs.Holds.{Holds, Homes, Flats, led, tops, region_private, walks}
 use Rattle.vm_flat.proofs.Caused.{cause, change_is, source_made, shadowed_made}
 
 -- the flat map is that of the deeds
@@ -39,21 +44,32 @@ two : {A : Type 0} (b : Bool) (x y u v : A) → x ≡ u → y ≡ v → (if b th
 two true x y u v e f = e
 two false x y u v e f = f
 
+said_same : (header : Header) (files : Files) (host r i : ℕ) (own says : Bool) (object : ℕ) (m : Message) (past : List Event) → Flats header files past
+    → D.flat (ground header files) r i (down_deed own says object m ∷ deeds header files host past) ≡ answered header says r i object m (flat_page header files r i past)
+said_same header files host r i own says object (message.Supply page lock precious bytes) past flats = two (says && (r == object && i == page.0)) _ _ _ _ refl (flats host r i)
+said_same header files host r i own says object (message.Unavailable page) past flats = two (says && (r == object && i == page.0)) _ _ _ _ refl (flats host r i)
+said_same header files host r i own says object (message.Error page reason) past flats = two (says && (r == object && i == page.0)) _ _ _ _ (flats host r i) (flats host r i) ∙ either (says && (r == object && i == page.0)) (flat_page header files r i past)
+  where
+    either : {A : Type 0} (b : Bool) (x : A) → (if b then x else x) ≡ x
+    either true x = refl
+    either false x = refl
+said_same header files host r i own says object m past flats = flats host r i
+
 flat_stored : (header : Header) (files : Files) (host r i : ℕ) (own : Bool) (task object page at size value : ℕ) (past : List Event) → Flats header files past → L.Stores header files task object page at size value past
-    → D.flat (ground header files) r i (D.Stored own (region_in (change_of header.size task past)) (page_in (change_of header.size task past)) object page at (little_endian_bytes size value) ∷ deeds header host past)
+    → D.flat (ground header files) r i (D.Stored own (region_in (change_of header.size task past)) (page_in (change_of header.size task past)) object page at (little_endian_bytes size value) ∷ deeds header files host past)
     ≡ changed r i (change_of header.size task past) (flat_page header files r i past)
 flat_stored header files host r i own task object page at size value past flats c =
-    subst (λ (o : Option Change). D.flat (ground header files) r i (D.Stored own (region_in o) (page_in o) object page at (little_endian_bytes size value) ∷ deeds header host past) ≡ changed r i o (flat_page header files r i past))
+    subst (λ (o : Option Change). D.flat (ground header files) r i (D.Stored own (region_in o) (page_in o) object page at (little_endian_bytes size value) ∷ deeds header files host past) ≡ changed r i o (flat_page header files r i past))
     (sym (change_is header task c.address size value past c.waits))
     (two (r == c.waits.at.entry.region.0 && i == page_of header.size c.waits.at.entry c.address) _ _ _ _
-    (ap (λ x. with_bytes x (little_endian_bytes size value) (D.flat (ground header files) r i (deeds header host past))) c.place ∙ ap (λ x. with_bytes (c.address % header.size) (little_endian_bytes size value) x) (flats host r i))
+    (ap (λ x. with_bytes x (little_endian_bytes size value) (D.flat (ground header files) r i (deeds header files host past))) c.place ∙ ap (λ x. with_bytes (c.address % header.size) (little_endian_bytes size value) x) (flats host r i))
     (flats host r i))
 
 flat_copied : (header : Header) (files : Files) (host r i : ℕ) (own : Bool) (region index object page target : ℕ) (past : List Event) → Flats header files past → made_over target past ≡ Some region
-    → D.flat (ground header files) r i (D.Copied own object page object page (number_or_zero (made_over target past)) index target index ∷ deeds header host past)
+    → D.flat (ground header files) r i (D.Copied own object page object page (number_or_zero (made_over target past)) index target index ∷ deeds header files host past)
     ≡ (if is_number r (made_over target past) && i == index then flat_page header files object page past else flat_page header files r i past)
 flat_copied header files host r i own region index object page target past flats is =
-    subst (λ (o : Option ℕ). D.flat (ground header files) r i (D.Copied own object page object page (number_or_zero o) index target index ∷ deeds header host past) ≡ (if is_number r o && i == index then flat_page header files object page past else flat_page header files r i past))
+    subst (λ (o : Option ℕ). D.flat (ground header files) r i (D.Copied own object page object page (number_or_zero o) index target index ∷ deeds header files host past) ≡ (if is_number r o && i == index then flat_page header files object page past else flat_page header files r i past))
     (sym is)
     (two (r == region && i == index) _ _ _ _ (flats host object page) (flats host r i))
 
@@ -63,16 +79,14 @@ flats_next header files (event.RegionCopied region source offset pages) past fil
 flats_next header files (event.Stored task object page at size value) past filling flats c host r i = flat_stored header files host r i (lives_on host task.0 past) task.0 object.0 page.0 at size value past flats c
 flats_next header files (event.CopiedPage task page object object_page target) past filling flats c host r i = flat_copied header files host r i (lives_on host task.0 past) c.region page.0 object.0 object_page.0 target.0 past flats (filling task.0 c.waits.at.host c.address c.bytes c.to (record { region = c.region; object = target.0 }) c.waits.at.lives c.waits.waits c.filled).is_over
 flats_next header files (event.Sent (Up at object) m) past filling flats c host r i =
-    up_case (λ d. D.flat (ground header files) r i (d ∷ deeds header host past) ≡ D.flat (ground header files) r i (deeds header host past)) (λ own o. refl) (λ own o p. refl) (λ own o p keep bytes. refl) (λ own o. refl) refl (at.0 == host) object.0 m
+    up_case (λ d. D.flat (ground header files) r i (d ∷ deeds header files host past) ≡ D.flat (ground header files) r i (deeds header files host past)) (λ own o. refl) (λ own o p. refl) (λ own o p keep bytes. refl) (λ own o. refl) refl (at.0 == host) object.0 m
     ∙ flats host r i
-flats_next header files (event.Sent (Down at object n) m) past filling flats c host r i =
-    down_case (λ d. D.flat (ground header files) r i (d ∷ deeds header host past) ≡ D.flat (ground header files) r i (deeds header host past)) (λ own o p word. refl) refl (at.0 == host && n == control_number host object.0 past) object.0 m
-    ∙ flats host r i
+flats_next header files (event.Sent (Down at object n) m) past filling flats c host r i = said_same header files host r i (at.0 == host && n == control_number host object.0 past) (is_said header files object.0) object.0 m past flats
 flats_next header files (event.Taken (Up at object) m) past filling flats c host r i =
-    taken_up_case (λ d. D.flat (ground header files) r i (d ∷ deeds header host past) ≡ D.flat (ground header files) r i (deeds header host past)) (λ own o p. refl) (λ own o p bytes. refl) refl (at.0 == host) object.0 m
+    taken_up_case (λ d. D.flat (ground header files) r i (d ∷ deeds header files host past) ≡ D.flat (ground header files) r i (deeds header files host past)) (λ own o p. refl) (λ own o p bytes. refl) refl (at.0 == host) object.0 m
     ∙ flats host r i
 flats_next header files (event.Taken (Down at object n) m) past filling flats c host r i =
-    taken_down_case (λ d. D.flat (ground header files) r i (d ∷ deeds header host past) ≡ D.flat (ground header files) r i (deeds header host past)) (λ own o p word. refl) refl (at.0 == host && n == control_number host object.0 past) object.0 m
+    taken_down_case (λ d. D.flat (ground header files) r i (d ∷ deeds header files host past) ≡ D.flat (ground header files) r i (deeds header files host past)) (λ own o p word. refl) refl (at.0 == host && n == control_number host object.0 past) object.0 m
     ∙ flats host r i
 flats_next header files e past filling flats c host r i = flats host r i
 
@@ -116,6 +130,55 @@ entries_next header files (event.RegionCopied region source offset pages) past h
 entries_next header files (event.Entered owner address bytes region offset prot inherit) past h c task host lives = entries_entered header owner address bytes region offset prot inherit past c h.entries task host lives
 entries_next header files e past h c task host lives = h.entries task host lives
 
+-- a file's home
+
+never : (a b : Bool) → b ≡ false → (a && b) ≡ false
+never true b is = is
+never false b is = refl
+
+zero_one : (f : Bool) → ◌≡◌ {A = ℕ} (if f then 0 else 2) 1 → ⊥
+zero_one true e = omega (arith, e)
+zero_one false e = omega (arith, e)
+
+opened_home : (header : Header) (files : Files) (at object g o h : ℕ) (past : List Event) → Holds header files past → (at == g && o == object) ≡ true → L.Opens header at object past → (h ≡ g → ⊥) → in_use header h o past ≡ false
+opened_home header files at object g o h past w is c apart =
+    let row = led header c.task c.address past w.entries c.at in
+    let host_is : at ≡ g = grind (arith, nat_tests) in
+    let object_is : o ≡ object = grind (arith, nat_tests) in
+    let off : in_use header h c.at.entry.region.0 past ≡ false = row.is.alone h (λ e. apart (e ∙ c.on_host ∙ host_is)) in
+    subst (λ (k : ℕ). in_use header h k past ≡ false) (c.region ∙ sym object_is) off
+
+homes_sent : (header : Header) (files : Files) (at : HostId) (object : ObjectId) (m : Message) (past : List Event) → Holds header files past → (is_private header object.0 ≡ true → L.MaySendUp header files at.0 object.0 m past) → Homes header (event.Sent (Up at object) m ∷ past)
+homes_sent header files at object (message.Init number size) past w c g o less ours live h apart = by (at.0 == g && o == object.0) refl live
+  where
+    by : (b : Bool) → (at.0 == g && o == object.0) ≡ b → (if b then 1 else control header g o past) ≡ 1 → in_use header h o past ≡ false
+    by true is e = opened_home header files at.0 object.0 g o h past w is (c (private_there header at.0 object.0 g o is ours)) apart
+    by false is e = w.homes g o less ours e h apart
+homes_sent header files at object (message.Create number size) past w c g o less ours live h apart = by (at.0 == g && o == object.0) refl live
+  where
+    by : (b : Bool) → (at.0 == g && o == object.0) ≡ b → (if b then 1 else control header g o past) ≡ 1 → in_use header h o past ≡ false
+    by true is e = let above = (c (private_there header at.0 object.0 g o is ours)).1 in let same : o ≡ object.0 = grind (arith, nat_tests) in absurd (omega (arith, above, same, less))
+    by false is e = w.homes g o less ours e h apart
+homes_sent header files at object (message.Terminate number) past w c g o less ours live h apart = by (at.0 == g && o == object.0) live
+  where
+    by : (b : Bool) → (if b then (if is_file header o then 0 else 2) else control header g o past) ≡ 1 → in_use header h o past ≡ false
+    by true e = absurd (zero_one (is_file header o) e)
+    by false e = w.homes g o less ours e h apart
+homes_sent header files at object m past w c g o less ours live h apart = w.homes g o less ours live h apart
+
+homes_next : (header : Header) (files : Files) (e : Event) (past : List Event) → Holds header files past → Licensed header files e past → Homes header (e ∷ past)
+homes_next header files (event.RegionMade region object pages) past w c g o less ours live h apart =
+    if_no o region.0 (made_here h past) (in_use header h o past) (λ e. omega (arith, less, e, c.0, w.numbered.later_regions)) ∙ w.homes g o less ours live h apart
+homes_next header files (event.RegionCopied region source offset pages) past w c g o less ours live h apart =
+    if_no o region.0 (in_use header h source.0 past) (in_use header h o past) (λ e. omega (arith, less, e, c.next, w.numbered.later_regions)) ∙ w.homes g o less ours live h apart
+homes_next header files (event.Entered task address bytes region offset prot inherit) past w c g o less ours live h apart = never (not (o == region.0) || lives_on h task.0 past) (in_use header h o past) (w.homes g o less ours live h apart)
+homes_next header files (event.Removed task address bytes) past w c g o less ours live h apart = never (is_kept header o (event.Removed task address bytes ∷ past)) (in_use header h o past) (w.homes g o less ours live h apart)
+homes_next header files (event.TaskEnded task) past w c g o less ours live h apart = never (is_kept header o (event.TaskEnded task ∷ past)) (in_use header h o past) (w.homes g o less ours live h apart)
+homes_next header files (event.Failed task object page) past w c g o less ours live h apart = never (is_kept header o (event.Failed task object page ∷ past)) (in_use header h o past) (w.homes g o less ours live h apart)
+homes_next header files (event.Sent (Up at object) m) past w c g o less ours live h apart = homes_sent header files at object m past w c g o less ours live h apart
+homes_next header files (event.Sent (Down at object n) m) past w c g o less ours live h apart = w.homes g o less ours live h apart
+homes_next header files e past w c g o less ours live h apart = w.homes g o less ours live h apart
+
 no_host : (h : ℕ) → ◌≡◌ {A = Option ℕ} None (Some h) → ⊥
 no_host h e = cc
 
@@ -139,11 +202,12 @@ holds header files [] licensed current =
       asked = λ h o n p ours taken step. absurd (cc);
       downs = downs_start header files;
       locks = locks_start header;
+      homes = λ g o less ours live h apart. absurd (omega (arith, live));
     }
 holds header files (e ∷ past) licensed current =
     let h : Holds header files past = holds header files past licensed.1 current.1 in
     record {
-      worlds = λ host. after (ground header files) (deed header host e past) (deeds header host past) (h.worlds host) (cause header files host e past h licensed.0 current.0);
+      worlds = λ host. after (ground header files) (deed header files host e past) (deeds header files host past) (h.worlds host) (cause header files host e past h licensed.0 current.0);
       flats = flats_next header files e past h.filling h.flats licensed.0;
       numbered = numbered_next header files e past h licensed.0;
       private_used = private_next header files e past h licensed.0;
@@ -154,6 +218,7 @@ holds header files (e ∷ past) licensed current =
       asked = asked_next header files e past h.worlds h.up_numbers h.asked licensed.0;
       downs = downs_next header files e past h.worlds h.asked h.downs licensed.0;
       locks = locks_next header files e past h.locks licensed.0;
+      homes = homes_next header files e past h licensed.0;
     }
 
 loaded : (header : Header) (files : Files) (e : Event) (past : List Event) → Holds header files past → Licensed header files e past → FlatBytes header files e past
@@ -163,9 +228,9 @@ loaded header files (event.Loaded task object page value) past h c =
     same : is_private header c.waits.at.entry.region.0 ≡ true → (spot header files c.waits.at.host object.0 page.0 past).bytes ≡ flat_page header files c.waits.at.entry.region.0 (page_of header.size c.waits.at.entry c.address) past
     same ours =
         let row = led header task.0 c.address past h.entries c.waits.at in
-        let at : C.Tops (ground header files) c.waits.at.entry.region.0 (page_of header.size c.waits.at.entry c.address) c.comes.top c.comes.top_page (deeds header c.waits.at.host past) =
+        let at : C.Tops (ground header files) c.waits.at.entry.region.0 (page_of header.size c.waits.at.entry c.address) c.comes.top c.comes.top_page (deeds header files c.waits.at.host past) =
         tops header files c.waits.at.host c.waits.at.entry.region.0 (page_of header.size c.waits.at.entry c.address) c.comes.top c.comes.top_page past (row.is.used_here ours) c.comes.is_top (row.is.inside.each c.address row.from row.below) in
-        let got = load (ground header files) c.waits.at.entry.region.0 (page_of header.size c.waits.at.entry c.address) c.comes.steps c.comes.top c.comes.top_page object.0 page.0 (deeds header c.waits.at.host past) (h.worlds c.waits.at.host) at
+        let got = load (ground header files) c.waits.at.entry.region.0 (page_of header.size c.waits.at.entry c.address) c.comes.steps c.comes.top c.comes.top_page object.0 page.0 (deeds header files c.waits.at.host past) (h.worlds c.waits.at.host) at
         (walks header files c.waits.at.host past h.numbered c.comes.steps c.comes.top c.comes.top_page object.0 page.0 c.comes.walks)
         (ap (λ (s : Spot). s.here) (spot_is header files c.waits.at.host object.0 page.0 past) ∙ c.here) in
         sym (ap (λ (s : Spot). s.bytes) (spot_is header files c.waits.at.host object.0 page.0 past)) ∙ got ∙ h.flats c.waits.at.host c.waits.at.entry.region.0 (page_of header.size c.waits.at.entry c.address)

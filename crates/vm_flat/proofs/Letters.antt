@@ -107,11 +107,11 @@ up_taken z s q o p own object (message.Request control page access) head same = 
 up_taken z s q o p own object (message.Return control page dirty keep bytes) head same = took_word z s q p (message.Return control page dirty keep bytes) (Returning bytes) (TakesReturn bytes) own (o == object) (p == page.0) refl refl head same
 up_taken z s q o p own object m head same = took_none q p m (own && o == object) _ refl head same
 
-pub up_sent_down : (z : List ℕ) (s : Spot) (o p : ℕ) (own : Bool) (object : ℕ) (m : Message) → (move z s (sent_down o p own object m)).up ≡ s.up
-up_sent_down z s o p own object (message.Supply page lock precious bytes) = up_place z s o p own object page.0 (Answers (Supplying bytes)) Nothing refl refl
-up_sent_down z s o p own object (message.Unavailable page) = up_place z s o p own object page.0 (Answers Unavailing) Nothing refl refl
-up_sent_down z s o p own object (message.Error page reason) = up_place z s o p own object page.0 (Answers Erring) Nothing refl refl
-up_sent_down z s o p own object m = refl
+pub up_sent_down : (z : List ℕ) (s : Spot) (o p : ℕ) (own tells : Bool) (object : ℕ) (m : Message) → (move z s (sent_down o p own tells object m)).up ≡ s.up
+up_sent_down z s o p own tells object (message.Supply page lock precious bytes) = up_place z s o p own object page.0 (Answers tells (Supplying bytes)) Nothing refl refl
+up_sent_down z s o p own tells object (message.Unavailable page) = up_place z s o p own object page.0 (Answers tells Unavailing) Nothing refl refl
+up_sent_down z s o p own tells object (message.Error page reason) = up_place z s o p own object page.0 (Answers tells Erring) Nothing refl refl
+up_sent_down z s o p own tells object m = refl
 
 pub up_taken_down : (z : List ℕ) (s : Spot) (o p : ℕ) (own : Bool) (object : ℕ) (m : Message) → (move z s (taken_down o p own object m)).up ≡ s.up
 up_taken_down z s o p own object (message.Supply page lock precious bytes) = up_place z s o p own object page.0 (Takes (Supplying bytes)) StepEnds (takes_up z s (Supplying bytes)) refl
@@ -125,27 +125,27 @@ up_taken_down z s o p own object m = refl
 abbrev pub down_of : Bool → Spot → List DownWord
 down_of newest s = if newest then s.down else []
 
-answered_word : (z : List ℕ) (s : Spot) (q : List Message) (p : ℕ) (m : Message) (w : DownWord) (own c d newest this newest' : Bool) → down_words p (m ∷ []) ≡ (if d then w ∷ [] else [])
+answered_word : (z : List ℕ) (s : Spot) (tells : Bool) (q : List Message) (p : ℕ) (m : Message) (w : DownWord) (own c d newest this newest' : Bool) → down_words p (m ∷ []) ≡ (if d then w ∷ [] else [])
     → ((own && c) ≡ true → d ≡ true → newest' ≡ true) → ((own && c) ≡ true → this ≡ true → newest ≡ newest') → ((own && c) ≡ true → newest ≡ true → newest' ≡ true → this ≡ true) → down_words p q ≡ down_of newest s
-    → down_words p (if (own && c) && this then q ++ m ∷ [] else q) ≡ down_of newest (move z s (if (own && newest') && (c && d) then Answers w else Nothing))
-answered_word z s q p m w false c d newest this newest' word live same only is = is
-answered_word z s q p m w true false d newest this true word live same only is = is
-answered_word z s q p m w true false d newest this false word live same only is = is
-answered_word z s q p m w true true d newest false false word live same only is = is
-answered_word z s q p m w true true false newest false true word live same only is = is
-answered_word z s q p m w true true true true false true word live same only is = absurd (clash (only refl refl refl))
+    → down_words p (if (own && c) && this then q ++ m ∷ [] else q) ≡ down_of newest (move z s (if (own && newest') && (c && d) then Answers tells w else Nothing))
+answered_word z s tells q p m w false c d newest this newest' word live same only is = is
+answered_word z s tells q p m w true false d newest this true word live same only is = is
+answered_word z s tells q p m w true false d newest this false word live same only is = is
+answered_word z s tells q p m w true true d newest false false word live same only is = is
+answered_word z s tells q p m w true true false newest false true word live same only is = is
+answered_word z s tells q p m w true true true true false true word live same only is = absurd (clash (only refl refl refl))
   where
     clash : false ≡ true → ⊥
     clash e = cc
-answered_word z s q p m w true true true false false true word live same only is = is
-answered_word z s q p m w true true true newest true false word live same only is = absurd (clash (live refl refl))
+answered_word z s tells q p m w true true true false false true word live same only is = is
+answered_word z s tells q p m w true true true newest true false word live same only is = absurd (clash (live refl refl))
   where
     clash : false ≡ true → ⊥
     clash e = cc
-answered_word z s q p m w true true false newest true false word live same only is = down_end p q m ∙ ap (λ x. down_words p q ++ x) word ∙ nil_right (down_words p q) ∙ is
-answered_word z s q p m w true true false newest true true word live same only is = down_end p q m ∙ ap (λ x. down_words p q ++ x) word ∙ nil_right (down_words p q) ∙ is
-answered_word z s q p m w true true true true true true word live same only is = down_end p q m ∙ ap (λ x. down_words p q ++ x) word ∙ ap (λ x. x ++ w ∷ []) is
-answered_word z s q p m w true true true false true true word live same only is = absurd (clash (same refl refl))
+answered_word z s tells q p m w true true false newest true false word live same only is = down_end p q m ∙ ap (λ x. down_words p q ++ x) word ∙ nil_right (down_words p q) ∙ is
+answered_word z s tells q p m w true true false newest true true word live same only is = down_end p q m ∙ ap (λ x. down_words p q ++ x) word ∙ nil_right (down_words p q) ∙ is
+answered_word z s tells q p m w true true true true true true word live same only is = down_end p q m ∙ ap (λ x. down_words p q ++ x) word ∙ ap (λ x. x ++ w ∷ []) is
+answered_word z s tells q p m w true true true false true true word live same only is = absurd (clash (same refl refl))
   where
     clash : false ≡ true → ⊥
     clash e = cc
@@ -161,12 +161,12 @@ answers p (message.Unavailable page) = p == page.0
 answers p (message.Error page reason) = p == page.0
 answers p m = false
 
-pub down_sent : (z : List ℕ) (s : Spot) (q : List Message) (o p : ℕ) (own : Bool) (object : ℕ) (m : Message) (newest this newest' : Bool) → ((own && o == object) ≡ true → answers p m ≡ true → newest' ≡ true) → ((own && o == object) ≡ true → this ≡ true → newest ≡ newest') → ((own && o == object) ≡ true → newest ≡ true → newest' ≡ true → this ≡ true)
-    → down_words p q ≡ down_of newest s → down_words p (if (own && o == object) && this then q ++ m ∷ [] else q) ≡ down_of newest (move z s (sent_down o p (own && newest') object m))
-down_sent z s q o p own object (message.Supply page lock precious bytes) newest this newest' live same only is = answered_word z s q p (message.Supply page lock precious bytes) (Supplying bytes) own (o == object) (p == page.0) newest this newest' refl live same only is
-down_sent z s q o p own object (message.Unavailable page) newest this newest' live same only is = answered_word z s q p (message.Unavailable page) Unavailing own (o == object) (p == page.0) newest this newest' refl live same only is
-down_sent z s q o p own object (message.Error page reason) newest this newest' live same only is = answered_word z s q p (message.Error page reason) Erring own (o == object) (p == page.0) newest this newest' refl live same only is
-down_sent z s q o p own object m newest this newest' live same only is = answered_none q p m ((own && o == object) && this) (down_of newest s) refl is
+pub down_sent : (z : List ℕ) (s : Spot) (tells : Bool) (q : List Message) (o p : ℕ) (own : Bool) (object : ℕ) (m : Message) (newest this newest' : Bool) → ((own && o == object) ≡ true → answers p m ≡ true → newest' ≡ true) → ((own && o == object) ≡ true → this ≡ true → newest ≡ newest') → ((own && o == object) ≡ true → newest ≡ true → newest' ≡ true → this ≡ true)
+    → down_words p q ≡ down_of newest s → down_words p (if (own && o == object) && this then q ++ m ∷ [] else q) ≡ down_of newest (move z s (sent_down o p (own && newest') tells object m))
+down_sent z s tells q o p own object (message.Supply page lock precious bytes) newest this newest' live same only is = answered_word z s tells q p (message.Supply page lock precious bytes) (Supplying bytes) own (o == object) (p == page.0) newest this newest' refl live same only is
+down_sent z s tells q o p own object (message.Unavailable page) newest this newest' live same only is = answered_word z s tells q p (message.Unavailable page) Unavailing own (o == object) (p == page.0) newest this newest' refl live same only is
+down_sent z s tells q o p own object (message.Error page reason) newest this newest' live same only is = answered_word z s tells q p (message.Error page reason) Erring own (o == object) (p == page.0) newest this newest' refl live same only is
+down_sent z s tells q o p own object m newest this newest' live same only is = answered_none q p m ((own && o == object) && this) (down_of newest s) refl is
 
 heard_rest : (z : List ℕ) (s : Spot) (w : DownWord) → (move z s (Takes w)).down ≡ rest s.down
 heard_rest z s (Supplying bytes) = refl

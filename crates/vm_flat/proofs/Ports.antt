@@ -13,13 +13,13 @@ use Rattle.vm_model.specs.declared.message.Channel.TheVariants.{Up, Down}
 use Rattle.vm_model.specs.declared.message.Message.{Message}
 use Rattle.vm_model.specs.declared.message.Message.TheVariants as message
 use Rattle.vm_model.specs.declared.script.Header.{Header}
-use Rattle.vm_flat.specs.Declared.{is_private, zeros}
+use Rattle.vm_flat.specs.Declared.{Files, is_private, is_said, zeros}
 use Rattle.vm_flat.specs.Tasks.{lives_on}
 use Rattle.vm_flat.specs.Channels.{queue}
 use Rattle.vm_flat.specs.Words.{UpWord, Requesting, Returning, DownWord, Supplying, Unavailing, Erring, Effect, Creates, Requests, Returns, TakesReturn, Answers, Takes, Zeroes, Raises, Stores, Drops, Ends, StepEnds, Nothing}
 use Rattle.vm_flat.specs.Spot.{Spot, move, rest, first}
 use Rattle.vm_flat.specs.Places.{at_place, sent_up, taken_up, sent_down, taken_down, spot, control, control_number}
-use Rattle.vm_flat.specs.Licences.{Files, Licensed, Request, request_taken, LockRequest, lock_taken, MaySendUp, MaySendDown}
+use Rattle.vm_flat.specs.Licences.{Licensed, Request, request_taken, LockRequest, lock_taken, MaySendUp, MaySendDown}
 use Rattle.vm_flat.proofs.Queues.{requests}
 use Rattle.vm_flat.proofs.Sound.{Sound, count}
 use Rattle.vm_flat.proofs.Deeds as D
@@ -36,13 +36,13 @@ abbrev pub down_port : ℕ → ℕ → ℕ → Channel
 down_port h o k = Down (record { 0 = h }) (record { 0 = o }) k
 
 abbrev pub Worlds : Header → Files → List Event → Type 0
-Worlds header files past = (host : ℕ) → World (ground header files) (deeds header host past)
+Worlds header files past = (host : ℕ) → World (ground header files) (deeds header files host past)
 
 pub sound_of : (header : Header) (files : Files) (host o p : ℕ) (past : List Event) → Worlds header files past → is_private header o ≡ true → Sound (zeros header) (spot header files host o p past)
 sound_of header files host o p past w ours = subst (λ (s : Spot). Sound (zeros header) s) (spot_is header files host o p past) ((w host).places o p ours).sound
 
 pub spot_control : (header : Header) (files : Files) (host o p : ℕ) (past : List Event) → (spot header files host o p past).control ≡ control header host o past
-spot_control header files host o p past = ap (λ (s : Spot). s.control) (sym (spot_is header files host o p past)) ∙ control_is (ground header files) o p (deeds header host past) ∙ control_tie header files host o past
+spot_control header files host o p past = ap (λ (s : Spot). s.control) (sym (spot_is header files host o p past)) ∙ control_is (ground header files) o p (deeds header files host past) ∙ control_tie header files host o past
 
 -- nothing is on the way about a place without a live control
 pub record Calm (s : Spot) : Type 0 where
@@ -90,7 +90,7 @@ ups_next header files (event.Stored task object page at size value) past ups c h
 ups_next header files (event.CopiedPage task page object object_page target) past ups c h o p = up_place (zeros header) (spot header files h o p past) o p (lives_on h task.0 past) target.0 page.0 (Raises (spot header files h object.0 object_page.0 past).bytes) Nothing refl refl ∙ ups h o p
 ups_next header files (event.Dropped at object page) past ups c h o p = up_place (zeros header) (spot header files h o p past) o p (at.0 == h) object.0 page.0 Drops Nothing refl refl ∙ ups h o p
 ups_next header files (event.Sent (Up at object) m) past ups c h o p = up_sent (zeros header) (spot header files h o p past) (queue (up_port h o) past) o p (at.0 == h) object.0 m (ups h o p)
-ups_next header files (event.Sent (Down at object n) m) past ups c h o p = up_sent_down (zeros header) (spot header files h o p past) o p (at.0 == h && n == control_number h object.0 past) object.0 m ∙ ups h o p
+ups_next header files (event.Sent (Down at object n) m) past ups c h o p = up_sent_down (zeros header) (spot header files h o p past) o p (at.0 == h && n == control_number h object.0 past) (is_said header files object.0) object.0 m ∙ ups h o p
 ups_next header files (event.Taken (Up at object) m) past ups c h o p = up_taken (zeros header) (spot header files h o p past) (queue (up_port h o) past) o p (at.0 == h) object.0 m (head_up at object m past h o c) (ups h o p)
 ups_next header files (event.Taken (Down at object n) m) past ups c h o p = up_taken_down (zeros header) (spot header files h o p past) o p (at.0 == h && n == control_number h object.0 past) object.0 m ∙ ups h o p
 ups_next header files e past ups c h o p = ups h o p
@@ -153,7 +153,7 @@ none_up header files past w ups h o ours none p = ap (λ x. requests x) (sym (up
 control_there : (header : Header) (past : List Event) (a b h o : ℕ) → (a == h && o == b) ≡ true → control header a b past ≡ 0 → control header h o past ≡ 0
 control_there header past a b h o is none = subst (λ (k : ℕ). control header k o past ≡ 0) (same_host a h o b is) (subst (λ (k : ℕ). control header a k past ≡ 0) (sym (same_object a h o b is)) none)
 
-private_there : (header : Header) (a b h o : ℕ) → (a == h && o == b) ≡ true → is_private header o ≡ true → is_private header b ≡ true
+pub private_there : (header : Header) (a b h o : ℕ) → (a == h && o == b) ≡ true → is_private header o ≡ true → is_private header b ≡ true
 private_there header a b h o is ours = subst (λ (k : ℕ). is_private header k ≡ true) (same_object a h o b is) ours
 
 number_there : (past : List Event) (a b h o n : ℕ) → (a == h && o == b) ≡ true → control_number a b past ≡ n → control_number h o past ≡ n
@@ -162,7 +162,7 @@ number_there past a b h o n is e = subst (λ (k : ℕ). control_number k o past 
 numbers_sent : (header : Header) (files : Files) (at : HostId) (object : ObjectId) (m : Message) (past : List Event) → Worlds header files past → Ups header files past → UpNumbers header past → (is_private header object.0 ≡ true → MaySendUp header files at.0 object.0 m past) → UpNumbers header (event.Sent (Up at object) m ∷ past)
 numbers_sent header files at object (message.Init number size) past w ups all c h o ours =
     from_new (at.0 == h && o == object.0) number (control_number h o past) (queue (up_port h o) past) (message.Init number size) tt
-    (λ is. none_up header files past w ups h o ours (control_there header past at.0 object.0 h o is (c (private_there header at.0 object.0 h o is ours)).1)) (all h o ours)
+    (λ is. none_up header files past w ups h o ours (control_there header past at.0 object.0 h o is (c (private_there header at.0 object.0 h o is ours)).none)) (all h o ours)
 numbers_sent header files at object (message.Create number size) past w ups all c h o ours =
     from_new (at.0 == h && o == object.0) number (control_number h o past) (queue (up_port h o) past) (message.Create number size) tt
     (λ is. none_up header files past w ups h o ours (control_there header past at.0 object.0 h o is (c (private_there header at.0 object.0 h o is ours)).2)) (all h o ours)
@@ -207,11 +207,11 @@ step_sent_up z s o p own object m is = is
 false_true : false ≡ true → ⊥
 false_true e = cc
 
-step_sent_down : (z : List ℕ) (s : Spot) (o p : ℕ) (own : Bool) (object : ℕ) (m : Message) → (move z s (sent_down o p own object m)).step ≡ true → s.step ≡ true
-step_sent_down z s o p own object (message.Supply page lock precious bytes) is = step_place z s o p own object page.0 (Answers (Supplying bytes)) Nothing (λ e. absurd (false_true e)) (λ e. e) is
-step_sent_down z s o p own object (message.Unavailable page) is = step_place z s o p own object page.0 (Answers Unavailing) Nothing (λ e. absurd (false_true e)) (λ e. e) is
-step_sent_down z s o p own object (message.Error page reason) is = step_place z s o p own object page.0 (Answers Erring) Nothing (λ e. absurd (false_true e)) (λ e. e) is
-step_sent_down z s o p own object m is = is
+step_sent_down : (z : List ℕ) (s : Spot) (o p : ℕ) (own tells : Bool) (object : ℕ) (m : Message) → (move z s (sent_down o p own tells object m)).step ≡ true → s.step ≡ true
+step_sent_down z s o p own tells object (message.Supply page lock precious bytes) is = step_place z s o p own object page.0 (Answers tells (Supplying bytes)) Nothing (λ e. absurd (false_true e)) (λ e. e) is
+step_sent_down z s o p own tells object (message.Unavailable page) is = step_place z s o p own object page.0 (Answers tells Unavailing) Nothing (λ e. absurd (false_true e)) (λ e. e) is
+step_sent_down z s o p own tells object (message.Error page reason) is = step_place z s o p own object page.0 (Answers tells Erring) Nothing (λ e. absurd (false_true e)) (λ e. e) is
+step_sent_down z s o p own tells object m is = is
 
 number_if : (b : Bool) (new n k : ℕ) → (b ≡ true → ⊥) → k ≡ n → k ≡ (if b then new else n)
 number_if true new n k never is = absurd (never refl)
@@ -220,7 +220,7 @@ number_if false new n k never is = is
 asked_sent : (header : Header) (files : Files) (at : HostId) (object : ObjectId) (m : Message) (past : List Event) → Worlds header files past → AskedBy header files past → (is_private header object.0 ≡ true → MaySendUp header files at.0 object.0 m past) → AskedBy header files (event.Sent (Up at object) m ∷ past)
 asked_sent header files at object (message.Init number size) past w all c h o n p ours taken step =
     number_if (at.0 == h && o == object.0) number (control_number h o past) n
-    (λ is. clash (spot header files h o p past).step (calm header files h o p past w ours (control_there header past at.0 object.0 h o is (c (private_there header at.0 object.0 h o is ours)).1)).step was)
+    (λ is. clash (spot header files h o p past).step (calm header files h o p past w ours (control_there header past at.0 object.0 h o is (c (private_there header at.0 object.0 h o is ours)).none)).step was)
     (all h o n p ours taken was)
   where
     was : (spot header files h o p past).step ≡ true
@@ -264,7 +264,7 @@ asked_next header files (event.Stored task object page at size value) past w num
 asked_next header files (event.CopiedPage task page object object_page target) past w numbers all c h o n p ours taken step = all h o n p ours taken (step_place (zeros header) (spot header files h o p past) o p (lives_on h task.0 past) target.0 page.0 (Raises (spot header files h object.0 object_page.0 past).bytes) Nothing (λ e. e) (λ e. e) step)
 asked_next header files (event.Dropped at object page) past w numbers all c h o n p ours taken step = all h o n p ours taken (step_place (zeros header) (spot header files h o p past) o p (at.0 == h) object.0 page.0 Drops Nothing (λ e. e) (λ e. e) step)
 asked_next header files (event.Sent (Up at object) m) past w numbers all c h o n p ours taken step = asked_sent header files at object m past w all c h o n p ours taken step
-asked_next header files (event.Sent (Down at object k) m) past w numbers all c h o n p ours taken step = all h o n p ours taken (step_sent_down (zeros header) (spot header files h o p past) o p (at.0 == h && k == control_number h object.0 past) object.0 m step)
+asked_next header files (event.Sent (Down at object k) m) past w numbers all c h o n p ours taken step = all h o n p ours taken (step_sent_down (zeros header) (spot header files h o p past) o p (at.0 == h && k == control_number h object.0 past) (is_said header files object.0) object.0 m step)
 asked_next header files (event.Taken (Up at object) m) past w numbers all c h o n p ours taken step = asked_taken header files at object m past numbers c h o n p ours taken step
 asked_next header files (event.Taken (Down at object k) m) past w numbers all c h o n p ours taken step = absurd (none_request _ taken)
 asked_next header files e past w numbers all c h o n p ours taken step = all h o n p ours taken step
@@ -297,7 +297,7 @@ downs_sent_up : (header : Header) (files : Files) (at : HostId) (object : Object
 downs_sent_up header files at object (message.Init number size) past w downs c h o ours k p =
     new_down (at.0 == h && o == object.0) number (control_number h o past) k (spot header files h o p past) (spot header files h o p (event.Sent (Up at object) (message.Init number size) ∷ past)) (down_words p (queue (down_port h o k) past))
     (down_sent_up (zeros header) (spot header files h o p past) o p (at.0 == h) object.0 (message.Init number size))
-    (λ is. (calm header files h o p past w ours (control_there header past at.0 object.0 h o is (c (private_there header at.0 object.0 h o is ours)).1)).down) (downs h o ours k p)
+    (λ is. (calm header files h o p past w ours (control_there header past at.0 object.0 h o is (c (private_there header at.0 object.0 h o is ours)).none)).down) (downs h o ours k p)
 downs_sent_up header files at object (message.Create number size) past w downs c h o ours k p =
     new_down (at.0 == h && o == object.0) number (control_number h o past) k (spot header files h o p past) (spot header files h o p (event.Sent (Up at object) (message.Create number size) ∷ past)) (down_words p (queue (down_port h o k) past))
     (down_sent_up (zeros header) (spot header files h o p past) o p (at.0 == h) object.0 (message.Create number size))
@@ -347,7 +347,7 @@ downs_next header files (event.Sent (Up at object) m) past w asked downs c h o o
 downs_next header files (event.Taken (Up at object) m) past w asked downs c h o ours k p =
     downs h o ours k p ∙ move_down_of (k == control_number h o past) (spot header files h o p past) (spot header files h o p (event.Taken (Up at object) m ∷ past)) (down_taken_up (zeros header) (spot header files h o p past) o p (at.0 == h) object.0 m)
 downs_next header files (event.Sent (Down at object n) m) past w asked downs c h o ours k p =
-    down_sent (zeros header) (spot header files h o p past) (queue (down_port h o k) past) o p (at.0 == h) object.0 m (k == control_number h o past) (k == n) (n == control_number h object.0 past)
+    down_sent (zeros header) (spot header files h o p past) (is_said header files object.0) (queue (down_port h o k) past) o p (at.0 == h) object.0 m (k == control_number h o past) (k == n) (n == control_number h object.0 past)
     (λ is to. newest is to)
     (λ is e. test_same k n (control_number h o past) e ∙ ap (λ x. n == x) (number_same past h o object.0 (same_object at.0 h o object.0 is)))
     (λ is one two. test_only k n (control_number h o past) one (ap (λ x. n == x) (number_same past h o object.0 (same_object at.0 h o object.0 is)) ∙ two))

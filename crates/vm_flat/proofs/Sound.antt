@@ -1,5 +1,5 @@
 -- What holds of one place at every moment.
-use Rattle.std.proofs.Common.{◌≡◌, ℕ, ◌+◌, ◌≤◌, List, [], ◌∷◌, ◌++◌, arith, Bool, true, false, Option, Some, None, refl, length, if◌then◌else◌, ◌≢◌}
+use Rattle.std.proofs.Common.{◌≡◌, ℕ, ◌+◌, ◌≤◌, List, [], ◌∷◌, ◌++◌, arith, Bool, true, false, Option, Some, None, refl, ap, sym, length, if◌then◌else◌, ◌≢◌}
 use Rattle.std.proofs.lemmas.Bool.Decides.{nat_tests}
 use Rattle.std.specs.Prelude.{◌⊎◌}
 use Rattle.vm_flat.specs.Words.{DownWord, Supplying, Unavailing, Erring, Effect, Creates, Requests, Returns, TakesRequest, TakesReturn, Answers, Takes, Zeroes, Raises, Stores, Drops, Ends, StepEnds, Nothing}
@@ -69,10 +69,26 @@ steps z s (Supplying bytes) may = may.0
 steps z s Unavailing may = may.0
 steps z s Erring may = may
 
-pub keep_answers : (z : List ℕ) (s : Spot) (w : DownWord) → Sound z s → May z s (Answers w) → Sound z (move z s (Answers w))
+pub keep_answers : (z : List ℕ) (s : Spot) (w : DownWord) → Sound z s → May z s (Answers false w) → Sound z (move z s (Answers false w))
 keep_answers z s w ok may =
     let on : s.step ≡ true = steps z s w may in
     let carried : Carry (nothing z s) s.returned (s.down ++ w ∷ []) = carry_end (nothing z s) s.returned s.down w ok.coming (says z s w ok may) in
+    grind (arith, nat_tests, length_end)
+
+pub keep_tells : (z : List ℕ) (s : Spot) (w : DownWord) → Sound z s → May z s (Answers true w) → Sound z (move z s (Answers true w))
+keep_tells z s (Supplying bytes) ok may =
+    let down : length s.down ≡ 0 = grind (arith) in
+    let up : returns s.up ≡ 0 = grind (arith) in
+    let carried : Carry (nothing z s) (Some bytes) (s.down ++ Supplying bytes ∷ []) = carry_end (nothing z s) (Some bytes) s.down (Supplying bytes) (carry_none (nothing z s) (Some bytes) s.down down) refl in
+    grind (arith, nat_tests, length_end, latest_none)
+keep_tells z s Unavailing ok may =
+    let down : length s.down ≡ 0 = grind (arith) in
+    let up : returns s.up ≡ 0 = grind (arith) in
+    let none : Some z ≡ nothing z s = ap (λ (b : Bool). if b then Some z else None) (sym may.1) in
+    let carried : Carry (nothing z s) (Some z) (s.down ++ Unavailing ∷ []) = carry_end (nothing z s) (Some z) s.down Unavailing (carry_none (nothing z s) (Some z) s.down down) none in
+    grind (arith, nat_tests, length_end, latest_none)
+keep_tells z s Erring ok may =
+    let carried : Carry (nothing z s) s.returned (s.down ++ Erring ∷ []) = carry_end (nothing z s) s.returned s.down Erring ok.coming tt in
     grind (arith, nat_tests, length_end)
 
 pub keep_takes : (z : List ℕ) (s : Spot) (w : DownWord) → Sound z s → May z s (Takes w) → Sound z (move z s (Takes w))
@@ -122,6 +138,7 @@ supplied_returned z s bytes ok may = carry_first (nothing z s) s.returned s.down
 abbrev pub Saves : Spot → Effect → Type 0
 Saves s (Raises bytes) = ⊥
 Saves s (Stores at bytes) = ⊥
+Saves s (Answers true word) = ⊥
 Saves s Drops = s.dirty ≡ false
 Saves s e = Unit {0}
 
@@ -138,7 +155,8 @@ content_saved z s Requests ok may saves = refl
 content_saved z s (Returns keep bytes) ok may saves = grind arith
 content_saved z s TakesRequest ok may saves = refl
 content_saved z s (TakesReturn bytes) ok may saves = refl
-content_saved z s (Answers word) ok may saves = refl
+content_saved z s (Answers true word) ok may saves = absurd saves
+content_saved z s (Answers false word) ok may saves = refl
 content_saved z s (Takes word) ok may saves = takes_saves z s word ok may
 content_saved z s Zeroes ok may saves = grind arith
 content_saved z s (Raises bytes) ok may saves = absurd saves

@@ -1,11 +1,11 @@
 -- Deeds that leave regions and objects as they are, and change what one place has.
 use Rattle.std.proofs.Common.{false, ◌<◌, ◌≡◌, ℕ, suc, ◌≤◌, List, ◌∷◌, arith, Bool, true, ◌∙◌, inl, inr}
 use Rattle.std.specs.Prelude.{◌⊎◌}
-use Rattle.vm_flat.specs.Words.{DownWord, Effect, Creates, Requests, Returns, TakesRequest, TakesReturn, Answers, Takes, Zeroes, Raises, Drops, Ends, StepEnds, Nothing}
+use Rattle.vm_flat.specs.Words.{DownWord, Effect, Creates, Requests, Returns, TakesRequest, TakesReturn, Takes, Zeroes, Raises, Drops, Ends, StepEnds, Nothing}
 use Rattle.vm_flat.specs.Spot.{move}
-use Rattle.vm_flat.proofs.Deeds.{pages, Ground, is_file, covered, Deed, Line, Zeroed, Raised, Dropped, Created, Asked, Returned, TookRequest, TookReturn, Answered, Took, Terminated, Elsewhere, objects, link, spot}
+use Rattle.vm_flat.proofs.Deeds.{pages, Ground, is_file, covered, Deed, Line, Zeroed, Raised, Dropped, Created, Asked, Returned, TookRequest, TookReturn, Took, Terminated, Elsewhere, objects, link, spot}
 use Rattle.vm_flat.proofs.Causes.{Reach, Tops, Cause, Ours, Void, Bottoms, Finds}
-use Rattle.vm_flat.proofs.Good.{good_step, good_creates, good_requests, good_returns, good_takes_request, good_takes_return, good_answers, good_takes, good_zeroes, good_fills, good_raises, good_drops, good_ends}
+use Rattle.vm_flat.proofs.Good.{good_step, good_creates, good_requests, good_returns, good_takes_request, good_takes_return, good_takes, good_zeroes, good_fills, good_raises, good_drops, good_ends}
 use Rattle.vm_flat.proofs.Control.{control_is}
 use Rattle.vm_flat.proofs.File.{file_is}
 use Rattle.vm_flat.proofs.World.{ReachAt, World, GoodAt, view, tops_below, under_view, Barren, reach_top, sinks_passed, sunk_below, found, each_place, each_object}
@@ -78,16 +78,6 @@ after_took_return z own o p bytes past w c =
       places = each_place (After z past) o p own (TakesReturn bytes) StepEnds
           (λ is ours. good_takes_return z.zeros (ReachAt z o p past) (objects z past ≤ o) (Barren z o p past) (view z o p past) (link z o past).backed (under_view z o p past) (spot z o p past) bytes (w.places o p ours) (c (record { on_host = is; covered = ours })))
           (rest_step z past w);
-    }
-
-pub after_answered : (z : Ground) (own : Bool) (o p : ℕ) (word : DownWord) (past : List Deed) → World z past → Cause z (Answered own o p word) past → World z (Answered own o p word ∷ past)
-after_answered z own o p word past w c =
-    record {
-      shape = w.shape;
-      regional = w.regional;
-      places = each_place (After z past) o p own (Answers word) Nothing
-          (λ is ours. good_answers z.zeros (ReachAt z o p past) (objects z past ≤ o) (Barren z o p past) (view z o p past) (link z o past).backed (under_view z o p past) (spot z o p past) word (w.places o p ours) (c (record { on_host = is; covered = ours })))
-          (rest_nothing z past w);
     }
 
 pub after_took : (z : Ground) (own : Bool) (o p : ℕ) (word : DownWord) (past : List Deed) → World z past → Cause z (Took own o p word) past → World z (Took own o p word ∷ past)

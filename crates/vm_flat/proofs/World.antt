@@ -5,7 +5,7 @@ use Rattle.std.specs.Prelude.{◌==◌, ◌&&◌}
 use Rattle.vm_base.specs.Pages.{with_bytes}
 use Rattle.vm_flat.specs.Words.{Effect}
 use Rattle.vm_flat.specs.Spot.{Spot, Passed, content}
-use Rattle.vm_flat.proofs.Deeds.{pages, is_file, covered, Ground, Deed, Region, Shadowed, Copied, Stored, Row, row, regions, objects, Link, link, at_place, spot, flat}
+use Rattle.vm_flat.proofs.Deeds.{pages, is_file, covered, Ground, Deed, Region, Shadowed, Copied, Stored, Answered, said, Row, row, regions, objects, Link, link, at_place, spot, flat}
 use Rattle.vm_flat.proofs.Causes.{Below, Path, Reaches, Reach, Walks, Sinks, Tops}
 use Rattle.vm_flat.proofs.Sound.{passed_content}
 use Rattle.vm_flat.proofs.File.{file_is}
@@ -18,6 +18,7 @@ view z o p (Region own region object count ∷ past) = if o == object then z.zer
 view z o p (Shadowed region new ∷ past) = if o == new then view z (row z region past).top ((row z region past).shift + p) past else view z o p past
 view z o p (Copied own source index object page region i upper upper_page ∷ past) = if own && (o == upper && p == upper_page) then flat z source index past else view z o p past
 view z o p (Stored own region index object page at bytes ∷ past) = if own && (o == object && p == page) then with_bytes at bytes (view z o p past) else view z o p past
+view z o p (Answered own tells object page word ∷ past) = if (tells && own) && (o == object && p == page) then said z.zeros word (view z o p past) else view z o p past
 view z o p (e ∷ past) = view z o p past
 
 -- the numbers of regions and objects, and which objects stand on which

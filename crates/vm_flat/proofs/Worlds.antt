@@ -8,7 +8,8 @@ use Rattle.vm_flat.proofs.Sound.{sound_start}
 use Rattle.vm_flat.proofs.Good.{Fits}
 use Rattle.vm_flat.proofs.Slow.{after_copied}
 use Rattle.vm_flat.proofs.World.{World, Barren, view}
-use Rattle.vm_flat.proofs.Traffic.{after_line, after_elsewhere, after_dropped, after_asked, after_returned, after_took_request, after_took_return, after_answered, after_took, after_created, after_terminated, after_zeroed, after_raised}
+use Rattle.vm_flat.proofs.Traffic.{after_line, after_elsewhere, after_dropped, after_asked, after_returned, after_took_request, after_took_return, after_took, after_created, after_terminated, after_zeroed, after_raised}
+use Rattle.vm_flat.proofs.Answered.{after_answered}
 use Rattle.vm_flat.proofs.Stored.{after_stored}
 use Rattle.vm_flat.proofs.Regions.{after_region, after_kept}
 use Rattle.vm_flat.proofs.Copies.{after_cow, after_shadowed}
@@ -29,7 +30,7 @@ after z (Returned own object page keep bytes) past w c = after_returned z own ob
 after z (Copied own source index object page region i upper upper_page) past w c = after_copied z own source index object page region i upper upper_page past w c
 after z (TookRequest own object page) past w c = after_took_request z own object page past w c
 after z (TookReturn own object page bytes) past w c = after_took_return z own object page bytes past w c
-after z (Answered own object page word) past w c = after_answered z own object page word past w c
+after z (Answered own tells object page word) past w c = after_answered z own tells object page word past w c
 after z (Took own object page word) past w c = after_took z own object page word past w c
 after z (Terminated own object) past w c = after_terminated z own object past w c
 after z Elsewhere past w c = after_elsewhere z past w

@@ -5,12 +5,12 @@ use Rattle.vm_model.specs.declared.event.Event.TheVariants as event
 use Rattle.vm_model.specs.declared.script.Header.{Header}
 use Rattle.vm_model.specs.Chains.{page_of}
 use Rattle.vm_model.specs.Bytes.{number_in}
-use Rattle.vm_flat.specs.Declared.{is_private}
+use Rattle.vm_flat.specs.Declared.{Files, is_private}
 use Rattle.vm_flat.specs.Waiting.{Loading}
 use Rattle.vm_flat.specs.Flat.{flat_page}
 use Rattle.vm_flat.specs.Places.{spot}
 use Rattle.vm_flat.specs.Tasks.{lives_on}
-use Rattle.vm_flat.specs.Licences.{Files, Waits}
+use Rattle.vm_flat.specs.Licences.{Waits}
 
 -- a load of a region of temporary or file memory answers the number in the flat map's page, at its address
 pub record AnswersFlat (header : Header) (files : Files) (task value : ℕ) (past : List Event) : Type 0 where

@@ -35,6 +35,24 @@ pages_kept (Some object) = object.pages
 abbrev pub declared_pages : Header → ℕ → ℕ
 declared_pages header object = pages_kept (declared header object)
 
+-- what the files hold at the start, by object and page; or it is not told
+pub data Files : Type 0 where
+  Told : (pages : ℕ → ℕ → List ℕ) → Files
+  Untold : Files
+
+abbrev pub are_untold : Files → Bool
+are_untold (Told pages) = false
+are_untold Untold = true
+
+-- what the pager answers for the object says what its file has
+abbrev pub is_said : Header → Files → ℕ → Bool
+is_said header files object = are_untold files && is_file header object
+
 -- a page of zeros
 abbrev pub zeros : Header → List ℕ
 zeros header = replicate header.size 0
+
+-- a file's page at the start; where it is not told, zeros until an answer
+abbrev pub start_page : Header → Files → ℕ → ℕ → List ℕ
+start_page header (Told pages) object page = pages object page
+start_page header Untold object page = zeros header

@@ -5,9 +5,12 @@ use Rattle.vm_base.specs.Entries.{entry_at}
 use Rattle.vm_base.specs.Pages.{little_endian_bytes, with_bytes}
 use Rattle.vm_model.specs.declared.event.Event.{Event}
 use Rattle.vm_model.specs.declared.event.Event.TheVariants as event
+use Rattle.vm_model.specs.declared.message.Channel.TheVariants.{Up, Down}
+use Rattle.vm_model.specs.declared.message.Message.{Message}
+use Rattle.vm_model.specs.declared.message.Message.TheVariants as message
 use Rattle.vm_model.specs.declared.script.Header.{Header}
 use Rattle.vm_model.specs.Chains.{page_of}
-use Rattle.vm_flat.specs.Declared.{is_file, zeros}
+use Rattle.vm_flat.specs.Declared.{Files, is_file, is_said, start_page, zeros}
 use Rattle.vm_flat.specs.Tasks.{entries_of}
 use Rattle.vm_flat.specs.Waiting.{Access, Storing, waiting}
 
@@ -44,13 +47,20 @@ abbrev pub is_number : ℕ → Option ℕ → Bool
 is_number n None = false
 is_number n (Some m) = n == m
 
--- the bytes of a page of a region; what the files hold at the start comes in as a function of region and page
-abbrev pub flat_page : Header → (ℕ → ℕ → List ℕ) → ℕ → ℕ → List Event → List ℕ
-flat_page header files region page [] = if is_file header region then files region page else zeros header
+-- where files are not told, an answer about an object's page gives that page of the object's region its bytes
+abbrev pub answered : Header → Bool → ℕ → ℕ → ℕ → Message → List ℕ → List ℕ
+answered header says region page object (message.Supply at lock precious bytes) was = if says && (region == object && page == at.0) then bytes else was
+answered header says region page object (message.Unavailable at) was = if says && (region == object && page == at.0) then zeros header else was
+answered header says region page object other was = was
+
+-- the bytes of a page of a region
+abbrev pub flat_page : Header → Files → ℕ → ℕ → List Event → List ℕ
+flat_page header files region page [] = if is_file header region then start_page header files region page else zeros header
 flat_page header files region page (event.RegionMade made object pages ∷ past) = if region == made.0 then zeros header else flat_page header files region page past
 flat_page header files region page (event.RegionCopied made source offset pages ∷ past) =
     if region == made.0 then flat_page header files source.0 (offset + page) past else flat_page header files region page past
 flat_page header files region page (event.Stored task object in_object at size value ∷ past) = changed region page (change_of header.size task.0 past) (flat_page header files region page past)
 flat_page header files region page (event.CopiedPage task index object object_page target ∷ past) =
     if is_number region (made_over target.0 past) && page == index.0 then flat_page header files object.0 object_page.0 past else flat_page header files region page past
+flat_page header files region page (event.Sent (Down host object control) m ∷ past) = answered header (is_said header files object.0) region page object.0 m (flat_page header files region page past)
 flat_page header files region page (e ∷ past) = flat_page header files region page past

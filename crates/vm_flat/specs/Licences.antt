@@ -12,7 +12,7 @@ use Rattle.vm_model.specs.declared.script.Header.{Header}
 use Rattle.vm_model.specs.Tasks.{host_of}
 use Rattle.vm_model.specs.Chains.{page_of}
 use Rattle.vm_model.specs.Bytes.{number_in}
-use Rattle.vm_flat.specs.Declared.{named, is_file, is_private, zeros}
+use Rattle.vm_flat.specs.Declared.{Files, named, is_file, is_private, is_said, zeros}
 use Rattle.vm_flat.specs.Tasks.{lives_on, tasks, entries_of}
 use Rattle.vm_flat.specs.Waiting.{Access, Loading, Storing, Copying, waiting, next_page, Target, copy_target, address_of, is_store}
 use Rattle.vm_flat.specs.Regions.{next_region, next_object, Region, region_of, Backing, backing_of, is_filled, in_use}
@@ -20,10 +20,6 @@ use Rattle.vm_flat.specs.Channels.{queue}
 use Rattle.vm_flat.specs.Spot.{Spot, first}
 use Rattle.vm_flat.specs.Places.{spot, control, control_number}
 use Rattle.vm_flat.specs.Walks.{Reaches, Walks, Sinks, IsTop}
-
--- what the files hold at the start, by object and page
-abbrev pub Files : Type 0
-Files = ℕ → ℕ → List ℕ
 
 -- where an address of a living task leads
 pub record At (header : Header) (task address : ℕ) (past : List Event) : Type 0 where
@@ -153,7 +149,17 @@ pub record Ends (header : Header) (files : Files) (host control_of object : ℕ)
   pub away : (page : ℕ) → (spot header files host object page past).here ≡ false
   pub unasked : (page : ℕ) → (spot header files host object page past).asked ≡ false
 
--- what an answer may say of a page: the last return that was taken, or for a file the page at the start
+-- a declared object is mapped on a host that has no live control of it
+pub record Opens (header : Header) (host object : ℕ) (past : List Event) : Type 0 where
+  pub declared : object < named header
+  pub none : control header host object past ≡ 0
+  pub task : ℕ
+  pub address : ℕ
+  pub at : At header task address past
+  pub on_host : at.host ≡ host
+  pub region : at.entry.region.0 ≡ object
+
+-- what an answer may say of a page: the last return that was taken, or for a file that is told the page at the start
 abbrev pub MaySupply : Spot → List ℕ → Type 0
 MaySupply s bytes = s.kept ≡ Some bytes
 
@@ -183,7 +189,7 @@ pub record Answers (header : Header) (files : Files) (host object control_of pag
 
 -- what a host sends up about a temporary object or a file
 abbrev pub MaySendUp : Header → Files → ℕ → ℕ → Message → List Event → Type 0
-MaySendUp header files host object (message.Init number size) past = (object < named header) × (control header host object past ≡ 0)
+MaySendUp header files host object (message.Init number size) past = Opens header host object past
 MaySendUp header files host object (message.Create number size) past =
     (number ≡ 1) × (named header ≤ object) × (control header host object past ≡ 0) × (page : ℕ) × ((spot header files host object page past).here ≡ true)
 MaySendUp header files host object (message.Request number page access) past = Asks header files host number object page.0 past
@@ -194,9 +200,9 @@ MaySendUp header files host object other past = Unit {0}
 -- what its pager sends down
 abbrev pub MaySendDown : Header → Files → ℕ → ℕ → ℕ → Message → List Event → Type 0
 MaySendDown header files host object number (message.Supply page lock precious bytes) past =
-    Answers header files host object number page.0 past × MaySupply (spot header files host object page.0 past) bytes
+    Answers header files host object number page.0 past × (is_said header files object ≡ false → MaySupply (spot header files host object page.0 past) bytes)
 MaySendDown header files host object number (message.Unavailable page) past =
-    Answers header files host object number page.0 past × MayLack (zeros header) (spot header files host object page.0 past)
+    Answers header files host object number page.0 past × (is_said header files object ≡ false → MayLack (zeros header) (spot header files host object page.0 past))
 MaySendDown header files host object number (message.Error page reason) past = Answers header files host object number page.0 past
 -- the file pager's clean wants all changed pages back
 MaySendDown header files host object number (message.Lock page count returns flush lock reply) past = returns ≡ 2

@@ -8,7 +8,7 @@ use Rattle.vm_model.specs.declared.message.Channel.TheVariants.{Up, Down}
 use Rattle.vm_model.specs.declared.message.Message.{Message}
 use Rattle.vm_model.specs.declared.message.Message.TheVariants as message
 use Rattle.vm_model.specs.declared.script.Header.{Header}
-use Rattle.vm_flat.specs.Declared.{is_file, zeros}
+use Rattle.vm_flat.specs.Declared.{Files, is_file, is_said, start_page, zeros}
 use Rattle.vm_flat.specs.Tasks.{lives_on}
 use Rattle.vm_flat.specs.Words.{Supplying, Unavailing, Erring, Effect, Creates, Requests, Returns, TakesRequest, TakesReturn, Answers, Takes, Zeroes, Raises, Stores, Drops, Ends, StepEnds, Nothing}
 use Rattle.vm_flat.specs.Spot.{Spot, first_spot, move}
@@ -37,11 +37,11 @@ taken_up o p own object (message.Request control page access) = at_place o p own
 taken_up o p own object (message.Return control page dirty keep bytes) = at_place o p own object page.0 (TakesReturn bytes) StepEnds
 taken_up o p own object other = StepEnds
 
-abbrev pub sent_down : ℕ → ℕ → Bool → ℕ → Message → Effect
-sent_down o p own object (message.Supply page lock precious bytes) = at_place o p own object page.0 (Answers (Supplying bytes)) Nothing
-sent_down o p own object (message.Unavailable page) = at_place o p own object page.0 (Answers Unavailing) Nothing
-sent_down o p own object (message.Error page reason) = at_place o p own object page.0 (Answers Erring) Nothing
-sent_down o p own object other = Nothing
+abbrev pub sent_down : ℕ → ℕ → Bool → Bool → ℕ → Message → Effect
+sent_down o p own tells object (message.Supply page lock precious bytes) = at_place o p own object page.0 (Answers tells (Supplying bytes)) Nothing
+sent_down o p own tells object (message.Unavailable page) = at_place o p own object page.0 (Answers tells Unavailing) Nothing
+sent_down o p own tells object (message.Error page reason) = at_place o p own object page.0 (Answers tells Erring) Nothing
+sent_down o p own tells object other = Nothing
 
 abbrev pub taken_down : ℕ → ℕ → Bool → ℕ → Message → Effect
 taken_down o p own object (message.Supply page lock precious bytes) = at_place o p own object page.0 (Takes (Supplying bytes)) StepEnds
@@ -50,24 +50,23 @@ taken_down o p own object (message.Error page reason) = at_place o p own object 
 taken_down o p own object other = StepEnds
 
 -- What an event is to page p of object o on the host. What the host has of the other places comes in as a function.
--- Of the answers those to the host's newest control count.
-abbrev pub effect_of : ℕ → ℕ → ℕ → Event → List Event → (ℕ → ℕ → Spot) → Effect
-effect_of host o p (event.Line line) past spots = StepEnds
-effect_of host o p (event.Zeroed at object page) past spots = at_place o p (at.0 == host) object.0 page.0 Zeroes Nothing
-effect_of host o p (event.Raised at lower lower_page upper upper_page) past spots = at_place o p (at.0 == host) upper.0 upper_page.0 (Raises (spots lower.0 lower_page.0).bytes) Nothing
-effect_of host o p (event.Stored task object page at size value) past spots = at_place o p (lives_on host task.0 past) object.0 page.0 (Stores at (little_endian_bytes size value)) Nothing
-effect_of host o p (event.CopiedPage task page object object_page target) past spots = at_place o p (lives_on host task.0 past) target.0 page.0 (Raises (spots object.0 object_page.0).bytes) Nothing
-effect_of host o p (event.Dropped at object page) past spots = at_place o p (at.0 == host) object.0 page.0 Drops Nothing
-effect_of host o p (event.Sent (Up at object) m) past spots = sent_up o p (at.0 == host) object.0 m
-effect_of host o p (event.Sent (Down at object control) m) past spots = sent_down o p (at.0 == host && control == control_number host object.0 past) object.0 m
-effect_of host o p (event.Taken (Up at object) m) past spots = taken_up o p (at.0 == host) object.0 m
-effect_of host o p (event.Taken (Down at object control) m) past spots = taken_down o p (at.0 == host && control == control_number host object.0 past) object.0 m
-effect_of host o p e past spots = Nothing
+-- So does, of which objects the answers say what their files have. Of the answers those to the host's newest control count.
+abbrev pub effect_of : (ℕ → Bool) → ℕ → ℕ → ℕ → Event → List Event → (ℕ → ℕ → Spot) → Effect
+effect_of says host o p (event.Line line) past spots = StepEnds
+effect_of says host o p (event.Zeroed at object page) past spots = at_place o p (at.0 == host) object.0 page.0 Zeroes Nothing
+effect_of says host o p (event.Raised at lower lower_page upper upper_page) past spots = at_place o p (at.0 == host) upper.0 upper_page.0 (Raises (spots lower.0 lower_page.0).bytes) Nothing
+effect_of says host o p (event.Stored task object page at size value) past spots = at_place o p (lives_on host task.0 past) object.0 page.0 (Stores at (little_endian_bytes size value)) Nothing
+effect_of says host o p (event.CopiedPage task page object object_page target) past spots = at_place o p (lives_on host task.0 past) target.0 page.0 (Raises (spots object.0 object_page.0).bytes) Nothing
+effect_of says host o p (event.Dropped at object page) past spots = at_place o p (at.0 == host) object.0 page.0 Drops Nothing
+effect_of says host o p (event.Sent (Up at object) m) past spots = sent_up o p (at.0 == host) object.0 m
+effect_of says host o p (event.Sent (Down at object control) m) past spots = sent_down o p (at.0 == host && control == control_number host object.0 past) (says object.0) object.0 m
+effect_of says host o p (event.Taken (Up at object) m) past spots = taken_up o p (at.0 == host) object.0 m
+effect_of says host o p (event.Taken (Down at object control) m) past spots = taken_down o p (at.0 == host && control == control_number host object.0 past) object.0 m
+effect_of says host o p e past spots = Nothing
 
--- the files' pages at the start come in as a function of object and page
-abbrev pub spot : Header → (ℕ → ℕ → List ℕ) → ℕ → ℕ → ℕ → List Event → Spot
-spot header files host o p [] = first_spot (is_file header o) (files o p)
-spot header files host o p (e ∷ past) = move (zeros header) (spot header files host o p past) (effect_of host o p e past (λ k q. spot header files host k q past))
+abbrev pub spot : Header → Files → ℕ → ℕ → ℕ → List Event → Spot
+spot header files host o p [] = first_spot (is_file header o) (start_page header files o p)
+spot header files host o p (e ∷ past) = move (zeros header) (spot header files host o p past) (effect_of (λ k. is_said header files k) host o p e past (λ k q. spot header files host k q past))
 
 -- the host's control of an object: 0 none, 1 live, 2 ended for ever
 abbrev pub control : Header → ℕ → ℕ → List Event → ℕ

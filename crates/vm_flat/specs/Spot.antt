@@ -50,6 +50,12 @@ abbrev pub first : {A : Type 0} → List A → Option A
 first [] = None
 first (x ∷ xs) = Some x
 
+-- what an answer says that the pager has
+abbrev pub told : List ℕ → DownWord → Option (List ℕ) → Option (List ℕ)
+told z (Supplying bytes) was = Some bytes
+told z Unavailing was = Some z
+told z Erring was = was
+
 -- an answer counts where the live control asked
 abbrev pub hears : Spot → Bool
 hears s = s.control == 1 && s.asked
@@ -74,7 +80,14 @@ move z s Requests = record s { up = s.up ++ Requesting ∷ []; asked = true }
 move z s (Returns keep bytes) = record s { up = s.up ++ Returning bytes ∷ []; here = keep; dirty = false; absent = false; returned = Some bytes }
 move z s TakesRequest = record s { up = rest s.up; step = true; void = false }
 move z s (TakesReturn bytes) = record s { up = rest s.up; kept = Some bytes; step = false; void = false }
-move z s (Answers word) = record s { down = s.down ++ word ∷ []; step = false }
+move z s (Answers tells word) =
+    record s {
+      down = s.down ++ word ∷ [];
+      step = false;
+      returned = if tells then told z word s.returned else s.returned;
+      kept = if tells then told z word s.kept else s.kept;
+      void = if tells then false else s.void;
+    }
 move z s (Takes word) = taken s word (hears s)
 move z s Zeroes = record s { here = true; bytes = z; dirty = false; void = false }
 move z s (Raises bytes) = record s { here = true; bytes = bytes; dirty = true }
@@ -103,7 +116,8 @@ May z s Requests = (s.control ≡ 1) × (s.here ≡ false) × (s.asked ≡ false
 May z s (Returns keep bytes) = (s.control ≡ 1) × (s.here ≡ true) × (s.dirty ≡ true) × (bytes ≡ s.bytes)
 May z s TakesRequest = first s.up ≡ Some Requesting
 May z s (TakesReturn bytes) = first s.up ≡ Some (Returning bytes)
-May z s (Answers word) = MayAnswer z s word
+May z s (Answers true word) = (s.step ≡ true) × (s.file ≡ true)
+May z s (Answers false word) = MayAnswer z s word
 May z s (Takes word) = first s.down ≡ Some word
 May z s Zeroes = (s.here ≡ false) × (s.asked ≡ false)
 May z s (Raises bytes) = (s.here ≡ false) × (s.asked ≡ false) × (s.file ≡ false)

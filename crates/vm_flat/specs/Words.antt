@@ -19,7 +19,8 @@ pub data Effect : Type 0 where
   Returns : (keep : Bool) → (bytes : List ℕ) → Effect
   TakesRequest : Effect
   TakesReturn : (bytes : List ℕ) → Effect
-  Answers : (word : DownWord) → Effect
+  -- where the pager's files are not told, its answer says what the file has
+  Answers : (tells : Bool) → (word : DownWord) → Effect
   Takes : (word : DownWord) → Effect
   Zeroes : Effect
   Raises : (bytes : List ℕ) → Effect

@@ -6,7 +6,8 @@ ghost use Rattle.vm_model.specs.Moments.{EachEvent};
 ghost use Rattle.vm_model.specs.declared.event.Event.{Event};
 ghost use Rattle.vm_model.specs.declared.script.Header.{Header};
 ghost use Rattle.vm_flat.specs.Bytes.{CopiesCurrent, FlatBytes};
-ghost use Rattle.vm_flat.specs.Licences.{AllLicensed, Files};
+ghost use Rattle.vm_flat.specs.Declared.{Files};
+ghost use Rattle.vm_flat.specs.Licences.{AllLicensed};
 
 /// Each load of temporary or file memory answers the flat map's bytes, whatever was shadowed,
 /// raised, paged out, supplied, lost or dropped before it: of every history whose events have their
