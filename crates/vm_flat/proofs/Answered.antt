@@ -1,12 +1,12 @@
 -- An answer of a pager.
-use Rattle.std.proofs.Common.{◌<◌, ◌≡◌, ◌≢◌, ℕ, zero, suc, ◌+◌, ◌≤◌, List, ◌∷◌, arith, Bool, true, false, None, refl, if◌then◌else◌, ◌∙◌, sym, subst, ap, inl, inr}
+use Rattle.std.proofs.Common.{◌<◌, ◌≡◌, ℕ, ◌+◌, ◌≤◌, List, ◌∷◌, arith, Bool, true, false, refl, if◌then◌else◌, ◌∙◌, sym, subst, ap, inl, inr}
 use Rattle.std.proofs.lemmas.Bool.Decides.{nat_tests}
-use Rattle.std.specs.Prelude.{◌⊎◌, ◌==◌, ◌&&◌}
+use Rattle.std.specs.Prelude.{◌==◌, ◌&&◌}
 use native.Mathlib.Decide.{ℕ_discrete}
 use Rattle.vm_flat.specs.Words.{DownWord, Answers, Nothing}
-use Rattle.vm_flat.specs.Spot.{May, move, content}
-use Rattle.vm_flat.proofs.Deeds.{is_file, covered, pages, Ground, Deed, Answered, said, row, objects, link, spot, flat}
-use Rattle.vm_flat.proofs.Causes.{Reach, Cause, Ours, OwnRegion, Foreign}
+use Rattle.vm_flat.specs.Spot.{May, move}
+use Rattle.vm_flat.proofs.Deeds.{is_file, covered, Ground, Deed, Answered, said, row, objects, link, spot, flat}
+use Rattle.vm_flat.proofs.Causes.{Cause, Ours, OwnRegion, Foreign}
 use Rattle.vm_flat.proofs.Good.{Good, good_answers, good_tells, good_again}
 use Rattle.vm_flat.proofs.World.{ReachAt, World, view, GoodAt, path_covered, under_view, Barren, each_place}
 use Rattle.vm_flat.proofs.Traffic.{After, rest_nothing}

@@ -1,19 +1,13 @@
 -- A licensed event is a deed that has its cause, on each host.
-use Rattle.std.proofs.Common.{ℕ, suc, zero, ◌≡◌, ◌≢◌, ◌+◌, ◌*◌, ◌%◌, ◌/◌, ◌<◌, ◌≤◌, List, [], ◌∷◌, Bool, true, false, refl, sym, ap, subst, ◌∙◌, arith, Option, Some, None, if◌then◌else◌, ⊎_elim, inl, inr}
+use Rattle.std.proofs.Common.{ℕ, suc, ◌≡◌, ◌≢◌, ◌+◌, ◌*◌, ◌%◌, ◌/◌, ◌<◌, ◌≤◌, List, ◌∷◌, Bool, true, false, refl, sym, ap, subst, ◌∙◌, arith, Option, Some, if◌then◌else◌, ⊎_elim, inl, inr}
 use Rattle.std.proofs.lemmas.Bool.{cases_lt}
 use Rattle.std.proofs.lemmas.Bool.Decides.{nat_tests}
-use Rattle.std.specs.Prelude.{◌⊎◌, ◌==◌, ◌&&◌, ◌||◌, not, nat_lt}
-use native.Mathlib.Decide.{ℕ_discrete}
+use Rattle.std.specs.Prelude.{◌⊎◌, ◌==◌, ◌&&◌}
 use Rattle.vm_base.specs.Pages.{little_endian_bytes}
-use Rattle.vm_base.specs.Entries.{entry_at}
-use Rattle.vm_base.specs.declared.entry.Entry.{Entry}
 use Rattle.vm_base.specs.declared.ids.HostId.{HostId}
 use Rattle.vm_base.specs.declared.ids.ObjectId.{ObjectId}
-use Rattle.vm_base.specs.declared.ids.PageNo.{PageNo}
-use Rattle.vm_base.specs.declared.ids.TaskId.{TaskId}
 use Rattle.vm_model.specs.declared.event.Event.{Event}
 use Rattle.vm_model.specs.declared.event.Event.TheVariants as event
-use Rattle.vm_model.specs.declared.message.Channel.{Channel}
 use Rattle.vm_model.specs.declared.message.Channel.TheVariants.{Up, Down}
 use Rattle.vm_model.specs.declared.message.Message.{Message}
 use Rattle.vm_model.specs.declared.message.Message.TheVariants as message
@@ -22,10 +16,10 @@ use Rattle.vm_model.specs.Tasks.{host_of}
 use Rattle.vm_model.specs.Chains.{page_of}
 use Rattle.vm_flat.specs.Declared.{Files, named, is_private, is_file, is_said, are_untold, zeros}
 use Rattle.vm_flat.specs.Tasks.{is_host, lives_on, entries_of}
-use Rattle.vm_flat.specs.Waiting.{Access, Storing, waiting, next_page, address_of}
-use Rattle.vm_flat.specs.Regions.{next_region, next_object, Region, region_of, Backing, backing_of, in_use}
+use Rattle.vm_flat.specs.Waiting.{Storing, next_page, address_of}
+use Rattle.vm_flat.specs.Regions.{next_region, region_of, backing_of, in_use}
 use Rattle.vm_flat.specs.Channels.{queue}
-use Rattle.vm_flat.specs.Words.{UpWord, Requesting, Returning, DownWord, Supplying, Unavailing, Erring, Requests, Returns, TakesRequest, TakesReturn, Answers, Takes}
+use Rattle.vm_flat.specs.Words.{UpWord, Requesting, Returning, DownWord, Supplying, Unavailing, Erring, TakesRequest, TakesReturn, Answers, Takes}
 use Rattle.vm_flat.specs.Spot.{Spot, May, first, rest}
 use Rattle.vm_flat.specs.Places.{spot, control, control_number}
 use Rattle.vm_flat.specs.Walks.{IsTop}
@@ -38,14 +32,12 @@ use Rattle.vm_flat.proofs.Causes as C
 use Rattle.vm_flat.proofs.Causes.{Cause, Ours}
 use Rattle.vm_flat.proofs.File.{file_is}
 use Rattle.vm_flat.proofs.Control.{control_is}
-use Rattle.vm_flat.proofs.World.{World, load}
+use Rattle.vm_flat.proofs.World.{load}
 use Rattle.vm_flat.proofs.Classes.{ground, deed, deeds, up_deed, taken_up_deed, down_deed, taken_down_deed, region_in, page_in, number_or_zero}
 use Rattle.vm_flat.proofs.Ties.{as_row, as_link, row_is, link_is, spot_is, regions_is, objects_is, control_tie}
-use Rattle.vm_flat.proofs.Rows.{FoundRow}
-use Rattle.vm_flat.proofs.Entries.{OwnedAt}
 use Rattle.vm_flat.proofs.Filling.{FilledAt}
 use Rattle.vm_flat.proofs.Numbers.{marked_later, later_private}
-use Rattle.vm_flat.proofs.Ports.{up_port, down_port, sound_of, spot_control}
+use Rattle.vm_flat.proofs.Ports.{sound_of, spot_control}
 use Rattle.vm_flat.proofs.Sound.{Sound}
 use Rattle.vm_flat.proofs.Letters.{up_words, down_words, first_rest, down_of}
 use Rattle.vm_flat.proofs.Holds.{Holds, led, tops, mark_is, region_private, region_later, not_file, plain_spot, walks, sinks, reach}
@@ -66,8 +58,7 @@ cow_cause : (header : Header) (files : Files) (host region source offset pages :
 cow_cause header files host region source offset pages past h c =
     let row = led header c.task c.address past h.entries c.at in
     let within : c.at.entry.offset + c.at.entry.bytes / header.size ≤ (region_of header c.at.entry.region.0 past).pages = row.is.inside.whole in
-    let here : (region_of header source past).pages ≡ (region_of header c.at.entry.region.0 past).pages = ap (λ k. (region_of header k past).pages) c.source_is in
-    (
+    let here : (region_of header source past).pages ≡ (region_of header c.at.entry.region.0 past).pages = ap (λ k. (region_of header k past).pages) c.source_is in (
       c.next ∙ sym (regions_is header files host past),
       omega (arith, row.is.made, c.source_is, regions_is header files host past),
       subst (λ (n : ℕ). offset + pages ≤ n) (sym (ap (λ (w : D.Row). w.pages) (row_is header files host source past))) (omega (arith, c.inside, within, here)),
@@ -82,8 +73,7 @@ shadowed_made header files region new old past h c = omega (arith, (led header c
 shadow_cause : (header : Header) (files : Files) (host region new old : ℕ) (past : List Event) → Holds header files past → L.Shadows header region new old past → Cause (ground header files) (D.Shadowed region new) (deeds header files host past)
 shadow_cause header files host region new old past h c =
     let made : region < next_region header past = shadowed_made header files region new old past h c in
-    let same : D.row (ground header files) region (deeds header files host past) ≡ as_row (in_use header host region past) (region_of header region past) = row_is header files host region past in
-    (
+    let same : D.row (ground header files) region (deeds header files host past) ≡ as_row (in_use header host region past) (region_of header region past) = row_is header files host region past in (
       c.next ∙ sym (objects_is header files host past),
       omega (arith, made, regions_is header files host past),
       ap (λ (w : D.Row). w.mark) same ∙ c.marked,
@@ -296,24 +286,21 @@ up_cause header files host at object (message.Create number size) past h c = λ 
     let may_send : MaySendUp header files host object (message.Create number size) past = subst (λ (k : ℕ). MaySendUp header files k object (message.Create number size) past) (number_is at.0 host ours.on_host) (c ours.covered) in
     (born header files host object may_send.3 past h ours.covered may_send.4, control_tie header files host object past ∙ may_send.2)
 up_cause header files host at object (message.Request number page access) past h c = λ ours.
-    let asks : L.Asks header files host number object page.0 past = subst (λ (k : ℕ). L.Asks header files k number object page.0 past) (number_is at.0 host ours.on_host) (c ours.covered) in
-    (
+    let asks : L.Asks header files host number object page.0 past = subst (λ (k : ℕ). L.Asks header files k number object page.0 past) (number_is at.0 host ours.on_host) (c ours.covered) in (
       control_here header files host object page.0 1 past asks.live,
       here_is header files host object page.0 false past asks.away,
       ap (λ (s : Spot). s.asked) (spot_is header files host object page.0 past) ∙ asks.unasked,
       ap (λ (s : Spot). s.absent) (spot_is header files host object page.0 past) ∙ asks.known,
     )
 up_cause header files host at object (message.Return number page dirty keep bytes) past h c = λ ours.
-    let back : L.GivesBack header files host number object page.0 dirty bytes past = subst (λ (k : ℕ). L.GivesBack header files k number object page.0 dirty bytes past) (number_is at.0 host ours.on_host) (c ours.covered) in
-    (
+    let back : L.GivesBack header files host number object page.0 dirty bytes past = subst (λ (k : ℕ). L.GivesBack header files k number object page.0 dirty bytes past) (number_is at.0 host ours.on_host) (c ours.covered) in (
       control_here header files host object page.0 1 past back.live,
       here_is header files host object page.0 true past back.here,
       ap (λ (s : Spot). s.dirty) (spot_is header files host object page.0 past) ∙ back.dirty,
       back.same ∙ sym (ap (λ (s : Spot). s.bytes) (spot_is header files host object page.0 past)),
     )
 up_cause header files host at object (message.Terminate number) past h c = λ ours.
-    let ends : L.Ends header files host number object past = subst (λ (k : ℕ). L.Ends header files k number object past) (number_is at.0 host ours.on_host) (c ours.covered) in
-    (
+    let ends : L.Ends header files host number object past = subst (λ (k : ℕ). L.Ends header files k number object past) (number_is at.0 host ours.on_host) (c ours.covered) in (
       kind ends ours,
       control_tie header files host object past ∙ ends.live,
       λ p. (here_is header files host object p false past (ends.away p), ap (λ (s : Spot). s.asked) (spot_is header files host object p past) ∙ ends.unasked p),
@@ -402,8 +389,7 @@ answer_cause : (header : Header) (files : Files) (host : ℕ) (at : HostId) (obj
     → Cause (ground header files) (D.Answered (at.0 == host && n == control_number host object past) b object page word) (deeds header files host past)
 answer_cause header files host at object n page word past false is h answers says = (λ ours. may header files host object page past (λ s. May (zeros header) s (Answers false word)) (says ours refl), λ e. absurd (clash false refl e))
 answer_cause header files host at object n page word past true is h answers says =
-    let file : is_file header object ≡ true = said_file (are_untold files) (is_file header object) is in
-    (
+    let file : is_file header object ≡ true = said_file (are_untold files) (is_file header object) is in (
       λ ours.
           let a : L.Answers header files host object n page past = subst (λ (k : ℕ). L.Answers header files k object n page past) (number_is at.0 host (both_hold (at.0 == host) (n == control_number host object past) ours.on_host).0) (answers ours.covered) in
           (ap (λ (s : Spot). s.step) (spot_is header files host object page past) ∙ a.unanswered, file_is (ground header files) object page (deeds header files host past) ∙ file),
@@ -415,21 +401,21 @@ down_cause : (header : Header) (files : Files) (host : ℕ) (at : HostId) (objec
 down_cause header files host at object n (message.Supply page lock precious bytes) past h c =
     answer_cause header files host at object n page.0 (Supplying bytes) past (is_said header files object) refl h (λ ours. (c ours).0)
     (λ ours said.
-        let says : MaySendDown header files host object n (message.Supply page lock precious bytes) past =
-        subst (λ (k : ℕ). MaySendDown header files k object n (message.Supply page lock precious bytes) past) (number_is at.0 host (both_hold (at.0 == host) (n == control_number host object past) ours.on_host).0) (c ours.covered) in
-        (says.0.unanswered, says.1 said))
+    let says : MaySendDown header files host object n (message.Supply page lock precious bytes) past =
+    subst (λ (k : ℕ). MaySendDown header files k object n (message.Supply page lock precious bytes) past) (number_is at.0 host (both_hold (at.0 == host) (n == control_number host object past) ours.on_host).0) (c ours.covered) in
+    (says.0.unanswered, says.1 said))
 down_cause header files host at object n (message.Unavailable page) past h c =
     answer_cause header files host at object n page.0 Unavailing past (is_said header files object) refl h (λ ours. (c ours).0)
     (λ ours said.
-        let says : MaySendDown header files host object n (message.Unavailable page) past =
-        subst (λ (k : ℕ). MaySendDown header files k object n (message.Unavailable page) past) (number_is at.0 host (both_hold (at.0 == host) (n == control_number host object past) ours.on_host).0) (c ours.covered) in
-        (says.0.unanswered, says.1 said))
+    let says : MaySendDown header files host object n (message.Unavailable page) past =
+    subst (λ (k : ℕ). MaySendDown header files k object n (message.Unavailable page) past) (number_is at.0 host (both_hold (at.0 == host) (n == control_number host object past) ours.on_host).0) (c ours.covered) in
+    (says.0.unanswered, says.1 said))
 down_cause header files host at object n (message.Error page reason) past h c =
     answer_cause header files host at object n page.0 Erring past (is_said header files object) refl h c
     (λ ours said.
-        let says : MaySendDown header files host object n (message.Error page reason) past =
-        subst (λ (k : ℕ). MaySendDown header files k object n (message.Error page reason) past) (number_is at.0 host (both_hold (at.0 == host) (n == control_number host object past) ours.on_host).0) (c ours.covered) in
-        says.unanswered)
+    let says : MaySendDown header files host object n (message.Error page reason) past =
+    subst (λ (k : ℕ). MaySendDown header files k object n (message.Error page reason) past) (number_is at.0 host (both_hold (at.0 == host) (n == control_number host object past) ours.on_host).0) (c ours.covered) in
+    says.unanswered)
 down_cause header files host at object n m past h c = tt
 
 -- takings

@@ -1,19 +1,14 @@
 -- A run with a chain of three objects: a load finds its page at the bottom.
-use Rattle.std.proofs.Common.{ℕ, ◌≡◌, List, [], ◌∷◌, Bool, true, false, refl, arith, inl, inr}
+use Rattle.std.proofs.Common.{List, [], ◌∷◌, true, refl, arith, inr}
 use Rattle.vm_base.specs.declared.entry.Entry.{Entry}
 use Rattle.vm_base.specs.declared.ids.Prot.{Prot}
-use Rattle.vm_base.specs.declared.ids.Inherit.TheVariants.{Share, Copy}
-use Rattle.vm_base.specs.declared.ids.ObjectKind.TheVariants.{File}
+use Rattle.vm_base.specs.declared.ids.Inherit.TheVariants.{Copy}
 use Rattle.vm_model.specs.declared.event.Event.{Event}
 use Rattle.vm_model.specs.declared.event.Event.TheVariants as event
-use Rattle.vm_model.specs.declared.message.Channel.TheVariants.{Up, Down}
-use Rattle.vm_model.specs.declared.message.Message.{Message}
-use Rattle.vm_model.specs.declared.message.Message.TheVariants as message
 use Rattle.vm_model.specs.declared.script.Header.{Header}
 use Rattle.vm_model.specs.Moments.{EachEvent}
-use Rattle.vm_flat.specs.Waiting.{Loading, Storing, Copying}
-use Rattle.vm_flat.specs.Walks.{Passes}
-use Rattle.vm_flat.specs.Declared.{Files, Told, Untold}
+use Rattle.vm_flat.specs.Waiting.{Storing}
+use Rattle.vm_flat.specs.Declared.{Files, Told}
 use Rattle.vm_flat.specs.Licences.{AllLicensed}
 use Rattle.vm_flat.specs.Bytes.{CopiesCurrent, FlatBytes}
 use Rattle.vm_flat.proofs.Law.{law}

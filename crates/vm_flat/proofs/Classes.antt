@@ -1,5 +1,5 @@
 -- What each event is to the memory of one host.
-use Rattle.std.proofs.Common.{◌≡◌, ℕ, ◌+◌, List, [], ◌∷◌, Bool, true, false, refl, if◌then◌else◌, ◌∙◌, ap, sym, Option, Some, None}
+use Rattle.std.proofs.Common.{ℕ, List, [], ◌∷◌, Bool, Option, Some, None}
 use Rattle.std.specs.Prelude.{◌==◌, ◌&&◌, ◌||◌, not}
 use Rattle.vm_base.specs.Pages.{little_endian_bytes}
 use Rattle.vm_model.specs.declared.event.Event.{Event}

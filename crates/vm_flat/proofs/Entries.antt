@@ -1,7 +1,7 @@
 -- The entries of each task are on regions that are in use on its host and on no other, and on pages that these have.
-use Rattle.std.proofs.Common.{ℕ, suc, ◌≡◌, ◌≢◌, ◌+◌, ◌-◌, ◌/◌, ◌%◌, ◌<◌, ◌≤◌, List, [], ◌∷◌, Bool, true, false, refl, sym, ap, subst, ◌∙◌, arith, Option, Some, None, if◌then◌else◌}
+use Rattle.std.proofs.Common.{ℕ, ◌≡◌, ◌≢◌, ◌+◌, ◌-◌, ◌/◌, ◌<◌, ◌≤◌, List, [], ◌∷◌, Bool, true, false, refl, sym, ap, subst, ◌∙◌, arith, Option, Some, None, if◌then◌else◌}
 use Rattle.std.proofs.lemmas.Bool.Decides.{nat_tests}
-use Rattle.std.specs.Prelude.{◌==◌, ◌&&◌, ◌||◌, not, nat_lt}
+use Rattle.std.specs.Prelude.{◌==◌, ◌&&◌, ◌||◌, not}
 use native.Mathlib.Decide.{ℕ_discrete}
 use Rattle.vm_base.specs.declared.entry.Entry.{Entry}
 use Rattle.vm_base.specs.declared.ids.RegionId.{RegionId}
@@ -16,13 +16,13 @@ use Rattle.vm_model.specs.declared.event.Event.{Event}
 use Rattle.vm_model.specs.declared.event.Event.TheVariants as event
 use Rattle.vm_model.specs.declared.script.Header.{Header}
 use Rattle.vm_model.specs.Tasks.{host_of}
-use Rattle.vm_flat.specs.Declared.{named, is_private}
+use Rattle.vm_flat.specs.Declared.{is_private}
 use Rattle.vm_flat.specs.Tasks.{is_host, lives_on, entries_of}
 use Rattle.vm_flat.specs.Regions.{next_region, region_of, made_here, in_use, is_kept, has_entry}
 use Rattle.vm_flat.specs.Licences.{Enters}
 use Rattle.vm_flat.proofs.Regions.{if_no}
-use Rattle.vm_flat.proofs.Rows.{AllRows, rows_map, rows_rewritten, rows_entered, rows_known, part, Parts, Inside, inside_part, page_below}
-use Rattle.vm_flat.proofs.Held.{kept, none_some}
+use Rattle.vm_flat.proofs.Rows.{AllRows, rows_map, rows_rewritten, rows_entered, rows_known, Parts, Inside, inside_part, page_below}
+use Rattle.vm_flat.proofs.Held.{kept}
 
 pub record Owned (size : ℕ) (private : ℕ → Bool) (used : ℕ → ℕ → Bool) (pages : ℕ → ℕ) (next : ℕ) (host : ℕ) (row : Entry) : Type 0 where
   pub made : row.region.0 < next
@@ -83,12 +83,12 @@ keep_rows : (header : Header) (e : Event) (past : List Event) (task host : ℕ) 
 keep_rows header e past task host lives all =
     rows_map (λ row. OwnedAt header past host row × (has_entry row.region.0 (entries_of header.size task (e ∷ past)) ≡ true)) (OwnedKept header e past host)
     (λ row is.
-        record {
-          made = is.0.made;
-          inside = is.0.inside;
-          used_here = λ ours. both (is_kept header row.region.0 (e ∷ past)) (in_use header host row.region.0 past) (kept header row.region.0 task host (e ∷ past) lives is.1) (is.0.used_here ours);
-          alone = λ other apart. never (is_kept header row.region.0 (e ∷ past)) (in_use header other row.region.0 past) (is.0.alone other apart);
-        })
+    record {
+      made = is.0.made;
+      inside = is.0.inside;
+      used_here = λ ours. both (is_kept header row.region.0 (e ∷ past)) (in_use header host row.region.0 past) (kept header row.region.0 task host (e ∷ past) lives is.1) (is.0.used_here ours);
+      alone = λ other apart. never (is_kept header row.region.0 (e ∷ past)) (in_use header other row.region.0 past) (is.0.alone other apart);
+    })
     (entries_of header.size task (e ∷ past)) (rows_known (OwnedAt header past host) (entries_of header.size task (e ∷ past)) all)
 
 -- each event that the entries feel
@@ -135,26 +135,26 @@ pub entries_region_made : (header : Header) (region : RegionId) (object : Object
 entries_region_made header region object pages past is all task host lives =
     rows_map (OwnedAt header past host) (OwnedAt header (event.RegionMade region object pages ∷ past) host)
     (λ row ok.
-        let apart : row.region.0 ≢ region.0 = λ e. omega (arith, e, ok.made, is) in
-        record {
-          made = omega (arith, ok.made);
-          inside = subst (λ (n : ℕ). Inside header.size n row) (sym (if_no row.region.0 region.0 pages (region_of header row.region.0 past).pages apart)) ok.inside;
-          used_here = λ ours. if_no row.region.0 region.0 (made_here host past) (in_use header host row.region.0 past) apart ∙ ok.used_here ours;
-          alone = λ other else_. if_no row.region.0 region.0 (made_here other past) (in_use header other row.region.0 past) apart ∙ ok.alone other else_;
-        })
+    let apart : row.region.0 ≢ region.0 = λ e. omega (arith, e, ok.made, is) in
+    record {
+      made = omega (arith, ok.made);
+      inside = subst (λ (n : ℕ). Inside header.size n row) (sym (if_no row.region.0 region.0 pages (region_of header row.region.0 past).pages apart)) ok.inside;
+      used_here = λ ours. if_no row.region.0 region.0 (made_here host past) (in_use header host row.region.0 past) apart ∙ ok.used_here ours;
+      alone = λ other else_. if_no row.region.0 region.0 (made_here other past) (in_use header other row.region.0 past) apart ∙ ok.alone other else_;
+    })
     (entries_of header.size task past) (all task host lives)
 
 pub entries_region_copied : (header : Header) (region source : RegionId) (offset pages : ℕ) (past : List Event) → region.0 ≡ next_region header past → Entries header past → Entries header (event.RegionCopied region source offset pages ∷ past)
 entries_region_copied header region source offset pages past is all task host lives =
     rows_map (OwnedAt header past host) (OwnedAt header (event.RegionCopied region source offset pages ∷ past) host)
     (λ row ok.
-        let apart : row.region.0 ≢ region.0 = λ e. omega (arith, e, ok.made, is) in
-        record {
-          made = omega (arith, ok.made);
-          inside = subst (λ (n : ℕ). Inside header.size n row) (sym (if_no row.region.0 region.0 pages (region_of header row.region.0 past).pages apart)) ok.inside;
-          used_here = λ ours. if_no row.region.0 region.0 (in_use header host source.0 past) (in_use header host row.region.0 past) apart ∙ ok.used_here ours;
-          alone = λ other else_. if_no row.region.0 region.0 (in_use header other source.0 past) (in_use header other row.region.0 past) apart ∙ ok.alone other else_;
-        })
+    let apart : row.region.0 ≢ region.0 = λ e. omega (arith, e, ok.made, is) in
+    record {
+      made = omega (arith, ok.made);
+      inside = subst (λ (n : ℕ). Inside header.size n row) (sym (if_no row.region.0 region.0 pages (region_of header row.region.0 past).pages apart)) ok.inside;
+      used_here = λ ours. if_no row.region.0 region.0 (in_use header host source.0 past) (in_use header host row.region.0 past) apart ∙ ok.used_here ours;
+      alone = λ other else_. if_no row.region.0 region.0 (in_use header other source.0 past) (in_use header other row.region.0 past) apart ∙ ok.alone other else_;
+    })
     (entries_of header.size task past) (all task host lives)
 
 -- an entry comes

@@ -1,5 +1,5 @@
 -- The region that a waiting slow copy fills is as it was made, and nobody else has anything of it.
-use Rattle.std.proofs.Common.{ℕ, suc, ◌≡◌, ◌≢◌, ◌+◌, ◌<◌, ◌≤◌, List, [], ◌∷◌, Bool, true, false, refl, sym, ap, subst, ◌∙◌, arith, Option, Some, None, if◌then◌else◌}
+use Rattle.std.proofs.Common.{ℕ, ◌≡◌, ◌≢◌, ◌+◌, ◌<◌, ◌≤◌, List, [], ◌∷◌, Bool, true, false, refl, sym, ap, subst, ◌∙◌, arith, Option, Some, None, if◌then◌else◌}
 use Rattle.std.proofs.lemmas.Bool.Decides.{nat_tests}
 use Rattle.std.specs.Prelude.{◌==◌, ◌&&◌, ◌||◌, not}
 use Rattle.vm_base.specs.declared.entry.Entry.{Entry}
@@ -12,7 +12,7 @@ use Rattle.vm_model.specs.declared.script.Header.{Header}
 use Rattle.vm_model.specs.Tasks.{host_of}
 use Rattle.vm_flat.specs.Declared.{Files, named}
 use Rattle.vm_flat.specs.Tasks.{is_host, lives_on, tasks, entries_of}
-use Rattle.vm_flat.specs.Waiting.{Access, Loading, Storing, Copying, waiting, begins_copy, Target, copy_target, is_target, fills}
+use Rattle.vm_flat.specs.Waiting.{Access, Loading, Storing, Copying, waiting, begins_copy, Target, copy_target, fills}
 use Rattle.vm_flat.specs.Regions.{next_region, next_object, Region, region_of, made_here, in_use, is_kept, is_filled}
 use Rattle.vm_flat.specs.Flat.{made_over}
 use Rattle.vm_flat.specs.Licences as L

@@ -1,5 +1,5 @@
 -- A region with an entry of a living task is held.
-use Rattle.std.proofs.Common.{ℕ, ◌≡◌, List, [], ◌∷◌, Bool, true, false, refl, sym, ap, subst, arith, Option, Some, None, if◌then◌else◌, ◌∙◌}
+use Rattle.std.proofs.Common.{ℕ, ◌≡◌, List, [], ◌∷◌, Bool, true, false, refl, subst, arith, Option, Some, None, if◌then◌else◌}
 use Rattle.std.proofs.lemmas.Bool.Decides.{nat_tests}
 use Rattle.std.specs.Prelude.{◌==◌, ◌||◌, nat_lt}
 use Rattle.vm_model.specs.declared.event.Event.{Event}

@@ -1,14 +1,11 @@
 -- What holds at every moment of a licensed history, and how its facts are those of one host's memory.
-use Rattle.std.proofs.Common.{ℕ, suc, zero, ◌≡◌, ◌≢◌, ◌+◌, ◌<◌, ◌≤◌, List, [], ◌∷◌, Bool, true, false, refl, sym, ap, subst, ◌∙◌, arith, Option, Some, None, if◌then◌else◌, ⊎_elim}
+use Rattle.std.proofs.Common.{ℕ, suc, zero, ◌≡◌, ◌+◌, ◌<◌, ◌≤◌, List, Bool, true, false, sym, ap, subst, ◌∙◌, arith, ⊎_elim}
 use Rattle.std.proofs.lemmas.Bool.{cases_lt}
 use Rattle.std.proofs.lemmas.Bool.Decides.{nat_tests}
-use Rattle.std.specs.Prelude.{◌==◌, ◌&&◌, ◌||◌, not, nat_lt}
-use Rattle.vm_base.specs.declared.entry.Entry.{Entry}
 use Rattle.vm_model.specs.declared.event.Event.{Event}
 use Rattle.vm_model.specs.declared.script.Header.{Header}
-use Rattle.vm_model.specs.Chains.{page_of}
-use Rattle.vm_flat.specs.Declared.{Files, named, is_private, is_file, zeros}
-use Rattle.vm_flat.specs.Regions.{next_region, next_object, Region, region_of, Backing, backing_of, in_use}
+use Rattle.vm_flat.specs.Declared.{Files, named, is_private, is_file}
+use Rattle.vm_flat.specs.Regions.{region_of, backing_of, in_use}
 use Rattle.vm_flat.specs.Spot.{Spot, Passed}
 use Rattle.vm_flat.specs.Places.{spot, control}
 use Rattle.vm_flat.specs.Walks as W
@@ -18,13 +15,12 @@ use Rattle.vm_flat.specs.Licences.{At, Reach}
 use Rattle.vm_flat.proofs.Deeds as D
 use Rattle.vm_flat.proofs.Causes as C
 use Rattle.vm_flat.proofs.File.{file_is}
-use Rattle.vm_flat.proofs.World.{World}
 use Rattle.vm_flat.proofs.Classes.{ground, deeds}
 use Rattle.vm_flat.proofs.Ties.{as_row, as_link, row_is, link_is, spot_is}
 use Rattle.vm_flat.proofs.Rows.{FoundRow, found_row}
 use Rattle.vm_flat.proofs.Entries.{Entries, OwnedAt, PrivateUsed}
 use Rattle.vm_flat.proofs.Filling.{Filling}
-use Rattle.vm_flat.proofs.Numbers.{Numbered, NumberedAt, later_private}
+use Rattle.vm_flat.proofs.Numbers.{NumberedAt, later_private}
 use Rattle.vm_flat.proofs.Ports.{Worlds, Ups, UpNumbers, AskedBy, Downs, Locks}
 
 abbrev pub Flats : Header → Files → List Event → Type 0
@@ -105,8 +101,7 @@ pub walks : (header : Header) (files : Files) (host : ℕ) (past : List Event) �
     → C.Walks (ground header files) n o p l lp (deeds header files host past)
 walks header files host past num zero o p l lp walk = walk
 walks header files host past num (suc n) o p l lp walk =
-    let same : D.link (ground header files) o (deeds header files host past) ≡ as_link (backing_of header o past) = link_is header files host o past in
-    (
+    let same : D.link (ground header files) o (deeds header files host past) ≡ as_link (backing_of header o past) = link_is header files host o past in (
       passed header files host o p past (num.upper o walk.1) walk.0,
       ap (λ (x : D.Link). x.backed) same ∙ walk.1,
       subst (λ (x : D.Link). C.Walks (ground header files) n x.under (x.shift + p) l lp (deeds header files host past)) (sym same) (walks header files host past num n (backing_of header o past).under ((backing_of header o past).shift + p) l lp walk.2),
@@ -116,8 +111,7 @@ pub sinks : (header : Header) (files : Files) (host : ℕ) (past : List Event) �
     → C.Sinks (ground header files) n o p (deeds header files host past)
 sinks header files host past num zero o p above walk = (passed header files host o p past above walk.0, ap (λ (x : D.Link). x.backed) (link_is header files host o past) ∙ walk.1)
 sinks header files host past num (suc n) o p above walk =
-    let same : D.link (ground header files) o (deeds header files host past) ≡ as_link (backing_of header o past) = link_is header files host o past in
-    (
+    let same : D.link (ground header files) o (deeds header files host past) ≡ as_link (backing_of header o past) = link_is header files host o past in (
       passed header files host o p past above walk.0,
       ap (λ (x : D.Link). x.backed) same ∙ walk.1,
       subst (λ (x : D.Link). C.Sinks (ground header files) n x.under (x.shift + p) (deeds header files host past)) (sym same) (sinks header files host past num n (backing_of header o past).under ((backing_of header o past).shift + p) (num.lower o walk.1) walk.2),
@@ -128,8 +122,7 @@ sinks header files host past num (suc n) o p above walk =
 below : (header : Header) (files : Files) (host : ℕ) (past : List Event) (n o u : ℕ) → C.Below (λ k. D.link (ground header files) k (deeds header files host past)) n o u → W.Below (λ k. backing_of header k past) n o u
 below header files host past zero o u is = is
 below header files host past (suc n) o u is =
-    let same : D.link (ground header files) o (deeds header files host past) ≡ as_link (backing_of header o past) = link_is header files host o past in
-    (
+    let same : D.link (ground header files) o (deeds header files host past) ≡ as_link (backing_of header o past) = link_is header files host o past in (
       sym (ap (λ (x : D.Link). x.backed) same) ∙ is.0,
       below header files host past n (backing_of header o past).under u (subst (λ (x : D.Link). C.Below (λ k. D.link (ground header files) k (deeds header files host past)) n x.under u) same is.1),
     )

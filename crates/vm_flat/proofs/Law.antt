@@ -1,9 +1,8 @@
 -- Every load of a licensed history answers the flat map.
-use Rattle.std.proofs.Common.{ℕ, suc, zero, ◌≡◌, ◌+◌, ◌%◌, ◌<◌, ◌≤◌, List, [], ◌∷◌, Bool, true, false, refl, sym, ap, subst, ◌∙◌, arith, Option, Some, None, if◌then◌else◌}
+use Rattle.std.proofs.Common.{ℕ, ◌≡◌, ◌+◌, ◌%◌, ◌≤◌, List, [], ◌∷◌, Bool, true, false, refl, sym, ap, subst, ◌∙◌, arith, Option, Some, None, if◌then◌else◌}
 use Rattle.std.proofs.lemmas.Bool.Decides.{nat_tests}
-use Rattle.std.specs.Prelude.{◌==◌, ◌&&◌, ◌||◌, not, nat_lt}
+use Rattle.std.specs.Prelude.{◌==◌, ◌&&◌, ◌||◌, not}
 use Rattle.vm_base.specs.Pages.{little_endian_bytes, with_bytes}
-use Rattle.vm_base.specs.declared.ids.RegionId.{RegionId}
 use Rattle.vm_base.specs.declared.ids.HostId.{HostId}
 use Rattle.vm_base.specs.declared.ids.ObjectId.{ObjectId}
 use Rattle.vm_model.specs.declared.event.Event.{Event}
@@ -15,7 +14,7 @@ use Rattle.vm_model.specs.declared.script.Header.{Header}
 use Rattle.vm_model.specs.Moments.{EachEvent}
 use Rattle.vm_model.specs.Chains.{page_of}
 use Rattle.vm_model.specs.Bytes.{number_in}
-use Rattle.vm_flat.specs.Declared.{Files, named, is_private, is_file, is_said, zeros}
+use Rattle.vm_flat.specs.Declared.{Files, named, is_private, is_file, is_said}
 use Rattle.vm_flat.specs.Tasks.{lives_on}
 use Rattle.vm_flat.specs.Regions.{is_kept, made_here, in_use}
 use Rattle.vm_flat.specs.Spot.{Spot}
@@ -29,13 +28,13 @@ use Rattle.vm_flat.proofs.Causes as C
 use Rattle.vm_flat.proofs.Regions.{if_no}
 use Rattle.vm_flat.proofs.World.{load}
 use Rattle.vm_flat.proofs.Worlds.{after, start}
-use Rattle.vm_flat.proofs.Classes.{ground, deed, deeds, up_deed, down_deed, region_in, page_in, number_or_zero, up_case, taken_up_case, down_case, taken_down_case}
+use Rattle.vm_flat.proofs.Classes.{ground, deed, deeds, down_deed, region_in, page_in, number_or_zero, up_case, taken_up_case, taken_down_case}
 use Rattle.vm_flat.proofs.Ties.{spot_is}
 use Rattle.vm_flat.proofs.Entries.{Entries, PrivateUsed, entries_task_made, entries_task_ended, entries_failed, entries_removed, entries_protected, entries_inherited, entries_region_made, entries_region_copied, entries_entered}
 use Rattle.vm_flat.proofs.Filling.{Filling, filling_next}
 use Rattle.vm_flat.proofs.Numbers.{NumberedAt, numbered_start, numbered_region_made, numbered_region_copied, numbered_shadowed, later_private}
 use Rattle.vm_flat.proofs.Ports.{ups_start, ups_next, numbers_next, asked_next, downs_start, downs_next, locks_start, locks_next, private_there}
-use Rattle.vm_flat.proofs.Holds.{Holds, Homes, Flats, led, tops, region_private, walks}
+use Rattle.vm_flat.proofs.Holds.{Holds, Homes, Flats, led, tops, walks}
 use Rattle.vm_flat.proofs.Caused.{cause, change_is, source_made, shadowed_made}
 
 -- the flat map is that of the deeds

@@ -1,13 +1,11 @@
 -- What a channel holds about one page.
-use Rattle.std.proofs.Common.{ℕ, suc, zero, ◌≡◌, ◌+◌, ◌≤◌, List, [], ◌∷◌, ◌++◌, append_assoc, length, Bool, true, false, refl, sym, ap, subst, ◌∙◌, arith, Option, Some, None, if◌then◌else◌}
-use Rattle.std.proofs.lemmas.Bool.Decides.{nat_tests}
+use Rattle.std.proofs.Common.{ℕ, ◌≡◌, List, [], ◌∷◌, ◌++◌, Bool, true, false, refl, sym, ap, ◌∙◌, Some, if◌then◌else◌}
 use Rattle.std.specs.Prelude.{◌==◌, ◌&&◌}
 use Rattle.vm_model.specs.declared.message.Message.{Message}
 use Rattle.vm_model.specs.declared.message.Message.TheVariants as message
 use Rattle.vm_flat.specs.Words.{UpWord, Requesting, Returning, DownWord, Supplying, Unavailing, Erring, Effect, Creates, Requests, Returns, TakesRequest, TakesReturn, Answers, Takes, Ends, StepEnds, Nothing}
 use Rattle.vm_flat.specs.Spot.{Spot, move, rest, first}
 use Rattle.vm_flat.specs.Places.{at_place, sent_up, taken_up, sent_down, taken_down}
-use Rattle.vm_flat.proofs.Queues.{requests}
 
 -- what is on the way up about page p, oldest first
 abbrev pub up_words : ℕ → List Message → List UpWord

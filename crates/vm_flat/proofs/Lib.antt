@@ -21,6 +21,7 @@ pub mod Queues
 pub mod Regions
 pub mod Rows
 pub mod Slow
+pub mod SlowRun
 pub mod Sound
 pub mod Stored
 pub mod Ties

@@ -1,7 +1,7 @@
 -- Which numbers regions and objects have: the declared ones stay as they are, and nothing stands on a declared object.
-use Rattle.std.proofs.Common.{ℕ, suc, ◌≡◌, ◌≢◌, ◌+◌, ◌<◌, ◌≤◌, List, [], ◌∷◌, Bool, true, false, refl, sym, ap, subst, ◌∙◌, arith, if◌then◌else◌}
+use Rattle.std.proofs.Common.{ℕ, ◌≡◌, ◌≢◌, ◌+◌, ◌<◌, ◌≤◌, List, [], ◌∷◌, Bool, true, false, refl, sym, ◌∙◌, arith, if◌then◌else◌}
 use Rattle.std.proofs.lemmas.Bool.Decides.{nat_tests}
-use Rattle.std.specs.Prelude.{◌==◌, ◌&&◌, ◌||◌, not, nat_lt}
+use Rattle.std.specs.Prelude.{◌==◌, nat_lt}
 use native.Mathlib.Decide.{ℕ_discrete}
 use Rattle.vm_base.specs.declared.ids.RegionId.{RegionId}
 use Rattle.vm_base.specs.declared.ids.ObjectId.{ObjectId}
@@ -9,8 +9,8 @@ use Rattle.vm_model.specs.declared.event.Event.{Event}
 use Rattle.vm_model.specs.declared.event.Event.TheVariants as event
 use Rattle.vm_model.specs.declared.script.Header.{Header}
 use Rattle.vm_flat.specs.Declared.{named, is_private}
-use Rattle.vm_flat.specs.Regions.{next_region, next_object, Region, region_of, Backing, backing_of, in_use}
-use Rattle.vm_flat.proofs.Regions.{if_no, if_yes, eq_no}
+use Rattle.vm_flat.specs.Regions.{next_region, next_object, Region, region_of, Backing, backing_of}
+use Rattle.vm_flat.proofs.Regions.{if_no, if_yes}
 
 pub record Numbered (first : ℕ) (regions : ℕ → Region) (backings : ℕ → Backing) (next_region next_object : ℕ) : Type 0 where
   pub later_regions : first ≤ next_region

@@ -1,5 +1,5 @@
 -- What is on the way about a page of one host's memory is what its channels hold.
-use Rattle.std.proofs.Common.{ℕ, suc, zero, ◌≡◌, ◌≢◌, ◌+◌, ◌≤◌, List, [], ◌∷◌, ◌++◌, length, Bool, true, false, refl, sym, ap, subst, ◌∙◌, arith, Option, Some, None, if◌then◌else◌}
+use Rattle.std.proofs.Common.{ℕ, ◌≡◌, List, [], ◌∷◌, ◌++◌, length, Bool, true, false, refl, sym, ap, subst, ◌∙◌, arith, Option, Some, None, if◌then◌else◌}
 use Rattle.std.proofs.lemmas.Bool.Decides.{nat_tests}
 use Rattle.std.specs.Prelude.{◌==◌, ◌&&◌}
 use Rattle.vm_base.specs.Pages.{little_endian_bytes}
@@ -16,13 +16,12 @@ use Rattle.vm_model.specs.declared.script.Header.{Header}
 use Rattle.vm_flat.specs.Declared.{Files, is_private, is_said, zeros}
 use Rattle.vm_flat.specs.Tasks.{lives_on}
 use Rattle.vm_flat.specs.Channels.{queue}
-use Rattle.vm_flat.specs.Words.{UpWord, Requesting, Returning, DownWord, Supplying, Unavailing, Erring, Effect, Creates, Requests, Returns, TakesReturn, Answers, Takes, Zeroes, Raises, Stores, Drops, Ends, StepEnds, Nothing}
+use Rattle.vm_flat.specs.Words.{UpWord, Requesting, Returning, DownWord, Supplying, Unavailing, Erring, Effect, Creates, Requests, Returns, Answers, Zeroes, Raises, Stores, Drops, Ends, Nothing}
 use Rattle.vm_flat.specs.Spot.{Spot, move, rest, first}
-use Rattle.vm_flat.specs.Places.{at_place, sent_up, taken_up, sent_down, taken_down, spot, control, control_number}
+use Rattle.vm_flat.specs.Places.{at_place, sent_up, sent_down, spot, control, control_number}
 use Rattle.vm_flat.specs.Licences.{Licensed, Request, request_taken, LockRequest, lock_taken, MaySendUp, MaySendDown}
 use Rattle.vm_flat.proofs.Queues.{requests}
 use Rattle.vm_flat.proofs.Sound.{Sound, count}
-use Rattle.vm_flat.proofs.Deeds as D
 use Rattle.vm_flat.proofs.Control.{control_is}
 use Rattle.vm_flat.proofs.World.{World}
 use Rattle.vm_flat.proofs.Classes.{ground, deeds}

@@ -9,7 +9,7 @@ use Rattle.vm_flat.specs.Spot.{move, content}
 use Rattle.vm_flat.proofs.Deeds.{is_file, covered, Ground, Deed, Stored, row, objects, link, spot, flat}
 use Rattle.vm_flat.proofs.Causes.{Path, Reach, Tops, Cause, StoresThere, Foreign}
 use Rattle.vm_flat.proofs.Good.{Good, good_stores, good_again}
-use Rattle.vm_flat.proofs.World.{ReachAt, ShapeOf, World, view, tops_below, GoodAt, reach_covered, path_covered, under_view, Barren, barren_top, reach_next}
+use Rattle.vm_flat.proofs.World.{ReachAt, ShapeOf, World, view, GoodAt, path_covered, under_view, Barren, barren_top, reach_next}
 
 -- two tests, one of which fails
 pub and_no : {A : Type 0} (o p k q : ℕ) (x y : A) → (o ≡ k → p ≡ q → ⊥) → (if o == k && p == q then x else y) ≡ y

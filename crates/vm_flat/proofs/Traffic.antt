@@ -3,8 +3,8 @@ use Rattle.std.proofs.Common.{false, ◌<◌, ◌≡◌, ℕ, suc, ◌≤◌, Li
 use Rattle.std.specs.Prelude.{◌⊎◌}
 use Rattle.vm_flat.specs.Words.{DownWord, Effect, Creates, Requests, Returns, TakesRequest, TakesReturn, Takes, Zeroes, Raises, Drops, Ends, StepEnds, Nothing}
 use Rattle.vm_flat.specs.Spot.{move}
-use Rattle.vm_flat.proofs.Deeds.{pages, Ground, is_file, covered, Deed, Line, Zeroed, Raised, Dropped, Created, Asked, Returned, TookRequest, TookReturn, Took, Terminated, Elsewhere, objects, link, spot}
-use Rattle.vm_flat.proofs.Causes.{Reach, Tops, Cause, Ours, Void, Bottoms, Finds}
+use Rattle.vm_flat.proofs.Deeds.{pages, Ground, covered, Deed, Line, Zeroed, Raised, Dropped, Created, Asked, Returned, TookRequest, TookReturn, Took, Terminated, Elsewhere, objects, link, spot}
+use Rattle.vm_flat.proofs.Causes.{Reach, Tops, Cause, Ours, Bottoms, Finds}
 use Rattle.vm_flat.proofs.Good.{good_step, good_creates, good_requests, good_returns, good_takes_request, good_takes_return, good_takes, good_zeroes, good_fills, good_raises, good_drops, good_ends}
 use Rattle.vm_flat.proofs.Control.{control_is}
 use Rattle.vm_flat.proofs.File.{file_is}

@@ -1,7 +1,7 @@
 -- What each deed leaves.
 use Rattle.std.proofs.Common.{subst, ◌≡◌, ℕ, List, [], ◌∷◌, arith, Bool, true, false, ap, sym, ◌∙◌, zero, suc, refl, if◌then◌else◌, ◌+◌}
 use Rattle.std.proofs.lemmas.Bool.Decides.{nat_tests}
-use Rattle.vm_flat.proofs.Deeds.{Ground, is_file, covered, Deed, Line, Region, Cow, Kept, Shadowed, Zeroed, Raised, Stored, Dropped, Created, Asked, Copied, Returned, TookRequest, TookReturn, Answered, Took, Terminated, Elsewhere}
+use Rattle.vm_flat.proofs.Deeds.{Ground, is_file, Deed, Line, Region, Cow, Kept, Shadowed, Zeroed, Raised, Stored, Dropped, Created, Asked, Copied, Returned, TookRequest, TookReturn, Answered, Took, Terminated, Elsewhere}
 use Rattle.vm_flat.proofs.Causes.{Cause, AllCaused}
 use Rattle.vm_flat.specs.Spot.{first_spot}
 use Rattle.vm_flat.proofs.Sound.{sound_start}

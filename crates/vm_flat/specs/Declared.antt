@@ -1,7 +1,7 @@
 -- The objects that a header declares.
 use Rattle.std.specs.Prelude.{ℕ, ◌&&◌, ◌||◌, not, nat_lt, Bool, true, false, List, length, reverse, replicate, slice_get, Option, Some, None}
 use Rattle.vm_base.specs.declared.ids.ObjectKind.{ObjectKind}
-use Rattle.vm_base.specs.declared.ids.ObjectKind.TheVariants.{Temp, File, Shared, Wild}
+use Rattle.vm_base.specs.declared.ids.ObjectKind.TheVariants.{File}
 use Rattle.vm_model.specs.declared.script.Header.{Header}
 use Rattle.vm_model.specs.declared.script.Declared.{Declared}
 

@@ -1,10 +1,9 @@
 -- Why an event may happen, as far as temporary and file memory go: its cause, in the events in front of it.
-use Rattle.std.specs.Prelude.{ℕ, zero, suc, ◌+◌, ◌*◌, ◌/◌, ◌%◌, ◌<◌, ◌≤◌, ◌≡◌, ◌⊎◌, List, [], ◌∷◌, Bool, true, false, Option, Some, None, if◌then◌else◌, nat_lt, ◌==◌, ◌&&◌, ◌||◌}
+use Rattle.std.specs.Prelude.{ℕ, suc, ◌+◌, ◌*◌, ◌/◌, ◌%◌, ◌<◌, ◌≤◌, ◌≡◌, ◌⊎◌, List, [], ◌∷◌, Bool, true, false, Option, Some, None, if◌then◌else◌, ◌==◌, ◌&&◌, ◌||◌}
 use Rattle.vm_base.specs.declared.entry.Entry.{Entry}
 use Rattle.vm_base.specs.Entries.{entry_at}
 use Rattle.vm_model.specs.declared.event.Event.{Event}
 use Rattle.vm_model.specs.declared.event.Event.TheVariants as event
-use Rattle.vm_model.specs.declared.message.Channel.{Channel}
 use Rattle.vm_model.specs.declared.message.Channel.TheVariants.{Up, Down}
 use Rattle.vm_model.specs.declared.message.Message.{Message}
 use Rattle.vm_model.specs.declared.message.Message.TheVariants as message
@@ -12,10 +11,10 @@ use Rattle.vm_model.specs.declared.script.Header.{Header}
 use Rattle.vm_model.specs.Tasks.{host_of}
 use Rattle.vm_model.specs.Chains.{page_of}
 use Rattle.vm_model.specs.Bytes.{number_in}
-use Rattle.vm_flat.specs.Declared.{Files, named, is_file, is_private, is_said, zeros}
-use Rattle.vm_flat.specs.Tasks.{lives_on, tasks, entries_of}
-use Rattle.vm_flat.specs.Waiting.{Access, Loading, Storing, Copying, waiting, next_page, Target, copy_target, address_of, is_store}
-use Rattle.vm_flat.specs.Regions.{next_region, next_object, Region, region_of, Backing, backing_of, is_filled, in_use}
+use Rattle.vm_flat.specs.Declared.{Files, named, is_private, is_said, zeros}
+use Rattle.vm_flat.specs.Tasks.{tasks, entries_of}
+use Rattle.vm_flat.specs.Waiting.{Access, Loading, Storing, Copying, waiting, next_page, copy_target, address_of, is_store}
+use Rattle.vm_flat.specs.Regions.{next_region, next_object, region_of, backing_of, is_filled, in_use}
 use Rattle.vm_flat.specs.Channels.{queue}
 use Rattle.vm_flat.specs.Spot.{Spot, first}
 use Rattle.vm_flat.specs.Places.{spot, control, control_number}
