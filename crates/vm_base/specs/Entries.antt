@@ -1,15 +1,22 @@
 -- The entries of a task, by rising address, and what each command does to them.
-use Rattle.std.specs.Prelude.{ℕ, zero, suc, ◌+◌, ◌-◌, ◌/◌, ◌%◌, ◌^◌, ◌<◌, ◌≤◌, ◌≡◌, ◌==◌, ◌&&◌, ◌||◌, Bool, true, false, List, [], ◌∷◌, ◌++◌, length, if◌then◌else◌, nat_lt, nat_le, max, min, Option, Some, None, is_some}
+use Rattle.std.specs.Prelude.{ℕ, zero, suc, ◌+◌, ◌-◌, ◌/◌, ◌%◌, ◌^◌, ◌<◌, ◌≤◌, ◌≡◌, ◌==◌, ◌&&◌, ◌||◌, Bool, true, false, List, [], ◌∷◌, ◌++◌, length, reverse, if◌then◌else◌, nat_lt, nat_le, max, min, Option, Some, None, is_some}
 use Rattle.std.specs.List.{flat_map}
+use Rattle.std.specs.Option.{option_map}
+use Rattle.vm_base.specs.Listing.{Listed}
 use Rattle.vm_base.specs.declared.entry.Entry.{Entry}
 use Rattle.vm_base.specs.declared.ids.Access.{Access}
 use Rattle.vm_base.specs.declared.ids.Access.TheVariants.{Load, Store}
 use Rattle.vm_base.specs.declared.ids.Inherit.{Inherit}
 use Rattle.vm_base.specs.declared.ids.Prot.{Prot}
+use Rattle.vm_base.specs.declared.ids.RegionId.{RegionId}
 
 -- the most entries that a task may have
 abbrev pub most_entries : ℕ
 most_entries = 256
+
+-- the entries of a list that was made by rising address
+abbrev pub by_address : Listed Entry → List Entry
+by_address entries = reverse entries.items
 
 -- a range of whole pages, not empty, with all its addresses below 2^32; the first number is the page size
 abbrev pub is_range : ℕ → ℕ → ℕ → Bool
@@ -29,10 +36,29 @@ entry_at address (row ∷ rows) = if nat_le row.address address && nat_lt addres
 abbrev pub page_at : ℕ → ℕ → Entry → ℕ
 page_at size address row = row.offset + (address - row.address) / size
 
+-- what an address is mapped to
+pub record Mapping : Type 0 where
+  pub region : RegionId
+  pub page : ℕ
+  pub prot : Prot
+  pub inherit : Inherit
+
+-- what an entry maps an address to
+abbrev pub mapping : ℕ → ℕ → Entry → Mapping
+mapping size address row = record { region = row.region; page = page_at size address row; prot = row.prot; inherit = row.inherit }
+
+-- what the entries map an address to, where they map it
+abbrev pub mapping_at : ℕ → ℕ → List Entry → Option Mapping
+mapping_at size address rows = option_map (mapping size address) (entry_at address rows)
+
 -- what is allowed to an access
 abbrev pub allows : Access → Prot → Bool
 allows Load prot = prot.read
 allows Store prot = prot.write
+
+-- an address is in a range
+abbrev pub is_within : ℕ → ℕ → ℕ → Bool
+is_within start bytes address = nat_le start address && nat_lt address (start + bytes)
 
 -- an entry has an address of the range, which is not empty
 abbrev pub meets_range : ℕ → ℕ → List Entry → Bool

@@ -13,7 +13,7 @@ pub record Clear (new row : Entry) (rows : List Entry) : Type 0 where
   pub behind : new.address < row.address + row.bytes → new.address + new.bytes ≤ row.address
   pub rest : meets_range new.address new.bytes rows ≡ false
 
-clear : (new row : Entry) (rows : List Entry) → meets_range new.address new.bytes (row ∷ rows) ≡ false → Clear new row rows
+pub clear : (new row : Entry) (rows : List Entry) → meets_range new.address new.bytes (row ∷ rows) ≡ false → Clear new row rows
 clear new row rows free = record { behind = λ less. grind (arith, nat_tests); rest = grind (arith, nat_tests) }
 
 pub entered_at : (from to : ℕ) (new : Entry) (rows : List Entry) → InOrder from to rows → 0 < new.bytes → meets_range new.address new.bytes rows ≡ false → entered new rows ≡ insert rows (passed new.address rows) new

@@ -4,6 +4,7 @@ mod Covered
 mod Entering
 mod Found
 mod Kept
+mod Mappings
 mod Multiples
 mod Order
 mod Pages

@@ -5,7 +5,7 @@ use Rattle.std.proofs.lemmas.Bool.Decides.{nat_tests}
 use Rattle.std.specs.List.{insert, remove}
 use Rattle.std.specs.List.Sorted.{IsNonDecreasingBy}
 use Rattle.std.specs.Prelude.{IsSome, nat_lt, unwrap_or, if◌then◌else◌}
-use Rattle.vm_base.specs.Entries.{most_entries}
+use Rattle.vm_base.specs.Entries.{AreEntries, most_entries}
 use Rattle.vm_base.specs.Listing.{Listed}
 use Rattle.vm_base.specs.declared.ids.TaskId.{TaskId}
 use Rattle.vm_base.specs.declared.entry.Entry.{Entry}
@@ -239,3 +239,6 @@ task_map_read size tables maps task i table view stand read =
       rows = ap (λ z. unwrap_or z []) (stand.is table) ∙ ap rows_of (sym read);
       named = ap (λ (z : TaskMap). z.task.0) read ∙ stand.named table;
     }
+
+pub entries_read : (size : ℕ) (maps : Mapped) (task : ℕ) (table : TaskMap) → IsTaskMap size maps task table → AreEntries maps.size (rows_in task maps)
+entries_read size maps task table read = rw (read.size, read.rows) read.kept.entries

@@ -1,6 +1,9 @@
 -- The address maps of tasks, as contracts see them.
 use Rattle.std.specs.Prelude.{ℕ, ◌+◌, ◌/◌, ◌^◌, ◌<◌, ◌≡◌, ◌≢◌, ◌==◌, List, [], ◌∷◌, Option, Some, None, unwrap_or, if◌then◌else◌}
+use Rattle.vm_base.specs.Entries.{Mapping, is_within, mapping_at, parts_in}
 use Rattle.vm_base.specs.declared.entry.Entry.{Entry}
+use Rattle.vm_base.specs.declared.ids.Inherit.{Inherit}
+use Rattle.vm_base.specs.declared.ids.Prot.{Prot}
 use Rattle.vm_maps.specs.declared.change.MapChange.{MapChange}
 
 -- the page size, and each task with its entries by rising address
@@ -19,6 +22,24 @@ entries_in task maps = entries_among task maps.tasks
 -- the entries of a task that has a map
 abbrev pub rows_in : ℕ → Mapped → List Entry
 rows_in task maps = unwrap_or (entries_in task maps) []
+
+-- what an address of a task is mapped to
+abbrev pub mapping_in : ℕ → ℕ → Mapped → Option Mapping
+mapping_in task at maps = mapping_at maps.size at (rows_in task maps)
+
+-- addresses in the range of a change are mapped to what this makes of it, and all others as they were
+abbrev pub Remaps : (ℕ → Option Mapping → Option Mapping) → Mapped → Mapped → ℕ → MapChange → Type 0
+Remaps becomes old new task change = (at : ℕ) → mapping_in task at new ≡ (if is_within change.address change.bytes at then becomes at (mapping_in task at old) else mapping_in task at old)
+
+-- the parts of a task's entries in the range of a change
+abbrev pub parts_for : Mapped → ℕ → MapChange → List Entry
+parts_for maps task change = parts_in maps.size change.address change.bytes (rows_in task maps)
+
+abbrev pub with_prot : Prot → Mapping → Mapping
+with_prot prot old = record old { prot = prot }
+
+abbrev pub with_inherit : Inherit → Mapping → Mapping
+with_inherit inherit old = record old { inherit = inherit }
 
 -- one task has these entries now, or no map, and all else is as it was
 pub record ChangesOnly (old new : Mapped) (task : ℕ) (entries : Option (List Entry)) : Type 0 where

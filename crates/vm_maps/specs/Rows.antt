@@ -1,7 +1,9 @@
 -- What the searches and cuts in a task's entries find.
-use Rattle.std.specs.Prelude.{ℕ, suc, ◌+◌, ◌^◌, Bool, ◌&&◌, ◌||◌, List, [], ◌∷◌, ◌++◌, if◌then◌else◌, nat_lt, nat_le}
+use Rattle.std.specs.Prelude.{ℕ, suc, ◌+◌, ◌^◌, Bool, ◌&&◌, ◌||◌, List, [], ◌∷◌, ◌++◌, Option, None, if◌then◌else◌, nat_lt, nat_le}
 use Rattle.std.specs.List.{flat_map}
-use Rattle.vm_base.specs.Entries.{cut}
+use Rattle.std.specs.Option.{option_map}
+use Rattle.vm_base.specs.Entries.{Mapping, cut}
+use Rattle.vm_maps.specs.Maps.{with_inherit, with_prot}
 use Rattle.vm_base.specs.declared.entry.Entry.{Entry}
 use Rattle.vm_maps.specs.declared.change.MapChange.{MapChange}
 use Rattle.vm_maps.specs.declared.change.MapKind.{MapKind}
@@ -38,3 +40,10 @@ rewritten_one size change row =
     cut size 0 change.address row
     ++ (flat_map (becomes change) (cut size change.address (change.address + change.bytes) row)
     ++ cut size (change.address + change.bytes) (2 ^ 32) row)
+
+-- what a change makes of what an address in its range is mapped to
+abbrev pub changed_by : MapKind → MapChange → Option Mapping → Option Mapping
+changed_by kind.Enter change old = old
+changed_by kind.Remove change old = None
+changed_by kind.Protect change old = option_map (with_prot change.prot) old
+changed_by kind.Inherit change old = option_map (with_inherit change.inherit) old

@@ -1,12 +1,12 @@
 -- How the maps are kept: by rising task, each with a table for the most entries.
-use Rattle.std.specs.Prelude.{ℕ, suc, ◌+◌, ◌≤◌, List, [], ◌∷◌, length, reverse, map, if◌then◌else◌, nat_lt}
-use Rattle.vm_base.specs.Entries.{AreEntries, most_entries}
+use Rattle.std.specs.Prelude.{ℕ, suc, ◌+◌, ◌≤◌, List, [], ◌∷◌, length, map, if◌then◌else◌, nat_lt}
+use Rattle.vm_base.specs.Entries.{AreEntries, by_address, most_entries}
 use Rattle.vm_base.specs.declared.entry.Entry.{Entry}
 use Rattle.vm_maps.specs.declared.task_map.TaskMap.{TaskMap}
 
 -- a task's entries by rising address
 abbrev pub rows_of : TaskMap → List Entry
-rows_of table = reverse table.entries.items
+rows_of table = by_address table.entries
 
 abbrev pub task_rows : List TaskMap → List (ℕ × List Entry)
 task_rows tables = map (λ table. (table.task.0, rows_of table)) tables

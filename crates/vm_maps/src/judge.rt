@@ -1,6 +1,6 @@
 // The tests that a task's entries decide.
-ghost use Rattle.std.specs.Prelude.{◌≡◌, ◌+◌, ◌≤◌, ◌<◌, ◌^◌, Bool, ℕ, Some, None, if◌then◌else◌, length, reverse, nat_lt};
-ghost use Rattle.vm_base.specs.Entries.{AreEntries, InOrder, allows, inherited, is_range, most_entries, page_at, protected, removed};
+ghost use Rattle.std.specs.Prelude.{◌≡◌, ◌+◌, ◌≤◌, ◌<◌, ◌^◌, Bool, ℕ, Some, None, if◌then◌else◌, length, nat_lt};
+ghost use Rattle.vm_base.specs.Entries.{AreEntries, InOrder, allows, by_address, inherited, is_range, most_entries, page_at, protected, removed};
 ghost use Rattle.vm_base.specs.declared.code.Code.TheVariants as code;
 ghost use Rattle.vm_base.specs.declared.ids.Inherit.{Inherit as Inheritance};
 ghost use Rattle.vm_base.specs.declared.ids.Prot.{Prot as Protection};
@@ -17,8 +17,8 @@ pub const ADDRESS_END: u64 = 0x1_0000_0000;
 
 // The first test that the change meets.
 pub fn judge_change(size: PageSize, entries: &Entries, change: &MapChange) -> Option<Code>
-    requires { AreEntries size (reverse entries.now.items) }
-    ensures { result ≡ judged size change.now (reverse entries.now.items) }
+    requires { AreEntries size (by_address entries.now) }
+    ensures { result ≡ judged size change.now (by_address entries.now) }
 {
     let address = change.address;
     let bytes = change.bytes;
@@ -45,8 +45,8 @@ pub fn judge_change(size: PageSize, entries: &Entries, change: &MapChange) -> Op
 
 // Where an access of an address leads, or why it is refused.
 pub fn look_up(size: PageSize, entries: &Entries, address: u64, need: Access) -> Result<Place, Code>
-    requires { AreEntries size (reverse entries.now.items) }
-    ensures { result ≡ looked_up size address need (reverse entries.now.items) }
+    requires { AreEntries size (by_address entries.now) }
+    ensures { result ≡ looked_up size address need (by_address entries.now) }
 {
     let Some(entry) = entry_at(entries, address) else {
         return Err(Code::InvalidAddress);
@@ -101,11 +101,12 @@ fn full(count: u32) -> Option<Code>
 
 // How many entries are left when the range is taken out.
 fn count_removed(entries: &Entries, address: u64, bytes: u64) -> u32
-    requires order { InOrder 0 (2 ^ 32) (reverse entries.now.items) }
+    requires order { InOrder 0 (2 ^ 32) (by_address entries.now) }
     requires few { length entries.now.items ≤ most_entries }
     requires some { 0 < bytes }
     requires end { address + bytes ≤ 2 ^ 32 }
-    ensures { (size : ℕ) → result ≡ length (removed size address bytes (reverse entries.now.items)) }
+    ensures { (size : ℕ) →
+        result ≡ length (removed size address bytes (by_address entries.now)) }
 {
     let in_front = count_passed(entries, address) + count_cuts(entries, address);
     in_front + (entries.len() - count_passed(entries, address + bytes))
@@ -113,12 +114,14 @@ fn count_removed(entries: &Entries, address: u64, bytes: u64) -> u32
 
 // How many entries there are when they are cut at the ends of the range.
 fn count_rewritten(entries: &Entries, address: u64, bytes: u64) -> u32
-    requires order { InOrder 0 (2 ^ 32) (reverse entries.now.items) }
+    requires order { InOrder 0 (2 ^ 32) (by_address entries.now) }
     requires few { length entries.now.items ≤ most_entries }
     requires some { 0 < bytes }
     requires end { address + bytes ≤ 2 ^ 32 }
-    ensures protected { (size : ℕ) (prot : Protection) → result ≡ length (protected size address bytes prot (reverse entries.now.items)) }
-    ensures inherited { (size : ℕ) (inherit : Inheritance) → result ≡ length (inherited size address bytes inherit (reverse entries.now.items)) }
+    ensures protected { (size : ℕ) (prot : Protection) →
+        result ≡ length (protected size address bytes prot (by_address entries.now)) }
+    ensures inherited { (size : ℕ) (inherit : Inheritance) →
+        result ≡ length (inherited size address bytes inherit (by_address entries.now)) }
 {
     entries.len() + count_cuts(entries, address) + count_cuts(entries, address + bytes)
 }

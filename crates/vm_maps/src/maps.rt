@@ -1,9 +1,10 @@
 // The maps of all tasks.
-ghost use Rattle.std.specs.Prelude.{◌≡◌, ◌≤◌, [], Some, None, IfOk, IfSome, IsOk, IsSome, IsSomeAnd, IsTrue, OnErr, OnOk, length, reverse};
-ghost use Rattle.vm_base.specs.Entries.{AreEntries, entered, inherited, is_range, most_entries, parts_in, protected, removed, rewritten};
+ghost use Rattle.std.specs.Prelude.{◌≡◌, ◌≤◌, [], Some, None, IfOk, IfSome, IsOk, IsSome, IsSomeAnd, IsTrue, OnErr, OnOk, length};
+ghost use Rattle.std.specs.Option.{option_map};
+ghost use Rattle.vm_base.specs.Entries.{AreEntries, by_address, entered, inherited, is_range, mapping, most_entries, protected, removed, rewritten};
 ghost use Rattle.vm_maps.specs.Judge.{judged, looked_up};
-ghost use Rattle.vm_maps.specs.Maps.{ChangesOnly, IsNewEntry, entries_in, rows_in};
-ghost use Rattle.vm_maps.specs.Rows.{becomes};
+ghost use Rattle.vm_maps.specs.Maps.{ChangesOnly, IsNewEntry, Remaps, entries_in, parts_for, rows_in, with_inherit, with_prot};
+ghost use Rattle.vm_maps.specs.Rows.{becomes, changed_by};
 ghost use Rattle.vm_maps.specs.declared.change.MapKind.TheVariants as kind;
 
 use crate::judge::{MOST_ENTRIES, judge_change, look_up};
@@ -14,10 +15,13 @@ use std::alloc::Global;
 use std::marker::Model;
 use vm_base::{Access, Code, Entries, NoMemory, PageSize, TaskId};
 
-/// The address maps of tasks, as the Mach 3 kernel interfaces have them.
+/// The address maps of tasks: what `vm_allocate`, `vm_map`, `vm_deallocate`, `vm_protect` and
+/// `vm_inherit` of the Mach 3 kernel interfaces do to a task's entries.
 ///
 /// Contracts see the page size, and each task with its entries by rising address. The entries of a
-/// task don't meet, are of whole pages, and are at most 256.
+/// task don't meet, are of whole pages, and are at most 256, which is this profile's limit. They
+/// are cut at the ends of a range and never joined. A change first passes `judge`; the calls that
+/// make it then fail for want of memory alone, and leave all as it was.
 #[derive(Drop)]
 pub struct Maps {
     alloc: Global,
@@ -51,16 +55,17 @@ impl Maps {
 
     /// Makes room for `n` further entries in each task.
     ///
-    /// A task's table is taken whole when its map is made, so there is nothing left to take.
+    /// There is nothing to do: `add_task` takes a task's whole table, of 256 entries, so that
+    /// `enter` never wants memory.
     pub fn reserve(&mut self, n: u32) -> Result<(), NoMemory>
         ensures same { self.new ≡ self.old }
-        ensures room { IsOk result }
+        ensures succeeds { IsOk result }
     {
         let _ = n;
         Ok(())
     }
 
-    /// Makes the map of a task, without entries.
+    /// Makes the map of a task, without entries; it fails for want of memory alone.
     pub fn add_task(&mut self, task: TaskId) -> Result<(), NoMemory>
         requires { entries_in task.0 self.old ≡ None }
         ensures ok { OnOk result (ChangesOnly self.old self.new task.0 (Some [])) }
@@ -76,7 +81,7 @@ impl Maps {
     /// Ends the map of a task, and gives its entries.
     pub fn end_task(&mut self, task: TaskId) -> Entries
         requires { IsSome (entries_in task.0 self.old) }
-        ensures entries { entries_in task.0 self.old ≡ Some (reverse result.items) }
+        ensures entries { entries_in task.0 self.old ≡ Some (by_address result) }
         ensures ended { ChangesOnly self.old self.new task.0 None }
     {
         let i = find(&self.tables, task);
@@ -87,8 +92,8 @@ impl Maps {
     /// The entries of a task.
     pub fn entries(&self, task: TaskId) -> &Entries
         requires { IsSome (entries_in task.0 self.now) }
-        ensures value { entries_in task.0 self.now ≡ Some (reverse result.now.items) }
-        ensures kept { AreEntries self.now.size (reverse result.now.items) }
+        ensures value { entries_in task.0 self.now ≡ Some (by_address result.now) }
+        ensures sound { AreEntries self.now.size (by_address result.now) }
     {
         let i = find(&self.tables, task);
         &self.tables[i].entries
@@ -107,9 +112,8 @@ impl Maps {
         judge_change(self.size, self.entries(task), change)
     }
 
-    /// Makes the entry of an Enter; the entries taken away are none.
-    ///
-    /// The task's table has room, so it doesn't fail.
+    /// Makes the entry of an Enter. No entries are taken away, and it doesn't fail, since the
+    /// task's table has room.
     pub fn enter(&mut self, task: TaskId, change: &MapChange) -> Result<Entries, NoMemory>
         requires there { IsSome (entries_in task.0 self.old) }
         requires kind { change.now.kind ≡ kind.Enter }
@@ -117,7 +121,10 @@ impl Maps {
         requires entry { IsSomeAnd change.now.entry (IsNewEntry self.old.size change.now) }
         ensures succeeds { IsOk result }
         ensures taken { IfOk result (λ taken. taken.items ≡ []) }
-        ensures changes { IfSome change.now.entry (λ row. ChangesOnly self.old self.new task.0 (Some (entered row (rows_in task.0 self.old)))) }
+        ensures changes { IfSome change.now.entry (λ row. ChangesOnly self.old self.new task.0
+            (Some (entered row (rows_in task.0 self.old)))) }
+        ensures mapped { IfSome change.now.entry (λ row. Remaps
+            (λ at was. Some (mapping self.old.size at row)) self.old self.new task.0 change.now) }
     {
         let Some(entry) = change.entry else {
             unreachable!()
@@ -135,8 +142,12 @@ impl Maps {
         requires there { IsSome (entries_in task.0 self.old) }
         requires kind { change.now.kind ≡ kind.Remove }
         requires judged { judged self.old.size change.now (rows_in task.0 self.old) ≡ None }
-        ensures changes { OnOk result (ChangesOnly self.old self.new task.0 (Some (removed self.old.size change.now.address change.now.bytes (rows_in task.0 self.old)))) }
-        ensures taken { IfOk result (λ taken. reverse taken.items ≡ parts_in self.old.size change.now.address change.now.bytes (rows_in task.0 self.old)) }
+        ensures changes { OnOk result (ChangesOnly self.old self.new task.0 (Some
+            (removed self.old.size change.now.address change.now.bytes (rows_in task.0 self.old)))) }
+        ensures mapped { OnOk result (Remaps (λ at was. None)
+            self.old self.new task.0 change.now) }
+        ensures taken { IfOk result (λ taken.
+            by_address taken ≡ parts_for self.old task.0 change.now) }
         ensures err { OnErr result (self.new ≡ self.old) }
     {
         self.rewrite(task, change)
@@ -149,8 +160,13 @@ impl Maps {
         requires there { IsSome (entries_in task.0 self.old) }
         requires kind { change.now.kind ≡ kind.Protect }
         requires judged { judged self.old.size change.now (rows_in task.0 self.old) ≡ None }
-        ensures changes { OnOk result (ChangesOnly self.old self.new task.0 (Some (protected self.old.size change.now.address change.now.bytes change.now.prot (rows_in task.0 self.old)))) }
-        ensures taken { IfOk result (λ taken. reverse taken.items ≡ parts_in self.old.size change.now.address change.now.bytes (rows_in task.0 self.old)) }
+        ensures changes { OnOk result (ChangesOnly self.old self.new task.0 (Some
+            (protected self.old.size
+            change.now.address change.now.bytes change.now.prot (rows_in task.0 self.old)))) }
+        ensures mapped { OnOk result (Remaps (λ at. option_map (with_prot change.now.prot))
+            self.old self.new task.0 change.now) }
+        ensures taken { IfOk result (λ taken.
+            by_address taken ≡ parts_for self.old task.0 change.now) }
         ensures err { OnErr result (self.new ≡ self.old) }
     {
         self.rewrite(task, change)
@@ -163,8 +179,13 @@ impl Maps {
         requires there { IsSome (entries_in task.0 self.old) }
         requires kind { change.now.kind ≡ kind.Inherit }
         requires judged { judged self.old.size change.now (rows_in task.0 self.old) ≡ None }
-        ensures changes { OnOk result (ChangesOnly self.old self.new task.0 (Some (inherited self.old.size change.now.address change.now.bytes change.now.inherit (rows_in task.0 self.old)))) }
-        ensures taken { IfOk result (λ taken. reverse taken.items ≡ parts_in self.old.size change.now.address change.now.bytes (rows_in task.0 self.old)) }
+        ensures changes { OnOk result (ChangesOnly self.old self.new task.0 (Some
+            (inherited self.old.size
+            change.now.address change.now.bytes change.now.inherit (rows_in task.0 self.old)))) }
+        ensures mapped { OnOk result (Remaps (λ at. option_map (with_inherit change.now.inherit))
+            self.old self.new task.0 change.now) }
+        ensures taken { IfOk result (λ taken.
+            by_address taken ≡ parts_for self.old task.0 change.now) }
         ensures err { OnErr result (self.new ≡ self.old) }
     {
         self.rewrite(task, change)
@@ -185,9 +206,15 @@ impl Maps {
     fn rewrite(&mut self, task: TaskId, change: &MapChange) -> Result<Entries, NoMemory>
         requires there { IsSome (entries_in task.0 self.old) }
         requires range { IsTrue (is_range self.old.size change.now.address change.now.bytes) }
-        requires few { length (rewritten (becomes change.now) self.old.size change.now.address change.now.bytes (rows_in task.0 self.old)) ≤ most_entries }
-        ensures changes { OnOk result (ChangesOnly self.old self.new task.0 (Some (rewritten (becomes change.now) self.old.size change.now.address change.now.bytes (rows_in task.0 self.old)))) }
-        ensures taken { IfOk result (λ taken. reverse taken.items ≡ parts_in self.old.size change.now.address change.now.bytes (rows_in task.0 self.old)) }
+        requires few { length (rewritten (becomes change.now) self.old.size
+            change.now.address change.now.bytes (rows_in task.0 self.old)) ≤ most_entries }
+        ensures changes { OnOk result (ChangesOnly self.old self.new task.0 (Some
+            (rewritten (becomes change.now) self.old.size
+            change.now.address change.now.bytes (rows_in task.0 self.old)))) }
+        ensures mapped { OnOk result (Remaps (λ at. changed_by change.now.kind change.now)
+            self.old self.new task.0 change.now) }
+        ensures taken { IfOk result (λ taken.
+            by_address taken ≡ parts_for self.old task.0 change.now) }
         ensures err { OnErr result (self.new ≡ self.old) }
     {
         let i = find(&self.tables, task);

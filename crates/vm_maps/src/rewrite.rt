@@ -1,7 +1,7 @@
 // Entries with one more, and entries cut at the ends of a range.
-ghost use Rattle.std.specs.Prelude.{◌≡◌, ◌+◌, ◌/◌, ◌≤◌, ◌<◌, ◌^◌, ◌++◌, IfOk, IsOk, OnOk, false, length, option_to_list, reverse};
+ghost use Rattle.std.specs.Prelude.{◌≡◌, ◌+◌, ◌/◌, ◌≤◌, ◌<◌, ◌^◌, ◌++◌, IfOk, IsOk, OnOk, false, length, option_to_list};
 ghost use Rattle.std.specs.List.{flat_map};
-ghost use Rattle.vm_base.specs.Entries.{AreEntries, InOrder, cut, entered, meets_range, most_entries, parts_in, rewritten};
+ghost use Rattle.vm_base.specs.Entries.{AreEntries, InOrder, by_address, cut, entered, meets_range, most_entries, parts_in, rewritten};
 ghost use Rattle.vm_maps.specs.Rows.{becomes, rewritten_one};
 
 use crate::judge::{ADDRESS_END, MOST_ENTRIES};
@@ -12,13 +12,13 @@ use vm_base::{Entries, Entry, NoMemory, PageSize};
 
 // Puts an entry in its place, where a table has room for the most entries.
 pub fn put_entry(entries: &mut Entries, entry: Entry) -> Result<(), NoMemory>
-    requires order { InOrder 0 (2 ^ 32) (reverse entries.old.items) }
+    requires order { InOrder 0 (2 ^ 32) (by_address entries.old) }
     requires some { 0 < entry.bytes }
-    requires free { meets_range entry.address entry.bytes (reverse entries.old.items) ≡ false }
+    requires free { meets_range entry.address entry.bytes (by_address entries.old) ≡ false }
     requires few { length entries.old.items < most_entries }
     requires room { most_entries ≤ length entries.old.items + entries.old.room }
     ensures succeeds { IsOk result }
-    ensures entered { reverse entries.new.items ≡ entered entry (reverse entries.old.items) }
+    ensures entered { by_address entries.new ≡ entered entry (by_address entries.old) }
     ensures room { most_entries ≤ length entries.new.items + entries.new.room }
 {
     let at = count_passed(entries, entry.address);
@@ -40,10 +40,12 @@ pub fn rewrite(
     entries: &Entries,
     change: &MapChange,
 ) -> Result<Rewritten, NoMemory>
-    requires entries { AreEntries size (reverse entries.now.items) }
+    requires entries { AreEntries size (by_address entries.now) }
     requires end { change.now.address + change.now.bytes ≤ 2 ^ 32 }
-    ensures kept { IfOk result (λ made. reverse made.kept.items ≡ rewritten (becomes change.now) size change.now.address change.now.bytes (reverse entries.now.items)) }
-    ensures taken { IfOk result (λ made. reverse made.taken.items ≡ parts_in size change.now.address change.now.bytes (reverse entries.now.items)) }
+    ensures kept { IfOk result (λ made. by_address made.kept ≡ rewritten (becomes change.now)
+        size change.now.address change.now.bytes (by_address entries.now)) }
+    ensures taken { IfOk result (λ made. by_address made.taken ≡ parts_in
+        size change.now.address change.now.bytes (by_address entries.now)) }
     ensures room { IfOk result (λ made. most_entries ≤ length made.kept.items + made.kept.room) }
 {
     let mut made = Rewritten {
@@ -67,9 +69,12 @@ fn rewrite_entry(
     requires end { change.now.address + change.now.bytes ≤ 2 ^ 32 }
     requires high { entry.address + entry.bytes ≤ 2 ^ 32 }
     requires pages { entry.offset + entry.bytes / size < 2 ^ 32 }
-    ensures kept { OnOk result (reverse made.new.kept.items ≡ reverse made.old.kept.items ++ rewritten_one size change.now entry) }
-    ensures taken { OnOk result (reverse made.new.taken.items ≡ reverse made.old.taken.items ++ cut size change.now.address (change.now.address + change.now.bytes) entry) }
-    ensures room { OnOk result (length made.old.kept.items + made.old.kept.room ≤ length made.new.kept.items + made.new.kept.room) }
+    ensures kept { OnOk result (by_address made.new.kept
+        ≡ by_address made.old.kept ++ rewritten_one size change.now entry) }
+    ensures taken { OnOk result (by_address made.new.taken ≡ by_address made.old.taken
+        ++ cut size change.now.address (change.now.address + change.now.bytes) entry) }
+    ensures room { OnOk result (length made.old.kept.items + made.old.kept.room
+        ≤ length made.new.kept.items + made.new.kept.room) }
 {
     let end = change.address + change.bytes;
     let part = cut(size, change.address, end, entry);
@@ -81,8 +86,9 @@ fn rewrite_entry(
 }
 
 fn push_part(list: &mut Entries, part: Option<Entry>) -> Result<(), NoMemory>
-    ensures ok { OnOk result (reverse list.new.items ≡ reverse list.old.items ++ option_to_list part) }
-    ensures room { OnOk result (length list.old.items + list.old.room ≤ length list.new.items + list.new.room) }
+    ensures ok { OnOk result (by_address list.new ≡ by_address list.old ++ option_to_list part) }
+    ensures room { OnOk result (length list.old.items + list.old.room
+        ≤ length list.new.items + list.new.room) }
 {
     if let Some(part) = part {
         list.push(part)?;

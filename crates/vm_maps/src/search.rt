@@ -1,14 +1,14 @@
 // Searches in a task's entries, which stand by rising address.
-ghost use Rattle.std.specs.Prelude.{◌≡◌, ◌+◌, ◌≤◌, ◌<◌, ◌^◌, drop, length, reverse, slice_get};
-ghost use Rattle.vm_base.specs.Entries.{InOrder, entry_at, meets_range};
+ghost use Rattle.std.specs.Prelude.{◌≡◌, ◌+◌, ◌≤◌, ◌<◌, ◌^◌, drop, length, slice_get};
+ghost use Rattle.vm_base.specs.Entries.{InOrder, by_address, entry_at, meets_range};
 ghost use Rattle.vm_maps.specs.Rows.{cuts_at, passed, reaches};
 
 use vm_base::{Entries, Entry};
 
 // The number of entries that end at or in front of an address, which are the first ones.
 pub fn count_passed(entries: &Entries, address: u64) -> u32
-    requires { InOrder 0 (2 ^ 32) (reverse entries.now.items) }
-    ensures value { result ≡ passed address (reverse entries.now.items) }
+    requires { InOrder 0 (2 ^ 32) (by_address entries.now) }
+    ensures value { result ≡ passed address (by_address entries.now) }
     ensures within { result ≤ length entries.now.items }
 {
     let mut low = 0;
@@ -27,8 +27,9 @@ pub fn count_passed(entries: &Entries, address: u64) -> u32
 
 // The first entry that ends behind an address.
 fn first_behind(entries: &Entries, address: u64) -> Option<Entry>
-    requires { InOrder 0 (2 ^ 32) (reverse entries.now.items) }
-    ensures { result ≡ slice_get (reverse entries.now.items) (passed address (reverse entries.now.items)) }
+    requires { InOrder 0 (2 ^ 32) (by_address entries.now) }
+    ensures { let rows = by_address entries.now in
+        result ≡ slice_get rows (passed address rows) }
 {
     let i = count_passed(entries, address);
     if i < entries.len() {
@@ -41,8 +42,8 @@ fn first_behind(entries: &Entries, address: u64) -> Option<Entry>
 // The entry that holds an address.
 #[tactic(auto, using(crate::proofs::Found::found))]
 pub fn entry_at(entries: &Entries, address: u64) -> Option<Entry>
-    requires { InOrder 0 (2 ^ 32) (reverse entries.now.items) }
-    ensures { result ≡ entry_at address (reverse entries.now.items) }
+    requires { InOrder 0 (2 ^ 32) (by_address entries.now) }
+    ensures { result ≡ entry_at address (by_address entries.now) }
 {
     match first_behind(entries, address) {
         Some(entry) if entry.address <= address => Some(entry),
@@ -53,10 +54,10 @@ pub fn entry_at(entries: &Entries, address: u64) -> Option<Entry>
 // Whether an entry has an address of the range.
 #[tactic(auto, using(crate::proofs::Found::found))]
 pub fn meets_range(entries: &Entries, address: u64, bytes: u64) -> bool
-    requires order { InOrder 0 (2 ^ 32) (reverse entries.now.items) }
+    requires order { InOrder 0 (2 ^ 32) (by_address entries.now) }
     requires some { 0 < bytes }
     requires end { address + bytes ≤ 2 ^ 32 }
-    ensures { result ≡ meets_range address bytes (reverse entries.now.items) }
+    ensures { result ≡ meets_range address bytes (by_address entries.now) }
 {
     match first_behind(entries, address) {
         Some(entry) => entry.address < address + bytes,
@@ -67,8 +68,8 @@ pub fn meets_range(entries: &Entries, address: u64, bytes: u64) -> bool
 // How many entries have addresses on both sides of a boundary: one or none.
 #[tactic(auto, using(crate::proofs::Found::found))]
 pub fn count_cuts(entries: &Entries, address: u64) -> u32
-    requires { InOrder 0 (2 ^ 32) (reverse entries.now.items) }
-    ensures value { result ≡ cuts_at address (reverse entries.now.items) }
+    requires { InOrder 0 (2 ^ 32) (by_address entries.now) }
+    ensures value { result ≡ cuts_at address (by_address entries.now) }
     ensures few { result ≤ 1 }
 {
     match first_behind(entries, address) {
@@ -79,8 +80,9 @@ pub fn count_cuts(entries: &Entries, address: u64) -> u32
 
 // Whether the entries leave no gap from an address up to another.
 pub fn is_covered(entries: &Entries, from: u64, to: u64) -> bool
-    requires { InOrder 0 (2 ^ 32) (reverse entries.now.items) }
-    ensures { result ≡ reaches from to (drop (passed from (reverse entries.now.items)) (reverse entries.now.items)) }
+    requires { InOrder 0 (2 ^ 32) (by_address entries.now) }
+    ensures { let rows = by_address entries.now in
+        result ≡ reaches from to (drop (passed from rows) rows) }
 {
     let mut i = count_passed(entries, from);
     let mut reached = from;

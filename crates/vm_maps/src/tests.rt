@@ -9,10 +9,12 @@ use std::test::Fail;
 use vm_base::{Access, Code, Entries, Entry, Inherit, PageNo, PageSize, Prot, RegionId, TaskId};
 
 const TASK: TaskId = TaskId(3);
+
 const OPEN: Prot = Prot {
     read: true,
     write: true,
 };
+
 const READ_ONLY: Prot = Prot {
     read: true,
     write: false,
@@ -104,8 +106,14 @@ fn worked(rt: HostRuntime) -> Result<(), Fail> {
         at: 5,
     };
     assert_eq!(rt; maps.lookup(TASK, 53, Access::Store), Ok(place));
-    assert_eq!(rt; maps.lookup(TASK, 1, Access::Store), Err(Code::ProtectionFailure));
-    assert_eq!(rt; maps.lookup(TASK, 16, Access::Load), Err(Code::InvalidAddress));
+    assert_eq!(rt;
+        maps.lookup(TASK, 1, Access::Store),
+        Err(Code::ProtectionFailure)
+    );
+    assert_eq!(rt;
+        maps.lookup(TASK, 16, Access::Load),
+        Err(Code::InvalidAddress)
+    );
 
     let inheritance = change(MapKind::Inherit, 48, 16);
     assert_eq!(rt; maps.judge(TASK, &inheritance), None);
@@ -125,6 +133,9 @@ fn full(rt: HostRuntime) -> Result<(), Fail> {
     }
     assert_eq!(rt; enter(&mut maps, TASK, 0, 16, 0)?, Some(Code::NoSpace));
     assert_eq!(rt; enter(&mut maps, TASK, 16, 16, 0)?, Some(Code::TableFull));
-    assert_eq!(rt; enter(&mut maps, TASK, 0xffff_fff0, 32, 0)?, Some(Code::InvalidArgument));
+    assert_eq!(rt;
+        enter(&mut maps, TASK, 0xffff_fff0, 32, 0)?,
+        Some(Code::InvalidArgument)
+    );
     Ok(())
 }

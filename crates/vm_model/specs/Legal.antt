@@ -1,18 +1,14 @@
 -- What a legal history is.
-use Rattle.std.specs.Prelude.{ℕ, ◌≡◌, List, ◌++◌, None}
+use Rattle.std.specs.Prelude.{◌≡◌, List, ◌++◌}
 use Rattle.vm_model.specs.declared.event.Event.{Event}
 use Rattle.vm_model.specs.declared.command.Numbered.{Numbered}
 use Rattle.vm_model.specs.declared.script.Header.{Header}
 use Rattle.vm_model.specs.declared.script.Script.{Script}
 use Rattle.vm_model.specs.Moments.{EachEvent, EachMoment, BeforeSteps}
-use Rattle.vm_model.specs.Waiting.{waiting}
+use Rattle.vm_model.specs.Prompt.{Prompt}
 use Rattle.vm_model.specs.Frames.{FramesSuffice}
 use Rattle.vm_model.specs.Bytes.{OwnBytes, FlatBytes}
 use Rattle.vm_model.specs.Follows.{Follows}
-
--- no access waits in vain: nothing is on its way to anybody, so none waits at all
-abbrev pub Prompt : List Event → Type 0
-Prompt past = (task : ℕ) → waiting task past ≡ None
 
 -- the history is legal for these commands under this header
 pub record LegalFor (header : Header) (commands : List Numbered) (history : List Event) : Type 0 where

@@ -1,5 +1,6 @@
 pub mod Bytes
 pub mod Chains
+pub mod Fault
 pub mod Follows
 pub mod Frames
 pub mod Legal
@@ -7,8 +8,18 @@ pub mod Licences
 pub mod Local
 pub mod Moments
 pub mod Name
+pub mod Prompt
 pub mod Refusal
 pub mod Regions
 pub mod Tasks
 pub mod Text
 pub mod Waiting
+pub mod Words
+pub mod Side
+pub mod Waiters
+pub mod Server
+pub mod PageLicences
+pub mod Coherence
+pub mod TaskPlace
+pub mod PagePart
+pub mod Channels

@@ -3,12 +3,14 @@
 
 mod command;
 mod event;
+mod fault;
 mod message;
 mod name;
 mod script;
 
 pub use command::{Command, Numbered};
 pub use event::{Device, Event, Way};
+pub use fault::ScriptFault;
 pub use message::{Channel, Message};
 pub use name::Name;
 pub use script::{Declared, Header, Script};

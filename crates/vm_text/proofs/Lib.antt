@@ -1,2 +1,8 @@
+mod Counts
+mod Hexadecimal
+mod Named
+mod Parts
+mod Pieces
+mod Sizes
 pub mod Spelling
 pub mod Trimming

@@ -1,1 +1,5 @@
 pub mod Fields
+pub mod Forms
+pub mod Script
+pub mod Stops
+pub mod Words

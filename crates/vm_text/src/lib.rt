@@ -1,12 +1,31 @@
-//! The text of a history.
+//! The text of scripts and of histories: scripts are read, events are written.
 #![tactic(auto)]
 
+mod channel;
+mod commands;
+mod error;
 mod events;
 mod fields;
+mod heading;
+mod hex;
+mod lookup;
+mod meaning;
 mod messages;
+mod names;
+mod numbers;
+mod reader;
+mod say;
+mod terms;
+mod words;
 
+pub use error::ScriptError;
 pub use events::write_event;
 pub use fields::Line;
+pub use reader::read_script;
 
+#[cfg(test)]
+mod fault_tests;
+#[cfg(test)]
+mod script_tests;
 #[cfg(test)]
 mod tests;

@@ -6,6 +6,8 @@ mod reading;
 mod render;
 mod run;
 mod runner;
+#[cfg(test)]
+mod tests;
 mod top;
 
 pub use top::{Outcome, Status, pagers_main};

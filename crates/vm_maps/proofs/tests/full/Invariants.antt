@@ -5,5 +5,5 @@ use Rattle.vm_maps.proofs.tests.full.Given as goal
 abbrev pub invariant-loop-i : goal.invariant-loop-i
 invariant-loop-i g l = record {
   there : IsSome (entries_in 3 l.maps);
-  size : l.maps.size ≡ 16
+  size : l.maps.size ≡ 16;
 }

@@ -3,7 +3,8 @@ use Rattle.vm_base.specs.Entries.{rewritten}
 use Rattle.vm_maps.specs.Maps.{rows_in}
 use Rattle.vm_maps.specs.Rows.{becomes}
 use Rattle.vm_maps.proofs.Allowed.{rewritten_table}
-use Rattle.vm_maps.proofs.Tasks.{stands_at, task_map_read, task_set}
+use Rattle.vm_maps.proofs.Mappings.{rewritten_map}
+use Rattle.vm_maps.proofs.Tasks.{entries_read, stands_at, task_map_read, task_set}
 use Rattle.vm_maps.proofs.maps.Maps.rewrite.Goals as goal
 
 pub index_mut-table-requires : goal.index_mut-table-requires
@@ -44,3 +45,9 @@ returns-clause-taken c =
     let stand = stands_at c.self.inside.size c.self.inside.tables.items c.deref.result.now c.args.self.now c.args.task.0 c.find-i.result c.self.view_is c.self.invariant c.deref.ensures.value c.find-i.ensures.value c.requires.there in
     let read = task_map_read c.self.inside.size c.self.inside.tables.items c.args.self.now c.args.task.0 c.find-i.result c.index_mut-table.result.now c.self.view_is stand c.index_mut-table.ensures.value in
     rw (read.size, read.rows) c.in_ok-made.ensures.taken
+
+pub returns-clause-mapped : goal.returns-clause-mapped
+returns-clause-mapped c =
+    let stand = stands_at c.self.inside.size c.self.inside.tables.items c.deref.result.now c.args.self.now c.args.task.0 c.find-i.result c.self.view_is c.self.invariant c.deref.ensures.value c.find-i.ensures.value c.requires.there in
+    let read = task_map_read c.self.inside.size c.self.inside.tables.items c.args.self.now c.args.task.0 c.find-i.result c.index_mut-table.result.now c.self.view_is stand c.index_mut-table.ensures.value in
+    rewritten_map c.args.self.now _ c.args.task.0 c.args.change.now c.requires.range (entries_read c.self.inside.size c.args.self.now c.args.task.0 c.index_mut-table.result.now read) (returns-clause-changes c)

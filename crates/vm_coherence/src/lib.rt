@@ -1,0 +1,83 @@
+//! The coherence of a page of shared memory, over every order of its messages and any number of hosts.
+//!
+//! The law is about lists of events alone, whatever program they come from. Its premise is that each
+//! event has its cause: a host sends and takes by the Mach 3 kernel interfaces, in the order of its
+//! channels, and the server of the page answers by its rows.
+#![tactic(auto)]
+
+ghost use Rattle.std.specs.Prelude.{ℕ, List, ◌≡◌, ◌<◌, Some, true};
+ghost use Rattle.vm_model.specs.Words.{Act, Asking, Unlocking, Doing, Ending};
+ghost use Rattle.vm_model.specs.declared.event.Event.{Event};
+ghost use Rattle.vm_model.specs.Channels.{UpInOrder, up_queue, up_words, DownInOrder, down_queue, down_words, last_control};
+ghost use Rattle.vm_model.specs.Side.{side};
+ghost use Rattle.vm_model.specs.Server.{first, line, NoRequest, NoUpgrade};
+ghost use Rattle.vm_model.specs.PageLicences.{Licensed};
+ghost use Rattle.vm_model.specs.PagePart.{page_part, world_part};
+ghost use Rattle.vm_coherence.specs.Crossing.{crossing};
+ghost use Rattle.vm_coherence.specs.Remapping.{remapping};
+ghost use Rattle.vm_model.specs.Coherence.{Throughout, OneWriter, SameBytes, EachLoadReads, PageLegal, StepsDone, Served, Prompt, Quiet, Answered, NobodyWaits};
+
+/// The law of one shared page, for any page size. It holds of the page's part of a history and of
+/// the page world alike, and for whatever host, also one that never appears.
+///
+/// One writer is the protocol's promise in Forin, Barrera and Sanzi 1989: while a host can write,
+/// no other can read, at every moment, also inside a step. A load therefore reads what the stores in
+/// front of it left. Where nothing is on its way and each step has paid what it owes, no page is
+/// asked for and no unlock is outstanding, so that no access waits.
+#[tactic(auto, using(crate::proofs::Law::throughout_writer, crate::proofs::Whole::throughout_bytes, crate::proofs::Whole::loads, crate::proofs::Whole::page_legal, crate::proofs::Still::answered, crate::proofs::Still::still))]
+pub fn coherence_law()
+    ensures one_writer { (size : ℕ) (acts : List Act) → Licensed size acts → Throughout OneWriter acts }
+    ensures same_bytes { (size : ℕ) (acts : List Act) → Licensed size acts → Throughout (SameBytes size) acts }
+    ensures loads { (size : ℕ) (acts : List Act) → Licensed size acts → EachLoadReads size acts }
+    ensures legal { (size : ℕ) (acts : List Act) → Licensed size acts → PageLegal size acts }
+    ensures answered { (size : ℕ) (acts : List Act) → Licensed size acts → StepsDone acts → Served acts → Quiet acts → Answered acts }
+    ensures nobody_waits { (size : ℕ) (acts : List Act) → Licensed size acts → StepsDone acts → Served acts → Prompt acts → Quiet acts → NobodyWaits acts }
+{}
+
+/// A worked run of the page world, of 16-byte pages: two hosts read a page and then both store. The
+/// unlock of one and the flush for it cross the other's unlock. The run has a cause for each event,
+/// pays what its steps owe and ends quiet, so the law's premises are met by runs in which every kind
+/// of message but `terminate` appears.
+#[tactic(auto, using(crate::proofs::Crossing::crossing_licensed, crate::proofs::Crossing::crossing_done, crate::proofs::Crossing::crossing_quiet, crate::proofs::Crossing::crossing_served, crate::proofs::Crossing::crossing_prompt))]
+pub fn crossing_run()
+    ensures licensed { Licensed 16 (world_part 16 crossing) }
+    ensures done { StepsDone (world_part 16 crossing) }
+    ensures served { Served (world_part 16 crossing) }
+    ensures prompt { Prompt (world_part 16 crossing) }
+    ensures quiet { Quiet (world_part 16 crossing) }
+{}
+
+/// What the hosts' own rules give the server of a page: when a request is taken, none of its host is
+/// in the line; when an unlock is taken, no upgrade of its host is; a lock that is said done, and a
+/// control that ends while its host is awaited, are of the control for which the host is awaited.
+///
+/// A server that takes each message in its turn may so note a host's words without looking at the
+/// control that they name.
+#[tactic(auto, using(crate::proofs::Protocol::one_request, crate::proofs::Protocol::one_unlock, crate::proofs::Protocol::completed_awaited, crate::proofs::Protocol::ended_awaited))]
+pub fn protocol_law()
+    ensures one_request { (size h control access : ℕ) (acts : List Act) → Licensed size acts → first (side h acts).up ≡ Some (Asking control access) → NoRequest h (line acts) }
+    ensures one_unlock { (size h access : ℕ) (acts : List Act) → Licensed size acts → StepsDone acts → first (side h acts).up ≡ Some (Unlocking access) → NoUpgrade h (line acts) }
+    ensures completed { (size h control count : ℕ) (acts : List Act) → Licensed size acts → StepsDone acts → first (side h acts).up ≡ Some (Doing control count) → (side h acts).awaited_control ≡ control }
+    ensures ended { (size h control : ℕ) (acts : List Act) → Licensed size acts → StepsDone acts → first (side h acts).up ≡ Some (Ending control) → 0 < (side h acts).awaits → (side h acts).awaited_control ≡ control }
+{}
+
+/// A worked history of a whole system, of 16-byte pages: two hosts map one page and read it, host 0
+/// wants to write, and host 1 ends its control while it is awaited, maps the page anew and reads what
+/// host 0 stored. The page's part of it has a cause for each event and pays what its steps owe.
+#[tactic(auto, using(crate::proofs::Remapping::remapping_licensed, crate::proofs::Remapping::remapping_done))]
+pub fn remapping_run()
+    ensures licensed { Licensed 16 (page_part 16 0 0 remapping) }
+    ensures done { StepsDone (page_part 16 0 0 remapping) }
+{}
+
+/// A page's words are the messages of its channels, in order, so that first in, first out is said
+/// once for each channel of a whole history. Up: the page's words on the way from a host, where what
+/// is taken from each channel up is its oldest message. Down: those on the way to the live control,
+/// where the same holds of each channel down, nothing is sent to a control before it begins, and a
+/// control has a greater number than those before it.
+#[tactic(auto, using(crate::proofs::Channels::page_queue, crate::proofs::Descent::page_descent, crate::proofs::Descent::page_control))]
+pub fn channel_law()
+    ensures up { (size : ℕ) (history : List Event) (h o p : ℕ) → UpInOrder history → (side h (page_part size o p history)).up ≡ up_words p (up_queue h o history) }
+    ensures down { (size : ℕ) (history : List Event) (h o p : ℕ) → DownInOrder history → (side h (page_part size o p history)).live ≡ true → (side h (page_part size o p history)).down ≡ down_words p (down_queue h o (side h (page_part size o p history)).control history) }
+    ensures control { (size : ℕ) (history : List Event) (h o p : ℕ) → DownInOrder history → (side h (page_part size o p history)).control ≡ last_control h o history }
+{}
