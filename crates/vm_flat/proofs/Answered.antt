@@ -4,7 +4,8 @@ use Rattle.std.proofs.lemmas.Bool.Decides.{nat_tests}
 use Rattle.std.specs.Prelude.{◌==◌, ◌&&◌}
 use native.Mathlib.Decide.{ℕ_discrete}
 use Rattle.vm_flat.specs.Words.{DownWord, Answers, Nothing}
-use Rattle.vm_flat.specs.Spot.{May, move}
+use Rattle.vm_flat.specs.Spot.{move}
+use Rattle.vm_flat.proofs.Allowed.{May}
 use Rattle.vm_flat.proofs.Deeds.{is_file, covered, Ground, Deed, Answered, said, row, objects, link, spot, flat}
 use Rattle.vm_flat.proofs.Causes.{Cause, Ours, OwnRegion, Foreign}
 use Rattle.vm_flat.proofs.Good.{Good, good_answers, good_tells, good_again}

@@ -20,7 +20,8 @@ use Rattle.vm_flat.specs.Waiting.{Storing, next_page, address_of}
 use Rattle.vm_flat.specs.Regions.{next_region, region_of, backing_of, in_use}
 use Rattle.vm_flat.specs.Channels.{queue}
 use Rattle.vm_flat.specs.Words.{UpWord, Requesting, Returning, DownWord, Supplying, Unavailing, Erring, TakesRequest, TakesReturn, Answers, Takes}
-use Rattle.vm_flat.specs.Spot.{Spot, May, first, rest}
+use Rattle.vm_flat.specs.Spot.{Spot, first, rest}
+use Rattle.vm_flat.proofs.Allowed.{May}
 use Rattle.vm_flat.specs.Places.{spot, control, control_number}
 use Rattle.vm_flat.specs.Walks.{IsTop}
 use Rattle.vm_flat.specs.Flat.{Change, change_by, change_in, change_of, made_over, flat_page}

@@ -1,7 +1,8 @@
 -- Why a deed may happen, as far as one host's temporary and file memory goes.
 use Rattle.std.specs.Prelude.{ℕ, zero, suc, ◌+◌, ◌<◌, ◌≤◌, ◌≡◌, ◌≢◌, ◌⊎◌, List, [], ◌∷◌, Bool, true, false, None}
 use Rattle.vm_flat.specs.Words.{Requests, Returns, TakesRequest, TakesReturn, Answers, Takes}
-use Rattle.vm_flat.specs.Spot.{Spot, Passed, May, content}
+use Rattle.vm_flat.specs.Spot.{Spot}
+use Rattle.vm_flat.proofs.Allowed.{Passed, May, content}
 use Rattle.vm_flat.proofs.Deeds.{Ground, is_file, covered, Deed, Line, Region, Cow, Kept, Shadowed, Zeroed, Raised, Stored, Dropped, Created, Asked, Copied, Returned, TookRequest, TookReturn, Answered, Took, Terminated, Elsewhere, Row, row, regions, objects, Link, link, spot, control, flat}
 
 -- u is the n-th object below o

@@ -4,7 +4,8 @@ use Rattle.std.proofs.lemmas.Bool.Decides.{nat_tests}
 use Rattle.std.specs.Prelude.{◌⊎◌}
 use Rattle.vm_base.specs.Pages.{with_bytes}
 use Rattle.vm_flat.specs.Words.{DownWord, Supplying, Unavailing, Erring, Creates, Requests, Returns, TakesRequest, TakesReturn, Answers, Takes, Zeroes, Raises, Stores, Drops, Ends, StepEnds, Nothing}
-use Rattle.vm_flat.specs.Spot.{Spot, Passed, move, May, content}
+use Rattle.vm_flat.specs.Spot.{Spot, move}
+use Rattle.vm_flat.proofs.Allowed.{Passed, May, content}
 use Rattle.vm_flat.proofs.Causes.{Void}
 use Rattle.vm_flat.proofs.Deeds.{said}
 use Rattle.vm_flat.proofs.Sound.{Sound, content_saved, supplied_returned, or_zero, shows, passed_returned, keep_creates, keep_requests, keep_returns, keep_takes_request, keep_takes_return, keep_answers, keep_tells, keep_takes, keep_zeroes, keep_raises, keep_stores, keep_drops, keep_ends, keep_step}

@@ -6,7 +6,8 @@ use Rattle.vm_model.specs.declared.event.Event.{Event}
 use Rattle.vm_model.specs.declared.script.Header.{Header}
 use Rattle.vm_flat.specs.Declared.{Files, named, is_private, is_file}
 use Rattle.vm_flat.specs.Regions.{region_of, backing_of, in_use}
-use Rattle.vm_flat.specs.Spot.{Spot, Passed}
+use Rattle.vm_flat.specs.Spot.{Spot}
+use Rattle.vm_flat.proofs.Allowed.{Passed}
 use Rattle.vm_flat.specs.Places.{spot, control}
 use Rattle.vm_flat.specs.Walks as W
 use Rattle.vm_flat.specs.Walks.{IsTop, Passes}

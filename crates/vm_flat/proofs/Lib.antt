@@ -1,3 +1,4 @@
+pub mod Allowed
 pub mod Answered
 pub mod Caused
 pub mod Causes

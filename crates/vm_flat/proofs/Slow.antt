@@ -4,7 +4,8 @@ use Rattle.std.proofs.lemmas.Bool.Decides.{nat_tests}
 use Rattle.std.specs.Prelude.{◌⊎◌, ◌==◌, ◌&&◌}
 use native.Mathlib.Decide.{ℕ_discrete}
 use Rattle.vm_flat.specs.Words.{Raises, Nothing}
-use Rattle.vm_flat.specs.Spot.{Spot, move, content}
+use Rattle.vm_flat.specs.Spot.{Spot, move}
+use Rattle.vm_flat.proofs.Allowed.{content}
 use Rattle.vm_flat.proofs.Deeds.{is_file, covered, Ground, Deed, Copied, row, objects, link, spot, flat}
 use Rattle.vm_flat.proofs.Causes.{Reach, Cause, CopiesThere, Foreign}
 use Rattle.vm_flat.proofs.Good.{Good, good_puts, good_again}

@@ -3,7 +3,8 @@ use Rattle.std.proofs.Common.{◌≡◌, ℕ, ◌+◌, ◌≤◌, List, [], ◌�
 use Rattle.std.proofs.lemmas.Bool.Decides.{nat_tests}
 use Rattle.std.specs.Prelude.{◌⊎◌}
 use Rattle.vm_flat.specs.Words.{DownWord, Supplying, Unavailing, Erring, Effect, Creates, Requests, Returns, TakesRequest, TakesReturn, Answers, Takes, Zeroes, Raises, Stores, Drops, Ends, StepEnds, Nothing}
-use Rattle.vm_flat.specs.Spot.{Spot, first_spot, rest, move, Passed, MayAnswer, May, content}
+use Rattle.vm_flat.specs.Spot.{Spot, first_spot, rest, move}
+use Rattle.vm_flat.proofs.Allowed.{Passed, MayAnswer, May, content}
 use Rattle.vm_flat.proofs.Queues.{requests, returns, behind, latest, requests_ask, requests_return, returns_ask, behind_ask, behind_return, latest_ask, latest_return, latest_none, Says, Carry, carry_end, carry_rest, carry_none, carry_first, length_end}
 
 abbrev pub count : Bool → ℕ

@@ -5,7 +5,8 @@ use Rattle.std.specs.Prelude.{◌⊎◌, ◌==◌, ◌&&◌}
 use native.Mathlib.Decide.{ℕ_discrete}
 use Rattle.vm_base.specs.Pages.{with_bytes}
 use Rattle.vm_flat.specs.Words.{Stores, Nothing}
-use Rattle.vm_flat.specs.Spot.{move, content}
+use Rattle.vm_flat.specs.Spot.{move}
+use Rattle.vm_flat.proofs.Allowed.{content}
 use Rattle.vm_flat.proofs.Deeds.{is_file, covered, Ground, Deed, Stored, row, objects, link, spot, flat}
 use Rattle.vm_flat.proofs.Causes.{Path, Reach, Tops, Cause, StoresThere, Foreign}
 use Rattle.vm_flat.proofs.Good.{Good, good_stores, good_again}

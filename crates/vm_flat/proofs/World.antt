@@ -4,7 +4,8 @@ use Rattle.std.proofs.lemmas.Bool.Decides.{nat_tests}
 use Rattle.std.specs.Prelude.{◌==◌, ◌&&◌}
 use Rattle.vm_base.specs.Pages.{with_bytes}
 use Rattle.vm_flat.specs.Words.{Effect}
-use Rattle.vm_flat.specs.Spot.{Spot, Passed, content}
+use Rattle.vm_flat.specs.Spot.{Spot}
+use Rattle.vm_flat.proofs.Allowed.{Passed, content}
 use Rattle.vm_flat.proofs.Deeds.{pages, is_file, covered, Ground, Deed, Region, Shadowed, Copied, Stored, Answered, said, Row, row, regions, objects, Link, link, at_place, spot, flat}
 use Rattle.vm_flat.proofs.Causes.{Below, Path, Reaches, Reach, Walks, Sinks, Tops}
 use Rattle.vm_flat.proofs.Sound.{passed_content}
