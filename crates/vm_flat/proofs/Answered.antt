@@ -106,7 +106,7 @@ after_away z own k q word past w f =
     places o p ours =
         subst (λ e. GoodAt z (Answered own true k q word ∷ past) o p (move z.zeros (spot z o p past) e)) (sym (no_if own o p k q (Answers true word) Nothing (not_ours z own k k past f o ours)))
         (good_again z.zeros (ReachAt z o p past) (ReachAt z o p past) (objects z past ≤ o) (objects z past ≤ o) (Barren z o p past) (Barren z o p (Answered own true k q word ∷ past)) (view z o p past) (view z o p (Answered own true k q word ∷ past)) (link z o past).backed (under_view z o p past) (under_view z o p (Answered own true k q word ∷ past)) (spot z o p past)
-        (w.places o p ours) (λ x. x) (λ x. x) (λ x. view_is o p ours) (λ reach none backed. view_is (link z o past).under ((link z o past).shift + p) (w.shape.covers_under o backed))
+        (w.places o p ours) (λ x. x) (λ x. x) (λ x. view_is o p ours) (λ reach none backed. view_is (link z o past).under ((link z o past).shift + p) (w.shape.covers_under o ours backed))
         (λ reach barren n l lp path. (view_is l lp (path_covered z n o p l lp past w.shape ours path) ∙ (barren n l lp path).0, (barren n l lp path).1)))
 
 pub after_answered : (z : Ground) (own tells : Bool) (o p : ℕ) (word : DownWord) (past : List Deed) → World z past → Cause z (Answered own tells o p word) past → World z (Answered own tells o p word ∷ past)

@@ -99,10 +99,10 @@ pub record OwnRegion (z : Ground) (object : ℕ) (past : List Deed) : Type 0 whe
 
 abbrev pub Cause : Ground → Deed → List Deed → Type 0
 Cause z Line past = Unit {0}
-Cause z (Region own region object count) past = (region ≡ regions z past) × (object ≡ objects z past)
+Cause z (Region own region object count) past = (region ≡ regions z past) × (object ≡ objects z past) × (own ≡ true → covered z object ≡ true)
 Cause z (Cow region source off count) past = (region ≡ regions z past) × (source < regions z past) × (off + count ≤ (row z source past).pages)
 Cause z (Kept held) past = Unit {0}
-Cause z (Shadowed region new) past = (new ≡ objects z past) × (region < regions z past) × ((row z region past).mark ≡ true) × (covered z (row z region past).top ≡ true)
+Cause z (Shadowed region new) past = (new ≡ objects z past) × (region < regions z past) × ((row z region past).mark ≡ true) × (covered z (row z region past).top ≡ covered z new)
 Cause z (Zeroed own object page) past = Ours z own object → ((is_file z object ≡ true) × Void (spot z object page past)) ⊎ Bottoms z object page past
 Cause z (Raised own lower lower_page upper upper_page) past = Ours z own upper → Finds z lower lower_page upper upper_page past
 Cause z (Stored own region index object page at bytes) past = (Ours z own object × StoresThere z region index object page past) ⊎ Foreign z own region object past

@@ -14,11 +14,11 @@ use Rattle.vm_flat.specs.Regions.{is_kept, made_here}
 use Rattle.vm_flat.specs.Places.{control_number}
 use Rattle.vm_flat.specs.Flat.{Change, change_of, made_over}
 use Rattle.vm_flat.specs.Words.{DownWord, Supplying, Unavailing, Erring}
-use Rattle.vm_flat.specs.Declared.{Files}
+use Rattle.vm_flat.specs.Declared.{Outside}
 use Rattle.vm_flat.proofs.Deeds.{Ground, Deed, Line, Region, Cow, Kept, Shadowed, Zeroed, Raised, Stored, Dropped, Created, Asked, Copied, Returned, TookRequest, TookReturn, Answered, Took, Terminated, Elsewhere}
 
-abbrev pub ground : Header → Files → Ground
-ground header files = record { zeros = zeros header; named = named header; file = λ o. is_file_kept (declared header o); start = λ o p. start_page header files o p; length = λ o. declared_pages header o }
+abbrev pub ground : Header → Outside → Ground
+ground header outside = record { zeros = zeros header; named = named header; file = λ o. is_file_kept (declared header o); paging = outside.paging; start = λ o p. start_page header outside o p; length = λ o. declared_pages header o }
 
 abbrev pub up_deed : Bool → ℕ → Message → Deed
 up_deed own object (message.Init control size) = Created own object
@@ -57,31 +57,31 @@ abbrev pub number_or_zero : Option ℕ → ℕ
 number_or_zero None = 0
 number_or_zero (Some n) = n
 
-abbrev pub deed : Header → Files → ℕ → Event → List Event → Deed
-deed header files host (event.Line line) past = Line
-deed header files host (event.RegionMade region object pages) past = Region (made_here host past) region.0 object.0 pages
-deed header files host (event.RegionCopied region source offset pages) past = Cow region.0 source.0 offset pages
-deed header files host (event.Entered task address bytes region offset prot inherit) past = Kept (λ r. not (r == region.0) || lives_on host task.0 past)
-deed header files host (event.Removed task address bytes) past = Kept (λ r. is_kept header r (event.Removed task address bytes ∷ past))
-deed header files host (event.TaskEnded task) past = Kept (λ r. is_kept header r (event.TaskEnded task ∷ past))
-deed header files host (event.Failed task object page) past = Kept (λ r. is_kept header r (event.Failed task object page ∷ past))
-deed header files host (event.Shadowed region new old) past = Shadowed region.0 new.0
-deed header files host (event.Zeroed at object page) past = Zeroed (at.0 == host) object.0 page.0
-deed header files host (event.Raised at lower lower_page upper upper_page) past = Raised (at.0 == host) lower.0 lower_page.0 upper.0 upper_page.0
-deed header files host (event.Stored task object page at size value) past =
+abbrev pub deed : Header → Outside → ℕ → Event → List Event → Deed
+deed header outside host (event.Line line) past = Line
+deed header outside host (event.RegionMade region object pages) past = Region (made_here host past && outside.paging) region.0 object.0 pages
+deed header outside host (event.RegionCopied region source offset pages) past = Cow region.0 source.0 offset pages
+deed header outside host (event.Entered task address bytes region offset prot inherit) past = Kept (λ r. not (r == region.0) || lives_on host task.0 past)
+deed header outside host (event.Removed task address bytes) past = Kept (λ r. is_kept header r (event.Removed task address bytes ∷ past))
+deed header outside host (event.TaskEnded task) past = Kept (λ r. is_kept header r (event.TaskEnded task ∷ past))
+deed header outside host (event.Failed task object page) past = Kept (λ r. is_kept header r (event.Failed task object page ∷ past))
+deed header outside host (event.Shadowed region new old) past = Shadowed region.0 new.0
+deed header outside host (event.Zeroed at object page) past = Zeroed (at.0 == host) object.0 page.0
+deed header outside host (event.Raised at lower lower_page upper upper_page) past = Raised (at.0 == host) lower.0 lower_page.0 upper.0 upper_page.0
+deed header outside host (event.Stored task object page at size value) past =
     Stored (lives_on host task.0 past) (region_in (change_of header.size task.0 past)) (page_in (change_of header.size task.0 past)) object.0 page.0 at (little_endian_bytes size value)
-deed header files host (event.CopiedPage task page object object_page target) past =
+deed header outside host (event.CopiedPage task page object object_page target) past =
     Copied (lives_on host task.0 past) object.0 object_page.0 object.0 object_page.0 (number_or_zero (made_over target.0 past)) page.0 target.0 page.0
-deed header files host (event.Dropped at object page) past = Dropped (at.0 == host) object.0 page.0
-deed header files host (event.Sent (Up at object) m) past = up_deed (at.0 == host) object.0 m
-deed header files host (event.Sent (Down at object control) m) past = down_deed (at.0 == host && control == control_number host object.0 past) (is_said header files object.0) object.0 m
-deed header files host (event.Taken (Up at object) m) past = taken_up_deed (at.0 == host) object.0 m
-deed header files host (event.Taken (Down at object control) m) past = taken_down_deed (at.0 == host && control == control_number host object.0 past) object.0 m
-deed header files host other past = Elsewhere
+deed header outside host (event.Dropped at object page) past = Dropped (at.0 == host) object.0 page.0
+deed header outside host (event.Sent (Up at object) m) past = up_deed (at.0 == host) object.0 m
+deed header outside host (event.Sent (Down at object control) m) past = down_deed (at.0 == host && control == control_number host object.0 past) (is_said header outside object.0) object.0 m
+deed header outside host (event.Taken (Up at object) m) past = taken_up_deed (at.0 == host) object.0 m
+deed header outside host (event.Taken (Down at object control) m) past = taken_down_deed (at.0 == host && control == control_number host object.0 past) object.0 m
+deed header outside host other past = Elsewhere
 
-abbrev pub deeds : Header → Files → ℕ → List Event → List Deed
-deeds header files host [] = []
-deeds header files host (e ∷ past) = deed header files host e past ∷ deeds header files host past
+abbrev pub deeds : Header → Outside → ℕ → List Event → List Deed
+deeds header outside host [] = []
+deeds header outside host (e ∷ past) = deed header outside host e past ∷ deeds header outside host past
 
 -- by cases on the message
 

@@ -7,7 +7,7 @@ use Rattle.vm_flat.proofs.Deeds.{pages, Ground, Deed, Cow, Shadowed, Row, cow_ro
 use Rattle.vm_flat.proofs.Causes.{Path, Below, Reach, Cause}
 use Rattle.vm_flat.proofs.Good.{Good, good_again, fits_blank}
 use Rattle.vm_flat.proofs.World.{ReachAt, ShapeOf, World, GoodAt, view, tops_below, path_small, path_old, reach_small, under_view, Barren}
-use Rattle.vm_flat.proofs.Regions.{named_objects, unnamed, eq_no, if_no, if_yes, cow_other, shadow_other, below_old}
+use Rattle.vm_flat.proofs.Regions.{eq_no, if_no, if_yes, cow_other, shadow_other, below_old}
 
 -- cow
 
@@ -153,8 +153,8 @@ reach_new z region new past sh is reach = elim (ℕ_discrete reach.0 region) [
       absurd (omega (arith, small, is))
 ]
 
-shape_shadowed : (z : Ground) (region new : ℕ) (past : List Deed) → ShapeOf z past → new ≡ objects z past → region < regions z past → covered z (row z region past).top ≡ true → z.named ≤ objects z past → ShapeOf z (Shadowed region new ∷ past)
-shape_shadowed z region new past sh is from ours named =
+shape_shadowed : (z : Ground) (region new : ℕ) (past : List Deed) → ShapeOf z past → new ≡ objects z past → region < regions z past → covered z (row z region past).top ≡ covered z new → ShapeOf z (Shadowed region new ∷ past)
+shape_shadowed z region new past sh is from ours =
     record {
       rows_below = sh.rows_below;
       tops_made = λ r less. grind (arith, nat_tests, sh.tops_made r less);
@@ -162,12 +162,12 @@ shape_shadowed z region new past sh is from ours named =
       older = λ o backed. grind (arith, nat_tests, sh.older o, sh.tops_made region from);
       made = λ o backed. grind (arith, nat_tests, sh.made o);
       covers_tops = λ r used. elim (ℕ_discrete r region) [
-        | yes e ↦ subst (λ (k : ℕ). covered z k ≡ true) (sym (if_yes r region new (row z r past).top e)) (unnamed z new (omega (arith, named, is)))
+        | yes e ↦ subst (λ (k : ℕ). covered z k ≡ true) (sym (if_yes r region new (row z r past).top e)) (sym ours ∙ sh.covers_tops region (subst (λ (k : ℕ). (row z k past).used ≡ true) e used))
         | no apart ↦ subst (λ (x : Row). covered z x.top ≡ true) (sym (shadow_other z r region new past apart)) (sh.covers_tops r used)
       ];
-      covers_under = λ o backed. elim (ℕ_discrete o new) [
-        | yes e ↦ subst (λ (k : ℕ). covered z k ≡ true) (sym (if_yes o new (row z region past).top (link z o past).under e)) ours
-        | no apart ↦ subst (λ (l : Link). l.backed ≡ true → covered z l.under ≡ true) (sym (link_old z o region new past apart)) (sh.covers_under o) backed
+      covers_under = λ o mine backed. elim (ℕ_discrete o new) [
+        | yes e ↦ subst (λ (k : ℕ). covered z k ≡ true) (sym (if_yes o new (row z region past).top (link z o past).under e)) (ours ∙ subst (λ (k : ℕ). covered z k ≡ true) e mine)
+        | no apart ↦ subst (λ (l : Link). l.backed ≡ true → covered z l.under ≡ true) (sym (link_old z o region new past apart)) (sh.covers_under o mine) backed
       ];
       tops_inside = tops_inside;
       inside = inside;
@@ -242,7 +242,7 @@ shape_shadowed z region new past sh is from ours named =
 pub after_shadowed : (z : Ground) (region new : ℕ) (past : List Deed) → World z past → Cause z (Shadowed region new) past → World z (Shadowed region new ∷ past)
 after_shadowed z region new past w c =
     record {
-      shape = shape_shadowed z region new past w.shape c.0 c.1 c.3 (named_objects z past);
+      shape = shape_shadowed z region new past w.shape c.0 c.1 c.3;
       regional = regional;
       places = places;
     }

@@ -11,15 +11,16 @@ pub record Ground : Type 0 where
   pub zeros : List ℕ
   pub named : ℕ
   pub file : ℕ → Bool
+  pub paging : Bool
   pub start : ℕ → ℕ → List ℕ
   pub length : ℕ → ℕ
 
 abbrev pub is_file : Ground → ℕ → Bool
 is_file z o = nat_lt o z.named && z.file o
 
--- a file or a temporary object
+-- a file, or a temporary object where the paging area tells
 abbrev pub covered : Ground → ℕ → Bool
-covered z o = not (nat_lt o z.named) || z.file o
+covered z o = (not (nat_lt o z.named) && z.paging) || (nat_lt o z.named && z.file o)
 
 -- `own` says that it happens on the host; on other hosts it changes regions and the flat map alone
 pub data Deed : Type 0 where

@@ -11,7 +11,7 @@ use Rattle.vm_model.specs.declared.message.Message.TheVariants as message
 use Rattle.vm_model.specs.declared.script.Header.{Header}
 use Rattle.vm_model.specs.Moments.{EachEvent}
 use Rattle.vm_flat.specs.Waiting.{Loading, Storing}
-use Rattle.vm_flat.specs.Declared.{Files, Told}
+use Rattle.vm_flat.specs.Declared.{Outside, Told}
 use Rattle.vm_flat.specs.Licences.{AllLicensed}
 use Rattle.vm_flat.specs.Bytes.{CopiesCurrent, FlatBytes}
 use Rattle.vm_flat.proofs.Law.{law}
@@ -19,8 +19,8 @@ use Rattle.vm_flat.proofs.Law.{law}
 abbrev header : Header
 header = record { size = 16; slots = 1; frames = record { items = 8 ∷ []; room = 0 }; objects = record { items = record { name = 102 ∷ []; kind = File; pages = 1 } ∷ []; room = 0 } }
 
-abbrev files : Files
-files = Told (λ object at. (4 ∷ 5 ∷ 0 ∷ 0 ∷ 0 ∷ 0 ∷ 0 ∷ 0 ∷ 0 ∷ 0 ∷ 0 ∷ 0 ∷ 0 ∷ 0 ∷ 0 ∷ 0 ∷ []))
+abbrev outside : Outside
+outside = record { files = Told (λ object at. (4 ∷ 5 ∷ 0 ∷ 0 ∷ 0 ∷ 0 ∷ 0 ∷ 0 ∷ 0 ∷ 0 ∷ 0 ∷ 0 ∷ 0 ∷ 0 ∷ 0 ∷ 0 ∷ [])); paging = true }
 
 abbrev all : Prot
 all = record { read = true; write = true }
@@ -178,155 +178,155 @@ past_47 = event.Taken (Down (record { 0 = 0 }) (record { 0 = 0 }) 1) (message.Su
 abbrev past_48 : List Event
 past_48 = event.Loaded (record { 0 = 0 }) (record { 0 = 0 }) (record { 0 = 0 }) 1289 ∷ past_47
 
-licensed_0 : AllLicensed header files past_0
+licensed_0 : AllLicensed header outside past_0
 licensed_0 = (tt, tt)
 
-licensed_1 : AllLicensed header files past_1
+licensed_1 : AllLicensed header outside past_1
 licensed_1 = (tt, licensed_0)
 
-licensed_2 : AllLicensed header files past_2
+licensed_2 : AllLicensed header outside past_2
 licensed_2 = (tt, licensed_1)
 
-licensed_3 : AllLicensed header files past_3
+licensed_3 : AllLicensed header outside past_3
 licensed_3 = (record { host = 0; lives = refl; whole = refl; inside = omega arith; made = omega arith; used = λ ours. refl; unfilled = refl }, licensed_2)
 
-licensed_4 : AllLicensed header files past_4
+licensed_4 : AllLicensed header outside past_4
 licensed_4 = (λ ours. record { declared = omega arith; none = refl; task = 0; address = 64; at = record { host = 0; entry = mapped; lives = refl; found = refl }; on_host = refl; region = refl }, licensed_3)
 
-licensed_5 : AllLicensed header files past_5
+licensed_5 : AllLicensed header outside past_5
 licensed_5 = (tt, licensed_4)
 
-licensed_6 : AllLicensed header files past_6
+licensed_6 : AllLicensed header outside past_6
 licensed_6 = (tt, licensed_5)
 
-licensed_7 : AllLicensed header files past_7
+licensed_7 : AllLicensed header outside past_7
 licensed_7 = (refl, licensed_6)
 
-licensed_8 : AllLicensed header files past_8
+licensed_8 : AllLicensed header outside past_8
 licensed_8 = (λ ours. tt, licensed_7)
 
-licensed_9 : AllLicensed header files past_9
+licensed_9 : AllLicensed header outside past_9
 licensed_9 = (refl, licensed_8)
 
-licensed_10 : AllLicensed header files past_10
+licensed_10 : AllLicensed header outside past_10
 licensed_10 = (λ ours. record { task = 0; access = Loading 64 2; waits = record { waits = refl; at = record { host = 0; entry = mapped; lives = refl; found = refl } }; on_host = refl; unmarked = λ store. refl; comes = record { top = 0; top_page = 0; steps = 0; is_top = record { object = refl; page = refl }; walks = (refl, refl) }; live = refl; number = refl; away = refl; unasked = refl; known = refl }, licensed_9)
 
-licensed_11 : AllLicensed header files past_11
+licensed_11 : AllLicensed header outside past_11
 licensed_11 = (refl, licensed_10)
 
-licensed_12 : AllLicensed header files past_12
+licensed_12 : AllLicensed header outside past_12
 licensed_12 = (λ ours. (record { taken = refl; unanswered = refl }, λ told. refl), licensed_11)
 
-licensed_13 : AllLicensed header files past_13
+licensed_13 : AllLicensed header outside past_13
 licensed_13 = (refl, licensed_12)
 
-licensed_14 : AllLicensed header files past_14
+licensed_14 : AllLicensed header outside past_14
 licensed_14 = (record { address = 64; bytes = 2; waits = record { waits = refl; at = record { host = 0; entry = mapped; lives = refl; found = refl } }; comes = record { top = 0; top_page = 0; steps = 0; is_top = record { object = refl; page = refl }; walks = (refl, refl) }; here = refl; number = refl }, licensed_13)
 
-licensed_15 : AllLicensed header files past_15
+licensed_15 : AllLicensed header outside past_15
 licensed_15 = (tt, licensed_14)
 
-licensed_16 : AllLicensed header files past_16
+licensed_16 : AllLicensed header outside past_16
 licensed_16 = (tt, licensed_15)
 
-licensed_17 : AllLicensed header files past_17
+licensed_17 : AllLicensed header outside past_17
 licensed_17 = (record { address = 64; waits = record { waits = refl; at = record { host = 0; entry = mapped; lives = refl; found = refl } }; is_top = record { object = refl; page = refl }; unmarked = refl; here = refl; place = refl }, licensed_16)
 
-licensed_18 : AllLicensed header files past_18
+licensed_18 : AllLicensed header outside past_18
 licensed_18 = (tt, licensed_17)
 
-licensed_19 : AllLicensed header files past_19
+licensed_19 : AllLicensed header outside past_19
 licensed_19 = ((refl, refl), licensed_18)
 
-licensed_20 : AllLicensed header files past_20
+licensed_20 : AllLicensed header outside past_20
 licensed_20 = (record { host = 0; lives = refl; whole = refl; inside = omega arith; made = omega arith; used = λ ours. refl; unfilled = refl }, licensed_19)
 
-licensed_21 : AllLicensed header files past_21
+licensed_21 : AllLicensed header outside past_21
 licensed_21 = (tt, licensed_20)
 
-licensed_22 : AllLicensed header files past_22
+licensed_22 : AllLicensed header outside past_22
 licensed_22 = (tt, licensed_21)
 
-licensed_23 : AllLicensed header files past_23
+licensed_23 : AllLicensed header outside past_23
 licensed_23 = (λ ours. inr (record { task = 0; access = Storing 0 1 7; waits = record { waits = refl; at = record { host = 0; entry = own; lives = refl; found = refl } }; on_host = refl; temporary = omega arith; unmarked = λ store. refl; is_top = record { object = refl; page = refl }; steps = 0; sinks = (record { away = refl; unasked = refl; without = λ e. absurd (omega (arith, e)) }, refl) }), licensed_22)
 
-licensed_24 : AllLicensed header files past_24
+licensed_24 : AllLicensed header outside past_24
 licensed_24 = (record { address = 0; waits = record { waits = refl; at = record { host = 0; entry = own; lives = refl; found = refl } }; is_top = record { object = refl; page = refl }; unmarked = refl; here = refl; place = refl }, licensed_23)
 
-licensed_25 : AllLicensed header files past_25
+licensed_25 : AllLicensed header outside past_25
 licensed_25 = (tt, licensed_24)
 
-licensed_26 : AllLicensed header files past_26
+licensed_26 : AllLicensed header outside past_26
 licensed_26 = (λ ours. record { live = refl; number = refl; here = refl; dirty = refl; same = refl; flag = refl }, licensed_25)
 
-licensed_27 : AllLicensed header files past_27
+licensed_27 : AllLicensed header outside past_27
 licensed_27 = (λ ours. (refl, omega arith, refl, 0, refl), licensed_26)
 
-licensed_28 : AllLicensed header files past_28
+licensed_28 : AllLicensed header outside past_28
 licensed_28 = (λ ours. record { live = refl; number = refl; here = refl; dirty = refl; same = refl; flag = refl }, licensed_27)
 
-licensed_29 : AllLicensed header files past_29
+licensed_29 : AllLicensed header outside past_29
 licensed_29 = (refl, licensed_28)
 
-licensed_30 : AllLicensed header files past_30
+licensed_30 : AllLicensed header outside past_30
 licensed_30 = (refl, licensed_29)
 
-licensed_31 : AllLicensed header files past_31
+licensed_31 : AllLicensed header outside past_31
 licensed_31 = (λ ours. tt, licensed_30)
 
-licensed_32 : AllLicensed header files past_32
+licensed_32 : AllLicensed header outside past_32
 licensed_32 = (refl, licensed_31)
 
-licensed_33 : AllLicensed header files past_33
+licensed_33 : AllLicensed header outside past_33
 licensed_33 = (refl, licensed_32)
 
-licensed_34 : AllLicensed header files past_34
+licensed_34 : AllLicensed header outside past_34
 licensed_34 = (tt, licensed_33)
 
-licensed_35 : AllLicensed header files past_35
+licensed_35 : AllLicensed header outside past_35
 licensed_35 = (tt, licensed_34)
 
-licensed_36 : AllLicensed header files past_36
+licensed_36 : AllLicensed header outside past_36
 licensed_36 = (tt, licensed_35)
 
-licensed_37 : AllLicensed header files past_37
+licensed_37 : AllLicensed header outside past_37
 licensed_37 = (λ ours. record { task = 0; access = Loading 0 1; waits = record { waits = refl; at = record { host = 0; entry = own; lives = refl; found = refl } }; on_host = refl; unmarked = λ store. refl; comes = record { top = 1; top_page = 0; steps = 0; is_top = record { object = refl; page = refl }; walks = (refl, refl) }; live = refl; number = refl; away = refl; unasked = refl; known = refl }, licensed_36)
 
-licensed_38 : AllLicensed header files past_38
+licensed_38 : AllLicensed header outside past_38
 licensed_38 = (refl, licensed_37)
 
-licensed_39 : AllLicensed header files past_39
+licensed_39 : AllLicensed header outside past_39
 licensed_39 = (λ ours. record { taken = refl; unanswered = refl }, licensed_38)
 
-licensed_40 : AllLicensed header files past_40
+licensed_40 : AllLicensed header outside past_40
 licensed_40 = (refl, licensed_39)
 
-licensed_41 : AllLicensed header files past_41
+licensed_41 : AllLicensed header outside past_41
 licensed_41 = (tt, licensed_40)
 
-licensed_42 : AllLicensed header files past_42
+licensed_42 : AllLicensed header outside past_42
 licensed_42 = (tt, licensed_41)
 
-licensed_43 : AllLicensed header files past_43
+licensed_43 : AllLicensed header outside past_43
 licensed_43 = (tt, licensed_42)
 
-licensed_44 : AllLicensed header files past_44
+licensed_44 : AllLicensed header outside past_44
 licensed_44 = (λ ours. record { task = 0; access = Loading 64 2; waits = record { waits = refl; at = record { host = 0; entry = mapped; lives = refl; found = refl } }; on_host = refl; unmarked = λ store. refl; comes = record { top = 0; top_page = 0; steps = 0; is_top = record { object = refl; page = refl }; walks = (refl, refl) }; live = refl; number = refl; away = refl; unasked = refl; known = refl }, licensed_43)
 
-licensed_45 : AllLicensed header files past_45
+licensed_45 : AllLicensed header outside past_45
 licensed_45 = (refl, licensed_44)
 
-licensed_46 : AllLicensed header files past_46
+licensed_46 : AllLicensed header outside past_46
 licensed_46 = (λ ours. (record { taken = refl; unanswered = refl }, λ told. refl), licensed_45)
 
-licensed_47 : AllLicensed header files past_47
+licensed_47 : AllLicensed header outside past_47
 licensed_47 = (refl, licensed_46)
 
-licensed_48 : AllLicensed header files past_48
+licensed_48 : AllLicensed header outside past_48
 licensed_48 = (record { address = 64; bytes = 2; waits = record { waits = refl; at = record { host = 0; entry = mapped; lives = refl; found = refl } }; comes = record { top = 0; top_page = 0; steps = 0; is_top = record { object = refl; page = refl }; walks = (refl, refl) }; here = refl; number = refl }, licensed_47)
 
-current : EachEvent (CopiesCurrent header files) past_48
+current : EachEvent (CopiesCurrent header outside) past_48
 current = (tt, (tt, (tt, (tt, (tt, (tt, (tt, (tt, (tt, (tt, (tt, (tt, (tt, (tt, (tt, (tt, (tt, (tt, (tt, (tt, (tt, (tt, (tt, (tt, (tt, (tt, (tt, (tt, (tt, (tt, (tt, (tt, (tt, (tt, (tt, (tt, (tt, (tt, (tt, (tt, (tt, (tt, (tt, (tt, (tt, (tt, (tt, (tt, (tt, tt)))))))))))))))))))))))))))))))))))))))))))))))))
 
-pub answered : EachEvent (FlatBytes header files) past_48
-answered = law header files past_48 licensed_48 current
+pub answered : EachEvent (FlatBytes header outside) past_48
+answered = law header outside past_48 licensed_48 current

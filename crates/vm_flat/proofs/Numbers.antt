@@ -8,7 +8,7 @@ use Rattle.vm_base.specs.declared.ids.ObjectId.{ObjectId}
 use Rattle.vm_model.specs.declared.event.Event.{Event}
 use Rattle.vm_model.specs.declared.event.Event.TheVariants as event
 use Rattle.vm_model.specs.declared.script.Header.{Header}
-use Rattle.vm_flat.specs.Declared.{named, is_private}
+use Rattle.vm_flat.specs.Declared.{Outside, named, is_private}
 use Rattle.vm_flat.specs.Regions.{next_region, next_object, Region, region_of, Backing, backing_of}
 use Rattle.vm_flat.proofs.Regions.{if_no, if_yes}
 
@@ -117,5 +117,12 @@ numbered_shadowed header region new old past n is marked made =
     apart : (r : ℕ) → r < named header → r ≢ region.0
     apart r less e = omega (arith, less, e, marked_later header region.0 past n marked)
 
-pub later_private : (header : Header) (r : ℕ) → named header ≤ r → is_private header r ≡ true
-later_private header r above = grind (arith, nat_tests)
+-- temporary objects and regions are all alike
+pub later_alike : (header : Header) (outside : Outside) (a b : ℕ) → named header ≤ a → named header ≤ b → is_private header outside a ≡ is_private header outside b
+later_alike header outside a b above also = let x : nat_lt a (named header) ≡ false = grind (arith, nat_tests) in let y : nat_lt b (named header) ≡ false = grind (arith, nat_tests) in grind arith
+
+pub told_private : (header : Header) (outside : Outside) (r : ℕ) → named header ≤ r → outside.paging ≡ true → is_private header outside r ≡ true
+told_private header outside r above told = let x : nat_lt r (named header) ≡ false = grind (arith, nat_tests) in grind arith
+
+pub later_told : (header : Header) (outside : Outside) (r : ℕ) → named header ≤ r → is_private header outside r ≡ true → outside.paging ≡ true
+later_told header outside r above private = let x : nat_lt r (named header) ≡ false = grind (arith, nat_tests) in grind arith

@@ -50,9 +50,6 @@ named_objects z (Region own region object count ∷ past) = omega (arith, named_
 named_objects z (Shadowed region new ∷ past) = omega (arith, named_objects z past)
 named_objects z (e ∷ past) = named_objects z past
 
-pub unnamed : (z : Ground) (o : ℕ) → z.named ≤ o → covered z o ≡ true
-unnamed z o above = grind (arith, nat_tests)
-
 -- region
 
 reach_region : (z : Ground) (here : Bool) (region object count o : ℕ) (past : List Deed) → ShapeOf z past → object ≡ objects z past → Reach z o (Region here region object count ∷ past) → Reach z o past ⊎ (object ≡ o)
@@ -65,8 +62,8 @@ reach_region z here region object count o past sh new reach = elim (ℕ_discrete
       inl (reach.0, reach.1, subst (λ (x : Row). x.used ≡ true) same reach.2, subst (λ (x : Row). Below (λ k. link z k past) reach.1 x.top o) same reach.3)
 ]
 
-shape_region : (z : Ground) (here : Bool) (region object count : ℕ) (past : List Deed) → ShapeOf z past → z.named ≤ objects z past → region ≡ regions z past → object ≡ objects z past → ShapeOf z (Region here region object count ∷ past)
-shape_region z here region object count past sh named is new =
+shape_region : (z : Ground) (here : Bool) (region object count : ℕ) (past : List Deed) → ShapeOf z past → (here ≡ true → covered z object ≡ true) → region ≡ regions z past → object ≡ objects z past → ShapeOf z (Region here region object count ∷ past)
+shape_region z here region object count past sh ours is new =
     record {
       rows_below = λ r used. grind (arith, nat_tests, sh.rows_below r);
       tops_made = λ r less. grind (arith, nat_tests, sh.tops_made r);
@@ -83,7 +80,7 @@ shape_region z here region object count past sh named is new =
   where
     covers_tops : (r : ℕ) → (row z r (Region here region object count ∷ past)).used ≡ true → covered z (row z r (Region here region object count ∷ past)).top ≡ true
     covers_tops r used = elim (ℕ_discrete r region) [
-      | yes e ↦ subst (λ (k : ℕ). covered z k ≡ true) (sym (if_yes r region object (row z r past).top e)) (unnamed z object (omega (arith, named, new)))
+      | yes e ↦ subst (λ (k : ℕ). covered z k ≡ true) (sym (if_yes r region object (row z r past).top e)) (ours (sym (if_yes r region here (row z r past).used e) ∙ used))
       | no other ↦ subst (λ (x : Row). x.used ≡ true → covered z x.top ≡ true) (sym (made_other z here r region object count past other)) (sh.covers_tops r) used
     ]
 
@@ -114,7 +111,7 @@ shape_region z here region object count past sh named is new =
 pub after_region : (z : Ground) (here : Bool) (region object count : ℕ) (past : List Deed) → World z past → Cause z (Region here region object count) past → World z (Region here region object count ∷ past)
 after_region z here region object count past w c =
     record {
-      shape = shape_region z here region object count past w.shape (named_objects z past) c.0 c.1;
+      shape = shape_region z here region object count past w.shape c.2 c.0 c.1;
       regional = regional;
       places = places;
     }

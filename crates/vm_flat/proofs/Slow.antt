@@ -130,7 +130,7 @@ after_foreign z own x y l lp r i k q past w f =
     places o p ours =
         subst (λ e. GoodAt z (Copied own x y l lp r i k q ∷ past) o p (move z.zeros (spot z o p past) e)) (sym (no_if own o p k q (Raises (spot z l lp past).bytes) Nothing (not_ours z own r k past f o ours)))
         (good_again z.zeros (ReachAt z o p past) (ReachAt z o p past) (objects z past ≤ o) (objects z past ≤ o) (Barren z o p past) (Barren z o p (Copied own x y l lp r i k q ∷ past)) (view z o p past) (view z o p (Copied own x y l lp r i k q ∷ past)) (link z o past).backed (under_view z o p past) (under_view z o p (Copied own x y l lp r i k q ∷ past)) (spot z o p past)
-        (w.places o p ours) (λ x. x) (λ x. x) (λ x. view_is o p ours) (λ reach none backed. view_is (link z o past).under ((link z o past).shift + p) (w.shape.covers_under o backed))
+        (w.places o p ours) (λ x. x) (λ x. x) (λ x. view_is o p ours) (λ reach none backed. view_is (link z o past).under ((link z o past).shift + p) (w.shape.covers_under o ours backed))
         (λ reach barren n m mp path. (view_is m mp (path_covered z n o p m mp past w.shape ours path) ∙ (barren n m mp path).0, (barren n m mp path).1)))
 
 pub after_copied : (z : Ground) (own : Bool) (x y l lp r i k q : ℕ) (past : List Deed) → World z past → Cause z (Copied own x y l lp r i k q) past → World z (Copied own x y l lp r i k q ∷ past)

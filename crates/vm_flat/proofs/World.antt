@@ -31,7 +31,7 @@ pub record Shape (named : ℕ) (covers : ℕ → Bool) (rows : ℕ → Row) (lin
   pub made : (o : ℕ) → (links o).backed ≡ true → o < next_object
   -- files and temporary objects alone
   pub covers_tops : (r : ℕ) → (rows r).used ≡ true → covers (rows r).top ≡ true
-  pub covers_under : (o : ℕ) → (links o).backed ≡ true → covers (links o).under ≡ true
+  pub covers_under : (o : ℕ) → covers o ≡ true → (links o).backed ≡ true → covers (links o).under ≡ true
   -- each page of a region or an object has a page below
   pub tops_inside : (r i : ℕ) → (rows r).used ≡ true → i < (rows r).pages → (rows r).shift + i < lengths (rows r).top
   pub inside : (o p : ℕ) → Reaches rows links o → (links o).backed ≡ true → p < lengths o → (links o).shift + p < lengths (links o).under
@@ -102,16 +102,16 @@ path_old links new m (suc n) o p l lp small same older is =
     let next : Path new n (links o).under ((links o).shift + p) l lp = subst (λ (x : Link). Path new n x.under (x.shift + p) l lp) (same o small) is.1 in
     (backed, path_old links new m n (links o).under ((links o).shift + p) l lp (older o backed) same older next)
 
-below_covered : (covers : ℕ → Bool) (links : ℕ → Link) (n o u : ℕ) → ((k : ℕ) → (links k).backed ≡ true → covers (links k).under ≡ true) → covers o ≡ true → Below links n o u → covers u ≡ true
+below_covered : (covers : ℕ → Bool) (links : ℕ → Link) (n o u : ℕ) → ((k : ℕ) → covers k ≡ true → (links k).backed ≡ true → covers (links k).under ≡ true) → covers o ≡ true → Below links n o u → covers u ≡ true
 below_covered covers links zero o u under is below = subst (λ (k : ℕ). covers k ≡ true) below is
-below_covered covers links (suc n) o u under is below = below_covered covers links n (links o).under u under (under o below.0) below.1
+below_covered covers links (suc n) o u under is below = below_covered covers links n (links o).under u under (under o is below.0) below.1
 
 pub reach_covered : (z : Ground) (o : ℕ) (past : List Deed) → ShapeOf z past → Reach z o past → covered z o ≡ true
 reach_covered z o past sh reach = below_covered (λ k. covered z k) (λ k. link z k past) reach.1 (row z reach.0 past).top o sh.covers_under (sh.covers_tops reach.0 reach.2) reach.3
 
 pub path_covered : (z : Ground) (n o p l lp : ℕ) (past : List Deed) → ShapeOf z past → covered z o ≡ true → Path (λ k. link z k past) n o p l lp → covered z l ≡ true
 path_covered z zero o p l lp past sh is path = subst (λ (k : ℕ). covered z k ≡ true) path.0 is
-path_covered z (suc n) o p l lp past sh is path = path_covered z n (link z o past).under ((link z o past).shift + p) l lp past sh (sh.covers_under o path.0) path.1
+path_covered z (suc n) o p l lp past sh is path = path_covered z n (link z o past).under ((link z o past).shift + p) l lp past sh (sh.covers_under o is path.0) path.1
 
 pub placed : (z : Ground) (o p : ℕ) (past : List Deed) → World z past → ReachAt z o p past → GoodAt z past o p (spot z o p past)
 placed z o p past w reach = w.places o p (reach_covered z o past w.shape reach.0)

@@ -23,10 +23,6 @@ is_file_kept (Some object) = is_file_kind object.kind
 abbrev pub is_file : Header → ℕ → Bool
 is_file header object = nat_lt object (named header) && is_file_kept (declared header object)
 
--- the number is a file's or a temporary one's: no server and no script answers for it
-abbrev pub is_private : Header → ℕ → Bool
-is_private header object = not (nat_lt object (named header)) || is_file_kept (declared header object)
-
 abbrev pub pages_kept : Option Declared → ℕ
 pages_kept None = 0
 pages_kept (Some object) = object.pages
@@ -36,23 +32,36 @@ abbrev pub declared_pages : Header → ℕ → ℕ
 declared_pages header object = pages_kept (declared header object)
 
 -- what the files hold at the start, by object and page; or it is not told
-pub data Files : Type 0 where
-  Told : (pages : ℕ → ℕ → List ℕ) → Files
-  Untold : Files
+pub data Held : Type 0 where
+  Told : (pages : ℕ → ℕ → List ℕ) → Held
+  Untold : Held
 
-abbrev pub are_untold : Files → Bool
+-- what is told of the outside: what the files hold at the start, and whether the paging area gives back what it got
+pub record Outside : Type 0 where
+  pub files : Held
+  pub paging : Bool
+
+abbrev pub are_untold : Held → Bool
 are_untold (Told pages) = false
 are_untold Untold = true
 
 -- what the pager answers for the object says what its file has
-abbrev pub is_said : Header → Files → ℕ → Bool
-is_said header files object = are_untold files && is_file header object
+abbrev pub is_said : Header → Outside → ℕ → Bool
+is_said header outside object = are_untold outside.files && is_file header object
 
 -- a page of zeros
 abbrev pub zeros : Header → List ℕ
 zeros header = replicate header.size 0
 
 -- a file's page at the start; where it is not told, zeros until an answer
-abbrev pub start_page : Header → Files → ℕ → ℕ → List ℕ
-start_page header (Told pages) object page = pages object page
-start_page header Untold object page = zeros header
+abbrev pub start_in : Header → Held → ℕ → ℕ → List ℕ
+start_in header (Told pages) object page = pages object page
+start_in header Untold object page = zeros header
+
+abbrev pub start_page : Header → Outside → ℕ → ℕ → List ℕ
+start_page header outside object page = start_in header outside.files object page
+
+-- A file's object or region; or a temporary one, where the paging area tells. Of these the law speaks: for shared objects
+-- their server answers, for wild ones the script.
+abbrev pub is_private : Header → Outside → ℕ → Bool
+is_private header outside object = (not (nat_lt object (named header)) && outside.paging) || (nat_lt object (named header) && is_file_kept (declared header object))

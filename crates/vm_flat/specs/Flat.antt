@@ -10,7 +10,7 @@ use Rattle.vm_model.specs.declared.message.Message.{Message}
 use Rattle.vm_model.specs.declared.message.Message.TheVariants as message
 use Rattle.vm_model.specs.declared.script.Header.{Header}
 use Rattle.vm_model.specs.Chains.{page_of}
-use Rattle.vm_flat.specs.Declared.{Files, is_file, is_said, start_page, zeros}
+use Rattle.vm_flat.specs.Declared.{Outside, is_file, is_said, start_page, zeros}
 use Rattle.vm_flat.specs.Tasks.{entries_of}
 use Rattle.vm_flat.specs.Waiting.{Access, Storing, waiting}
 
@@ -54,13 +54,13 @@ answered header says region page object (message.Unavailable at) was = if says &
 answered header says region page object other was = was
 
 -- the bytes of a page of a region
-abbrev pub flat_page : Header → Files → ℕ → ℕ → List Event → List ℕ
-flat_page header files region page [] = if is_file header region then start_page header files region page else zeros header
-flat_page header files region page (event.RegionMade made object pages ∷ past) = if region == made.0 then zeros header else flat_page header files region page past
-flat_page header files region page (event.RegionCopied made source offset pages ∷ past) =
-    if region == made.0 then flat_page header files source.0 (offset + page) past else flat_page header files region page past
-flat_page header files region page (event.Stored task object in_object at size value ∷ past) = changed region page (change_of header.size task.0 past) (flat_page header files region page past)
-flat_page header files region page (event.CopiedPage task index object object_page target ∷ past) =
-    if is_number region (made_over target.0 past) && page == index.0 then flat_page header files object.0 object_page.0 past else flat_page header files region page past
-flat_page header files region page (event.Sent (Down host object control) m ∷ past) = answered header (is_said header files object.0) region page object.0 m (flat_page header files region page past)
-flat_page header files region page (e ∷ past) = flat_page header files region page past
+abbrev pub flat_page : Header → Outside → ℕ → ℕ → List Event → List ℕ
+flat_page header outside region page [] = if is_file header region then start_page header outside region page else zeros header
+flat_page header outside region page (event.RegionMade made object pages ∷ past) = if region == made.0 then zeros header else flat_page header outside region page past
+flat_page header outside region page (event.RegionCopied made source offset pages ∷ past) =
+    if region == made.0 then flat_page header outside source.0 (offset + page) past else flat_page header outside region page past
+flat_page header outside region page (event.Stored task object in_object at size value ∷ past) = changed region page (change_of header.size task.0 past) (flat_page header outside region page past)
+flat_page header outside region page (event.CopiedPage task index object object_page target ∷ past) =
+    if is_number region (made_over target.0 past) && page == index.0 then flat_page header outside object.0 object_page.0 past else flat_page header outside region page past
+flat_page header outside region page (event.Sent (Down host object control) m ∷ past) = answered header (is_said header outside object.0) region page object.0 m (flat_page header outside region page past)
+flat_page header outside region page (e ∷ past) = flat_page header outside region page past

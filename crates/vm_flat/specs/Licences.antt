@@ -11,7 +11,7 @@ use Rattle.vm_model.specs.declared.script.Header.{Header}
 use Rattle.vm_model.specs.Tasks.{host_of}
 use Rattle.vm_model.specs.Chains.{page_of}
 use Rattle.vm_model.specs.Bytes.{number_in}
-use Rattle.vm_flat.specs.Declared.{Files, named, is_private, is_said, zeros}
+use Rattle.vm_flat.specs.Declared.{Outside, named, is_private, is_said, zeros}
 use Rattle.vm_flat.specs.Tasks.{tasks, entries_of}
 use Rattle.vm_flat.specs.Waiting.{Access, Loading, Storing, Copying, waiting, next_page, copy_target, address_of, is_store}
 use Rattle.vm_flat.specs.Regions.{next_region, next_object, region_of, backing_of, is_filled, in_use}
@@ -40,37 +40,37 @@ abbrev pub its_page : (header : Header) (task : ℕ) (access : Access) (past : L
 its_page header task access past w = page_of header.size w.at.entry (address_of header.size (next_page task past) access)
 
 -- in the chain of a region that is in use on the host
-abbrev pub Reach : Header → ℕ → ℕ → List Event → Type 0
-Reach header host object past = Reaches (λ r. in_use header host r past) (λ r. region_of header r past) (λ o. backing_of header o past) object
+abbrev pub Reach : Header → Outside → ℕ → ℕ → List Event → Type 0
+Reach header outside host object past = Reaches (λ r. in_use header outside host r past) (λ r. region_of header r past) (λ o. backing_of header o past) object
 
 -- the walk of a page of a region gets as far as a place, in so many steps
-pub record Comes (header : Header) (files : Files) (host region page object object_page : ℕ) (past : List Event) : Type 0 where
+pub record Comes (header : Header) (outside : Outside) (host region page object object_page : ℕ) (past : List Event) : Type 0 where
   pub top : ℕ
   pub top_page : ℕ
   pub steps : ℕ
   pub is_top : IsTop (region_of header region past) page top top_page
-  pub walks : Walks (λ k q. spot header files host k q past) (λ k. backing_of header k past) steps top top_page object object_page
+  pub walks : Walks (λ k q. spot header outside host k q past) (λ k. backing_of header k past) steps top top_page object object_page
 
 -- a load ends with the page where its walk found it, and the number that stands there
-pub record Loads (header : Header) (files : Files) (task object page value : ℕ) (past : List Event) : Type 0 where
+pub record Loads (header : Header) (outside : Outside) (task object page value : ℕ) (past : List Event) : Type 0 where
   pub address : ℕ
   pub bytes : ℕ
   pub waits : Waits header task (Loading address bytes) past
-  pub comes : Comes header files waits.at.host waits.at.entry.region.0 (page_of header.size waits.at.entry address) object page past
-  pub here : (spot header files waits.at.host object page past).here ≡ true
-  pub number : value ≡ number_in (spot header files waits.at.host object page past).bytes header.size address bytes
+  pub comes : Comes header outside waits.at.host waits.at.entry.region.0 (page_of header.size waits.at.entry address) object page past
+  pub here : (spot header outside waits.at.host object page past).here ≡ true
+  pub number : value ≡ number_in (spot header outside waits.at.host object page past).bytes header.size address bytes
 
 -- a store ends in the top place of its page, which is here, and its region has no copy mark
-pub record Stores (header : Header) (files : Files) (task object page at bytes value : ℕ) (past : List Event) : Type 0 where
+pub record Stores (header : Header) (outside : Outside) (task object page at bytes value : ℕ) (past : List Event) : Type 0 where
   pub address : ℕ
   pub waits : Waits header task (Storing address bytes value) past
   pub is_top : IsTop (region_of header waits.at.entry.region.0 past) (page_of header.size waits.at.entry address) object page
   pub unmarked : (region_of header waits.at.entry.region.0 past).mark ≡ false
-  pub here : (spot header files waits.at.host object page past).here ≡ true
+  pub here : (spot header outside waits.at.host object page past).here ≡ true
   pub place : at ≡ address % header.size
 
 -- a page is copied up to the top place of a waiting store that found it below
-pub record Raises (header : Header) (files : Files) (host lower lower_page upper upper_page : ℕ) (past : List Event) : Type 0 where
+pub record Raises (header : Header) (outside : Outside) (host lower lower_page upper upper_page : ℕ) (past : List Event) : Type 0 where
   pub task : ℕ
   pub address : ℕ
   pub bytes : ℕ
@@ -80,11 +80,11 @@ pub record Raises (header : Header) (files : Files) (host lower lower_page upper
   pub unmarked : (region_of header waits.at.entry.region.0 past).mark ≡ false
   pub is_top : IsTop (region_of header waits.at.entry.region.0 past) (page_of header.size waits.at.entry address) upper upper_page
   pub steps : ℕ
-  pub walks : Walks (λ k q. spot header files host k q past) (λ k. backing_of header k past) (suc steps) upper upper_page lower lower_page
-  pub here : (spot header files host lower lower_page past).here ≡ true
+  pub walks : Walks (λ k q. spot header outside host k q past) (λ k. backing_of header k past) (suc steps) upper upper_page lower lower_page
+  pub here : (spot header outside host lower lower_page past).here ≡ true
 
 -- zeros come to the top place of a waiting access that finds its page nowhere
-pub record Bottoms (header : Header) (files : Files) (host object page : ℕ) (past : List Event) : Type 0 where
+pub record Bottoms (header : Header) (outside : Outside) (host object page : ℕ) (past : List Event) : Type 0 where
   pub task : ℕ
   pub access : Access
   pub waits : Waits header task access past
@@ -93,7 +93,7 @@ pub record Bottoms (header : Header) (files : Files) (host object page : ℕ) (p
   pub unmarked : is_store access ≡ true → (region_of header waits.at.entry.region.0 past).mark ≡ false
   pub is_top : IsTop (region_of header waits.at.entry.region.0 past) (page_of header.size waits.at.entry (address_of header.size (next_page task past) access)) object page
   pub steps : ℕ
-  pub sinks : Sinks (λ k q. spot header files host k q past) (λ k. backing_of header k past) steps object page
+  pub sinks : Sinks (λ k q. spot header outside host k q past) (λ k. backing_of header k past) steps object page
 
 -- the step took the pager's word that there is no such page, and the page was asked
 pub record Fills (s : Spot) : Type 0 where
@@ -102,7 +102,7 @@ pub record Fills (s : Spot) : Type 0 where
   pub unasked : s.asked ≡ false
 
 -- a slow copy makes its next page, of a declared object's page that is here, a page of the region that it fills
-pub record CopiesPage (header : Header) (files : Files) (task index object page target : ℕ) (past : List Event) : Type 0 where
+pub record CopiesPage (header : Header) (outside : Outside) (task index object page target : ℕ) (past : List Event) : Type 0 where
   pub address : ℕ
   pub bytes : ℕ
   pub to : ℕ
@@ -110,43 +110,43 @@ pub record CopiesPage (header : Header) (files : Files) (task index object page 
   pub next : index ≡ next_page task past
   pub declared : waits.at.entry.region.0 < named header
   pub is_top : IsTop (region_of header waits.at.entry.region.0 past) (page_of header.size waits.at.entry (address + next_page task past * header.size)) object page
-  pub here : (spot header files waits.at.host object page past).here ≡ true
+  pub here : (spot header outside waits.at.host object page past).here ≡ true
   pub region : ℕ
   pub filled : copy_target task past ≡ Some (record { region = region; object = target })
   pub inside : index < (region_of header region past).pages
-  pub away : (spot header files waits.at.host target index past).here ≡ false
-  pub unasked : (spot header files waits.at.host target index past).asked ≡ false
+  pub away : (spot header outside waits.at.host target index past).here ≡ false
+  pub unasked : (spot header outside waits.at.host target index past).asked ≡ false
 
 -- the walk of a waiting access stops at a page that its pager may have, and nobody asked
-pub record Asks (header : Header) (files : Files) (host control_of object page : ℕ) (past : List Event) : Type 0 where
+pub record Asks (header : Header) (outside : Outside) (host control_of object page : ℕ) (past : List Event) : Type 0 where
   pub task : ℕ
   pub access : Access
   pub waits : Waits header task access past
   pub on_host : waits.at.host ≡ host
   pub unmarked : is_store access ≡ true → (region_of header waits.at.entry.region.0 past).mark ≡ false
-  pub comes : Comes header files host waits.at.entry.region.0 (page_of header.size waits.at.entry (address_of header.size (next_page task past) access)) object page past
+  pub comes : Comes header outside host waits.at.entry.region.0 (page_of header.size waits.at.entry (address_of header.size (next_page task past) access)) object page past
   pub live : control header host object past ≡ 1
   pub number : control_number host object past ≡ control_of
-  pub away : (spot header files host object page past).here ≡ false
-  pub unasked : (spot header files host object page past).asked ≡ false
-  pub known : (spot header files host object page past).absent ≡ false
+  pub away : (spot header outside host object page past).here ≡ false
+  pub unasked : (spot header outside host object page past).asked ≡ false
+  pub known : (spot header outside host object page past).absent ≡ false
 
 -- a dirty page goes back to its pager, as it is
-pub record GivesBack (header : Header) (files : Files) (host control_of object page : ℕ) (changed : Bool) (bytes : List ℕ) (past : List Event) : Type 0 where
+pub record GivesBack (header : Header) (outside : Outside) (host control_of object page : ℕ) (changed : Bool) (bytes : List ℕ) (past : List Event) : Type 0 where
   pub live : control header host object past ≡ 1
   pub number : control_number host object past ≡ control_of
-  pub here : (spot header files host object page past).here ≡ true
-  pub dirty : (spot header files host object page past).dirty ≡ true
-  pub same : bytes ≡ (spot header files host object page past).bytes
-  pub flag : changed ≡ (spot header files host object page past).dirty
+  pub here : (spot header outside host object page past).here ≡ true
+  pub dirty : (spot header outside host object page past).dirty ≡ true
+  pub same : bytes ≡ (spot header outside host object page past).bytes
+  pub flag : changed ≡ (spot header outside host object page past).dirty
 
 -- an object ends on a host: it is a declared one, or no region leads to it, and nothing of it is here or asked
-pub record Ends (header : Header) (files : Files) (host control_of object : ℕ) (past : List Event) : Type 0 where
+pub record Ends (header : Header) (outside : Outside) (host control_of object : ℕ) (past : List Event) : Type 0 where
   pub live : control header host object past ≡ 1
   pub number : control_number host object past ≡ control_of
-  pub unreached : named header ≤ object → Reach header host object past → ⊥
-  pub away : (page : ℕ) → (spot header files host object page past).here ≡ false
-  pub unasked : (page : ℕ) → (spot header files host object page past).asked ≡ false
+  pub unreached : named header ≤ object → Reach header outside host object past → ⊥
+  pub away : (page : ℕ) → (spot header outside host object page past).here ≡ false
+  pub unasked : (page : ℕ) → (spot header outside host object page past).asked ≡ false
 
 -- a declared object is mapped on a host that has no live control of it
 pub record Opens (header : Header) (host object : ℕ) (past : List Event) : Type 0 where
@@ -182,30 +182,30 @@ request_taken (event.Taken channel other ∷ past) = None
 request_taken (e ∷ past) = request_taken past
 
 -- the step took a request for the page from this control, and has not answered it
-pub record Answers (header : Header) (files : Files) (host object control_of page : ℕ) (past : List Event) : Type 0 where
+pub record Answers (header : Header) (outside : Outside) (host object control_of page : ℕ) (past : List Event) : Type 0 where
   pub taken : request_taken past ≡ Some (record { host = host; object = object; control_of = control_of; page = page })
-  pub unanswered : (spot header files host object page past).step ≡ true
+  pub unanswered : (spot header outside host object page past).step ≡ true
 
 -- what a host sends up about a temporary object or a file
-abbrev pub MaySendUp : Header → Files → ℕ → ℕ → Message → List Event → Type 0
-MaySendUp header files host object (message.Init number size) past = Opens header host object past
-MaySendUp header files host object (message.Create number size) past =
-    (number ≡ 1) × (named header ≤ object) × (control header host object past ≡ 0) × (page : ℕ) × ((spot header files host object page past).here ≡ true)
-MaySendUp header files host object (message.Request number page access) past = Asks header files host number object page.0 past
-MaySendUp header files host object (message.Return number page dirty keep bytes) past = GivesBack header files host number object page.0 dirty bytes past
-MaySendUp header files host object (message.Terminate number) past = Ends header files host number object past
-MaySendUp header files host object other past = Unit {0}
+abbrev pub MaySendUp : Header → Outside → ℕ → ℕ → Message → List Event → Type 0
+MaySendUp header outside host object (message.Init number size) past = Opens header host object past
+MaySendUp header outside host object (message.Create number size) past =
+    (number ≡ 1) × (named header ≤ object) × (control header host object past ≡ 0) × (page : ℕ) × ((spot header outside host object page past).here ≡ true)
+MaySendUp header outside host object (message.Request number page access) past = Asks header outside host number object page.0 past
+MaySendUp header outside host object (message.Return number page dirty keep bytes) past = GivesBack header outside host number object page.0 dirty bytes past
+MaySendUp header outside host object (message.Terminate number) past = Ends header outside host number object past
+MaySendUp header outside host object other past = Unit {0}
 
 -- what its pager sends down
-abbrev pub MaySendDown : Header → Files → ℕ → ℕ → ℕ → Message → List Event → Type 0
-MaySendDown header files host object number (message.Supply page lock precious bytes) past =
-    Answers header files host object number page.0 past × (is_said header files object ≡ false → MaySupply (spot header files host object page.0 past) bytes)
-MaySendDown header files host object number (message.Unavailable page) past =
-    Answers header files host object number page.0 past × (is_said header files object ≡ false → MayLack (zeros header) (spot header files host object page.0 past))
-MaySendDown header files host object number (message.Error page reason) past = Answers header files host object number page.0 past
+abbrev pub MaySendDown : Header → Outside → ℕ → ℕ → ℕ → Message → List Event → Type 0
+MaySendDown header outside host object number (message.Supply page lock precious bytes) past =
+    Answers header outside host object number page.0 past × (is_said header outside object ≡ false → MaySupply (spot header outside host object page.0 past) bytes)
+MaySendDown header outside host object number (message.Unavailable page) past =
+    Answers header outside host object number page.0 past × (is_said header outside object ≡ false → MayLack (zeros header) (spot header outside host object page.0 past))
+MaySendDown header outside host object number (message.Error page reason) past = Answers header outside host object number page.0 past
 -- the file pager's clean wants all changed pages back
-MaySendDown header files host object number (message.Lock page count returns flush lock reply) past = returns ≡ 2
-MaySendDown header files host object number other past = Unit {0}
+MaySendDown header outside host object number (message.Lock page count returns flush lock reply) past = returns ≡ 2
+MaySendDown header outside host object number other past = Unit {0}
 
 -- a symmetric copy is of pages of an entry on a temporary region
 pub record CopiesRegion (header : Header) (region source offset pages : ℕ) (past : List Event) : Type 0 where
@@ -218,13 +218,13 @@ pub record CopiesRegion (header : Header) (region source offset pages : ℕ) (pa
   pub inside : offset + pages ≤ at.entry.offset + at.entry.bytes / header.size
 
 -- an entry is of whole pages that its region has, on the host where the region is in use
-pub record Enters (header : Header) (task bytes region offset : ℕ) (past : List Event) : Type 0 where
+pub record Enters (header : Header) (outside : Outside) (task bytes region offset : ℕ) (past : List Event) : Type 0 where
   pub host : ℕ
   pub lives : host_of task past ≡ Some host
   pub whole : bytes % header.size ≡ 0
   pub inside : offset + bytes / header.size ≤ (region_of header region past).pages
   pub made : region < next_region header past
-  pub used : is_private header region ≡ true → in_use header host region past ≡ true
+  pub used : is_private header outside region ≡ true → in_use header outside host region past ≡ true
   pub unfilled : is_filled region (tasks past) past ≡ false
 
 -- the top object of a marked region of a waiting store gets a shadow
@@ -271,36 +271,36 @@ pub record Flushes (host object page : ℕ) (dirty : Bool) (past : List Event) :
   pub spared : gives_back returns dirty ≡ false
 
 -- why a page goes away without a word
-pub data Leaves (header : Header) (host object page : ℕ) (dirty : Bool) (past : List Event) : Type 0 where
+pub data Leaves (header : Header) (outside : Outside) (host object page : ℕ) (dirty : Bool) (past : List Event) : Type 0 where
   -- it is clean
-  Clean : dirty ≡ false → Leaves header host object page dirty past
+  Clean : dirty ≡ false → Leaves header outside host object page dirty past
   -- no region leads to its temporary object
-  Unreached : named header ≤ object → (Reach header host object past → ⊥) → Leaves header host object page dirty past
+  Unreached : named header ≤ object → (Reach header outside host object past → ⊥) → Leaves header outside host object page dirty past
   -- its pager flushes it
-  Flushed : Flushes host object page dirty past → Leaves header host object page dirty past
+  Flushed : Flushes host object page dirty past → Leaves header outside host object page dirty past
 
-pub record Drops (header : Header) (files : Files) (host object page : ℕ) (past : List Event) : Type 0 where
-  pub here : (spot header files host object page past).here ≡ true
-  pub why : Leaves header host object page (spot header files host object page past).dirty past
+pub record Drops (header : Header) (outside : Outside) (host object page : ℕ) (past : List Event) : Type 0 where
+  pub here : (spot header outside host object page past).here ≡ true
+  pub why : Leaves header outside host object page (spot header outside host object page past).dirty past
 
-abbrev pub Licensed : Header → Files → Event → List Event → Type 0
-Licensed header files (event.RegionMade region object pages) past = (region.0 ≡ next_region header past) × (object.0 ≡ next_object header past)
-Licensed header files (event.RegionCopied region source offset pages) past = CopiesRegion header region.0 source.0 offset pages past
-Licensed header files (event.Entered task address bytes region offset prot inherit) past = Enters header task.0 bytes region.0 offset past
-Licensed header files (event.Shadowed region new old) past = Shadows header region.0 new.0 old.0 past
-Licensed header files (event.Loaded task object page value) past = Loads header files task.0 object.0 page.0 value past
-Licensed header files (event.Stored task object page at bytes value) past = Stores header files task.0 object.0 page.0 at bytes value past
-Licensed header files (event.CopiedPage task page object object_page target) past = CopiesPage header files task.0 page.0 object.0 object_page.0 target.0 past
-Licensed header files (event.Zeroed host object page) past =
-    is_private header object.0 ≡ true → ((object.0 < named header) × Fills (spot header files host.0 object.0 page.0 past)) ⊎ Bottoms header files host.0 object.0 page.0 past
-Licensed header files (event.Raised host lower lower_page upper upper_page) past = Raises header files host.0 lower.0 lower_page.0 upper.0 upper_page.0 past
-Licensed header files (event.Dropped host object page) past = is_private header object.0 ≡ true → Drops header files host.0 object.0 page.0 past
-Licensed header files (event.Sent (Up host object) m) past = is_private header object.0 ≡ true → MaySendUp header files host.0 object.0 m past
-Licensed header files (event.Sent (Down host object number) m) past = is_private header object.0 ≡ true → MaySendDown header files host.0 object.0 number m past
+abbrev pub Licensed : Header → Outside → Event → List Event → Type 0
+Licensed header outside (event.RegionMade region object pages) past = (region.0 ≡ next_region header past) × (object.0 ≡ next_object header past)
+Licensed header outside (event.RegionCopied region source offset pages) past = CopiesRegion header region.0 source.0 offset pages past
+Licensed header outside (event.Entered task address bytes region offset prot inherit) past = Enters header outside task.0 bytes region.0 offset past
+Licensed header outside (event.Shadowed region new old) past = Shadows header region.0 new.0 old.0 past
+Licensed header outside (event.Loaded task object page value) past = Loads header outside task.0 object.0 page.0 value past
+Licensed header outside (event.Stored task object page at bytes value) past = Stores header outside task.0 object.0 page.0 at bytes value past
+Licensed header outside (event.CopiedPage task page object object_page target) past = CopiesPage header outside task.0 page.0 object.0 object_page.0 target.0 past
+Licensed header outside (event.Zeroed host object page) past =
+    is_private header outside object.0 ≡ true → ((object.0 < named header) × Fills (spot header outside host.0 object.0 page.0 past)) ⊎ Bottoms header outside host.0 object.0 page.0 past
+Licensed header outside (event.Raised host lower lower_page upper upper_page) past = Raises header outside host.0 lower.0 lower_page.0 upper.0 upper_page.0 past
+Licensed header outside (event.Dropped host object page) past = is_private header outside object.0 ≡ true → Drops header outside host.0 object.0 page.0 past
+Licensed header outside (event.Sent (Up host object) m) past = is_private header outside object.0 ≡ true → MaySendUp header outside host.0 object.0 m past
+Licensed header outside (event.Sent (Down host object number) m) past = is_private header outside object.0 ≡ true → MaySendDown header outside host.0 object.0 number m past
 -- each channel is first in, first out
-Licensed header files (event.Taken channel m) past = first (queue channel past) ≡ Some m
-Licensed header files other past = Unit {0}
+Licensed header outside (event.Taken channel m) past = first (queue channel past) ≡ Some m
+Licensed header outside other past = Unit {0}
 
-abbrev pub AllLicensed : Header → Files → List Event → Type 0
-AllLicensed header files [] = Unit {0}
-AllLicensed header files (e ∷ past) = Licensed header files e past × AllLicensed header files past
+abbrev pub AllLicensed : Header → Outside → List Event → Type 0
+AllLicensed header outside [] = Unit {0}
+AllLicensed header outside (e ∷ past) = Licensed header outside e past × AllLicensed header outside past

@@ -8,7 +8,7 @@ use Rattle.vm_model.specs.declared.message.Channel.TheVariants.{Up, Down}
 use Rattle.vm_model.specs.declared.message.Message.{Message}
 use Rattle.vm_model.specs.declared.message.Message.TheVariants as message
 use Rattle.vm_model.specs.declared.script.Header.{Header}
-use Rattle.vm_flat.specs.Declared.{Files, is_file, is_said, start_page, zeros}
+use Rattle.vm_flat.specs.Declared.{Outside, is_file, is_said, start_page, zeros}
 use Rattle.vm_flat.specs.Tasks.{lives_on}
 use Rattle.vm_flat.specs.Words.{Supplying, Unavailing, Erring, Effect, Creates, Requests, Returns, TakesRequest, TakesReturn, Answers, Takes, Zeroes, Raises, Stores, Drops, Ends, StepEnds, Nothing}
 use Rattle.vm_flat.specs.Spot.{Spot, first_spot, move}
@@ -64,9 +64,9 @@ effect_of says host o p (event.Taken (Up at object) m) past spots = taken_up o p
 effect_of says host o p (event.Taken (Down at object control) m) past spots = taken_down o p (at.0 == host && control == control_number host object.0 past) object.0 m
 effect_of says host o p e past spots = Nothing
 
-abbrev pub spot : Header → Files → ℕ → ℕ → ℕ → List Event → Spot
-spot header files host o p [] = first_spot (is_file header o) (start_page header files o p)
-spot header files host o p (e ∷ past) = move (zeros header) (spot header files host o p past) (effect_of (λ k. is_said header files k) host o p e past (λ k q. spot header files host k q past))
+abbrev pub spot : Header → Outside → ℕ → ℕ → ℕ → List Event → Spot
+spot header outside host o p [] = first_spot (is_file header o) (start_page header outside o p)
+spot header outside host o p (e ∷ past) = move (zeros header) (spot header outside host o p past) (effect_of (λ k. is_said header outside k) host o p e past (λ k q. spot header outside host k q past))
 
 -- the host's control of an object: 0 none, 1 live, 2 ended for ever
 abbrev pub control : Header → ℕ → ℕ → List Event → ℕ

@@ -4,7 +4,7 @@ use Rattle.vm_base.specs.declared.entry.Entry.{Entry}
 use Rattle.vm_model.specs.declared.event.Event.{Event}
 use Rattle.vm_model.specs.declared.event.Event.TheVariants as event
 use Rattle.vm_model.specs.declared.script.Header.{Header}
-use Rattle.vm_flat.specs.Declared.{named, is_file, declared_pages}
+use Rattle.vm_flat.specs.Declared.{Outside, named, is_file, declared_pages}
 use Rattle.vm_flat.specs.Tasks.{lives_on, tasks, entries_of}
 use Rattle.vm_flat.specs.Waiting.{waiting, copy_target, fills}
 
@@ -114,13 +114,14 @@ made_here host other = true
 
 -- The region is in use on the host: from the event that makes it until the last entry on it goes, and
 -- once it has an entry, on the host of its entries alone. A copy is in use where its source is. A file's
--- region is in use from the start, a shared or wild object's never is here.
-abbrev pub in_use : Header → ℕ → ℕ → List Event → Bool
-in_use header host region [] = is_file header region
-in_use header host region (event.RegionMade new object pages ∷ past) = if region == new.0 then made_here host past else in_use header host region past
-in_use header host region (event.RegionCopied new source offset pages ∷ past) = if region == new.0 then in_use header host source.0 past else in_use header host region past
-in_use header host region (event.Entered task address bytes entered offset prot inherit ∷ past) = (not (region == entered.0) || lives_on host task.0 past) && in_use header host region past
-in_use header host region (event.Removed task address bytes ∷ past) = is_kept header region (event.Removed task address bytes ∷ past) && in_use header host region past
-in_use header host region (event.TaskEnded task ∷ past) = is_kept header region (event.TaskEnded task ∷ past) && in_use header host region past
-in_use header host region (event.Failed task object page ∷ past) = is_kept header region (event.Failed task object page ∷ past) && in_use header host region past
-in_use header host region (e ∷ past) = in_use header host region past
+-- region is in use from the start, a shared or wild object's never is here, nor is a temporary one where the paging area
+-- does not tell.
+abbrev pub in_use : Header → Outside → ℕ → ℕ → List Event → Bool
+in_use header outside host region [] = is_file header region
+in_use header outside host region (event.RegionMade new object pages ∷ past) = if region == new.0 then made_here host past && outside.paging else in_use header outside host region past
+in_use header outside host region (event.RegionCopied new source offset pages ∷ past) = if region == new.0 then in_use header outside host source.0 past else in_use header outside host region past
+in_use header outside host region (event.Entered task address bytes entered offset prot inherit ∷ past) = (not (region == entered.0) || lives_on host task.0 past) && in_use header outside host region past
+in_use header outside host region (event.Removed task address bytes ∷ past) = is_kept header region (event.Removed task address bytes ∷ past) && in_use header outside host region past
+in_use header outside host region (event.TaskEnded task ∷ past) = is_kept header region (event.TaskEnded task ∷ past) && in_use header outside host region past
+in_use header outside host region (event.Failed task object page ∷ past) = is_kept header region (event.Failed task object page ∷ past) && in_use header outside host region past
+in_use header outside host region (e ∷ past) = in_use header outside host region past

@@ -6,7 +6,7 @@ ghost use Rattle.vm_model.specs.Moments.{EachEvent};
 ghost use Rattle.vm_model.specs.declared.event.Event.{Event};
 ghost use Rattle.vm_model.specs.declared.script.Header.{Header};
 ghost use Rattle.vm_flat.specs.Bytes.{CopiesCurrent, FlatBytes};
-ghost use Rattle.vm_flat.specs.Declared.{Files};
+ghost use Rattle.vm_flat.specs.Declared.{Outside};
 ghost use Rattle.vm_flat.specs.Licences.{AllLicensed};
 
 /// Each load of temporary or file memory answers the flat map's bytes, whatever was shadowed,
@@ -17,5 +17,5 @@ ghost use Rattle.vm_flat.specs.Licences.{AllLicensed};
 /// that it takes that object's bytes: the law of shared memory says so.
 #[tactic(auto, using(crate::proofs::Law::law))]
 pub fn loads_answer()
-    ensures { (header : Header) (files : Files) (history : List Event) → AllLicensed header files history → EachEvent (CopiesCurrent header files) history → EachEvent (FlatBytes header files) history }
+    ensures { (header : Header) (outside : Outside) (history : List Event) → AllLicensed header outside history → EachEvent (CopiesCurrent header outside) history → EachEvent (FlatBytes header outside) history }
 {}
