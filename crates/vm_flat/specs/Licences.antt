@@ -32,13 +32,6 @@ pub record Waits (header : Header) (task : ℕ) (access : Access) (past : List E
   pub waits : waiting task past ≡ Some access
   pub at : At header task (address_of header.size (next_page task past) access) past
 
--- the region of its page, and the page there
-abbrev pub its_region : (header : Header) (task : ℕ) (access : Access) (past : List Event) → Waits header task access past → ℕ
-its_region header task access past w = w.at.entry.region.0
-
-abbrev pub its_page : (header : Header) (task : ℕ) (access : Access) (past : List Event) → Waits header task access past → ℕ
-its_page header task access past w = page_of header.size w.at.entry (address_of header.size (next_page task past) access)
-
 -- in the chain of a region that is in use on the host
 abbrev pub Reach : Header → Outside → ℕ → ℕ → List Event → Type 0
 Reach header outside host object past = Reaches (λ r. in_use header outside host r past) (λ r. region_of header r past) (λ o. backing_of header o past) object

@@ -13,8 +13,10 @@ ghost use Rattle.vm_flat.specs.Licences.{AllLicensed};
 /// raised, paged out, supplied, lost or dropped before it: of every history whose events have their
 /// causes.
 ///
-/// `files` is what the files hold at the start. Of a slow copy from a shared object it is supposed
-/// that it takes that object's bytes: the law of shared memory says so.
+/// `outside` tells what the files hold at the start, if that is told: else their pages are what
+/// their pagers' answers said last. Where it says that the paging area does not tell, nothing is
+/// said of temporary regions. Of a slow copy from a shared object it is supposed that it takes that
+/// object's flat page: the law of shared memory says so.
 #[tactic(auto, using(crate::proofs::Law::law))]
 pub fn loads_answer()
     ensures { (header : Header) (outside : Outside) (history : List Event) → AllLicensed header outside history → EachEvent (CopiesCurrent header outside) history → EachEvent (FlatBytes header outside) history }
