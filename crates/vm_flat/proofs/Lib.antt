@@ -21,6 +21,7 @@ pub mod Ports
 pub mod Queues
 pub mod Regions
 pub mod Rows
+pub mod SameChannels
 pub mod Slow
 pub mod SlowRun
 pub mod Sound
