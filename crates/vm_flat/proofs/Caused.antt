@@ -132,7 +132,6 @@ raised_cause header outside host at lower lower_page upper upper_page past h c o
       index = page_of header.size c.waits.at.entry c.address;
       steps = c.steps;
       tops = tops header outside host c.waits.at.entry.region.0 (page_of header.size c.waits.at.entry c.address) upper upper_page past used c.is_top (row.is.inside.each c.address row.from row.below);
-      unmarked = mark_is header outside host c.waits.at.entry.region.0 past c.unmarked;
       walks = subst (λ (k : ℕ). C.Walks (ground header outside) (suc c.steps) upper upper_page lower lower_page (deeds header outside k past)) is (walks header outside at.0 past h.numbered (suc c.steps) upper upper_page lower lower_page c.walks);
       here = here_is header outside host lower lower_page true past (subst (λ (k : ℕ). (spot header outside k lower lower_page past).here ≡ true) is c.here);
     }

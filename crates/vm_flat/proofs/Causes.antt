@@ -58,13 +58,12 @@ pub record Bottoms (z : Ground) (object page : ℕ) (past : List Deed) : Type 0 
   pub tops : Tops z region index object page past
   pub sinks : Sinks z steps object page past
 
--- below the top place of a page of a region without the mark the walk finds the page here
+-- below the top place of a page the walk finds the page here
 pub record Finds (z : Ground) (lower lower_page upper upper_page : ℕ) (past : List Deed) : Type 0 where
   pub region : ℕ
   pub index : ℕ
   pub steps : ℕ
   pub tops : Tops z region index upper upper_page past
-  pub unmarked : (row z region past).mark ≡ false
   pub walks : Walks z (suc steps) upper upper_page lower lower_page past
   pub here : (spot z lower lower_page past).here ≡ true
 
