@@ -1,0 +1,134 @@
+-- What holds at every moment of a licensed history, and how its facts are those of one host's memory.
+use Rattle.std.proofs.Common.{ℕ, suc, zero, ◌≡◌, ◌+◌, ◌<◌, ◌≤◌, List, Bool, true, false, sym, ap, subst, ◌∙◌, arith, ⊎_elim}
+use Rattle.std.proofs.lemmas.Bool.{cases_lt}
+use Rattle.std.proofs.lemmas.Bool.Decides.{nat_tests}
+use Rattle.vm_model.specs.declared.event.Event.{Event}
+use Rattle.vm_model.specs.declared.script.Header.{Header}
+use Rattle.vm_flat.specs.Declared.{Outside, named, is_private, is_file}
+use Rattle.vm_flat.specs.Regions.{next_region, region_of, backing_of, in_use}
+use Rattle.vm_flat.specs.Spot.{Spot}
+use Rattle.vm_flat.proofs.Allowed.{Passed}
+use Rattle.vm_flat.specs.Places.{spot, control}
+use Rattle.vm_flat.specs.Walks as W
+use Rattle.vm_flat.specs.Walks.{IsTop, Passes}
+use Rattle.vm_flat.specs.Flat.{flat_page}
+use Rattle.vm_flat.specs.Licences.{At, Reach}
+use Rattle.vm_flat.proofs.Deeds as D
+use Rattle.vm_flat.proofs.Causes as C
+use Rattle.vm_flat.proofs.File.{file_is}
+use Rattle.vm_flat.proofs.Classes.{ground, deeds}
+use Rattle.vm_flat.proofs.Ties.{as_row, as_link, row_is, link_is, spot_is}
+use Rattle.vm_flat.proofs.Rows.{FoundRow, found_row}
+use Rattle.vm_flat.proofs.Entries.{Entries, OwnedAt, PrivateUsed}
+use Rattle.vm_flat.proofs.Filling.{Filling}
+use Rattle.vm_flat.proofs.Numbers.{NumberedAt, later_alike}
+use Rattle.vm_flat.proofs.Ports.{Worlds, Ups, UpNumbers, AskedBy, Downs, Locks}
+
+abbrev pub Flats : Header → Outside → List Event → Type 0
+Flats header outside past = (host r i : ℕ) → D.flat (ground header outside) r i (deeds header outside host past) ≡ flat_page header outside r i past
+
+-- a file with a live control on a host is in use on no other
+abbrev pub Homes : Header → Outside → List Event → Type 0
+Homes header outside past = (g o : ℕ) → o < named header → is_private header outside o ≡ true → control header g o past ≡ 1 → (h : ℕ) → (h ≡ g → ⊥) → in_use header outside h o past ≡ false
+
+pub record Holds (header : Header) (outside : Outside) (past : List Event) : Type 0 where
+  pub worlds : Worlds header outside past
+  pub flats : Flats header outside past
+  pub numbered : NumberedAt header past
+  pub private_used : PrivateUsed header outside past
+  pub entries : Entries header outside past
+  pub filling : Filling header outside past
+  pub ups : Ups header outside past
+  pub up_numbers : UpNumbers header outside past
+  pub asked : AskedBy header outside past
+  pub downs : Downs header outside past
+  pub locks : Locks header outside past
+  pub homes : Homes header outside past
+
+clash : (b : Bool) → b ≡ false → b ≡ true → ⊥
+clash b isnt is = cc
+
+-- the entry that an address leads to
+pub led : (header : Header) (outside : Outside) (task address : ℕ) (past : List Event) → Entries header outside past → (at : At header task address past) → FoundRow (OwnedAt header outside past at.host) address at.entry
+led header outside task address past entries at = found_row (OwnedAt header outside past at.host) address _ at.entry (entries task at.host at.lives) at.found
+
+-- the top place of a page of a region in use
+pub tops : (header : Header) (outside : Outside) (host r i o p : ℕ) (past : List Event) → in_use header outside host r past ≡ true → IsTop (region_of header r past) i o p → i < (region_of header r past).pages → C.Tops (ground header outside) r i o p (deeds header outside host past)
+tops header outside host r i o p past used top less =
+    let same : D.row (ground header outside) r (deeds header outside host past) ≡ as_row (in_use header outside host r past) (region_of header r past) = row_is header outside host r past in
+    record {
+      used = ap (λ (w : D.Row). w.used) same ∙ used;
+      object = ap (λ (w : D.Row). w.top) same ∙ top.object;
+      page = ap (λ (w : D.Row). w.shift + i) same ∙ top.page;
+      inside = subst (λ (n : ℕ). i < n) (sym (ap (λ (w : D.Row). w.pages) same)) less;
+    }
+
+pub mark_is : (header : Header) (outside : Outside) (host r : ℕ) (past : List Event) → (region_of header r past).mark ≡ false → (D.row (ground header outside) r (deeds header outside host past)).mark ≡ false
+mark_is header outside host r past plain = ap (λ (w : D.Row). w.mark) (row_is header outside host r past) ∙ plain
+
+-- a region is private where its top object is
+pub region_private : (header : Header) (outside : Outside) (r i o p : ℕ) (past : List Event) → NumberedAt header past → r < next_region header past → IsTop (region_of header r past) i o p → is_private header outside o ≡ true → is_private header outside r ≡ true
+region_private header outside r i o p past n made top ours = ⊎_elim
+    (λ less. subst (λ (k : ℕ). is_private header outside k ≡ true) (sym top.object ∙ n.declared_top r less) ours)
+    (λ le. later_alike header outside r o le (omega (arith, n.temporary r le made, top.object)) ∙ ours)
+    (cases_lt r (named header))
+
+-- a region over a temporary object is no declared one
+pub region_later : (header : Header) (r i o p : ℕ) (past : List Event) → NumberedAt header past → IsTop (region_of header r past) i o p → named header ≤ o → named header ≤ r
+region_later header r i o p past n top above = ⊎_elim
+    (λ less. absurd (omega (arith, less, above, top.object, n.declared_top r less)))
+    (λ le. le)
+    (cases_lt r (named header))
+
+pub not_file : (header : Header) (o : ℕ) → named header ≤ o → is_file header o ≡ false
+not_file header o above = grind (arith, nat_tests)
+
+pub plain_spot : (header : Header) (outside : Outside) (host o p : ℕ) (past : List Event) → named header ≤ o → (D.spot (ground header outside) o p (deeds header outside host past)).file ≡ false
+plain_spot header outside host o p past above = file_is (ground header outside) o p (deeds header outside host past) ∙ not_file header o above
+
+-- walks
+
+passed : (header : Header) (outside : Outside) (host o p : ℕ) (past : List Event) → named header ≤ o → Passes (spot header outside host o p past) → Passed (D.spot (ground header outside) o p (deeds header outside host past))
+passed header outside host o p past above passes =
+    let same : D.spot (ground header outside) o p (deeds header outside host past) ≡ spot header outside host o p past = spot_is header outside host o p past in
+    record {
+      away = ap (λ (s : Spot). s.here) same ∙ passes.away;
+      plain = plain_spot header outside host o p past above;
+      unasked = ap (λ (s : Spot). s.asked) same ∙ passes.unasked;
+      without = λ live. ap (λ (s : Spot). s.absent) same ∙ passes.without (sym (ap (λ (s : Spot). s.control) same) ∙ live);
+    }
+
+pub walks : (header : Header) (outside : Outside) (host : ℕ) (past : List Event) → NumberedAt header past → (n o p l lp : ℕ) → W.Walks (λ k q. spot header outside host k q past) (λ k. backing_of header k past) n o p l lp
+    → C.Walks (ground header outside) n o p l lp (deeds header outside host past)
+walks header outside host past num zero o p l lp walk = walk
+walks header outside host past num (suc n) o p l lp walk =
+    let same : D.link (ground header outside) o (deeds header outside host past) ≡ as_link (backing_of header o past) = link_is header outside host o past in (
+      passed header outside host o p past (num.upper o walk.1) walk.0,
+      ap (λ (x : D.Link). x.backed) same ∙ walk.1,
+      subst (λ (x : D.Link). C.Walks (ground header outside) n x.under (x.shift + p) l lp (deeds header outside host past)) (sym same) (walks header outside host past num n (backing_of header o past).under ((backing_of header o past).shift + p) l lp walk.2),
+    )
+
+pub sinks : (header : Header) (outside : Outside) (host : ℕ) (past : List Event) → NumberedAt header past → (n o p : ℕ) → named header ≤ o → W.Sinks (λ k q. spot header outside host k q past) (λ k. backing_of header k past) n o p
+    → C.Sinks (ground header outside) n o p (deeds header outside host past)
+sinks header outside host past num zero o p above walk = (passed header outside host o p past above walk.0, ap (λ (x : D.Link). x.backed) (link_is header outside host o past) ∙ walk.1)
+sinks header outside host past num (suc n) o p above walk =
+    let same : D.link (ground header outside) o (deeds header outside host past) ≡ as_link (backing_of header o past) = link_is header outside host o past in (
+      passed header outside host o p past above walk.0,
+      ap (λ (x : D.Link). x.backed) same ∙ walk.1,
+      subst (λ (x : D.Link). C.Sinks (ground header outside) n x.under (x.shift + p) (deeds header outside host past)) (sym same) (sinks header outside host past num n (backing_of header o past).under ((backing_of header o past).shift + p) (num.lower o walk.1) walk.2),
+    )
+
+-- chains
+
+below : (header : Header) (outside : Outside) (host : ℕ) (past : List Event) (n o u : ℕ) → C.Below (λ k. D.link (ground header outside) k (deeds header outside host past)) n o u → W.Below (λ k. backing_of header k past) n o u
+below header outside host past zero o u is = is
+below header outside host past (suc n) o u is =
+    let same : D.link (ground header outside) o (deeds header outside host past) ≡ as_link (backing_of header o past) = link_is header outside host o past in (
+      sym (ap (λ (x : D.Link). x.backed) same) ∙ is.0,
+      below header outside host past n (backing_of header o past).under u (subst (λ (x : D.Link). C.Below (λ k. D.link (ground header outside) k (deeds header outside host past)) n x.under u) same is.1),
+    )
+
+pub reach : (header : Header) (outside : Outside) (host o : ℕ) (past : List Event) → C.Reach (ground header outside) o (deeds header outside host past) → Reach header outside host o past
+reach header outside host o past is =
+    let same : D.row (ground header outside) is.0 (deeds header outside host past) ≡ as_row (in_use header outside host is.0 past) (region_of header is.0 past) = row_is header outside host is.0 past in
+    (is.0, is.1, sym (ap (λ (w : D.Row). w.used) same) ∙ is.2, below header outside host past is.1 (region_of header is.0 past).top o (subst (λ (w : D.Row). C.Below (λ k. D.link (ground header outside) k (deeds header outside host past)) is.1 w.top o) same is.3))

@@ -1,0 +1,12 @@
+pub mod Bytes
+pub mod Channels
+pub mod Declared
+pub mod Flat
+pub mod Licences
+pub mod Places
+pub mod Regions
+pub mod Spot
+pub mod Tasks
+pub mod Waiting
+pub mod Walks
+pub mod Words

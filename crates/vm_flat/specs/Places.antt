@@ -1,0 +1,78 @@
+-- What a host has of a page of an object, what is on the way about it, and what the host's pager has:
+-- each event is classified once, and moves one record.
+use Rattle.std.specs.Prelude.{ℕ, List, [], ◌∷◌, if◌then◌else◌, ◌==◌, ◌&&◌, Bool}
+use Rattle.vm_base.specs.Pages.{little_endian_bytes}
+use Rattle.vm_model.specs.declared.event.Event.{Event}
+use Rattle.vm_model.specs.declared.event.Event.TheVariants as event
+use Rattle.vm_model.specs.declared.message.Channel.TheVariants.{Up, Down}
+use Rattle.vm_model.specs.declared.message.Message.{Message}
+use Rattle.vm_model.specs.declared.message.Message.TheVariants as message
+use Rattle.vm_model.specs.declared.script.Header.{Header}
+use Rattle.vm_flat.specs.Declared.{Outside, is_file, is_said, start_page, zeros}
+use Rattle.vm_flat.specs.Tasks.{lives_on}
+use Rattle.vm_flat.specs.Words.{Supplying, Unavailing, Erring, Effect, Creates, Requests, Returns, TakesRequest, TakesReturn, Answers, Takes, Zeroes, Raises, Stores, Drops, Ends, StepEnds, Nothing}
+use Rattle.vm_flat.specs.Spot.{Spot, first_spot, move}
+
+-- the number of the host's newest control of an object
+abbrev pub control_number : ℕ → ℕ → List Event → ℕ
+control_number host object [] = 0
+control_number host object (event.Sent (Up at to) (message.Init control size) ∷ past) = if at.0 == host && object == to.0 then control else control_number host object past
+control_number host object (event.Sent (Up at to) (message.Create control size) ∷ past) = if at.0 == host && object == to.0 then control else control_number host object past
+control_number host object (e ∷ past) = control_number host object past
+
+-- the effect of what is about page `page` of `object`, on page p of o; on all others that of `other`
+abbrev pub at_place : ℕ → ℕ → Bool → ℕ → ℕ → Effect → Effect → Effect
+at_place o p own object page mine other = if own && (o == object && p == page) then mine else other
+
+abbrev pub sent_up : ℕ → ℕ → Bool → ℕ → Message → Effect
+sent_up o p own object (message.Init control size) = if own && o == object then Creates else Nothing
+sent_up o p own object (message.Create control size) = if own && o == object then Creates else Nothing
+sent_up o p own object (message.Request control page access) = at_place o p own object page.0 Requests Nothing
+sent_up o p own object (message.Return control page dirty keep bytes) = at_place o p own object page.0 (Returns keep bytes) Nothing
+sent_up o p own object (message.Terminate control) = if own && o == object then Ends else Nothing
+sent_up o p own object other = Nothing
+
+abbrev pub taken_up : ℕ → ℕ → Bool → ℕ → Message → Effect
+taken_up o p own object (message.Request control page access) = at_place o p own object page.0 TakesRequest StepEnds
+taken_up o p own object (message.Return control page dirty keep bytes) = at_place o p own object page.0 (TakesReturn bytes) StepEnds
+taken_up o p own object other = StepEnds
+
+abbrev pub sent_down : ℕ → ℕ → Bool → Bool → ℕ → Message → Effect
+sent_down o p own tells object (message.Supply page lock precious bytes) = at_place o p own object page.0 (Answers tells (Supplying bytes)) Nothing
+sent_down o p own tells object (message.Unavailable page) = at_place o p own object page.0 (Answers tells Unavailing) Nothing
+sent_down o p own tells object (message.Error page reason) = at_place o p own object page.0 (Answers tells Erring) Nothing
+sent_down o p own tells object other = Nothing
+
+abbrev pub taken_down : ℕ → ℕ → Bool → ℕ → Message → Effect
+taken_down o p own object (message.Supply page lock precious bytes) = at_place o p own object page.0 (Takes (Supplying bytes)) StepEnds
+taken_down o p own object (message.Unavailable page) = at_place o p own object page.0 (Takes Unavailing) StepEnds
+taken_down o p own object (message.Error page reason) = at_place o p own object page.0 (Takes Erring) StepEnds
+taken_down o p own object other = StepEnds
+
+-- What an event is to page p of object o on the host. What the host has of the other places comes in as a function.
+-- So does, of which objects the answers say what their files have. Of the answers those to the host's newest control count.
+abbrev pub effect_of : (ℕ → Bool) → ℕ → ℕ → ℕ → Event → List Event → (ℕ → ℕ → Spot) → Effect
+effect_of says host o p (event.Line line) past spots = StepEnds
+effect_of says host o p (event.Zeroed at object page) past spots = at_place o p (at.0 == host) object.0 page.0 Zeroes Nothing
+effect_of says host o p (event.Raised at lower lower_page upper upper_page) past spots = at_place o p (at.0 == host) upper.0 upper_page.0 (Raises (spots lower.0 lower_page.0).bytes) Nothing
+effect_of says host o p (event.Stored task object page at size value) past spots = at_place o p (lives_on host task.0 past) object.0 page.0 (Stores at (little_endian_bytes size value)) Nothing
+effect_of says host o p (event.CopiedPage task page object object_page target) past spots = at_place o p (lives_on host task.0 past) target.0 page.0 (Raises (spots object.0 object_page.0).bytes) Nothing
+effect_of says host o p (event.Dropped at object page) past spots = at_place o p (at.0 == host) object.0 page.0 Drops Nothing
+effect_of says host o p (event.Sent (Up at object) m) past spots = sent_up o p (at.0 == host) object.0 m
+effect_of says host o p (event.Sent (Down at object control) m) past spots = sent_down o p (at.0 == host && control == control_number host object.0 past) (says object.0) object.0 m
+effect_of says host o p (event.Taken (Up at object) m) past spots = taken_up o p (at.0 == host) object.0 m
+effect_of says host o p (event.Taken (Down at object control) m) past spots = taken_down o p (at.0 == host && control == control_number host object.0 past) object.0 m
+effect_of says host o p e past spots = Nothing
+
+abbrev pub spot : Header → Outside → ℕ → ℕ → ℕ → List Event → Spot
+spot header outside host o p [] = first_spot (is_file header o) (start_page header outside o p)
+spot header outside host o p (e ∷ past) = move (zeros header) (spot header outside host o p past) (effect_of (λ k. is_said header outside k) host o p e past (λ k q. spot header outside host k q past))
+
+-- the host's control of an object: 0 none, 1 live, 2 ended for ever
+abbrev pub control : Header → ℕ → ℕ → List Event → ℕ
+control header host object [] = 0
+control header host object (event.Sent (Up at to) (message.Init number size) ∷ past) = if at.0 == host && object == to.0 then 1 else control header host object past
+control header host object (event.Sent (Up at to) (message.Create number size) ∷ past) = if at.0 == host && object == to.0 then 1 else control header host object past
+control header host object (event.Sent (Up at to) (message.Terminate number) ∷ past) =
+    if at.0 == host && object == to.0 then (if is_file header object then 0 else 2) else control header host object past
+control header host object (e ∷ past) = control header host object past

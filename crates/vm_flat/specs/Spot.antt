@@ -1,0 +1,98 @@
+-- One place: the page on the host, what is on the way, and what the pager has.
+use Rattle.std.specs.Prelude.{not, ℕ, ◌==◌, List, [], ◌∷◌, ◌++◌, Bool, true, false, if◌then◌else◌, ◌&&◌, Option, Some, None}
+use Rattle.vm_base.specs.Pages.{with_bytes}
+use Rattle.vm_flat.specs.Words.{UpWord, Requesting, Returning, DownWord, Supplying, Unavailing, Erring, Effect, Creates, Requests, Returns, TakesRequest, TakesReturn, Answers, Takes, Zeroes, Raises, Stores, Drops, Ends, StepEnds, Nothing}
+
+pub record Spot : Type 0 where
+  -- what is on the way about the page, oldest first
+  pub up : List UpWord
+  pub down : List DownWord
+  -- the object's control: 0 never made, 1 live, 2 ended
+  pub control : ℕ
+  pub here : Bool
+  pub bytes : List ℕ
+  pub dirty : Bool
+  pub asked : Bool
+  pub absent : Bool
+  -- the last return that was sent, and the last that was taken
+  pub returned : Option (List ℕ)
+  pub kept : Option (List ℕ)
+  -- the step began with the page's request, and has not answered it
+  pub step : Bool
+  -- the page of a file object
+  pub file : Bool
+  -- the step began with the file pager's word that there is nothing
+  pub void : Bool
+
+abbrev pub first_spot : Bool → List ℕ → Spot
+first_spot file bytes =
+    record {
+      up = [];
+      down = [];
+      control = 0;
+      here = false;
+      bytes = [];
+      dirty = false;
+      asked = false;
+      absent = false;
+      returned = if file then Some bytes else None;
+      kept = if file then Some bytes else None;
+      step = false;
+      file = file;
+      void = false;
+    }
+
+abbrev pub rest : {A : Type 0} → List A → List A
+rest [] = []
+rest (x ∷ xs) = xs
+
+abbrev pub first : {A : Type 0} → List A → Option A
+first [] = None
+first (x ∷ xs) = Some x
+
+-- what an answer says that the pager has
+abbrev pub told : List ℕ → DownWord → Option (List ℕ) → Option (List ℕ)
+told z (Supplying bytes) was = Some bytes
+told z Unavailing was = Some z
+told z Erring was = was
+
+-- an answer counts where the live control asked
+abbrev pub hears : Spot → Bool
+hears s = s.control == 1 && s.asked
+
+abbrev pub taken : Spot → DownWord → Bool → Spot
+taken s (Supplying bytes) b =
+    record s {
+      down = rest s.down;
+      here = if b then true else s.here;
+      bytes = if b then bytes else s.bytes;
+      dirty = if b then false else s.dirty;
+      asked = if b then false else s.asked;
+      step = false;
+      void = false;
+    }
+taken s Unavailing b = record s { down = rest s.down; absent = if b && not s.file then true else s.absent; asked = if b then false else s.asked; step = false; void = b && s.file }
+taken s Erring b = record s { down = rest s.down; asked = if b then false else s.asked; step = false; void = false }
+
+abbrev pub move : List ℕ → Spot → Effect → Spot
+move z s Creates = record s { control = 1 }
+move z s Requests = record s { up = s.up ++ Requesting ∷ []; asked = true }
+move z s (Returns keep bytes) = record s { up = s.up ++ Returning bytes ∷ []; here = keep; dirty = false; absent = false; returned = Some bytes }
+move z s TakesRequest = record s { up = rest s.up; step = true; void = false }
+move z s (TakesReturn bytes) = record s { up = rest s.up; kept = Some bytes; step = false; void = false }
+move z s (Answers tells word) =
+    record s {
+      down = s.down ++ word ∷ [];
+      step = false;
+      returned = if tells then told z word s.returned else s.returned;
+      kept = if tells then told z word s.kept else s.kept;
+      void = if tells then false else s.void;
+    }
+move z s (Takes word) = taken s word (hears s)
+move z s Zeroes = record s { here = true; bytes = z; dirty = false; void = false }
+move z s (Raises bytes) = record s { here = true; bytes = bytes; dirty = true }
+move z s (Stores at bytes) = record s { bytes = with_bytes at bytes s.bytes; dirty = true }
+move z s Drops = record s { here = false; dirty = false }
+move z s Ends = record s { control = if s.file then 0 else 2 }
+move z s StepEnds = record s { step = false; void = false }
+move z s Nothing = s
