@@ -1,26 +1,26 @@
 -- What was read is what the source had, and how a run ends tells the status.
-use Rattle.std.proofs.Common.{◌≡◌, ℕ, ◌<◌, ◌≤◌, ◌⊎◌, inl, inr, List, [], ◌++◌, length, true, refl, ap, sym, ◌∙◌, subst, arith, Some, None, Option, nat_lt, length-append}
+use Rattle.std.proofs.Common.{◌≡◌, ℕ, ◌<◌, ◌≤◌, ◌⊎◌, inl, inr, List, [], ◌++◌, length, true, refl, ap, sym, ◌∙◌, subst, arith, Some, None, Option, Result, Ok, Err, nat_lt, length-append, append-nil}
 use Rattle.std.specs.Prelude.{IfSome}
-use Rattle.std.specs.Io.KnownBytes.{Appends, Consumes, IsAtEnd}
+use Rattle.std.specs.Io.KnownBytes.{Consumes, IsAtEnd}
 use Rattle.std.proofs.KnownBytes.{Consumes-all}
 use Rattle.std.proofs.lemmas.Bool.Decides.{nat_tests}
 use Rattle.vm_model.specs.declared.event.Event.{Event}
+use Rattle.vm_model.specs.declared.fault.ScriptFault.{ScriptFault}
+use Rattle.vm_model.specs.declared.fault.ScriptFault.TheVariants as fault
 use Rattle.vm_model.specs.declared.script.Script.{Script}
-use Rattle.vm_model.specs.Legal.{Legal, LegalSoFar}
-use Rattle.vm_model.specs.Text.{text}
-use Rattle.vm_top.specs.declared.run.RunEnd.{RunEnd}
-use Rattle.vm_top.specs.declared.run.RunEnd.TheVariants as ends
+use Rattle.vm_text.specs.Script.{Whole, script_of, seen}
+use Rattle.vm_text.specs.Unbuilt.{unbuilt_of}
 use Rattle.vm_top.specs.declared.top.Status.{Status}
 use Rattle.vm_top.specs.declared.top.Status.TheVariants as status
-use Rattle.vm_top.specs.Form.{Unformed, read_form, IsReadAs}
+use Rattle.vm_top.specs.declared.words.Report.{Report}
+use Rattle.vm_top.specs.Ending.{EndsAs, HasEnded, Tells, WroteStuck}
 use Rattle.vm_top.specs.Reading.{ReadWhole}
-use Rattle.vm_top.specs.Run.{IsFull, RanAs, WroteButLast}
-use Rattle.vm_top.specs.Status.{status_of}
-use Rattle.vm_top.specs.Top.{IsReadFrom, IsUnformedFrom, IsDone, IsEventLimit, IsOutputFault, IsNoMemory, HasRun}
-use Rattle.vm_top.specs.Writing.{WroteStart}
+use Rattle.vm_top.specs.Run.{IsStuck}
+use Rattle.vm_top.specs.Top.{IsReadFrom, IsBadFrom, IsUnbuiltFrom, IsHeld, IsDone, IsEventLimit, IsStopped, IsNotBuilt, IsOutputFault, IsNoMemory, WroteStopped, not_built_text, stopped_text}
+use Rattle.vm_top.proofs.Starts.{legal_start, part_legal}
 
-long_unformed : (bytes : List ℕ) → 1048576 < length bytes → read_form bytes ≡ Unformed 0
-long_unformed bytes long = let test : nat_lt 1048576 (length bytes) ≡ true = grind (arith, nat_tests) in rw test refl
+long_bad : (bytes : List ℕ) → 1048576 < length bytes → script_of bytes ≡ Err (0, fault.TooLong)
+long_bad bytes long = let test : nat_lt 1048576 (length bytes) ≡ true = grind (arith, nat_tests) in rw test refl
 
 whole_read : (told after : Option (List ℕ)) (bytes whole : List ℕ) → Consumes told after bytes → IsAtEnd after → told ≡ Some whole → bytes ≡ whole
 whole_read told after bytes whole consumed end is =
@@ -31,68 +31,103 @@ front_read : (after : Option (List ℕ)) (bytes whole : List ℕ) → Consumes (
 front_read None bytes whole consumed = absurd consumed
 front_read (Some rest) bytes whole consumed = omega (arith, ap length consumed, length-append bytes rest)
 
--- the bytes of the source, and those that were read of them, read as the same form
-pub read_same : (told after : Option (List ℕ)) (bytes whole : List ℕ) → ReadWhole told after bytes → told ≡ Some whole → read_form whole ≡ read_form bytes
+-- the bytes of the source, and those that were read of them, spell the same
+read_same : (told after : Option (List ℕ)) (bytes whole : List ℕ) → ReadWhole told after bytes → told ≡ Some whole → script_of whole ≡ script_of bytes
 read_same told after bytes whole read is =
     let sizes : (length bytes ≤ 1048576) ⊎ (1048576 < length bytes) = grind arith in
     elim sizes [
-      | inl short ↦ ap read_form (sym (whole_read told after bytes whole read.consumed (read.all short) is))
+      | inl short ↦ ap script_of (sym (whole_read told after bytes whole read.consumed (read.all short) is))
       | inr long ↦
           let consumed : Consumes (Some whole) after bytes = subst (λ (z : Option (List ℕ)). Consumes z after bytes) is read.consumed in
           let longer = front_read after bytes whole consumed in
-          long_unformed whole (omega arith) ∙ sym (long_unformed bytes long)
+          long_bad whole (omega arith) ∙ sym (long_bad bytes long)
     ]
 
-pub read_from : (told after : Option (List ℕ)) (bytes text : List ℕ) (script : Script) → ReadWhole told after bytes → text ≡ bytes → IsReadAs text script → IsReadFrom told script
-read_from told after bytes text script read same as_script = λ whole is. (as_script.form, read_same told after bytes whole read is ∙ (ap read_form (sym same) ∙ as_script.read), as_script.script)
+-- they are the same, where they spell a script
+script_read : (told after : Option (List ℕ)) (bytes whole : List ℕ) (script : Whole) → ReadWhole told after bytes → script_of bytes ≡ Ok script → told ≡ Some whole → bytes ≡ whole
+script_read told after bytes whole script read spells is =
+    let sizes : (length bytes ≤ 1048576) ⊎ (1048576 < length bytes) = grind arith in
+    elim sizes [
+      | inl short ↦ whole_read told after bytes whole read.consumed (read.all short) is
+      | inr long ↦ let long_is = long_bad bytes long in absurd (cc)
+    ]
 
-pub unformed_from : (told after : Option (List ℕ)) (bytes text : List ℕ) (line : ℕ) → ReadWhole told after bytes → text ≡ bytes → read_form text ≡ Unformed line → IsUnformedFrom told line
-unformed_from told after bytes text line read same unformed = λ whole is. read_same told after bytes whole read is ∙ (ap read_form (sym same) ∙ unformed)
+pub read_from : (told after : Option (List ℕ)) (bytes : List ℕ) (script : Script) → ReadWhole told after bytes → script_of bytes ≡ Ok (seen script) → IsReadFrom told script
+read_from told after bytes script read spells = λ whole is. read_same told after bytes whole read is ∙ spells
 
-done_case : (run : Script) (h : List Event) (end : RunEnd) (before after : Option (List ℕ)) → status_of end ≡ status.Done → RanAs run h end before after → Legal run h × Appends before after (text h)
-done_case run h ends.Done before after is ran = ran
-done_case run h ends.Failed before after is ran = absurd (cc)
-done_case run h ends.NoMemory before after is ran = absurd (cc)
-done_case run h ends.EventLimit before after is ran = absurd (cc)
+pub bad_from : (told after : Option (List ℕ)) (bytes : List ℕ) (line : ℕ) (kind : ScriptFault) → ReadWhole told after bytes → script_of bytes ≡ Err (line, kind) → IsBadFrom told line kind
+bad_from told after bytes line kind read spells = λ whole is. read_same told after bytes whole read is ∙ spells
 
-output_case : (run : Script) (h : List Event) (end : RunEnd) (before after : Option (List ℕ)) → status_of end ≡ status.OutputFault → RanAs run h end before after → LegalSoFar run h × WroteButLast before after h
-output_case run h ends.Done before after is ran = absurd (cc)
-output_case run h ends.Failed before after is ran = ran
-output_case run h ends.NoMemory before after is ran = absurd (cc)
-output_case run h ends.EventLimit before after is ran = absurd (cc)
+pub unbuilt_from : (told after : Option (List ℕ)) (bytes : List ℕ) (script : Whole) (line : Option ℕ) → ReadWhole told after bytes → script_of bytes ≡ Ok script → unbuilt_of bytes ≡ line → IsUnbuiltFrom told line
+unbuilt_from told after bytes script line read spells unbuilt = λ whole is. ap unbuilt_of (sym (script_read told after bytes whole script read spells is)) ∙ unbuilt
 
-memory_case : (run : Script) (h : List Event) (end : RunEnd) (before after : Option (List ℕ)) → status_of end ≡ status.NoMemory → RanAs run h end before after → LegalSoFar run h × WroteStart before after (text h)
-memory_case run h ends.Done before after is ran = absurd (cc)
-memory_case run h ends.Failed before after is ran = absurd (cc)
-memory_case run h ends.NoMemory before after is ran = ran
-memory_case run h ends.EventLimit before after is ran = absurd (cc)
+-- a script was read, and nothing in its header isn't built
+pub record IsReady (told : Option (List ℕ)) (run : Script) : Type 0 where
+  pub read : IsReadFrom told run
+  pub header : IsUnbuiltFrom told None
 
-full_case : (run : Script) (h : List Event) (end : RunEnd) (before after : Option (List ℕ)) → status_of end ≡ status.EventLimit → RanAs run h end before after → IsFull run h × Appends before after (text h)
-full_case run h ends.Done before after is ran = absurd (cc)
-full_case run h ends.Failed before after is ran = absurd (cc)
-full_case run h ends.NoMemory before after is ran = absurd (cc)
-full_case run h ends.EventLimit before after is ran = ran
+stuck_stops : (told : Option (List ℕ)) (run : Script) (script : Option Script) (h : List Event) (line : ℕ) → IsReady told run → script ≡ Some run → IsStuck run line h → IsStopped told line script h
+stuck_stops told run script h line ready held stuck = record {
+  run = run;
+  held = record { held = held; read = ready.read };
+  stops = inr (ready.header, stuck);
+  legal = part_legal run _ _ h stuck.part;
+}
 
-pub done_of : (told before after : Option (List ℕ)) (run : Script) (script : Option Script) (h : List Event) (s : Status)
-    → IsReadFrom told run → HasRun run script h s before after → s ≡ status.Done → IsDone told script h before after
-done_of told before after run script h s read has is =
-    let ran = done_case run h has.end before after (sym has.is ∙ is) has.ran in
-    record { run = run; held = has.held; read = read; legal = ran.0; written = ran.1 }
+stuck_wrote : (told : Option (List ℕ)) (run : Script) (script : Option Script) (h : List Event) (before after : Option (List ℕ)) → IsReady told run → script ≡ Some run → WroteStuck run h before after → WroteStopped told script h before after
+stuck_wrote told run script h before after ready held wrote = (wrote.0, stuck_stops told run script h wrote.0 ready held wrote.1, wrote.2)
 
-pub output_of : (told before after : Option (List ℕ)) (run : Script) (script : Option Script) (h : List Event) (s : Status)
-    → IsReadFrom told run → HasRun run script h s before after → s ≡ status.OutputFault → IsOutputFault told script h before after
-output_of told before after run script h s read has is =
-    let ran = output_case run h has.end before after (sym has.is ∙ is) has.ran in
-    inl (record { run = run; held = has.held; read = read; legal = ran.0 }, ran.1)
+pub done_of : (told before after : Option (List ℕ)) (report : Report) (run : Script) (script : Option Script) (h : List Event) (s : Status)
+    → IsReady told run → HasEnded report run script h before after s → s ≡ status.Done → IsDone told report script h before after
+done_of told before after report run script h s ready has is =
+    let ends = subst (EndsAs report run h before after) is has.ends in
+    record { run = run; held = record { held = has.held; read = ready.read }; header = ready.header; whole = ends.0; written = ends.1 }
 
-pub memory_of : (told before after : Option (List ℕ)) (run : Script) (script : Option Script) (h : List Event) (s : Status)
-    → IsReadFrom told run → HasRun run script h s before after → s ≡ status.NoMemory → IsNoMemory told script h before after
-memory_of told before after run script h s read has is =
-    let ran = memory_case run h has.end before after (sym has.is ∙ is) has.ran in
-    inl (record { run = run; held = has.held; read = read; legal = ran.0 }, ran.1)
+pub full_of : (told before after : Option (List ℕ)) (report : Report) (run : Script) (script : Option Script) (h : List Event) (s : Status)
+    → IsReady told run → HasEnded report run script h before after s → s ≡ status.EventLimit → IsEventLimit told report script h before after
+full_of told before after report run script h s ready has is =
+    let ends = subst (EndsAs report run h before after) is has.ends in
+    record { run = run; held = record { held = has.held; read = ready.read }; header = ready.header; full = ends.0; written = ends.1 }
 
-pub full_of : (told before after : Option (List ℕ)) (run : Script) (script : Option Script) (h : List Event) (s : Status)
-    → IsReadFrom told run → HasRun run script h s before after → s ≡ status.EventLimit → IsEventLimit told script h before after
-full_of told before after run script h s read has is =
-    let ran = full_case run h has.end before after (sym has.is ∙ is) has.ran in
-    record { run = run; held = has.held; read = read; full = ran.0; written = ran.1 }
+pub not_built_of : (told before after : Option (List ℕ)) (report : Report) (run : Script) (script : Option Script) (h : List Event) (s : Status) (line : ℕ)
+    → IsReady told run → HasEnded report run script h before after s → s ≡ status.NotBuilt line → IsNotBuilt told line script h before after
+not_built_of told before after report run script h s line ready has is =
+    let ends = subst (EndsAs report run h before after) is has.ends in
+    record { stopped = stuck_stops told run script h line ready has.held ends.0; written = ends.1 }
+
+pub output_of : (told before after : Option (List ℕ)) (report : Report) (run : Script) (script : Option Script) (h : List Event) (s : Status)
+    → IsReady told run → HasEnded report run script h before after s → s ≡ status.OutputFault → IsOutputFault told report script h before after
+output_of told before after report run script h s ready has is = elim (subst (EndsAs report run h before after) is has.ends) [
+  | inl cut ↦ inl (record { run = run; held = record { held = has.held; read = ready.read }; legal = cut.0 }, cut.1)
+  | inr stuck ↦ inr (inl (stuck_wrote told run script h before after ready has.held stuck))
+]
+
+pub memory_of : (told before after : Option (List ℕ)) (report : Report) (run : Script) (script : Option Script) (h : List Event) (s : Status)
+    → IsReady told run → HasEnded report run script h before after s → s ≡ status.NoMemory → IsNoMemory told report script h before after
+memory_of told before after report run script h s ready has is = elim (subst (EndsAs report run h before after) is has.ends) [
+  | inl cut ↦ inr (inl (record { run = run; held = record { held = has.held; read = ready.read }; legal = cut.0 }, cut.1))
+  | inr stuck ↦ inr (inr (inl (stuck_wrote told run script h before after ready has.held stuck)))
+]
+
+-- other ends have no such status
+pub never_usage : (report : Report) (run : Script) (script : Option Script) (h : List Event) (before after : Option (List ℕ)) (s : Status) → HasEnded report run script h before after s → s ≡ status.Usage → ⊥
+never_usage report run script h before after s has is = subst (EndsAs report run h before after) is has.ends
+
+pub never_read : (report : Report) (run : Script) (script : Option Script) (h : List Event) (before after : Option (List ℕ)) (s : Status) → HasEnded report run script h before after s → s ≡ status.ReadFault → ⊥
+never_read report run script h before after s has is = subst (EndsAs report run h before after) is has.ends
+
+pub never_bad : (report : Report) (run : Script) (script : Option Script) (h : List Event) (before after : Option (List ℕ)) (s : Status) (line : ℕ) (kind : ScriptFault) → HasEnded report run script h before after s → s ≡ status.BadScript line kind → ⊥
+never_bad report run script h before after s line kind has is = subst (EndsAs report run h before after) is has.ends
+
+-- a script was read whose header has a line that isn't built
+pub header_stops : (told : Option (List ℕ)) (run : Script) (script : Option Script) (h : List Event) (line : ℕ) → IsReadFrom told run → IsUnbuiltFrom told (Some line) → script ≡ Some run → h ≡ [] → IsStopped told line script h
+header_stops told run script h line read unbuilt held empty = record {
+  run = run;
+  held = record { held = held; read = read };
+  stops = inl (unbuilt, empty);
+  legal = record { later = run.commands.items; run = []; order = sym (append-nil run.commands.items); legal = rw empty (legal_start run.header) };
+}
+
+-- nothing was run, so the text of the run is that of the line
+pub header_text : (h : List Event) (line : ℕ) → h ≡ [] → stopped_text h line ≡ not_built_text line
+header_text h line empty = rw empty refl

@@ -1,11 +1,10 @@
 pub mod Ends
-pub mod Firsts
-pub mod Forms
 pub mod Grants
 pub mod Kepts
 pub mod Refusals
 pub mod Starts
 pub mod Steps
+pub mod Stops
 pub mod Tables
-pub mod Words
+pub mod Asking
 pub mod Writings

@@ -1,23 +1,30 @@
 -- A run begins with nothing, is given the commands one after another, and stays legal as far as it goes.
-use Rattle.std.proofs.Common.{◌≡◌, ℕ, zero, suc, ◌+◌, ◌-◌, ◌<◌, ◌≤◌, inl, inr, List, [], ◌∷◌, ◌++◌, length, drop, take, get_or, reverse, refl, ap, sym, ◌∙◌, subst, arith, slice_get, Some, Option, append_assoc}
+use Rattle.std.proofs.Common.{◌≡◌, ℕ, zero, suc, ◌+◌, ◌-◌, ◌<◌, ◌≤◌, inl, inr, List, [], ◌∷◌, ◌++◌, length, drop, take, get_or, reverse, refl, ap, sym, ◌∙◌, subst, arith, slice_get, None, Some, Option, append_assoc, Bool, true, false, ◌&&◌, nat_le}
+use Rattle.std.specs.Prelude.{IfSome}
 use Rattle.std.specs.Io.KnownBytes.{Appends}
+use Rattle.std.proofs.KnownBytes.{Appends-nil}
+use Rattle.std.proofs.lemmas.List.Elements.{All-get_or}
 use Rattle.std.proofs.lemmas.List.{take-append-drop, get_or-reverse, length-reverse, length-take}
 use Rattle.std.proofs.lemmas.Option.{slice_get_within, get_or_from_slice_get}
 use Rattle.std.proofs.Math.Seq.{take-append_seam}
 use Rattle.vm_model.specs.declared.event.Event.{Event}
 use Rattle.vm_model.specs.declared.event.Event.TheVariants as event
+use Rattle.vm_model.specs.declared.command.Command.{Command}
+use Rattle.vm_model.specs.declared.command.Command.TheVariants as command
 use Rattle.vm_model.specs.declared.command.Numbered.{Numbered}
 use Rattle.vm_model.specs.declared.script.Header.{Header}
 use Rattle.vm_model.specs.declared.script.Script.{Script}
 use Rattle.vm_model.specs.Moments.{before_last_line}
+use Rattle.vm_model.specs.Ranges.{InRange}
 use Rattle.vm_model.specs.Text.{text, line_of}
 use Rattle.vm_model.specs.Legal.{LegalFor, LegalSoFar}
-use Rattle.vm_top.specs.Run.{AllBuilt, IsBuiltScript, IsFull, RanAs, MayStep, WroteButLast}
+use Rattle.vm_top.specs.Run.{IsFull, IsPart, IsRunnable, IsStuck, RanAs, MayStep, WroteButLast, has_frames, is_built, is_next_built, shown, unbuilt_line}
 use Rattle.vm_top.specs.Runner.{Agrees, HasFrames, IsPlain, IsBuilt, Kept, KeepsLegal, event_limit, pages_asked, pages_wanted}
 use Rattle.vm_top.specs.Writing.{oldest, WroteStart}
 use Rattle.vm_top.specs.declared.run.RunEnd.TheVariants as ends
 use Rattle.vm_top.specs.declared.runner.Runner.{Runner}
-use Rattle.vm_top.proofs.Grants.{suffices}
+use Rattle.vm_top.specs.declared.words.Report.{Report}
+use Rattle.vm_top.specs.declared.words.Report.TheVariants as reports
 use Rattle.vm_top.proofs.Writings.{start_all}
 
 -- a run begins with nothing
@@ -44,12 +51,16 @@ agrees_start header runner plain maps pages history = record {
   enough = (plain.frames, plain.hosts, rw pages (omega arith));
 }
 
-pub legal_start : (header : Header) → IsPlain header → LegalFor header [] []
-legal_start header plain = record {
+some_frames : (frames : Option ℕ) → IfSome frames (λ count. 0 ≤ count)
+some_frames None = tt
+some_frames (Some count) = omega arith
+
+pub legal_start : (header : Header) → LegalFor header [] []
+legal_start header = record {
   follows = refl;
   own_bytes = tt;
   flat_bytes = tt;
-  frames = suffices header 0 [] (plain.frames, plain.hosts, omega arith) (omega arith);
+  frames = λ host. some_frames (slice_get (reverse header.frames.items) host);
   prompt = tt;
   prompt_at_end = λ task. refl;
 }
@@ -65,36 +76,49 @@ pub oldest_all : {A : Type 0} (items : List A) (n : ℕ) → length items ≤ n 
 oldest_all items n le = let nothing : length items - n ≡ 0 = omega arith in ap (λ z. drop z items) nothing
 
 -- the commands, one after another
-built_among : (commands : List Numbered) (k : ℕ) (d : Numbered) → AllBuilt commands → k < length commands → IsBuilt (get_or commands k d).command
-built_among [] k d all less = absurd (omega arith)
-built_among (c ∷ commands) zero d all less = all.0
-built_among (c ∷ commands) (suc k) d all less = built_among commands k d all.1 (omega arith)
-
-pub built_at : (script : Script) (i : ℕ) (n : Numbered) → IsBuiltScript script → slice_get (reverse script.commands.items) i ≡ Some n → IsBuilt n.command
-built_at script i n built found =
+pub range_at : (script : Script) (i : ℕ) (n : Numbered) → IsRunnable script → slice_get (reverse script.commands.items) i ≡ Some n → InRange script.header n.command
+range_at script i n runs found =
     let items = script.commands.items in
     let inside = slice_get_within (reverse items) i n found in
     let below : i < length items = omega (arith, length-reverse items) in
     let here : get_or items (length items - 1 - i) n ≡ n = sym (get_or-reverse items i n below) ∙ get_or_from_slice_get (reverse items) i n n found in
-    let P : Numbered → Type 0 = λ z. IsBuilt z.command in
-    subst P here (built_among items (length items - 1 - i) n built.commands (omega arith))
+    let P : Numbered → Type 0 = λ z. InRange script.header z.command in
+    subst P here (All-get_or P items (length items - 1 - i) n (omega arith) runs.ranges)
 
--- what the commands so far ask for is no more than what all ask for
-wanted_behind : (size k : ℕ) (commands : List Numbered) → pages_wanted size (drop k commands) ≤ pages_wanted size commands
-wanted_behind size zero commands = omega arith
-wanted_behind size (suc k) [] = omega arith
-wanted_behind size (suc k) (c ∷ commands) = omega (arith, wanted_behind size k commands)
+-- a command that is built, in a script with one host
+pub built_of : (header : Header) (c : Command) → IsPlain header → InRange header c → is_built c ≡ true → IsBuilt c
+built_of header (command.Task task host) plain range built =
+    let one : length header.frames.items ≡ 1 = ap length plain.hosts in
+    let first : host.0 ≡ 0 = let less = range.1 in omega arith in
+    (range.0, ap (λ n. record { 0 = n }) first)
+built_of header (command.Allocate task address bytes) plain range built = (range.task, range.address, range.bytes)
+built_of header (command.Load task address size) plain range built = (range.task, range.address, range.size)
+built_of header (command.Store task address size value) plain range built = (range.0.task, range.0.address, range.0.size, range.1)
+built_of header other plain range built = absurd (cc)
 
-pub room_at : (script : Script) (i room : ℕ) (n : Numbered) → IsBuiltScript script → oldest (i + 1) script.commands.items ≡ n ∷ oldest i script.commands.items
-    → room ≤ pages_wanted script.header.size (oldest i script.commands.items) → HasFrames script.header (room + pages_asked script.header.size n.command)
-room_at script i room n built next had =
-    let all = wanted_behind script.header.size (length script.commands.items - (i + 1)) script.commands.items in
-    let more : pages_wanted script.header.size (oldest (i + 1) script.commands.items) ≡ pages_asked script.header.size n.command + pages_wanted script.header.size (oldest i script.commands.items) = ap (pages_wanted script.header.size) next in
-    (built.enough.0, built.enough.1, let most = built.enough.2 in omega arith)
+pub has_less : (header : Header) (m n : ℕ) → HasFrames header n → m ≤ n → HasFrames header m
+has_less header m n has less = (has.0, has.1, let most = has.2 in omega arith)
 
-pub room_next : (script : Script) (i before room : ℕ) (n : Numbered) → oldest (i + 1) script.commands.items ≡ n ∷ oldest i script.commands.items
-    → room ≤ before + pages_asked script.header.size n.command → before ≤ pages_wanted script.header.size (oldest i script.commands.items) → room ≤ pages_wanted script.header.size (oldest (i + 1) script.commands.items)
-room_next script i before room n next more had = rw next (omega arith)
+-- the frames of the one host tell what has its frames
+pub frames_tell : (header : Header) (frames count : ℕ) → header.frames.items ≡ frames ∷ [] → has_frames header.frames.items count ≡ nat_le count frames
+frames_tell header frames count hosts = ap (λ z. has_frames z count) hosts
+
+next_test : (header : Header) (n : Numbered) (before : List Numbered) (wanted frames : ℕ)
+    → has_frames header.frames.items wanted ≡ nat_le wanted frames → wanted ≡ pages_wanted header.size (n ∷ before) → is_next_built header n before ≡ (is_built n.command && nat_le wanted frames)
+next_test header n before wanted frames tells all = ap (λ z. is_built n.command && z) (ap (has_frames header.frames.items) (sym all) ∙ tells)
+
+pub next_built : (header : Header) (n : Numbered) (before : List Numbered) (wanted frames : ℕ) → unbuilt_line header before ≡ None
+    → has_frames header.frames.items wanted ≡ nat_le wanted frames → wanted ≡ pages_wanted header.size (n ∷ before) → (is_built n.command && nat_le wanted frames) ≡ true → unbuilt_line header (n ∷ before) ≡ None
+next_built header n before wanted frames none tells all is = rw (none, next_test header n before wanted frames tells all ∙ is) refl
+
+pub next_unbuilt : (header : Header) (n : Numbered) (before : List Numbered) (wanted frames : ℕ) → unbuilt_line header before ≡ None
+    → has_frames header.frames.items wanted ≡ nat_le wanted frames → wanted ≡ pages_wanted header.size (n ∷ before) → (is_built n.command && nat_le wanted frames) ≡ false → unbuilt_line header (n ∷ before) ≡ Some n.line
+next_unbuilt header n before wanted frames none tells all is = rw (none, next_test header n before wanted frames tells all ∙ is) refl
+
+-- with the command at i, the pages that are wanted
+pub wanted_next : (script : Script) (i wanted asked : ℕ) (n : Numbered) → wanted ≡ pages_wanted script.header.size (oldest i script.commands.items) → asked ≡ pages_asked script.header.size n.command
+    → wanted + asked ≡ pages_wanted script.header.size (n ∷ oldest i script.commands.items)
+wanted_next script i wanted asked n so_many more = omega (arith, so_many, more)
 
 -- legal as far as it goes
 abbrev pub so_far : (script : Script) (i : ℕ) (h : List Event) → LegalFor script.header (oldest i script.commands.items) h → LegalSoFar script h
@@ -118,24 +142,68 @@ start_of before after h wrote =
     let front = text_front h in
     (length (text (before_last_line h)), rw (front.1, take-append_seam (text (before_last_line h)) front.0) wrote)
 
--- a run that stops in the turn of the command at i
-pub failed_at : (script : Script) (i : ℕ) (n : Numbered) (old new : List Event) (before after : Option (List ℕ))
-    → oldest (i + 1) script.commands.items ≡ n ∷ oldest i script.commands.items → LegalFor script.header (oldest i script.commands.items) old
-    → KeepsLegal script.header n old new → WroteButLast before after new → RanAs script new ends.Failed before after
-failed_at script i n old new before after next legal keeps wrote = (so_far script (i + 1) new (rw next (keeps (oldest i script.commands.items) legal)), wrote)
+shown_start : (report : Report) (before after : Option (List ℕ)) (old new : List Event) → before_last_line new ≡ old → Appends before after (shown report old) → WroteStart before after (shown report new)
+shown_start reports.History before after old new front wrote = start_of before after new (rw front wrote)
+shown_start reports.Summary before after old new front wrote = start_all before after [] wrote
 
-pub memory_at : (script : Script) (i : ℕ) (n : Numbered) (old new : List Event) (before after : Option (List ℕ))
+-- of no events nothing is shown
+pub shown_none : (written : Option (List ℕ)) (report : Report) → Appends written written (shown report [])
+shown_none written reports.History = Appends-nil written
+shown_none written reports.Summary = Appends-nil written
+
+-- a run that stops in the turn of the command at i
+pub failed_at : (report : Report) (script : Script) (i : ℕ) (n : Numbered) (old new : List Event) (before after : Option (List ℕ))
     → oldest (i + 1) script.commands.items ≡ n ∷ oldest i script.commands.items → LegalFor script.header (oldest i script.commands.items) old
-    → MayStep script.header n old new → Appends before after (text old) → RanAs script new ends.NoMemory before after
-memory_at script i n old new before after next legal may kept = elim may [
-  | inl same ↦ (so_far script i new (rw same legal), rw same (start_all before after (text old) kept))
-  | inr more ↦ (so_far script (i + 1) new (rw next (more.0 (oldest i script.commands.items) legal)), start_of before after new (rw more.1 kept))
+    → KeepsLegal script.header n old new → (report ≡ reports.History) × WroteButLast before after new → RanAs report script new ends.Failed before after
+failed_at report script i n old new before after next legal keeps wrote = (wrote.0, so_far script (i + 1) new (rw next (keeps (oldest i script.commands.items) legal)), wrote.1)
+
+pub memory_at : (report : Report) (script : Script) (i : ℕ) (n : Numbered) (old new : List Event) (before after : Option (List ℕ))
+    → oldest (i + 1) script.commands.items ≡ n ∷ oldest i script.commands.items → LegalFor script.header (oldest i script.commands.items) old
+    → MayStep script.header n old new → Appends before after (shown report old) → RanAs report script new ends.NoMemory before after
+memory_at report script i n old new before after next legal may kept = elim may [
+  | inl same ↦ (so_far script i new (rw same legal), rw same (start_all before after (shown report old) kept))
+  | inr more ↦ (so_far script (i + 1) new (rw next (more.0 (oldest i script.commands.items) legal)), shown_start report before after old new more.1 kept)
 ]
 
+-- the commands that are left behind the one at i
+abbrev later_than : (script : Script) (i : ℕ) → List Numbered
+later_than script i = take (length script.commands.items - (i + 1)) script.commands.items
+
+part_at : (script : Script) (i : ℕ) (n : Numbered) (h : List Event) → oldest (i + 1) script.commands.items ≡ n ∷ oldest i script.commands.items
+    → unbuilt_line script.header (oldest i script.commands.items) ≡ None → LegalFor script.header (oldest i script.commands.items) h
+    → IsPart script (later_than script i ++ n ∷ []) (oldest i script.commands.items) h
+part_at script i n h next built legal =
+    let all = sym (take-append-drop (length script.commands.items - (i + 1)) script.commands.items) in
+    record {
+      order = all ∙ (ap (λ z. later_than script i ++ z) next ∙ sym (append_assoc (later_than script i) (n ∷ []) (oldest i script.commands.items)));
+      built = built;
+      legal = legal;
+    }
+
 -- a run that stops in front of the command at i
-pub full_at : (script : Script) (i : ℕ) (h : List Event) → i < length script.commands.items → event_limit ≤ length h → LegalFor script.header (oldest i script.commands.items) h → IsFull script h
-full_at script i h left full legal = record {
-  cut = so_far script i h legal;
-  left = let n = length-take (length script.commands.items - i) script.commands.items in omega (arith, n);
+pub full_at : (script : Script) (i : ℕ) (n : Numbered) (h : List Event) → oldest (i + 1) script.commands.items ≡ n ∷ oldest i script.commands.items
+    → unbuilt_line script.header (oldest i script.commands.items) ≡ None → LegalFor script.header (oldest i script.commands.items) h
+    → unbuilt_line script.header (n ∷ oldest i script.commands.items) ≡ None → event_limit ≤ length h → IsFull script h
+full_at script i n h next built legal more full = record {
+  later = later_than script i;
+  next = n;
+  run = oldest i script.commands.items;
+  part = part_at script i n h next built legal;
+  built = more;
   full = full;
 }
+
+pub stuck_at : (script : Script) (i : ℕ) (n : Numbered) (h : List Event) → oldest (i + 1) script.commands.items ≡ n ∷ oldest i script.commands.items
+    → unbuilt_line script.header (oldest i script.commands.items) ≡ None → LegalFor script.header (oldest i script.commands.items) h
+    → unbuilt_line script.header (n ∷ oldest i script.commands.items) ≡ Some n.line → IsStuck script n.line h
+stuck_at script i n h next built legal more = record {
+  later = later_than script i;
+  next = n;
+  run = oldest i script.commands.items;
+  part = part_at script i n h next built legal;
+  unbuilt = more;
+}
+
+-- a run that was made of a part is legal as far as it goes
+pub part_legal : (script : Script) (later run : List Numbered) (h : List Event) → IsPart script later run h → LegalSoFar script h
+part_legal script later run h part = record { later = later; run = run; order = part.order; legal = part.legal }

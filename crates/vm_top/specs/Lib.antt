@@ -1,4 +1,4 @@
-pub mod Form
+pub mod Ending
 pub mod Pages
 pub mod Reading
 pub mod Refusing
@@ -6,4 +6,5 @@ pub mod Run
 pub mod Runner
 pub mod Status
 pub mod Top
+pub mod Words
 pub mod Writing

@@ -1,22 +1,20 @@
 -- What the top call promises, status by status.
-use Rattle.std.specs.Prelude.{ℕ, ◌≡◌, ◌⊎◌, List, [], ◌∷◌, ◌++◌, map, codes, Option, Some, None, string_bytes, String}
+use Rattle.std.specs.Prelude.{ℕ, ◌≡◌, ◌⊎◌, List, [], ◌++◌, codes, Option, Some, None, Ok, Err}
 use Rattle.std.specs.Io.KnownBytes.{Appends, Keeps}
-use Rattle.std.specs.declared.alloc.Global.{Global}
 use Rattle.vm_model.specs.declared.event.Event.{Event}
+use Rattle.vm_model.specs.declared.fault.ScriptFault.{ScriptFault}
+use Rattle.vm_model.specs.declared.fault.ScriptFault.TheVariants as fault
 use Rattle.vm_model.specs.declared.script.Script.{Script}
-use Rattle.vm_model.specs.Legal.{Legal, LegalSoFar}
+use Rattle.vm_model.specs.Fault.{number}
+use Rattle.vm_model.specs.Legal.{LegalSoFar}
 use Rattle.vm_model.specs.Text.{text, field}
+use Rattle.vm_text.specs.Script.{script_of, seen}
+use Rattle.vm_text.specs.Unbuilt.{unbuilt_of}
 use Rattle.vm_outside.specs.Arming.{Arming}
-use Rattle.vm_top.specs.Form.{Form, Formed, Unformed, read_form, IsScriptOf}
-use Rattle.vm_top.specs.Run.{IsFull, WroteButLast, RanAs}
-use Rattle.vm_top.specs.declared.run.RunEnd.{RunEnd}
-use Rattle.vm_top.specs.Status.{status_of}
-use Rattle.vm_top.specs.declared.top.Status.{Status}
+use Rattle.vm_top.specs.Run.{IsFull, IsStuck, IsWhole, WroteButLast, report_text}
 use Rattle.vm_top.specs.Writing.{WroteStart}
-
--- the one word is `run`
-abbrev pub IsRun : List (String Global) → Type 0
-IsRun words = map string_bytes words ≡ codes "run" ∷ []
+use Rattle.vm_top.specs.declared.words.Report.{Report}
+use Rattle.vm_top.specs.declared.words.Report.TheVariants.{History, Summary}
 
 abbrev pub usage_text : List ℕ
 usage_text = codes "usage: pagers run | summary | generate NUMBER LINES\n"
@@ -24,74 +22,124 @@ usage_text = codes "usage: pagers run | summary | generate NUMBER LINES\n"
 abbrev pub not_built_text : ℕ → List ℕ
 not_built_text line = codes "notbuilt" ++ field line ++ codes "\n"
 
--- these are the bytes that the source had, where it tells them: their form is this script
-abbrev pub IsReadFrom : Option (List ℕ) → Script → Type 0
-IsReadFrom told script = (bytes : List ℕ) → told ≡ Some bytes → (form : Form) × (read_form bytes ≡ Formed form) × IsScriptOf form script
+abbrev pub fault_name : ScriptFault → List ℕ
+fault_name fault.TooLong = codes "TooLong"
+fault_name fault.UnknownWord = codes "UnknownWord"
+fault_name fault.BadNumber = codes "BadNumber"
+fault_name fault.WrongCount = codes "WrongCount"
+fault_name fault.OutOfRange = codes "OutOfRange"
+fault_name fault.HeaderLate = codes "HeaderLate"
+fault_name fault.NoHosts = codes "NoHosts"
 
--- they are not of the form, from this line on
-abbrev pub IsUnformedFrom : Option (List ℕ) → ℕ → Type 0
-IsUnformedFrom told line = (bytes : List ℕ) → told ≡ Some bytes → read_form bytes ≡ Unformed line
+abbrev pub bad_text : ℕ → ScriptFault → List ℕ
+bad_text line kind = codes "bad" ++ field line ++ field (number kind) ++ codes " " ++ fault_name kind ++ codes "\n"
+
+-- P of the bytes that the source had, where it tells them
+abbrev pub OfBytes : Option (List ℕ) → (List ℕ → Type 0) → Type 0
+OfBytes told P = (bytes : List ℕ) → told ≡ Some bytes → P bytes
+
+-- the source's bytes spell this script
+abbrev pub IsReadFrom : Option (List ℕ) → Script → Type 0
+IsReadFrom told script = OfBytes told (λ bytes. script_of bytes ≡ Ok (seen script))
+
+-- this is their first fault
+abbrev pub IsBadFrom : Option (List ℕ) → ℕ → ScriptFault → Type 0
+IsBadFrom told line kind = OfBytes told (λ bytes. script_of bytes ≡ Err (line, kind))
+
+-- this is the first line of their header that isn't built, if one isn't
+abbrev pub IsUnbuiltFrom : Option (List ℕ) → Option ℕ → Type 0
+IsUnbuiltFrom told line = OfBytes told (λ bytes. unbuilt_of bytes ≡ line)
 
 -- no script was run
 pub record NothingRun (script : Option Script) (history : List Event) : Type 0 where
   pub none : script ≡ None
   pub empty : history ≡ []
 
--- the whole script was run: its history is legal, and its text was written and nothing else
-pub record IsDone (told : Option (List ℕ)) (script : Option Script) (history : List Event) (before after : Option (List ℕ)) : Type 0 where
-  pub run : Script
-  pub held : script ≡ Some run
-  pub read : IsReadFrom told run
-  pub legal : Legal run history
-  pub written : Appends before after (text history)
-
--- the history is full while commands are left: it is legal as far as it goes, and its text was written and nothing else
-pub record IsEventLimit (told : Option (List ℕ)) (script : Option Script) (history : List Event) (before after : Option (List ℕ)) : Type 0 where
-  pub run : Script
-  pub held : script ≡ Some run
-  pub read : IsReadFrom told run
-  pub full : IsFull run history
-  pub written : Appends before after (text history)
-
--- a run that ended early: its history is legal as far as it goes
-pub record IsCut (told : Option (List ℕ)) (script : Option Script) (history : List Event) : Type 0 where
-  pub run : Script
-  pub held : script ≡ Some run
-  pub read : IsReadFrom told run
-  pub legal : LegalSoFar run history
-
--- a first part of the line for a script that isn't of the form
-abbrev pub WroteUnformed : Option (List ℕ) → Option (List ℕ) → Option (List ℕ) → Type 0
-WroteUnformed told before after = (line : ℕ) × IsUnformedFrom told line × WroteStart before after (not_built_text line)
-
--- a write of a run failed: in the text of its last step, or in the line for a script that isn't of the form
-abbrev pub IsOutputFault : (told : Option (List ℕ)) → (script : Option Script) → (history : List Event) → (before after : Option (List ℕ)) → Type 0
-IsOutputFault told script history before after =
-    (IsCut told script history × WroteButLast before after history) ⊎ (NothingRun script history × WroteUnformed told before after)
-
--- memory ended: a first part of the run's text was written, or of the line for a script that isn't of the form, or nothing
-abbrev pub IsNoMemory : (told : Option (List ℕ)) → (script : Option Script) → (history : List Event) → (before after : Option (List ℕ)) → Type 0
-IsNoMemory told script history before after =
-    (IsCut told script history × WroteStart before after (text history))
-    ⊎ (NothingRun script history × (Keeps before after ⊎ WroteUnformed told before after))
-
--- the script isn't of the form, from this line on: nothing was run, and that is what was written
-pub record IsNotBuilt (told : Option (List ℕ)) (line : ℕ) (script : Option Script) (history : List Event) (before after : Option (List ℕ)) : Type 0 where
-  pub nothing : NothingRun script history
-  pub unformed : IsUnformedFrom told line
-  pub written : Appends before after (not_built_text line)
-
 -- nothing was run or written
 pub record NothingDone (script : Option Script) (history : List Event) (before after : Option (List ℕ)) : Type 0 where
   pub nothing : NothingRun script history
   pub written : Keeps before after
 
--- the script was run, and the run ended so
-pub record HasRun (run : Script) (script : Option Script) (history : List Event) (status : Status) (before after : Option (List ℕ)) : Type 0 where
+-- a script was read
+pub record IsHeld (told : Option (List ℕ)) (run : Script) (script : Option Script) : Type 0 where
   pub held : script ≡ Some run
-  pub end : RunEnd
-  pub is : status ≡ status_of end
-  pub ran : RanAs run history end before after
+  pub read : IsReadFrom told run
+
+-- the whole script was run, all of which is built: its history is legal, and its report was written and nothing else
+pub record IsDone (told : Option (List ℕ)) (report : Report) (script : Option Script) (history : List Event) (before after : Option (List ℕ)) : Type 0 where
+  pub run : Script
+  pub held : IsHeld told run script
+  pub header : IsUnbuiltFrom told None
+  pub whole : IsWhole run history
+  pub written : Appends before after (report_text report history)
+
+-- the history is full while a command is left: it is legal as far as it goes, and its report was written and nothing else
+pub record IsEventLimit (told : Option (List ℕ)) (report : Report) (script : Option Script) (history : List Event) (before after : Option (List ℕ)) : Type 0 where
+  pub run : Script
+  pub held : IsHeld told run script
+  pub header : IsUnbuiltFrom told None
+  pub full : IsFull run history
+  pub written : Appends before after (report_text report history)
+
+-- this line isn't built: one of the header, and nothing was run; or that of the first such command, and those in front
+-- of it were run
+abbrev pub Stops : Option (List ℕ) → Script → ℕ → List Event → Type 0
+Stops told run line history = (IsUnbuiltFrom told (Some line) × (history ≡ [])) ⊎ (IsUnbuiltFrom told None × IsStuck run line history)
+
+-- a script was read, and run up to the line that isn't built
+pub record IsStopped (told : Option (List ℕ)) (line : ℕ) (script : Option Script) (history : List Event) : Type 0 where
+  pub run : Script
+  pub held : IsHeld told run script
+  pub stops : Stops told run line history
+  pub legal : LegalSoFar run history
+
+-- the text of what was run, and then the line
+abbrev pub stopped_text : List Event → ℕ → List ℕ
+stopped_text history line = text history ++ not_built_text line
+
+-- the script isn't built from this line on, and that was written behind the text of what was run
+pub record IsNotBuilt (told : Option (List ℕ)) (line : ℕ) (script : Option Script) (history : List Event) (before after : Option (List ℕ)) : Type 0 where
+  pub stopped : IsStopped told line script history
+  pub written : Appends before after (stopped_text history line)
+
+-- the script has a fault: nothing was run, and its first fault was written
+pub record IsBad (told : Option (List ℕ)) (line : ℕ) (kind : ScriptFault) (script : Option Script) (history : List Event) (before after : Option (List ℕ)) : Type 0 where
+  pub nothing : NothingRun script history
+  pub bad : IsBadFrom told line kind
+  pub written : Appends before after (bad_text line kind)
+
+-- a run that ended early: its history is legal as far as it goes
+pub record IsCut (told : Option (List ℕ)) (script : Option Script) (history : List Event) : Type 0 where
+  pub run : Script
+  pub held : IsHeld told run script
+  pub legal : LegalSoFar run history
+
+-- what a write that failed left: of events, all steps but the last whole; of a summary, a first part
+abbrev pub WroteCut : Report → Option (List ℕ) → Option (List ℕ) → List Event → Type 0
+WroteCut History before after history = WroteButLast before after history
+WroteCut Summary before after history = WroteStart before after (report_text Summary history)
+
+-- a first part of what tells the line that isn't built
+abbrev pub WroteStopped : Option (List ℕ) → Option Script → List Event → Option (List ℕ) → Option (List ℕ) → Type 0
+WroteStopped told script history before after = (line : ℕ) × IsStopped told line script history × WroteStart before after (stopped_text history line)
+
+-- a first part of what tells the first fault
+abbrev pub WroteBad : Option (List ℕ) → Option Script → List Event → Option (List ℕ) → Option (List ℕ) → Type 0
+WroteBad told script history before after =
+    NothingRun script history × (line : ℕ) × (kind : ScriptFault) × IsBadFrom told line kind × WroteStart before after (bad_text line kind)
+
+-- a write failed: of the run's report, or of the line that isn't built, or of the script's fault
+abbrev pub IsOutputFault : Option (List ℕ) → Report → Option Script → List Event → Option (List ℕ) → Option (List ℕ) → Type 0
+IsOutputFault told report script history before after =
+    (IsCut told script history × WroteCut report before after history)
+    ⊎ (WroteStopped told script history before after ⊎ WroteBad told script history before after)
+
+-- memory ended: nothing was read, or a first part of one of these was written
+abbrev pub IsNoMemory : Option (List ℕ) → Report → Option Script → List Event → Option (List ℕ) → Option (List ℕ) → Type 0
+IsNoMemory told report script history before after =
+    NothingDone script history before after
+    ⊎ ((IsCut told script history × WroteStart before after (report_text report history))
+    ⊎ (WroteStopped told script history before after ⊎ WroteBad told script history before after))
 
 -- the backing within is as it was, nothing is armed, and no armed call was reached
 pub record IsDisarmed {B : Type 0} (old new : Arming B) : Type 0 where

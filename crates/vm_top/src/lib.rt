@@ -1,14 +1,15 @@
 //! The call that does all that the program does: it reads a script, runs it, and writes its history.
 #![tactic(auto)]
 
-mod form;
 mod pages;
 mod reading;
 mod render;
 mod run;
 mod runner;
+mod summary;
 #[cfg(test)]
 mod tests;
 mod top;
+mod words;
 
 pub use top::{Outcome, Status, pagers_main};

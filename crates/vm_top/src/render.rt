@@ -1,14 +1,18 @@
-// Writes the text of a step.
-ghost use Rattle.std.specs.Prelude.{◌≡◌, ◌++◌, ◌≤◌, ◌<◌, length, codes, IfOk, OnOk, IsErrOf, List, ℕ};
+// Writes what a run tells.
+ghost use Rattle.std.specs.Prelude.{◌≡◌, ◌++◌, ◌≤◌, ◌<◌, length, IfOk, OnOk, IsErrOf, List, ℕ};
 ghost use Rattle.std.specs.Io.KnownBytes.{Appends};
 ghost use Rattle.std.specs.declared.option.Option.{Option};
 ghost use Rattle.vm_model.specs.Text.{text, field};
 ghost use Rattle.vm_outside.specs.Causes.{Rose};
-ghost use Rattle.vm_top.specs.Writing.{oldest, WroteBeyond};
+ghost use Rattle.vm_top.specs.Run.{report_text, shown};
+ghost use Rattle.vm_top.specs.Top.{WroteCut, bad_text, fault_name, not_built_text, stopped_text};
+ghost use Rattle.vm_top.specs.Writing.{oldest, WroteBeyond, WroteStart};
 
+use crate::summary::summary_text;
+use crate::words::Report;
 use std::alloc::Global;
 use vm_base::{NoMemory, WriteStop};
-use vm_model::History;
+use vm_model::{History, ScriptFault};
 use vm_outside::Sink;
 use vm_text::write_event;
 
@@ -49,15 +53,124 @@ pub fn write_step<K: Sink>(
     out.write(&bytes)
 }
 
-/// The line for a script that is not of the form.
-pub fn not_built_text(alloc: Global, line: u32) -> Result<Vec<u8>, NoMemory>
-    ensures { IfOk result (λ bytes. bytes.items ≡ codes "notbuilt" ++ field line ++ codes "\n") }
+fn number_into(bytes: &mut Vec<u8>, number: u32) -> Result<(), NoMemory>
+    ensures { OnOk result (bytes.new.items ≡ bytes.old.items ++ field number) }
 {
     let mut buffer = itoa::Buffer::new();
-    let mut bytes = Vec::new(alloc);
-    bytes.extend_from_slice(b"notbuilt")?;
     bytes.push(b' ')?;
-    bytes.extend_from_slice(buffer.format(line).as_bytes())?;
+    bytes.extend_from_slice(buffer.format(number).as_bytes())?;
+    Ok(())
+}
+
+// The line that tells what isn't built, behind other bytes.
+fn not_built_into(bytes: &mut Vec<u8>, line: u32) -> Result<(), NoMemory>
+    ensures { OnOk result (bytes.new.items ≡ bytes.old.items ++ not_built_text line) }
+{
+    bytes.extend_from_slice(b"notbuilt")?;
+    number_into(bytes, line)?;
+    bytes.push(b'\n')?;
+    Ok(())
+}
+
+/// The line that tells what isn't built.
+pub fn not_built_text(alloc: Global, line: u32) -> Result<Vec<u8>, NoMemory>
+    ensures { IfOk result (λ bytes. bytes.items ≡ not_built_text line) }
+{
+    let mut bytes = Vec::new(alloc);
+    not_built_into(&mut bytes, line)?;
+    Ok(bytes)
+}
+
+fn fault_name(kind: ScriptFault) -> &'static [u8]
+    ensures { result.now ≡ fault_name kind }
+{
+    match kind {
+        ScriptFault::TooLong => b"TooLong",
+        ScriptFault::UnknownWord => b"UnknownWord",
+        ScriptFault::BadNumber => b"BadNumber",
+        ScriptFault::WrongCount => b"WrongCount",
+        ScriptFault::OutOfRange => b"OutOfRange",
+        ScriptFault::HeaderLate => b"HeaderLate",
+        ScriptFault::NoHosts => b"NoHosts",
+    }
+}
+
+/// The line that tells the fault of a script.
+pub fn bad_text(alloc: Global, line: u32, kind: ScriptFault) -> Result<Vec<u8>, NoMemory>
+    ensures { IfOk result (λ bytes. bytes.items ≡ bad_text line kind) }
+{
+    let mut bytes = Vec::new(alloc);
+    bytes.extend_from_slice(b"bad")?;
+    number_into(&mut bytes, line)?;
+    number_into(&mut bytes, kind.number())?;
+    bytes.push(b' ')?;
+    bytes.extend_from_slice(fault_name(kind))?;
     bytes.push(b'\n')?;
     Ok(bytes)
+}
+
+// What stands behind what is shown of a run that stops at a line that isn't built.
+fn stop_text(
+    alloc: Global,
+    report: Report,
+    history: &History,
+    line: u32,
+) -> Result<Vec<u8>, NoMemory>
+    ensures { IfOk result (λ bytes. shown report history.now.items ++ bytes.items ≡ stopped_text history.now.items line) }
+{
+    let from = match report {
+        Report::History => history.len(),
+        Report::Summary => 0,
+    };
+    let mut bytes = step_text(alloc, history, from)?;
+    not_built_into(&mut bytes, line)?;
+    Ok(bytes)
+}
+
+/// Writes what is left to be written of a run that has ended.
+pub fn write_report<K: Sink>(
+    alloc: Global,
+    report: Report,
+    history: &History,
+    out: &mut K,
+) -> Result<(), WriteStop>
+    ensures later { K.faults out.old ≤ K.faults out.new }
+    ensures cause { IsErrOf result WriteStop.Failed → Rose (K.faults out.old) (K.faults out.new) }
+    ensures written { (start : Option (List ℕ)) → Appends start (K.written out.old) (shown report history.now.items)
+        → OnOk result (Appends start (K.written out.new) (report_text report history.now.items)) }
+    ensures failed { (start : Option (List ℕ)) → Appends start (K.written out.old) (shown report history.now.items)
+        → IsErrOf result WriteStop.Failed → WroteCut report start (K.written out.new) history.now.items }
+    ensures memory { (start : Option (List ℕ)) → Appends start (K.written out.old) (shown report history.now.items)
+        → IsErrOf result WriteStop.NoMemory → WroteStart start (K.written out.new) (report_text report history.now.items) }
+{
+    match report {
+        Report::History => Ok(()),
+        Report::Summary => {
+            let Ok(bytes) = summary_text(alloc, history) else {
+                return Err(WriteStop::NoMemory);
+            };
+            out.write(&bytes)
+        }
+    }
+}
+
+/// Writes what is left to be written of a run that stops at a line that isn't built.
+pub fn write_stop<K: Sink>(
+    alloc: Global,
+    report: Report,
+    history: &History,
+    line: u32,
+    out: &mut K,
+) -> Result<(), WriteStop>
+    ensures later { K.faults out.old ≤ K.faults out.new }
+    ensures cause { IsErrOf result WriteStop.Failed → Rose (K.faults out.old) (K.faults out.new) }
+    ensures written { (start : Option (List ℕ)) → Appends start (K.written out.old) (shown report history.now.items)
+        → OnOk result (Appends start (K.written out.new) (stopped_text history.now.items line)) }
+    ensures start { (start : Option (List ℕ)) → Appends start (K.written out.old) (shown report history.now.items)
+        → WroteStart start (K.written out.new) (stopped_text history.now.items line) }
+{
+    let Ok(bytes) = stop_text(alloc, report, history, line) else {
+        return Err(WriteStop::NoMemory);
+    };
+    out.write(&bytes)
 }

@@ -1,27 +1,36 @@
 // The call that does all that the program does.
-ghost use Rattle.std.specs.Prelude.{◌≡◌, ◌⊎◌, ◌↔◌, ◌≤◌, IsTrue, ℕ};
+ghost use Rattle.std.specs.Prelude.{◌≡◌, ◌⊎◌, ◌≤◌, List, None, Some, ℕ};
+ghost use Rattle.std.specs.declared.option.Option.{Option};
 ghost use Rattle.std.specs.Io.KnownBytes.{Appends};
+ghost use Rattle.vm_model.specs.declared.fault.ScriptFault.{ScriptFault};
+ghost use Rattle.vm_model.specs.declared.script.Script.{Script};
 ghost use Rattle.vm_outside.specs.Causes.{Rose};
-ghost use Rattle.vm_top.specs.Top.{IsRun, IsDone, IsEventLimit, NothingRun, IsOutputFault, IsNoMemory, IsNotBuilt, NothingDone, HasRun, IsDisarmed, usage_text, not_built_text};
-ghost use Rattle.vm_top.specs.Run.{IsFirst};
+ghost use Rattle.vm_top.specs.Ending.{EndsAs, HasEnded, Tells, status_after};
+ghost use Rattle.vm_top.specs.Top.{IsBad, IsDone, IsEventLimit, NothingRun, IsOutputFault, IsNoMemory, IsNotBuilt, NothingDone, IsDisarmed, bad_text, not_built_text, usage_text};
+ghost use Rattle.vm_top.specs.Run.{IsRunnable, RanAs};
 ghost use Rattle.vm_top.specs.Runner.{IsBelowLimit};
-ghost use Rattle.vm_top.specs.Writing.{WroteStart};
-ghost use Rattle.vm_top.specs.Status.{number_of, status_of};
+ghost use Rattle.vm_top.specs.Status.{number_of};
+ghost use Rattle.vm_top.specs.Words.{asked_by};
+ghost use Rattle.vm_top.specs.declared.words.Job.TheVariants as jobs;
+ghost use Rattle.vm_top.specs.declared.words.Report.{Report};
 
-use crate::form::{FormStop, read_form};
 use crate::reading::{ReadStop, read_all};
-use crate::render::not_built_text;
-use crate::run::{RunEnd, run_script};
+use crate::render::{bad_text, not_built_text, write_report, write_stop};
+use crate::run::{Ran, RunEnd, run_script};
+use crate::words::{Job, Report, asked};
 use std::alloc::Global;
 use vm_base::WriteStop;
-use vm_model::{History, Script};
+use vm_model::{History, Script, ScriptFault};
 use vm_outside::{Armed, Backing, Sink, Source};
+use vm_text::{ScriptError, read_script, unbuilt_header};
 
 /// How the call ended.
 #[derive(Clone, Copy, Debug, PartialEq, Eq)]
 pub enum Status {
     /// The whole script was run.
     Done,
+    /// The script is outside the grammar: its first line that has a fault, and that line's first fault.
+    BadScript { line: u32, kind: ScriptFault },
     /// The words are no command.
     Usage,
     /// The source failed.
@@ -32,9 +41,9 @@ pub enum Status {
     EventLimit,
     /// No memory was there.
     NoMemory,
-    /// The script isn't of the form that is built: `line` is its first line that isn't, one past
-    /// the last where it ends too early, 20,001 where it goes on behind 20,000 lines, and 0 where
-    /// it has more than 1,048,576 bytes.
+    /// `line` is the first that isn't built: a header line for objects or for more than one host, or a
+    /// command other than `task`, `allocate`, `load` and `store`, or an `allocate` with which the ranges
+    /// up to there have more pages than the host has frames. It is 0 where a script was to be made.
     NotBuilt { line: u32 },
 }
 
@@ -45,6 +54,7 @@ impl Status {
     {
         match self {
             Status::Done => 0,
+            Status::BadScript { .. } => 1,
             Status::Usage => 2,
             Status::ReadFault => 3,
             Status::OutputFault => 4,
@@ -75,79 +85,101 @@ fn ended(alloc: Global, status: Status) -> Outcome
     }
 }
 
-fn is_run(words: &[String]) -> bool
-    ensures { IsTrue result ↔ IsRun words.now }
+// This status, unless the write failed.
+fn status_after(wrote: Result<(), WriteStop>, status: Status) -> Status
+    ensures { result ≡ status_after wrote status }
 {
-    match words {
-        [word] => word.as_str() == "run",
-        _ => false,
-    }
-}
-
-fn usage<K: Sink>(out: &mut K) -> Status
-    ensures status { (result ≡ Status.Usage) ⊎ ((result ≡ Status.OutputFault) ⊎ (result ≡ Status.NoMemory)) }
-    ensures written { result ≡ Status.Usage → Appends (K.written out.old) (K.written out.new) usage_text }
-    ensures start { WroteStart (K.written out.old) (K.written out.new) usage_text }
-    ensures cause { result ≡ Status.OutputFault → Rose (K.faults out.old) (K.faults out.new) }
-    ensures later { K.faults out.old ≤ K.faults out.new }
-{
-    match out.write(b"usage: pagers run | summary | generate NUMBER LINES\n") {
-        Ok(()) => Status::Usage,
+    match wrote {
+        Ok(()) => status,
         Err(WriteStop::Failed) => Status::OutputFault,
         Err(WriteStop::NoMemory) => Status::NoMemory,
     }
 }
 
-fn not_built<K: Sink>(alloc: Global, line: u32, out: &mut K) -> Status
-    ensures status { (result ≡ Status.NotBuilt line) ⊎ ((result ≡ Status.OutputFault) ⊎ (result ≡ Status.NoMemory)) }
-    ensures written { result ≡ Status.NotBuilt line → Appends (K.written out.old) (K.written out.new) (not_built_text line) }
-    ensures start { WroteStart (K.written out.old) (K.written out.new) (not_built_text line) }
+// Writes a text that is told with this status.
+fn tell<K: Sink>(text: &[u8], status: Status, out: &mut K) -> Status
+    requires { ¬ (status ≡ Status.OutputFault) }
+    ensures told { Tells status text.now (K.written out.old) (K.written out.new) result }
     ensures cause { result ≡ Status.OutputFault → Rose (K.faults out.old) (K.faults out.new) }
     ensures later { K.faults out.old ≤ K.faults out.new }
 {
-    let Ok(text) = not_built_text(alloc, line) else {
-        return Status::NoMemory;
-    };
-    match out.write(&text) {
-        Ok(()) => Status::NotBuilt { line },
-        Err(WriteStop::Failed) => Status::OutputFault,
-        Err(WriteStop::NoMemory) => Status::NoMemory,
+    status_after(out.write(text), status)
+}
+
+// Writes the line that tells what isn't built.
+fn tell_not_built<K: Sink>(alloc: Global, line: u32, out: &mut K) -> Status
+    ensures told { Tells (Status.NotBuilt line) (not_built_text line) (K.written out.old) (K.written out.new) result }
+    ensures cause { result ≡ Status.OutputFault → Rose (K.faults out.old) (K.faults out.new) }
+    ensures later { K.faults out.old ≤ K.faults out.new }
+{
+    match not_built_text(alloc, line) {
+        Ok(text) => tell(&text, Status::NotBuilt { line }, out),
+        Err(_) => Status::NoMemory,
     }
 }
 
-fn status_of(end: RunEnd) -> Status
-    ensures { result ≡ status_of end }
+// Writes the line that tells the script's fault.
+fn tell_bad<K: Sink>(alloc: Global, line: u32, kind: ScriptFault, out: &mut K) -> Status
+    ensures told { Tells (Status.BadScript line kind) (bad_text line kind) (K.written out.old) (K.written out.new) result }
+    ensures cause { result ≡ Status.OutputFault → Rose (K.faults out.old) (K.faults out.new) }
+    ensures later { K.faults out.old ≤ K.faults out.new }
 {
-    match end {
-        RunEnd::Done => Status::Done,
+    match bad_text(alloc, line, kind) {
+        Ok(text) => tell(&text, Status::BadScript { line, kind }, out),
+        Err(_) => Status::NoMemory,
+    }
+}
+
+// Writes what is left to be written of a run.
+fn finish<K: Sink>(alloc: Global, report: Report, ran: &Ran, out: &mut K) -> Status
+    ensures ends { (run : Script) → (start : Option (List ℕ)) → RanAs report run ran.now.history.items ran.now.end start (K.written out.old)
+        → EndsAs report run ran.now.history.items start (K.written out.new) result }
+    ensures cause { result ≡ Status.OutputFault → (ran.now.end ≡ RunEnd.Failed) ⊎ Rose (K.faults out.old) (K.faults out.new) }
+    ensures later { K.faults out.old ≤ K.faults out.new }
+{
+    match ran.end {
+        RunEnd::Done => status_after(write_report(alloc, report, &ran.history, out), Status::Done),
+        RunEnd::EventLimit => {
+            status_after(
+                write_report(alloc, report, &ran.history, out),
+                Status::EventLimit,
+            )
+        }
+        RunEnd::NotBuilt { line } => status_after(
+            write_stop(alloc, report, &ran.history, line, out),
+            Status::NotBuilt { line },
+        ),
         RunEnd::Failed => Status::OutputFault,
         RunEnd::NoMemory => Status::NoMemory,
-        RunEnd::EventLimit => Status::EventLimit,
     }
 }
 
-fn run_form<K: Sink>(alloc: Global, script: Script, out: &mut K) -> Outcome
-    requires { IsFirst script }
-    ensures ran { HasRun script result.script result.history.items result.status (K.written out.old) (K.written out.new) }
+// Runs a script.
+fn run_read<K: Sink>(alloc: Global, report: Report, script: Script, out: &mut K) -> Outcome
+    requires { IsRunnable script }
+    ensures ended { HasEnded report script result.script result.history.items (K.written out.old) (K.written out.new) result.status }
     ensures limit { IsBelowLimit result.history.items }
     ensures cause { result.status ≡ Status.OutputFault → Rose (K.faults out.old) (K.faults out.new) }
     ensures later { K.faults out.old ≤ K.faults out.new }
 {
-    let ran = run_script(alloc, &script, out);
+    let ran = run_script(alloc, report, &script, out);
+    let status = finish(alloc, report, &ran, out);
     Outcome {
-        status: status_of(ran.end),
+        status,
         script: Some(script),
         history: ran.history,
     }
 }
 
-fn run<S: Source, K: Sink>(alloc: Global, source: &mut S, out: &mut K) -> Outcome
-    ensures done { result.status ≡ Status.Done → IsDone (S.left source.old) result.script result.history.items (K.written out.old) (K.written out.new) }
+// Reads a script from the source, and runs it.
+fn run<S: Source, K: Sink>(alloc: Global, report: Report, source: &mut S, out: &mut K) -> Outcome
+    ensures done { result.status ≡ Status.Done → IsDone (S.left source.old) report result.script result.history.items (K.written out.old) (K.written out.new) }
+    ensures bad { (line : ℕ) → (kind : ScriptFault) → result.status ≡ Status.BadScript line kind → IsBad (S.left source.old) line kind result.script result.history.items (K.written out.old) (K.written out.new) }
     ensures usage { ¬ (result.status ≡ Status.Usage) }
     ensures read { result.status ≡ Status.ReadFault → NothingDone result.script result.history.items (K.written out.old) (K.written out.new) }
-    ensures output { result.status ≡ Status.OutputFault → IsOutputFault (S.left source.old) result.script result.history.items (K.written out.old) (K.written out.new) }
-    ensures memory { result.status ≡ Status.NoMemory → IsNoMemory (S.left source.old) result.script result.history.items (K.written out.old) (K.written out.new) }
-    ensures full { result.status ≡ Status.EventLimit → IsEventLimit (S.left source.old) result.script result.history.items (K.written out.old) (K.written out.new) }
+    ensures output { result.status ≡ Status.OutputFault → IsOutputFault (S.left source.old) report result.script result.history.items (K.written out.old) (K.written out.new) }
+    ensures memory { result.status ≡ Status.NoMemory → IsNoMemory (S.left source.old) report result.script result.history.items (K.written out.old) (K.written out.new) }
+    ensures full { result.status ≡ Status.EventLimit → IsEventLimit (S.left source.old) report result.script result.history.items (K.written out.old) (K.written out.new) }
     ensures limit { IsBelowLimit result.history.items }
     ensures not_built { (line : ℕ) → result.status ≡ Status.NotBuilt line → IsNotBuilt (S.left source.old) line result.script result.history.items (K.written out.old) (K.written out.new) }
     ensures read_cause { result.status ≡ Status.ReadFault → Rose (S.faults source.old) (S.faults source.new) }
@@ -160,21 +192,34 @@ fn run<S: Source, K: Sink>(alloc: Global, source: &mut S, out: &mut K) -> Outcom
         Err(ReadStop::Failed) => return ended(alloc, Status::ReadFault),
         Err(ReadStop::NoMemory) => return ended(alloc, Status::NoMemory),
     };
-    match read_form(alloc, &bytes) {
-        Ok(script) => run_form(alloc, script, out),
-        Err(FormStop::NotBuilt { line }) => {
-            let status = not_built(alloc, line, out);
-            ended(alloc, status)
+    let script = match read_script(alloc, &bytes) {
+        Ok(script) => script,
+        Err(ScriptError::Bad { line, kind }) => {
+            let status = tell_bad(alloc, line, kind, out);
+            return ended(alloc, status);
         }
-        Err(FormStop::NoMemory) => ended(alloc, Status::NoMemory),
+        Err(ScriptError::NoMemory) => return ended(alloc, Status::NoMemory),
+    };
+    match unbuilt_header(&bytes) {
+        None => run_read(alloc, report, script, out),
+        Some(line) => {
+            let status = tell_not_built(alloc, line, out);
+            Outcome {
+                status,
+                script: Some(script),
+                history: History::new(alloc),
+            }
+        }
     }
 }
 
-/// Does what the words say: `run` reads a script from the source, runs it, and writes its history.
+/// Does what the words say: `run` reads a script from the source, runs it, and writes its history;
+/// `summary` does the same, and writes eleven numbers in its place.
 ///
 /// `words` are without the program's name. The script is read to its end, or to its 1,048,577th
-/// byte, before its first step; the events of each step are written, in one piece, when the step
-/// has ended. No backing is called yet; an arming that stands in one is taken away.
+/// byte, and is a script of the grammar before its first step. Under `run` the events of each step
+/// are written, in one piece, when the step has ended. No backing is called yet; an arming that
+/// stands in one is taken away.
 pub fn pagers_main<S: Source, K: Sink, F: Backing, P: Backing>(
     alloc: Global,
     words: &[String],
@@ -183,30 +228,42 @@ pub fn pagers_main<S: Source, K: Sink, F: Backing, P: Backing>(
     files: &mut Armed<F>,
     paging: &mut Armed<P>,
 ) -> Outcome
-    // The whole script of the source was run: the history is legal for it, and its text was written and nothing else.
-    ensures done { result.status ≡ Status.Done → IsRun words.now × IsDone (S.left script.old) result.script result.history.items (K.written out.old) (K.written out.new) }
+    // The whole script of the source was run: the history is legal for it, and its report was written and nothing else.
+    ensures done { result.status ≡ Status.Done
+        → (report : Report) × (asked_by words.now ≡ Some (jobs.Run report)) × IsDone (S.left script.old) report result.script result.history.items (K.written out.old) (K.written out.new) }
+
+    // The source's bytes are no script: their first fault was written.
+    ensures bad { (line : ℕ) → (kind : ScriptFault) → result.status ≡ Status.BadScript line kind
+        → (report : Report) × (asked_by words.now ≡ Some (jobs.Run report)) × IsBad (S.left script.old) line kind result.script result.history.items (K.written out.old) (K.written out.new) }
 
     // The words are no command, and then nothing else can come of them but a fault of the sink or want of memory.
-    ensures usage { result.status ≡ Status.Usage → (¬ IsRun words.now) × NothingRun result.script result.history.items × Appends (K.written out.old) (K.written out.new) usage_text }
-    ensures no_command { ¬ IsRun words.now → (result.status ≡ Status.Usage) ⊎ ((result.status ≡ Status.OutputFault) ⊎ (result.status ≡ Status.NoMemory)) }
+    ensures usage { result.status ≡ Status.Usage → (asked_by words.now ≡ None) × NothingRun result.script result.history.items × Appends (K.written out.old) (K.written out.new) usage_text }
+    ensures no_command { asked_by words.now ≡ None → NothingRun result.script result.history.items × Tells Status.Usage usage_text (K.written out.old) (K.written out.new) result.status }
+
+    // A script was to be made, which isn't built.
+    ensures generate { (number : ℕ) → (lines : ℕ) → asked_by words.now ≡ Some (jobs.Generate number lines)
+        → NothingRun result.script result.history.items × Tells (Status.NotBuilt 0) (not_built_text 0) (K.written out.old) (K.written out.new) result.status }
 
     // The source failed, or the sink.
-    ensures read { result.status ≡ Status.ReadFault → IsRun words.now × NothingDone result.script result.history.items (K.written out.old) (K.written out.new) }
+    ensures read { result.status ≡ Status.ReadFault
+        → (report : Report) × (asked_by words.now ≡ Some (jobs.Run report)) × NothingDone result.script result.history.items (K.written out.old) (K.written out.new) }
     ensures read_cause { result.status ≡ Status.ReadFault → Rose (S.faults script.old) (S.faults script.new) }
-    ensures output { result.status ≡ Status.OutputFault → IsRun words.now → IsOutputFault (S.left script.old) result.script result.history.items (K.written out.old) (K.written out.new) }
-    ensures output_usage { result.status ≡ Status.OutputFault → ¬ IsRun words.now → NothingRun result.script result.history.items × WroteStart (K.written out.old) (K.written out.new) usage_text }
+    ensures output { result.status ≡ Status.OutputFault → (report : Report) → asked_by words.now ≡ Some (jobs.Run report)
+        → IsOutputFault (S.left script.old) report result.script result.history.items (K.written out.old) (K.written out.new) }
     ensures output_cause { result.status ≡ Status.OutputFault → Rose (K.faults out.old) (K.faults out.new) }
 
     // Memory ended.
-    ensures memory { result.status ≡ Status.NoMemory → IsRun words.now → IsNoMemory (S.left script.old) result.script result.history.items (K.written out.old) (K.written out.new) }
-    ensures memory_usage { result.status ≡ Status.NoMemory → ¬ IsRun words.now → NothingRun result.script result.history.items × WroteStart (K.written out.old) (K.written out.new) usage_text }
+    ensures memory { result.status ≡ Status.NoMemory → (report : Report) → asked_by words.now ≡ Some (jobs.Run report)
+        → IsNoMemory (S.left script.old) report result.script result.history.items (K.written out.old) (K.written out.new) }
 
-    // The history is full while commands are left; and no step of any history began where it was full.
-    ensures full { result.status ≡ Status.EventLimit → IsRun words.now × IsEventLimit (S.left script.old) result.script result.history.items (K.written out.old) (K.written out.new) }
+    // The history is full while a command is left; and no step of any history began where it was full.
+    ensures full { result.status ≡ Status.EventLimit
+        → (report : Report) × (asked_by words.now ≡ Some (jobs.Run report)) × IsEventLimit (S.left script.old) report result.script result.history.items (K.written out.old) (K.written out.new) }
     ensures limit { IsBelowLimit result.history.items }
 
-    // The script isn't of the form that is built, from exactly this line on.
-    ensures not_built { (line : ℕ) → result.status ≡ Status.NotBuilt line → IsRun words.now × IsNotBuilt (S.left script.old) line result.script result.history.items (K.written out.old) (K.written out.new) }
+    // The script isn't built from exactly this line on.
+    ensures not_built { (line : ℕ) → result.status ≡ Status.NotBuilt line → (report : Report) → asked_by words.now ≡ Some (jobs.Run report)
+        → IsNotBuilt (S.left script.old) line result.script result.history.items (K.written out.old) (K.written out.new) }
 
     // Counts of faults never fall; no backing is called, and none is armed afterwards.
     ensures source_later { S.faults script.old ≤ S.faults script.new }
@@ -216,9 +273,14 @@ pub fn pagers_main<S: Source, K: Sink, F: Backing, P: Backing>(
 {
     files.disarm();
     paging.disarm();
-    if is_run(words) {
-        return run(alloc, script, out);
-    }
-    let status = usage(out);
+    let status = match asked(words) {
+        Some(Job::Run(report)) => return run(alloc, report, script, out),
+        Some(Job::Generate { .. }) => tell_not_built(alloc, 0, out),
+        None => tell(
+            b"usage: pagers run | summary | generate NUMBER LINES\n",
+            Status::Usage,
+            out,
+        ),
+    };
     ended(alloc, status)
 }

@@ -1,0 +1,43 @@
+-- How the call ends.
+use Rattle.std.specs.Prelude.{ℕ, ◌≡◌, ◌⊎◌, List, Option, Some, Result, Ok, Err}
+use Rattle.std.specs.Io.KnownBytes.{Appends}
+use Rattle.vm_base.specs.declared.failure.WriteStop.{WriteStop}
+use Rattle.vm_base.specs.declared.failure.WriteStop.TheVariants as stop
+use Rattle.vm_model.specs.declared.event.Event.{Event}
+use Rattle.vm_model.specs.declared.script.Script.{Script}
+use Rattle.vm_model.specs.Legal.{LegalSoFar}
+use Rattle.vm_top.specs.Run.{IsFull, IsStuck, IsWhole, report_text}
+use Rattle.vm_top.specs.Top.{WroteCut, stopped_text}
+use Rattle.vm_top.specs.Writing.{WroteStart}
+use Rattle.vm_top.specs.declared.top.Status.{Status}
+use Rattle.vm_top.specs.declared.top.Status.TheVariants.{Done, OutputFault, EventLimit, NoMemory, NotBuilt}
+use Rattle.vm_top.specs.declared.words.Report.{Report}
+
+-- this status, unless the write failed
+abbrev pub status_after : Result (Unit {0}) WriteStop → Status → Status
+status_after (Ok done) status = status
+status_after (Err stop.Failed) status = OutputFault
+status_after (Err stop.NoMemory) status = NoMemory
+
+-- a text was written, and that is the status; or a first part of it was, and the status tells why
+abbrev pub Tells : Status → List ℕ → Option (List ℕ) → Option (List ℕ) → Status → Type 0
+Tells told text before after status =
+    ((status ≡ told) × Appends before after text) ⊎ (((status ≡ OutputFault) ⊎ (status ≡ NoMemory)) × WroteStart before after text)
+
+-- a run stopped at a line that isn't built, and a first part of what tells that was written
+abbrev pub WroteStuck : Script → List Event → Option (List ℕ) → Option (List ℕ) → Type 0
+WroteStuck run history before after = (line : ℕ) × IsStuck run line history × WroteStart before after (stopped_text history line)
+
+-- a script was run, and that is the status
+abbrev pub EndsAs : Report → Script → List Event → Option (List ℕ) → Option (List ℕ) → Status → Type 0
+EndsAs report run history before after Done = IsWhole run history × Appends before after (report_text report history)
+EndsAs report run history before after EventLimit = IsFull run history × Appends before after (report_text report history)
+EndsAs report run history before after (NotBuilt line) = IsStuck run line history × Appends before after (stopped_text history line)
+EndsAs report run history before after OutputFault = (LegalSoFar run history × WroteCut report before after history) ⊎ WroteStuck run history before after
+EndsAs report run history before after NoMemory = (LegalSoFar run history × WroteStart before after (report_text report history)) ⊎ WroteStuck run history before after
+EndsAs report run history before after other = ⊥
+
+-- the script is held
+pub record HasEnded (report : Report) (run : Script) (script : Option Script) (history : List Event) (before after : Option (List ℕ)) (status : Status) : Type 0 where
+  pub held : script ≡ Some run
+  pub ends : EndsAs report run history before after status
