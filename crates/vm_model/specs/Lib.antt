@@ -24,3 +24,4 @@ pub mod Coherence
 pub mod TaskPlace
 pub mod PagePart
 pub mod Channels
+pub mod Ranges
