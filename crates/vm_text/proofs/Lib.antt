@@ -1,4 +1,5 @@
 mod Counts
+mod Headers
 mod Hexadecimal
 mod Kept
 mod Named

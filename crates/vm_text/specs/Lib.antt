@@ -2,4 +2,5 @@ pub mod Fields
 pub mod Forms
 pub mod Script
 pub mod Stops
+pub mod Unbuilt
 pub mod Words

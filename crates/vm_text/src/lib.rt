@@ -16,12 +16,14 @@ mod numbers;
 mod reader;
 mod say;
 mod terms;
+mod unbuilt;
 mod words;
 
 pub use error::ScriptError;
 pub use events::write_event;
 pub use fields::Line;
 pub use reader::read_script;
+pub use unbuilt::unbuilt_header;
 
 #[cfg(test)]
 mod fault_tests;

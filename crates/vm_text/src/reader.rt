@@ -15,7 +15,8 @@ use std::alloc::Global;
 use std::marker::Model;
 use vm_model::{Commands, Numbered, Script, ScriptFault};
 
-const MOST_BYTES: usize = 1_048_576;
+/// The most bytes of a script.
+pub const MOST_BYTES: usize = 1_048_576;
 
 const MOST_LINES: u32 = 20_000;
 

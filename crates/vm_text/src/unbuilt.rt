@@ -1,0 +1,61 @@
+// The header lines for which nothing is built.
+ghost use Rattle.std.specs.Prelude.{◌≡◌, None, Ok};
+ghost use Rattle.vm_model.specs.declared.script.Script.{Script};
+ghost use Rattle.vm_text.specs.Script.{script_of, seen};
+ghost use Rattle.vm_text.specs.Unbuilt.{are_many, is_unbuilt, unbuilt_of, IsBuilt};
+ghost use Rattle.vm_text.specs.Words.{words_of};
+
+use crate::lookup::header_word;
+use crate::meaning::HeaderWord;
+use crate::numbers::number_of;
+use crate::reader::MOST_BYTES;
+use crate::words::{line_at, word_at};
+
+fn are_many(line: &[u8]) -> bool
+    ensures { result ≡ are_many (words_of line.now) }
+{
+    let Some((hosts, _)) = word_at(line) else {
+        return false;
+    };
+    match number_of(hosts) {
+        Ok(number) => number > 1,
+        Err(_) => false,
+    }
+}
+
+fn is_unbuilt(line: &[u8]) -> bool
+    ensures { result ≡ is_unbuilt (words_of line.now) }
+{
+    let Some((word, rest)) = word_at(line) else {
+        return false;
+    };
+    match header_word(word) {
+        Some(HeaderWord::Hosts) => are_many(rest),
+        Some(HeaderWord::File | HeaderWord::Shared | HeaderWord::Wild) => true,
+        _ => false,
+    }
+}
+
+/// The number of the first header line of a script for which nothing is built: one that declares
+/// an object, or more hosts than one. Lines are counted from 1 on.
+///
+/// It answers `None` where there is no such line, and for more bytes than a script may have.
+pub fn unbuilt_header(bytes: &[u8]) -> Option<u32>
+    ensures exact { result ≡ unbuilt_of bytes.now }
+    // A script that is read has one host and no object then.
+    ensures built { result ≡ None → (script : Script) → script_of bytes.now ≡ Ok (seen script) → IsBuilt script.header }
+{
+    if bytes.len() > MOST_BYTES {
+        return None;
+    }
+    let mut number = 1u32;
+    let mut rest = bytes;
+    while let Some((line, more)) = line_at(rest) {
+        if is_unbuilt(line) {
+            return Some(number);
+        }
+        number += 1;
+        rest = more;
+    }
+    None
+}
