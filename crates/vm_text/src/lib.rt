@@ -22,6 +22,7 @@ mod words;
 pub use error::ScriptError;
 pub use events::write_event;
 pub use fields::Line;
+pub use numbers::{count_in, number_of};
 pub use reader::read_script;
 pub use unbuilt::unbuilt_header;
 

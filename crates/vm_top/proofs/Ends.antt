@@ -1,23 +1,27 @@
 -- What was read is what the source had, and how a run ends tells the status.
-use Rattle.std.proofs.Common.{◌≡◌, ℕ, ◌<◌, ◌≤◌, ◌⊎◌, inl, inr, List, [], ◌++◌, length, true, refl, ap, sym, ◌∙◌, subst, arith, Some, None, Option, Result, Ok, Err, nat_lt, length-append, append-nil}
+use Rattle.std.proofs.Common.{◌≡◌, ℕ, ◌<◌, ◌≤◌, ◌⊎◌, inl, inr, List, [], ◌∷◌, ◌++◌, length, true, refl, ap, sym, ◌∙◌, subst, arith, Some, None, Option, Result, Ok, Err, nat_lt, length-append, append-nil}
 use Rattle.std.specs.Prelude.{IfSome}
-use Rattle.std.specs.Io.KnownBytes.{Consumes, IsAtEnd}
+use Rattle.std.specs.Io.KnownBytes.{Appends, Consumes, IsAtEnd}
 use Rattle.std.proofs.KnownBytes.{Consumes-all}
 use Rattle.std.proofs.lemmas.Bool.Decides.{nat_tests}
 use Rattle.vm_model.specs.declared.event.Event.{Event}
 use Rattle.vm_model.specs.declared.fault.ScriptFault.{ScriptFault}
 use Rattle.vm_model.specs.declared.fault.ScriptFault.TheVariants as fault
 use Rattle.vm_model.specs.declared.script.Script.{Script}
+use Rattle.vm_model.specs.Ranges.{KeepsRanges}
 use Rattle.vm_text.specs.Script.{Whole, script_of, seen}
-use Rattle.vm_text.specs.Unbuilt.{unbuilt_of}
+use Rattle.vm_text.specs.Unbuilt.{IsBuilt, unbuilt_of}
 use Rattle.vm_top.specs.declared.top.Status.{Status}
 use Rattle.vm_top.specs.declared.top.Status.TheVariants as status
 use Rattle.vm_top.specs.declared.words.Report.{Report}
 use Rattle.vm_top.specs.Ending.{EndsAs, HasEnded, Tells, WroteStuck}
 use Rattle.vm_top.specs.Reading.{ReadWhole}
-use Rattle.vm_top.specs.Run.{IsStuck}
+use Rattle.vm_top.specs.Run.{IsRunnable, IsStuck}
+use Rattle.vm_top.specs.Runner.{IsPlain}
 use Rattle.vm_top.specs.Top.{IsReadFrom, IsBadFrom, IsUnbuiltFrom, IsHeld, IsDone, IsEventLimit, IsStopped, IsNotBuilt, IsOutputFault, IsNoMemory, WroteStopped, not_built_text, stopped_text}
+use Rattle.vm_top.specs.Writing.{WroteStart}
 use Rattle.vm_top.proofs.Starts.{legal_start, part_legal}
+use Rattle.vm_top.proofs.Writings.{start_all}
 
 long_bad : (bytes : List ℕ) → 1048576 < length bytes → script_of bytes ≡ Err (0, fault.TooLong)
 long_bad bytes long = let test : nat_lt 1048576 (length bytes) ≡ true = grind (arith, nat_tests) in rw test refl
@@ -65,6 +69,11 @@ unbuilt_from told after bytes script line read spells unbuilt = λ whole is. ap 
 pub record IsReady (told : Option (List ℕ)) (run : Script) : Type 0 where
   pub read : IsReadFrom told run
   pub header : IsUnbuiltFrom told None
+
+pub ready_of : (told after : Option (List ℕ)) (bytes first second : List ℕ) (script : Script) → ReadWhole told after bytes → first ≡ bytes → script_of first ≡ Ok (seen script) → second ≡ bytes → None ≡ unbuilt_of second → IsReady told script
+ready_of told after bytes first second script read one spells two none =
+    let same = ap script_of (sym one) ∙ spells in
+    record { read = read_from told after bytes script read same; header = unbuilt_from told after bytes (seen script) None read same (ap unbuilt_of (sym two) ∙ sym none) }
 
 stuck_stops : (told : Option (List ℕ)) (run : Script) (script : Option Script) (h : List Event) (line : ℕ) → IsReady told run → script ≡ Some run → IsStuck run line h → IsStopped told line script h
 stuck_stops told run script h line ready held stuck = record {
@@ -128,6 +137,34 @@ header_stops told run script h line read unbuilt held empty = record {
   legal = record { later = run.commands.items; run = []; order = sym (append-nil run.commands.items); legal = rw empty (legal_start run.header) };
 }
 
+-- whatever telling a text ends with, a first part of it was written
+pub tells_start : (told status : Status) (text : List ℕ) (before after : Option (List ℕ)) → Tells told text before after status → WroteStart before after text
+tells_start told status text before after (inl wrote) = start_all before after text wrote.1
+tells_start told status text before after (inr wrote) = wrote.1
+
 -- nothing was run, so the text of the run is that of the line
-pub header_text : (h : List Event) (line : ℕ) → h ≡ [] → stopped_text h line ≡ not_built_text line
+header_text : (h : List Event) (line : ℕ) → h ≡ [] → not_built_text line ≡ stopped_text h line
 header_text h line empty = rw empty refl
+
+pub header_not_built : (told : Option (List ℕ)) (script : Option Script) (h : List Event) (line named : ℕ) (before after : Option (List ℕ)) (s : Status)
+    → IsStopped told line script h → h ≡ [] → Tells (status.NotBuilt line) (not_built_text line) before after s → s ≡ status.NotBuilt named → IsNotBuilt told named script h before after
+header_not_built told script h line named before after s stopped empty (inl wrote) is =
+    let same : line ≡ named = cc in
+    subst (λ z. IsNotBuilt told z script h before after) same (record { stopped = stopped; written = subst (Appends before after) (header_text h line empty) wrote.1 })
+header_not_built told script h line named before after s stopped empty (inr (inl failed, wrote)) is = absurd (cc)
+header_not_built told script h line named before after s stopped empty (inr (inr none, wrote)) is = absurd (cc)
+
+pub header_wrote : (told : Option (List ℕ)) (script : Option Script) (h : List Event) (line : ℕ) (before after : Option (List ℕ)) (s : Status)
+    → IsStopped told line script h → h ≡ [] → Tells (status.NotBuilt line) (not_built_text line) before after s → WroteStopped told script h before after
+header_wrote told script h line before after s stopped empty tells =
+    let start = tells_start (status.NotBuilt line) s (not_built_text line) before after tells in
+    (line, stopped, (start.0, rw (← header_text h line empty) start.1))
+
+-- a script that keeps its ranges and has one host and no objects can be run
+pub runnable : (script : Script) → KeepsRanges script → IsBuilt script.header → IsRunnable script
+runnable script keeps built = record { plain = plain_of script.header.frames.items refl; ranges = keeps.commands }
+  where
+    plain_of : (frames : List ℕ) → script.header.frames.items ≡ frames → IsPlain script.header
+    plain_of [] is = absurd (omega (arith, ap length is, built.one_host))
+    plain_of (f ∷ []) is = record { size = keeps.size; frames = f; hosts = is; objects = built.no_object }
+    plain_of (f ∷ g ∷ more) is = absurd (omega (arith, ap length is, built.one_host))

@@ -1,6 +1,7 @@
 // Whole runs, and faults of the outside at each call.
 use crate::{Status, pagers_main};
 use std::alloc::Global;
+use std::process::Abort;
 use std::test::Fail;
 use vm_outside::{Armed, MemSink, MemSource, SureBacking, SureSink, SureSource};
 
@@ -184,8 +185,7 @@ fn words_of(alloc: Global, text: &str) -> Result<Vec<String>, Fail> {
     Ok(words)
 }
 
-fn check_rows(rt: HostRuntime, rows: &[Row]) -> Result<(), Fail> {
-    let alloc = rt.alloc();
+fn check_rows(alloc: Global, rt: &impl Abort, rows: &[Row]) -> Result<(), Fail> {
     for (words, script, status, written) in rows {
         let split = words_of(alloc, words)?;
         let mut source = SureSource::new(script.as_bytes().to_vec(alloc)?);
@@ -210,22 +210,22 @@ fn check_rows(rt: HostRuntime, rows: &[Row]) -> Result<(), Fail> {
 
 #[test]
 fn scripts_run_as_they_should(rt: HostRuntime) -> Result<(), Fail> {
-    check_rows(rt, &RUNS)
+    check_rows(rt.alloc(), &rt, &RUNS)
 }
 
 #[test]
 fn a_fault_of_the_script_is_told(rt: HostRuntime) -> Result<(), Fail> {
-    check_rows(rt, &FAULTS)
+    check_rows(rt.alloc(), &rt, &FAULTS)
 }
 
 #[test]
 fn other_words_are_no_command(rt: HostRuntime) -> Result<(), Fail> {
-    check_rows(rt, &USAGES)
+    check_rows(rt.alloc(), &rt, &USAGES)
 }
 
 #[test]
 fn what_is_not_built_is_told(rt: HostRuntime) -> Result<(), Fail> {
-    check_rows(rt, &NOT_BUILT)
+    check_rows(rt.alloc(), &rt, &NOT_BUILT)
 }
 
 // The status of the smallest script, and what was written, where these calls fail.

@@ -24,6 +24,8 @@ use vm_model::{History, Script, ScriptFault};
 use vm_outside::{Armed, Backing, Sink, Source};
 use vm_text::{ScriptError, read_script, unbuilt_header};
 
+const USAGE: &[u8] = b"usage: pagers run | summary | generate NUMBER LINES\n";
+
 /// How the call ended.
 #[derive(Clone, Copy, Debug, PartialEq, Eq)]
 pub enum Status {
@@ -273,14 +275,15 @@ pub fn pagers_main<S: Source, K: Sink, F: Backing, P: Backing>(
 {
     files.disarm();
     paging.disarm();
-    let status = match asked(words) {
-        Some(Job::Run(report)) => return run(alloc, report, script, out),
-        Some(Job::Generate { .. }) => tell_not_built(alloc, 0, out),
-        None => tell(
-            b"usage: pagers run | summary | generate NUMBER LINES\n",
-            Status::Usage,
-            out,
-        ),
-    };
-    ended(alloc, status)
+    match asked(words) {
+        Some(Job::Run(report)) => run(alloc, report, script, out),
+        Some(Job::Generate { .. }) => {
+            let status = tell_not_built(alloc, 0, out);
+            ended(alloc, status)
+        }
+        None => {
+            let status = tell(USAGE, Status::Usage, out);
+            ended(alloc, status)
+        }
+    }
 }
