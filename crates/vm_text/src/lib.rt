@@ -26,6 +26,8 @@ pub use reader::read_script;
 #[cfg(test)]
 mod fault_tests;
 #[cfg(test)]
+mod hostile_tests;
+#[cfg(test)]
 mod script_tests;
 #[cfg(test)]
 mod tests;
