@@ -74,6 +74,40 @@ const FIRST_LINES: &str = "
 2 wild A x
 0 hosts 1 4/wild aaaaaaaaaaaaaaaaaaaaaaaaaaaaaaaa 4096
 0 hosts 1 4/wild z_9 1
+3 hosts 1 18446744073709551616
+3 hosts +1 4
+3 hosts 1 4x
+5 hosts 18446744073709551615 4
+5 hosts 9 x
+0 hosts 0000000000000000000000001 4
+0 hosts 8 2
+3 page 18446744073709551616
+5 page 1
+5 page 15
+5 page 17
+5 page 4095
+5 page 4097
+0 hosts 1 4/page 32
+0 hosts 1 4/page 64
+0 hosts 1 4/page 128
+0 hosts 1 4/page 256
+0 hosts 1 4/page 512
+0 hosts 1 4/page 1024
+0 hosts 1 4/page 2048
+3 slots 18446744073709551616
+5 slots 18446744073709551615
+2 file _a 4
+2 file 9 4
+3 file a 18446744073709551616
+2 shared _a 4
+3 shared a 18446744073709551616
+2 wild _a 4
+3 wild a 18446744073709551616
+2 Hosts 1 4
+2 host 1 4
+2 hostss 1 4
+2 -
+2 1
 ";
 
 // Behind a line with two hosts.
@@ -87,6 +121,11 @@ const FRAMES_LINES: &str = "
 5 frames 0 4097
 0 frames 1 2
 0 frames 0 4096
+4 frames
+3 frames x 1
+5 frames 2 x
+5 frames 0 0
+0 frames 0 2
 ";
 
 // In front of the line with the hosts.
@@ -111,6 +150,11 @@ const HOSTLESS_LINES: &str = "
 7 clean f 4096 4096 1
 7 fail x x
 7 say 0 w lock 4095 4096 2 1 8 1
+7 frames
+7 task
+7 say
+7 take
+2 frob
 ";
 
 // Header lines behind a command.
@@ -124,6 +168,13 @@ const LATE_LINES: &str = "
 6 wild z 1
 6 page
 6 hosts x
+6 frames
+6 slots
+6 file
+6 shared
+6 wild
+2 frob
+0 task 1 0
 ";
 
 // Header lines behind others.
@@ -137,6 +188,14 @@ const FURTHER_LINES: &str = "
 5 shared w 9000
 0 shared b 1
 0 frames 0 4
+6 hosts
+6 hosts x 4
+6 slots
+5 file f x
+5 shared a 1
+5 wild w 1
+0 wild c 4096
+0 file d 1
 ";
 
 // Commands behind a header with two hosts, a page of 16 bytes and three objects.
@@ -148,6 +207,15 @@ const COMMAND_LINES: &str = "
 5 task 1024 0
 5 task 0 2
 0 task 1023 1
+4 task
+3 task -1 0
+3 task 0x1 0
+3 task 0 18446744073709551616
+5 task 18446744073709551615 0
+5 task 1024 x
+3 task x 9
+0 task 0 0
+0 task 0001023 01
 4 fork 0
 4 fork 0 1 2
 3 fork x 1
@@ -155,11 +223,15 @@ const COMMAND_LINES: &str = "
 5 fork 1024 0
 5 fork 0 1024
 0 fork 1023 1023
+4 fork
+5 fork 1024 x
+0 fork 0 0
 4 exit
 4 exit 0 0
 3 exit x
 5 exit 1024
 0 exit 1023
+0 exit 0
 4 allocate 0 0
 4 allocate 0 0 16 0
 3 allocate x 0 16
@@ -169,6 +241,11 @@ const COMMAND_LINES: &str = "
 5 allocate 0 4294967296 16
 5 allocate 0 0 4294967297
 0 allocate 1023 4294967295 4294967296
+4 allocate
+5 allocate 1024 x x
+3 allocate 0 18446744073709551616 16
+3 allocate 0 0 18446744073709551616
+0 allocate 0 0 0
 4 map 0 0 16 a
 4 map 0 0 16 a 0 0
 3 map x 0 16 a 0
@@ -183,6 +260,10 @@ const COMMAND_LINES: &str = "
 3 map 0 0 16 a x
 5 map 0 0 16 a 4097
 0 map 0 0 16 a 4096
+4 map
+2 map 0 0 0 b x
+0 map 0 0 0 f 0
+0 map 0 0 0 w 0
 4 deallocate 0 0
 4 deallocate 0 0 16 0
 3 deallocate x 0 16
@@ -192,6 +273,8 @@ const COMMAND_LINES: &str = "
 5 deallocate 0 4294967296 16
 5 deallocate 0 0 4294967297
 0 deallocate 1023 4294967295 4294967296
+4 deallocate
+0 deallocate 0 0 0
 4 protect 0 0 16
 4 protect 0 0 16 3 3
 3 protect x 0 16 3
@@ -203,6 +286,10 @@ const COMMAND_LINES: &str = "
 0 protect 1023 4294967295 4294967296 3
 3 protect 0 0 16 x
 5 protect 0 0 16 4
+4 protect
+0 protect 0 0 0 0
+0 protect 0 0 0 1
+0 protect 0 0 0 2
 4 inherit 0 0 16
 4 inherit 0 0 16 2 2
 3 inherit x 0 16 2
@@ -214,6 +301,9 @@ const COMMAND_LINES: &str = "
 0 inherit 1023 4294967295 4294967296 2
 3 inherit 0 0 16 x
 5 inherit 0 0 16 3
+4 inherit
+0 inherit 0 0 0 0
+0 inherit 0 0 0 1
 4 load 0 0
 4 load 0 0 1 1
 3 load x 0 1
@@ -225,6 +315,13 @@ const COMMAND_LINES: &str = "
 5 load 0 0 0
 5 load 0 0 16
 0 load 1023 4294967295 8
+4 load
+3 load 0 0 18446744073709551616
+5 load 0 0 5
+5 load 0 0 9
+0 load 0 0 1
+0 load 0 0 2
+0 load 0 0 4
 4 store 0 0 1
 4 store 0 0 1 1 1
 3 store x 0 1 1
@@ -243,6 +340,12 @@ const COMMAND_LINES: &str = "
 0 store 0 0 4 4294967295
 0 store 0 0 8 18446744073709551615
 5 store 0 0 3 x
+4 store
+3 store 0 0 x x
+5 store 0 0 0 0
+5 store 0 0 1 18446744073709551615
+0 store 0 0 1 0
+0 store 0 0 8 0
 4 copy 0 0 16 0
 4 copy 0 0 16 0 0 0
 3 copy x 0 16 0 0
@@ -257,6 +360,8 @@ const COMMAND_LINES: &str = "
 5 copy 0 0 16 1024 0
 5 copy 0 0 16 0 4294967296
 0 copy 0 0 16 1023 4294967295
+4 copy
+0 copy 0 0 0 0 0
 4 take
 4 take u0.0 u0.0
 2 take z0.0
@@ -275,12 +380,35 @@ const COMMAND_LINES: &str = "
 5 take d0.0.4294967296
 0 take u1.8191
 0 take d1.8191.4294967295
+2 take u
+2 take d
+2 take U0.0
+2 take D0.0.0
+2 take u0..0
+2 take .
+2 take -
+3 take u0.18446744073709551616
+3 take d.0.0
+3 take dx.0.0
+3 take d0.x.0
+3 take d0..
+3 take ux.8192
+5 take u2.x
+5 take d2.0.0
+5 take d0.8192.0
+5 take d0.8192.x
+0 take u0.0
+0 take d0.0.0
+0 take u001.0000
 4 settle
 4 settle 1 1
 3 settle x
 5 settle 1000001
 0 settle 1000000
 0 settle 0
+3 settle 18446744073709551616
+5 settle 18446744073709551615
+0 settle 0001000000
 4 pageout 0
 4 pageout 0 1 1
 3 pageout x 1
@@ -289,6 +417,8 @@ const COMMAND_LINES: &str = "
 5 pageout 0 4097
 0 pageout 1 4096
 0 pageout 0 0
+4 pageout
+5 pageout 2 x
 4 wire 0
 4 wire 0 1 1
 3 wire x 1
@@ -297,6 +427,8 @@ const COMMAND_LINES: &str = "
 5 wire 0 4097
 0 wire 1 4096
 0 wire 0 0
+4 wire
+5 wire 2 x
 4 unwire 0
 4 unwire 0 1 1
 3 unwire x 1
@@ -305,6 +437,8 @@ const COMMAND_LINES: &str = "
 5 unwire 0 4097
 0 unwire 1 4096
 0 unwire 0 0
+4 unwire
+5 unwire 2 x
 4 clean f 0 1
 4 clean f 0 1 0 0
 2 clean g 0 1 0
@@ -315,6 +449,11 @@ const COMMAND_LINES: &str = "
 5 clean f 0 4097 0
 5 clean f 0 1 2
 0 clean f 4096 4096 1
+4 clean
+2 clean F 0 1 0
+2 clean g x x x
+0 clean f 0 0 0
+0 clean a 0 1 1
 4 fail
 4 fail files
 4 fail files 1 1
@@ -325,6 +464,15 @@ const COMMAND_LINES: &str = "
 0 fail files 1000000
 0 fail paging 1
 2 fail x x
+4 fail paging
+4 fail paging 1 1
+2 fail FILES 1
+2 fail wild 0
+3 fail files x
+5 fail files 1000001
+5 fail paging 0
+0 fail files 1
+0 fail paging 1000000
 4 say 0 w
 4 say
 3 say x w ready 0 0
@@ -386,12 +534,56 @@ const COMMAND_LINES: &str = "
 5 say 0 w lock 0 1 0 0 9 0
 5 say 0 w lock 0 1 0 0 0 2
 0 say 0 w lock 4095 4096 2 1 8 1
+4 say 0
+3 say 0x0 w ready 0 0
+2 say 0 W ready 0 0
+2 say 0 w READY 0 0
+2 say 0 w create 1 16
+2 say 0 w request 1 0 1
+2 say 0 w unlock 1 0 3
+2 say 0 w return 1 0 1 0 -
+2 say 0 w completed 1 0 1
+2 say 0 w terminate 1
+2 say 0 w -
+5 say 2 w hello
+5 say 2 b ready x x
+4 say 0 w ready
+5 say 0 w ready 2 x
+0 say 0 w ready 0 0
+4 say 0 w supply
+3 say 0 w supply 0 0 0 0f0
+3 say 0 w supply 0 0 0 0f-
+5 say 0 w supply 4096 x x x
+5 say 0 w supply 0 0 0 000000000000000000000000000000000000
+0 say 0 w supply 0 1 0 00
+0 say 0 w supply 0 2 1 ff
+0 say 0 w unavailable 0
+4 say 0 w error
+5 say 0 w error 4096 x
+0 say 0 w error 4095 0
+4 say 0 w lock
+3 say 0 w lock 0 1 0 0 18446744073709551616 0
+5 say 0 w lock 0 1 0 0 5 0
+5 say 0 w lock 0 1 0 0 6 0
+0 say 0 w lock 0 0 0 0 0 0
+0 say 0 w lock 0 0 1 1 1 1
+0 say 0 w lock 0 0 2 0 2 0
+0 say 0 w lock 0 0 0 0 3 0
+2 frob
+2 Task 0 0
+2 tas 0 0
+2 tasks 0 0
+2 ready 0 0
+2 files 1
+0 #
+0 # task x
+0 #task x
 ";
 
 const HEAD: &str = "hosts 2 4/page 16/slots 1/shared a 4/wild w 4/file f 4/";
 
 // The line and the number of the first fault, or two zeros.
-fn fault_of(alloc: Global, script: &[u8]) -> (u32, u32) {
+pub fn fault_of(alloc: Global, script: &[u8]) -> (u32, u32) {
     match read_script(alloc, script) {
         Ok(_) => (0, 0),
         Err(ScriptError::Bad { line, kind }) => (line, kind.number()),
@@ -445,18 +637,18 @@ fn run_table(
 
 #[test]
 fn each_fault_of_each_line(rt: HostRuntime) -> Result<(), Fail> {
-    assert_eq!(rt; run_table(&rt, rt.alloc(), "", 0, FIRST_LINES)?, 66);
+    assert_eq!(rt; run_table(&rt, rt.alloc(), "", 0, FIRST_LINES)?, 100);
     assert_eq!(rt;
         run_table(&rt, rt.alloc(), "hosts 2 4/", 1, FRAMES_LINES)?,
-        9
+        14
     );
-    assert_eq!(rt; run_table(&rt, rt.alloc(), "", 0, HOSTLESS_LINES)?, 20);
+    assert_eq!(rt; run_table(&rt, rt.alloc(), "", 0, HOSTLESS_LINES)?, 25);
     assert_eq!(rt;
         run_table(&rt, rt.alloc(), "hosts 2 4/task 0 0/", 2, LATE_LINES)?,
-        9
+        16
     );
-    assert_eq!(rt; run_table(&rt, rt.alloc(), HEAD, 6, FURTHER_LINES)?, 9);
-    assert_eq!(rt; run_table(&rt, rt.alloc(), HEAD, 6, COMMAND_LINES)?, 245);
+    assert_eq!(rt; run_table(&rt, rt.alloc(), HEAD, 6, FURTHER_LINES)?, 17);
+    assert_eq!(rt; run_table(&rt, rt.alloc(), HEAD, 6, COMMAND_LINES)?, 378);
     Ok(())
 }
 

@@ -29,6 +29,8 @@ pub use unbuilt::unbuilt_header;
 #[cfg(test)]
 mod fault_tests;
 #[cfg(test)]
+mod hostile_tests;
+#[cfg(test)]
 mod script_tests;
 #[cfg(test)]
 mod tests;
