@@ -3,7 +3,9 @@ pub mod Firsts
 pub mod Forms
 pub mod Grants
 pub mod Kepts
+pub mod Quiet
 pub mod Refusals
+pub mod Rewriting
 pub mod Starts
 pub mod Steps
 pub mod Tables

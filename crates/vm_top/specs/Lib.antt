@@ -1,3 +1,4 @@
+pub mod Changes
 pub mod Form
 pub mod Pages
 pub mod Reading
