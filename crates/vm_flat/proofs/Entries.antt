@@ -15,13 +15,13 @@ use Rattle.vm_base.specs.Entries.{entered, removed, protected, inherited}
 use Rattle.vm_model.specs.declared.event.Event.{Event}
 use Rattle.vm_model.specs.declared.event.Event.TheVariants as event
 use Rattle.vm_model.specs.declared.script.Header.{Header}
-use Rattle.vm_model.specs.Tasks.{host_of}
+use Rattle.vm_model.specs.Tasks.{host_of, entries_of, has_entry}
 use Rattle.vm_flat.specs.Declared.{Outside, is_private}
-use Rattle.vm_flat.specs.Tasks.{is_host, lives_on, entries_of}
-use Rattle.vm_flat.specs.Regions.{next_region, region_of, made_here, in_use, is_kept, has_entry}
+use Rattle.vm_flat.specs.Tasks.{is_host, lives_on}
+use Rattle.vm_flat.specs.Regions.{next_region, region_of, made_here, in_use, is_kept}
 use Rattle.vm_flat.specs.Licences.{Enters}
 use Rattle.vm_flat.proofs.Regions.{if_no}
-use Rattle.vm_flat.proofs.Rows.{AllRows, rows_map, rows_rewritten, rows_entered, rows_known, Parts, Inside, inside_part, page_below}
+use Rattle.vm_model.specs.Rows.{AllRows, rows_map, rows_rewritten, rows_entered, rows_known, Parts, Inside, inside_part, page_below}
 use Rattle.vm_flat.proofs.Held.{kept}
 
 pub record Owned (size : ℕ) (private : ℕ → Bool) (used : ℕ → ℕ → Bool) (pages : ℕ → ℕ) (next : ℕ) (host : ℕ) (row : Entry) : Type 0 where

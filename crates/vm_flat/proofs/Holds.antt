@@ -18,7 +18,7 @@ use Rattle.vm_flat.proofs.Causes as C
 use Rattle.vm_flat.proofs.File.{file_is}
 use Rattle.vm_flat.proofs.Classes.{ground, deeds}
 use Rattle.vm_flat.proofs.Ties.{as_row, as_link, row_is, link_is, spot_is}
-use Rattle.vm_flat.proofs.Rows.{FoundRow, found_row}
+use Rattle.vm_model.specs.Rows.{FoundRow, found_row}
 use Rattle.vm_flat.proofs.Entries.{Entries, OwnedAt, PrivateUsed}
 use Rattle.vm_flat.proofs.Filling.{Filling}
 use Rattle.vm_flat.proofs.Numbers.{NumberedAt, later_alike}

@@ -20,7 +20,6 @@ pub mod Numbers
 pub mod Ports
 pub mod Queues
 pub mod Regions
-pub mod Rows
 pub mod SameChannels
 pub mod Slow
 pub mod SlowRun

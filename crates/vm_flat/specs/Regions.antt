@@ -5,7 +5,8 @@ use Rattle.vm_model.specs.declared.event.Event.{Event}
 use Rattle.vm_model.specs.declared.event.Event.TheVariants as event
 use Rattle.vm_model.specs.declared.script.Header.{Header}
 use Rattle.vm_flat.specs.Declared.{Outside, named, is_file, declared_pages}
-use Rattle.vm_flat.specs.Tasks.{lives_on, tasks, entries_of}
+use Rattle.vm_model.specs.Tasks.{entries_of, has_entry}
+use Rattle.vm_flat.specs.Tasks.{lives_on, tasks}
 use Rattle.vm_flat.specs.Waiting.{waiting, copy_target, fills}
 
 -- the number of the next region: those of the declared objects come first
@@ -86,11 +87,6 @@ abbrev pub backing_of : Header → ℕ → List Event → Backing
 backing_of header object [] = record { backed = false; under = 0; shift = 0 }
 backing_of header object (event.Shadowed region new old ∷ past) = over (object == new.0) (region_of header region.0 past) (backing_of header object past)
 backing_of header object (e ∷ past) = backing_of header object past
-
--- one of the entries is on the region
-abbrev pub has_entry : ℕ → List Entry → Bool
-has_entry region [] = false
-has_entry region (row ∷ rows) = row.region.0 == region || has_entry region rows
 
 -- one of these tasks has an entry on the region, or fills it by a slow copy that waits
 abbrev pub is_held : ℕ → ℕ → List ℕ → List Event → Bool

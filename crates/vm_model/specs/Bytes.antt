@@ -18,11 +18,11 @@ number_in page size address bytes = little_endian (slice_range page (address % s
 -- a store carries the value with which it began, to the place that its address means in a page that its host can write
 abbrev pub OwnBytes : Header → Event → List Event → Type 0
 OwnBytes header (event.Loaded task object page value) past =
-    (address : ℕ) × (bytes : ℕ) × (it : Waits task.0 (Loading address bytes) past)
+    (address : ℕ) × (bytes : ℕ) × (it : Waits header.size task.0 (Loading address bytes) past)
     × CanRead (local header.size it.host (record { object = object.0; page = page.0 }) past)
     × (value ≡ number_in (local header.size it.host (record { object = object.0; page = page.0 }) past).bytes header.size address bytes)
 OwnBytes header (event.Stored task object page at size value) past =
-    (address : ℕ) × (it : Waits task.0 (Storing address size value) past)
+    (address : ℕ) × (it : Waits header.size task.0 (Storing address size value) past)
     × CanWrite (local header.size it.host (record { object = object.0; page = page.0 }) past)
     × (at ≡ address % header.size)
 OwnBytes header other past = Unit {0}
@@ -30,6 +30,6 @@ OwnBytes header other past = Unit {0}
 -- a load answers the number in the flat map's page of its region
 abbrev pub FlatBytes : Header → Event → List Event → Type 0
 FlatBytes header (event.Loaded task object page value) past =
-    (address : ℕ) × (bytes : ℕ) × (it : Waits task.0 (Loading address bytes) past)
+    (address : ℕ) × (bytes : ℕ) × (it : Waits header.size task.0 (Loading address bytes) past)
     × (value ≡ number_in (flat_page header.size it.entry.region.0 (page_at header.size address it.entry) past) header.size address bytes)
 FlatBytes header other past = Unit {0}

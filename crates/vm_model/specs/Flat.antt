@@ -24,5 +24,5 @@ abbrev pub flat_page : ℕ → ℕ → ℕ → List Event → List ℕ
 flat_page size region page [] = []
 flat_page size region page (RegionMade made object pages ∷ past) = if made.0 == region then replicate size 0 else flat_page size region page past
 flat_page size region page (Stored task object at_page at bytes value ∷ past) =
-    stored_by size region page (waiting task.0 past) (entries_of task.0 past) (flat_page size region page past)
+    stored_by size region page (waiting task.0 past) (entries_of size task.0 past) (flat_page size region page past)
 flat_page size region page (event ∷ past) = flat_page size region page past

@@ -1,6 +1,8 @@
 -- What the commands make of a history: a group of events for each. Commands too have the newest first.
-use Rattle.std.specs.Prelude.{ℕ, ◌/◌, ◌≡◌, true, List, [], ◌∷◌, ◌++◌, reverse, Option, Some, None, MatchOption}
+use Rattle.std.specs.Prelude.{ℕ, ◌/◌, ◌≡◌, ◌==◌, true, List, [], ◌∷◌, ◌++◌, reverse, if◌then◌else◌, Option, Some, None, MatchOption}
+use Rattle.vm_base.specs.declared.entry.Entry.{Entry}
 use Rattle.vm_base.specs.declared.ids.Inherit.TheVariants.{Copy}
+use Rattle.vm_base.specs.declared.ids.TaskId.{TaskId}
 use Rattle.vm_model.specs.declared.event.Event.{Event}
 use Rattle.vm_model.specs.declared.event.Event.TheVariants as event
 use Rattle.vm_model.specs.declared.command.Command.{Command}
@@ -8,8 +10,19 @@ use Rattle.vm_model.specs.declared.command.Command.TheVariants as command
 use Rattle.vm_model.specs.declared.command.Numbered.{Numbered}
 use Rattle.vm_model.specs.declared.script.Header.{Header}
 use Rattle.vm_model.specs.Regions.{next_region, next_object}
+use Rattle.vm_model.specs.Tasks.{host_of, entries_of, copies, shared}
 use Rattle.vm_model.specs.Refusal.{refusal}
 use Rattle.vm_model.specs.Licences.{AllLicensed}
+
+-- a task gets these entries
+abbrev pub gets : TaskId → List Entry → List Event
+gets task [] = []
+gets task (row ∷ rows) = event.Entered task row.address row.bytes row.region row.offset row.prot row.inherit ∷ gets task rows
+
+-- a forked task is made on the host of the other, whose entries are these; where some of them are to be copied the fork is never run
+abbrev pub fork_head : TaskId → Option ℕ → List Entry → Option (List Event)
+fork_head child None rows = None
+fork_head child (Some host) rows = if copies rows == 0 then Some (event.TaskMade child (record { 0 = host }) ∷ gets child (shared rows)) else None
 
 -- the head of a command's group behind its line, in the order of writing; a command without one is never run
 abbrev pub head : Header → List Event → Command → Option (List Event)
@@ -20,6 +33,11 @@ head header past (command.Allocate task address bytes) =
     ∷ event.Entered task address bytes (record { 0 = next_region header past }) 0 (record { read = true; write = true }) Copy ∷ [])
 head header past (command.Load task address size) = Some (event.BegunLoad task address size ∷ [])
 head header past (command.Store task address size value) = Some (event.BegunStore task address size value ∷ [])
+head header past (command.Fork task child) = fork_head child (host_of task.0 past) (entries_of header.size task.0 past)
+head header past (command.Exit task) = Some (event.TaskEnded task ∷ [])
+head header past (command.Deallocate task address bytes) = Some (event.Removed task address bytes ∷ [])
+head header past (command.Protect task address bytes prot) = Some (event.Protected task address bytes prot ∷ [])
+head header past (command.Inherit task address bytes inherit) = Some (event.Inherited task address bytes inherit ∷ [])
 head header past other = None
 
 -- the head, and behind it events that have their causes

@@ -18,6 +18,7 @@ pub mod Waiting
 pub mod Words
 pub mod Side
 pub mod Waiters
+pub mod Rows
 pub mod Server
 pub mod PageLicences
 pub mod Coherence

@@ -1,5 +1,5 @@
 -- Why an event stands behind the head of a command: its cause, in the events in front of it.
-use Rattle.std.specs.Prelude.{ℕ, ◌≡◌, ◌%◌, true, List, [], ◌∷◌, ◌++◌, Some, None}
+use Rattle.std.specs.Prelude.{ℕ, ◌≡◌, ◌≤◌, ◌%◌, true, List, [], ◌∷◌, ◌++◌, length, Some, None}
 use Rattle.vm_base.specs.declared.entry.Entry.{Entry}
 use Rattle.vm_base.specs.Entries.{entry_at, page_at}
 use Rattle.vm_model.specs.declared.event.Event.{Event}
@@ -7,19 +7,19 @@ use Rattle.vm_model.specs.declared.event.Event.TheVariants as event
 use Rattle.vm_model.specs.declared.script.Header.{Header}
 use Rattle.vm_model.specs.Tasks.{host_of, entries_of}
 use Rattle.vm_model.specs.Waiting.{Access, Loading, Storing, address_of, waiting}
-use Rattle.vm_model.specs.Chains.{places, walk}
+use Rattle.vm_model.specs.Chains.{IsUnreachable, places, walk}
 use Rattle.vm_model.specs.Local.{Place, local}
 
--- a task waits with an access: its host, and the entry through which the access leads
-pub record Waits (task : ℕ) (access : Access) (past : List Event) : Type 0 where
+-- a task waits with an access: its host, and the entry through which the access leads; for a page size
+pub record Waits (size task : ℕ) (access : Access) (past : List Event) : Type 0 where
   pub host : ℕ
   pub entry : Entry
   pub waits : waiting task past ≡ Some access
   pub lives : host_of task past ≡ Some host
-  pub found : entry_at (address_of access) (entries_of task past) ≡ Some entry
+  pub found : entry_at (address_of access) (entries_of size task past) ≡ Some entry
 
 -- the places of its page, for a page size
-abbrev pub its_places : (size task : ℕ) (access : Access) (past : List Event) → Waits task access past → List Place
+abbrev pub its_places : (size task : ℕ) (access : Access) (past : List Event) → Waits size task access past → List Place
 its_places size task access past it = places it.entry.region.0 (page_at size (address_of access) it.entry) past
 
 -- the top place of these
@@ -31,20 +31,25 @@ IsTop (place ∷ others) top = place ≡ top
 abbrev pub Licensed : Header → Event → List Event → Type 0
 -- zeros come to the top place of a waiting access that finds its page nowhere
 Licensed header (event.Zeroed host object page) past =
-    (task : ℕ) × (access : Access) × (it : Waits task access past)
+    (task : ℕ) × (access : Access) × (it : Waits header.size task access past)
     × (it.host ≡ host.0)
     × IsTop (its_places header.size task access past it) (record { object = object.0; page = page.0 })
     × (walk header.size it.host (its_places header.size task access past it) past ≡ None)
 -- a load ends with the page where its walk found it
 Licensed header (event.Loaded task object page value) past =
-    (address : ℕ) × (bytes : ℕ) × (it : Waits task.0 (Loading address bytes) past)
+    (address : ℕ) × (bytes : ℕ) × (it : Waits header.size task.0 (Loading address bytes) past)
     × (walk header.size it.host (its_places header.size task.0 (Loading address bytes) past it) past ≡ Some (record { object = object.0; page = page.0 }))
 -- a store ends with the page at its top place, which is here: it puts its own value there
 Licensed header (event.Stored task object page at size value) past =
-    (address : ℕ) × (it : Waits task.0 (Storing address size value) past)
+    (address : ℕ) × (it : Waits header.size task.0 (Storing address size value) past)
     × IsTop (its_places header.size task.0 (Storing address size value) past it) (record { object = object.0; page = page.0 })
     × ((local header.size it.host (record { object = object.0; page = page.0 }) past).here ≡ true)
     × (at ≡ address % header.size)
+-- a page of a temporary object goes once no entry leads to the object
+Licensed header (event.Dropped host object page) past =
+    (length header.objects.items ≤ object.0)
+    × IsUnreachable header.size object.0 past
+    × ((local header.size host.0 (record { object = object.0; page = page.0 }) past).here ≡ true)
 Licensed header other past = ⊥
 
 -- each of these events, on top of a past, has its cause

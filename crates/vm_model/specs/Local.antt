@@ -2,7 +2,7 @@
 use Rattle.std.specs.Prelude.{ℕ, ◌≡◌, ◌⊎◌, Bool, true, false, ◌&&◌, List, [], ◌∷◌, replicate, if◌then◌else◌, ◌==◌, Option, Some, None}
 use Rattle.vm_base.specs.Pages.{little_endian_bytes, with_bytes}
 use Rattle.vm_model.specs.declared.event.Event.{Event}
-use Rattle.vm_model.specs.declared.event.Event.TheVariants.{Zeroed, Stored}
+use Rattle.vm_model.specs.declared.event.Event.TheVariants.{Zeroed, Stored, Dropped}
 use Rattle.vm_model.specs.Tasks.{host_of}
 
 -- an object and a page of it
@@ -23,6 +23,8 @@ pub data Effect : Type 0 where
   Zeroes : Effect
   -- bytes are put into the page
   Stores : (at : ℕ) → (bytes : List ℕ) → Effect
+  -- it goes
+  Drops : Effect
   -- it is about something else
   Elsewhere : Effect
 
@@ -39,11 +41,13 @@ abbrev pub effect : ℕ → Place → Event → List Event → Effect
 effect host place (Zeroed at object page) past = if at.0 == host && is_place place object.0 page.0 then Zeroes else Elsewhere
 effect host place (Stored task object page at size value) past =
     if is_on host (host_of task.0 past) && is_place place object.0 page.0 then Stores at (little_endian_bytes size value) else Elsewhere
+effect host place (Dropped at object page) past = if at.0 == host && is_place place object.0 page.0 then Drops else Elsewhere
 effect host place event past = Elsewhere
 
 abbrev pub moved : ℕ → Effect → Local → Local
 moved size Zeroes was = record { here = true; bytes = replicate size 0; lock = 0; dirty = false }
 moved size (Stores at bytes) was = record was { bytes = with_bytes at bytes was.bytes; dirty = true }
+moved size Drops was = record { here = false; bytes = []; lock = 0; dirty = false }
 moved size Elsewhere was = was
 
 -- for a page size

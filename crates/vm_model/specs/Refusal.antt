@@ -1,16 +1,16 @@
 -- Why a command is refused: the first test that holds.
-use Rattle.std.specs.Prelude.{ℕ, ◌+◌, ◌/◌, ◌%◌, Bool, not, ◌||◌, List, length, if◌then◌else◌, ◌==◌, nat_lt, nat_le, is_some, is_none, Option, Some, None}
+use Rattle.std.specs.Prelude.{ℕ, ◌+◌, ◌/◌, ◌%◌, Bool, false, not, ◌&&◌, ◌||◌, List, [], ◌∷◌, length, if◌then◌else◌, ◌==◌, nat_lt, nat_le, is_some, is_none, Option, Some, None}
 use Rattle.vm_base.specs.declared.code.Code.{Code}
 use Rattle.vm_base.specs.declared.code.Code.TheVariants.{NoSuchName, NameTaken, Blocked, InvalidArgument, InvalidAddress, ProtectionFailure, NoSpace, TableFull}
 use Rattle.vm_base.specs.declared.entry.Entry.{Entry}
 use Rattle.vm_base.specs.declared.ids.Access.{Access}
 use Rattle.vm_base.specs.declared.ids.Access.TheVariants as need
-use Rattle.vm_base.specs.Entries.{allows, entry_at, is_range, meets_range, most_entries}
+use Rattle.vm_base.specs.Entries.{allows, entry_at, inherited, is_mapped, is_range, meets_range, most_entries, protected, removed}
 use Rattle.vm_model.specs.declared.event.Event.{Event}
 use Rattle.vm_model.specs.declared.command.Command.{Command}
 use Rattle.vm_model.specs.declared.command.Command.TheVariants as command
 use Rattle.vm_model.specs.declared.script.Header.{Header}
-use Rattle.vm_model.specs.Tasks.{host_of, entries_of}
+use Rattle.vm_model.specs.Tasks.{host_of, entries_of, is_copied, copies, sources}
 use Rattle.vm_model.specs.Waiting.{waiting}
 use Rattle.vm_model.specs.Regions.{next_region, next_object}
 
@@ -24,7 +24,20 @@ acting past task later = where_true (is_none (host_of task past)) NoSuchName (wh
 
 -- one entry, region and object more is too much
 abbrev pub is_full : Header → ℕ → List Event → Bool
-is_full header task past = nat_lt most_entries (length (entries_of task past) + 1) || (nat_le 8192 (next_region header past) || nat_le 8192 (next_object header past))
+is_full header task past = nat_lt most_entries (length (entries_of header.size task past) + 1) || (nat_le 8192 (next_region header past) || nat_le 8192 (next_object header past))
+
+-- more entries than a task may have
+abbrev pub are_many : List Entry → Bool
+are_many rows = nat_lt most_entries (length rows)
+
+-- so many regions and marks of regions more, by a fork, are too much; no region was marked before
+abbrev pub is_fork_full : Header → List Entry → List Event → Bool
+is_fork_full header rows past = nat_lt 8192 (next_region header past + copies rows) || nat_lt 8192 (next_object header past + copies rows + sources rows)
+
+-- an entry on a declared object, of which there are so many, has an address of the range
+abbrev pub meets_declared : ℕ → ℕ → ℕ → List Entry → Bool
+meets_declared count address bytes [] = false
+meets_declared count address bytes (row ∷ rows) = (nat_lt row.region.0 count && meets_range address bytes (row ∷ [])) || meets_declared count address bytes rows
 
 -- the entry of an address must be there, and allow the access
 abbrev pub access_refusal : Access → Option Entry → Option Code
@@ -36,14 +49,34 @@ refusal header past (command.Task task host) = where_true (is_some (host_of task
 refusal header past (command.Allocate task address bytes) =
     acting past task.0
     (where_true (not (is_range header.size address bytes) || nat_lt 4096 (bytes / header.size)) InvalidArgument
-    (where_true (meets_range address bytes (entries_of task.0 past)) NoSpace
+    (where_true (meets_range address bytes (entries_of header.size task.0 past)) NoSpace
     (where_true (is_full header task.0 past) TableFull None)))
 refusal header past (command.Load task address size) =
     acting past task.0
     (where_true (not (address % size == 0)) InvalidArgument
-    (access_refusal need.Load (entry_at address (entries_of task.0 past))))
+    (access_refusal need.Load (entry_at address (entries_of header.size task.0 past))))
 refusal header past (command.Store task address size value) =
     acting past task.0
     (where_true (not (address % size == 0)) InvalidArgument
-    (access_refusal need.Store (entry_at address (entries_of task.0 past))))
+    (access_refusal need.Store (entry_at address (entries_of header.size task.0 past))))
+refusal header past (command.Fork task child) =
+    where_true (is_none (host_of task.0 past)) NoSuchName
+    (where_true (is_some (host_of child.0 past)) NameTaken
+    (where_true (is_some (waiting task.0 past)) Blocked
+    (where_true (is_fork_full header (entries_of header.size task.0 past) past) TableFull None)))
+refusal header past (command.Exit task) = acting past task.0 None
+refusal header past (command.Deallocate task address bytes) =
+    acting past task.0
+    (where_true (not (is_range header.size address bytes)) InvalidArgument
+    (where_true (are_many (removed header.size address bytes (entries_of header.size task.0 past))) TableFull None))
+refusal header past (command.Protect task address bytes prot) =
+    acting past task.0
+    (where_true (not (is_range header.size address bytes)) InvalidArgument
+    (where_true (not (is_mapped header.size address bytes (entries_of header.size task.0 past))) InvalidAddress
+    (where_true (are_many (protected header.size address bytes prot (entries_of header.size task.0 past))) TableFull None)))
+refusal header past (command.Inherit task address bytes inherit) =
+    acting past task.0
+    (where_true (not (is_range header.size address bytes) || (is_copied inherit && meets_declared (length header.objects.items) address bytes (entries_of header.size task.0 past))) InvalidArgument
+    (where_true (not (is_mapped header.size address bytes (entries_of header.size task.0 past))) InvalidAddress
+    (where_true (are_many (inherited header.size address bytes inherit (entries_of header.size task.0 past))) TableFull None)))
 refusal header past other = None

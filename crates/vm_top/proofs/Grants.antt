@@ -25,7 +25,7 @@ use Rattle.vm_model.specs.Waiting.{Access, Loading, Storing, address_of, waiting
 use Rattle.vm_maps.specs.Maps.{Mapped, entries_in, rows_in}
 use Rattle.vm_top.specs.Pages.{Table, held, pages_of, put_in, room_all}
 use Rattle.vm_top.specs.Runner.{HasFrames, IsShown, Kept, KeepsLegal, host_for, or_zeros, place_of, the_host, whole_entry}
-use Rattle.vm_top.proofs.Kepts.{kept_zeroed}
+use Rattle.vm_top.proofs.Kepts.{found_used, kept_zeroed}
 use Rattle.vm_top.proofs.Tables.{all_le, held_put, room_put}
 
 pub moment_now : (P : List Event → Type 0) (h : List Event) → EachMoment P h → P h
@@ -113,13 +113,13 @@ pub record Leads (header : Header) (maps : Mapped) (table : Table) (task address
   pub region : entry.region.0 < length table
   pub page : page_at header.size address entry < pages_of table entry.region.0
 
-abbrev it_waits : (task : ℕ) (access : Access) (past : List Event) (entry : Entry) → waiting task past ≡ Some access → host_of task past ≡ Some 0 → entry_at (address_of access) (entries_of task past) ≡ Some entry → Waits task access past
-it_waits task access past entry waits lives found = record { host = 0; entry = entry; waits = waits; lives = lives; found = found }
+abbrev it_waits : (size task : ℕ) (access : Access) (past : List Event) (entry : Entry) → waiting task past ≡ Some access → host_of task past ≡ Some 0 → entry_at (address_of access) (entries_of size task past) ≡ Some entry → Waits size task access past
+it_waits size task access past entry waits lives found = record { host = 0; entry = entry; waits = waits; lives = lives; found = found }
 
 home : (header : Header) (maps : Mapped) (table : Table) (h : List Event) (task address : ℕ) (entry : Entry) → Kept header maps table h → Leads header maps table task address entry → host_of task h ≡ Some 0
 home header maps table h task address entry k leads = k.hosts task ∙ ap host_for leads.lives
 
-through : (header : Header) (maps : Mapped) (table : Table) (h : List Event) (task address : ℕ) (entry : Entry) → Kept header maps table h → Leads header maps table task address entry → entry_at address (entries_of task h) ≡ Some entry
+through : (header : Header) (maps : Mapped) (table : Table) (h : List Event) (task address : ℕ) (entry : Entry) → Kept header maps table h → Leads header maps table task address entry → entry_at address (entries_of header.size task h) ≡ Some entry
 through header maps table h task address entry k leads = ap (entry_at address) (k.rows task) ∙ leads.found
 
 -- where the walk ends
@@ -151,8 +151,8 @@ legal_hit header maps table task address n line entry bytes h k leads here fine 
     let number : Event = event.Loaded task (record { 0 = r }) (record { 0 = p }) (number_in bytes header.size address n) in
     let now = moment_now (FramesSuffice header) h legal.frames in
     let shown : IsShown (local header.size 0 (place_of r p) h) (Some bytes) = subst (IsShown (local header.size 0 (place_of r p) h)) here (k.pages r p) in
-    let flat : flat_page header.size r p h ≡ bytes = k.flat r p leads.region ∙ ap (or_zeros header.size) here in
-    let it = it_waits task.0 (Loading address n) past entry (begun_waits task.0 (Loading address n) (waiting task.0 h)) (home header maps table h task.0 address entry k leads) (through header maps table h task.0 address entry k leads) in
+    let flat : flat_page header.size r p h ≡ bytes = k.flat r p leads.region (found_used maps task.0 address entry leads.found) ∙ ap (or_zeros header.size) here in
+    let it = it_waits header.size task.0 (Loading address n) past entry (begun_waits task.0 (Loading address n) (waiting task.0 h)) (home header maps table h task.0 address entry k leads) (through header maps table h task.0 address entry k leads) in
     record {
       follows = (h, number ∷ event.BegunLoad task address n ∷ [], refl, rw fine (number ∷ [], refl, ((address, n, it, walk_found header.size r p past (k.tops r leads.region) shown.0), tt)), legal.follows);
       own_bytes = ((address, n, it, record { here = shown.0; unlocked = inl shown.2 }, ap (λ z. number_in z header.size address n) (sym shown.1)), (tt, (tt, legal.own_bytes)));
@@ -181,15 +181,15 @@ legal_miss header maps table task address n line entry h k has leads absent fine
     let k2 = kept_zeroed header maps table past r p k leads.region leads.page absent in
     let here = held_put table r p (Some zeros) leads.region leads.page in
     let shown : IsShown (local header.size 0 (place_of r p) (zeroed ∷ past)) (Some zeros) = subst (IsShown (local header.size 0 (place_of r p) (zeroed ∷ past))) here (k2.pages r p) in
-    let flat : flat_page header.size r p h ≡ zeros = k.flat r p leads.region ∙ ap (or_zeros header.size) absent in
+    let flat : flat_page header.size r p h ≡ zeros = k.flat r p leads.region (found_used maps task.0 address entry leads.found) ∙ ap (or_zeros header.size) absent in
     let used = k2.used in
     let least = all_le (put_in table r p (Some zeros)) in
     let room = room_put table r p (Some zeros) in
     let more = suffices header (room_all table) (zeroed ∷ past) has (omega arith) in
     let lives = home header maps table h task.0 address entry k leads in
     let found = through header maps table h task.0 address entry k leads in
-    let it = it_waits task.0 (Loading address n) past entry (begun_waits task.0 (Loading address n) (waiting task.0 h)) lives found in
-    let after = it_waits task.0 (Loading address n) (zeroed ∷ past) entry (begun_waits task.0 (Loading address n) (waiting task.0 h)) lives found in
+    let it = it_waits header.size task.0 (Loading address n) past entry (begun_waits task.0 (Loading address n) (waiting task.0 h)) lives found in
+    let after = it_waits header.size task.0 (Loading address n) (zeroed ∷ past) entry (begun_waits task.0 (Loading address n) (waiting task.0 h)) lives found in
     record {
       follows = (
         h,
@@ -227,7 +227,7 @@ legal_store header maps table task address n value line entry bytes h k leads he
     let last : Event = stored header task address n value entry in
     let now = moment_now (FramesSuffice header) h legal.frames in
     let shown : IsShown (local header.size 0 (place_of r p) h) (Some bytes) = subst (IsShown (local header.size 0 (place_of r p) h)) here (k.pages r p) in
-    let it = it_waits task.0 (Storing address n value) past entry (begun_waits task.0 (Storing address n value) (waiting task.0 h)) (home header maps table h task.0 address entry k leads) (through header maps table h task.0 address entry k leads) in
+    let it = it_waits header.size task.0 (Storing address n value) past entry (begun_waits task.0 (Storing address n value) (waiting task.0 h)) (home header maps table h task.0 address entry k leads) (through header maps table h task.0 address entry k leads) in
     record {
       follows = (h, last ∷ event.BegunStore task address n value ∷ [], refl, rw fine (last ∷ [], refl, ((address, it, is_top r p past (k.tops r leads.region), shown.0, refl), tt)), legal.follows);
       own_bytes = ((address, it, record { here = shown.0; unlocked = shown.2 }, refl), (tt, (tt, legal.own_bytes)));
@@ -261,8 +261,8 @@ legal_store_miss header maps table task address n value line entry h k has leads
     let more = suffices header (room_all table) (zeroed ∷ past) has (omega arith) in
     let lives = home header maps table h task.0 address entry k leads in
     let found = through header maps table h task.0 address entry k leads in
-    let it = it_waits task.0 (Storing address n value) past entry (begun_waits task.0 (Storing address n value) (waiting task.0 h)) lives found in
-    let after = it_waits task.0 (Storing address n value) (zeroed ∷ past) entry (begun_waits task.0 (Storing address n value) (waiting task.0 h)) lives found in
+    let it = it_waits header.size task.0 (Storing address n value) past entry (begun_waits task.0 (Storing address n value) (waiting task.0 h)) lives found in
+    let after = it_waits header.size task.0 (Storing address n value) (zeroed ∷ past) entry (begun_waits task.0 (Storing address n value) (waiting task.0 h)) lives found in
     record {
       follows = (
         h,

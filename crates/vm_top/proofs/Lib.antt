@@ -1,7 +1,9 @@
 pub mod Ends
 pub mod Grants
 pub mod Kepts
+pub mod Quiet
 pub mod Refusals
+pub mod Rewriting
 pub mod Starts
 pub mod Steps
 pub mod Stops

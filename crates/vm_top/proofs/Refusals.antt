@@ -1,7 +1,6 @@
 -- The runner's refusals are those of its history.
-use Rattle.std.proofs.Common.{◌≡◌, nat_le, nat_lt, ℕ, ◌+◌, ◌-◌, ◌*◌, ◌/◌, ◌%◌, ◌<◌, ◌≤◌, ◌==◌, ◌&&◌, ◌||◌, Bool, true, false, not, List, [], ◌∷◌, length, refl, sym, ◌∙◌, subst, arith, Some, None, Option}
+use Rattle.std.proofs.Common.{◌≡◌, nat_le, nat_lt, ℕ, ◌+◌, ◌/◌, ◌%◌, ◌<◌, ◌≤◌, ◌==◌, ◌||◌, Bool, true, false, not, List, [], length, refl, sym, ◌∙◌, subst, arith, Some, None, Option}
 use Rattle.std.proofs.lemmas.Bool.Decides.{nat_tests}
-use Rattle.std.proofs.Math.Nat.{div-lt_iff_lt-mul}
 use Rattle.std.specs.Prelude.{is_none, is_some, if◌then◌else◌, unwrap_or, Ok, Err}
 use Rattle.vm_base.specs.declared.code.Code.{Code}
 use Rattle.vm_base.specs.declared.code.Code.TheVariants as code
@@ -9,17 +8,17 @@ use Rattle.vm_base.specs.declared.entry.Entry.{Entry}
 use Rattle.vm_base.specs.declared.ids.Access.{Access}
 use Rattle.vm_base.specs.declared.ids.HostId.{HostId}
 use Rattle.vm_base.specs.declared.ids.TaskId.{TaskId}
-use Rattle.vm_base.specs.Entries.{allows, entry_at, is_range, meets_range, most_entries, page_at}
+use Rattle.vm_base.specs.Entries.{allows, entry_at, is_range, meets_range, most_entries}
 use Rattle.vm_model.specs.declared.command.Command.TheVariants as command
 use Rattle.vm_model.specs.declared.script.Header.{Header}
 use Rattle.vm_model.specs.Refusal.{access_refusal, refusal, where_true}
+use Rattle.vm_model.specs.Rows.{found_row}
 use Rattle.vm_maps.specs.declared.change.MapChange.{MapChange}
 use Rattle.vm_maps.specs.declared.change.MapKind.TheVariants as kind
 use Rattle.vm_maps.specs.Judge.{judged, looked_up, looked_up_in, place_at}
 use Rattle.vm_maps.specs.Maps.{entries_in, rows_in}
-use Rattle.vm_top.specs.Pages.{Table, pages_of}
 use Rattle.vm_top.specs.Refusing.{FoundAs, access_code, range_code}
-use Rattle.vm_top.specs.Runner.{Agrees, AllInside, IsInside, host_for}
+use Rattle.vm_top.specs.Runner.{Agrees, IsInside, host_for}
 use Rattle.vm_top.specs.declared.runner.Runner.{Runner}
 
 some_host : (o : Option (List Entry)) → is_some (host_for o) ≡ is_some o
@@ -106,46 +105,18 @@ access_cases None odd later = refl
 access_cases (Some rows) odd later = refl
 
 pub access_is : (header : Header) (runner : Runner) (task address bytes : ℕ) (what : Access) → Agrees header runner
-    → access_code runner.history.items task address bytes what
+    → access_code header.size runner.history.items task address bytes what
     ≡ (if is_some (entries_in task runner.maps) then where_true (not (address % bytes == 0)) code.InvalidArgument (access_refusal what (entry_at address (rows_in task runner.maps))) else Some code.NoSuchName)
 access_is header runner task address bytes what a =
     rw (a.kept.hosts task, a.none task, a.kept.rows task) (access_cases (entries_in task runner.maps) (not (address % bytes == 0)) (λ o. access_refusal what (entry_at address (unwrap_or o []))))
 
--- an entry that is found lies within its region, and holds the address
-pub record Found (size : ℕ) (table : Table) (address : ℕ) (entry : Entry) : Type 0 where
-  pub inside : IsInside size table entry
-  pub low : entry.address ≤ address
-  pub high : address < entry.address + entry.bytes
-
-found_first : (size : ℕ) (table : Table) (address : ℕ) (entry row : Entry) (later : Option Entry) (b : Bool) → IsInside size table row → (nat_le row.address address && nat_lt address (row.address + row.bytes)) ≡ b
-    → (if b then Some row else later) ≡ Some entry → (later ≡ Some entry → Found size table address entry) → Found size table address entry
-found_first size table address entry row later true inside test is others =
-    let same : row ≡ entry = cc in
-    subst (Found size table address) same (record { inside = inside; low = grind (arith, nat_tests); high = grind (arith, nat_tests) })
-found_first size table address entry row later false inside test is others = others is
-
-pub found_inside : (size : ℕ) (table : Table) (address : ℕ) (entry : Entry) (rows : List Entry) → AllInside size table rows → entry_at address rows ≡ Some entry → Found size table address entry
-found_inside size table address entry [] all found = absurd (let bad : None ≡ Some entry = found in cc)
-found_inside size table address entry (row ∷ rows) all found =
-    found_first size table address entry row (entry_at address rows) (nat_le row.address address && nat_lt address (row.address + row.bytes)) all.0 refl found (λ later. found_inside size table address entry rows all.1 later)
-
-pub page_within : (size : ℕ) (table : Table) (address : ℕ) (entry : Entry) → 0 < size → Found size table address entry → page_at size address entry < pages_of table entry.region.0
-page_within size table address entry positive found =
-    let whole = found.inside.whole.bytes in
-    let within = found.inside.within in
-    let low = found.low in
-    let high = found.high in
-    let count : entry.bytes ≡ entry.bytes / size * size = grind arith in
-    let less : (address - entry.address) / size < entry.bytes / size = (div-lt_iff_lt-mul positive).1 (omega arith) in
-    omega arith
-
 -- where an access leads, once it has passed the tests in front
-pub found_as : (header : Header) (runner : Runner) (task address bytes : ℕ) (what : Access) → 0 < header.size → Agrees header runner → is_some (entries_in task runner.maps) ≡ true → address % bytes ≡ 0
+pub found_as : (header : Header) (runner : Runner) (task address bytes : ℕ) (what : Access) → Agrees header runner → is_some (entries_in task runner.maps) ≡ true → address % bytes ≡ 0
     → FoundAs header.size runner task address bytes what (looked_up runner.maps.size address what (rows_in task runner.maps))
-found_as header runner task address bytes what positive a some even =
+found_as header runner task address bytes what a some even =
     subst (λ (z : ℕ). FoundAs header.size runner task address bytes what (looked_up z address what (rows_in task runner.maps))) (sym a.kept.size) (go (entry_at address (rows_in task runner.maps)) refl)
   where
-    told : access_code runner.history.items task address bytes what ≡ access_refusal what (entry_at address (rows_in task runner.maps))
+    told : access_code header.size runner.history.items task address bytes what ≡ access_refusal what (entry_at address (rows_in task runner.maps))
     told = let zero_rest : (address % bytes == 0) ≡ true = grind (arith, nat_tests) in access_is header runner task address bytes what a ∙ rw (some, zero_rest) refl
 
     lives : (o : Option (List Entry)) → is_some o ≡ true → o ≡ Some (unwrap_or o [])
@@ -155,7 +126,7 @@ found_as header runner task address bytes what positive a some even =
     allowed : (entry : Entry) (b : Bool) → entry_at address (rows_in task runner.maps) ≡ Some entry → allows what entry.prot ≡ b
         → FoundAs header.size runner task address bytes what (if b then Ok (place_at header.size address entry) else Err code.ProtectionFailure)
     allowed entry true found may =
-        let here = found_inside header.size runner.pages address entry (rows_in task runner.maps) (a.kept.inside task) found in (
+        let here = found_row (IsInside header.size runner.pages) address (rows_in task runner.maps) entry (a.kept.inside task) found in (
           told ∙ rw (found, may) refl,
           record {
             entry = entry;
@@ -163,8 +134,8 @@ found_as header runner task address bytes what positive a some even =
             found = found;
             even = even;
             is = refl;
-            region = here.inside.region;
-            page = page_within header.size runner.pages address entry positive here;
+            region = here.is.region;
+            page = here.is.inside.each address here.from here.below;
           },
         )
     allowed entry false found may = told ∙ rw (found, may) refl

@@ -92,6 +92,8 @@ built_of header (command.Task task host) plain range built =
     let first : host.0 ≡ 0 = let less = range.1 in omega arith in
     (range.0, ap (λ n. record { 0 = n }) first)
 built_of header (command.Allocate task address bytes) plain range built = (range.task, range.address, range.bytes)
+built_of header (command.Protect task address bytes prot) plain range built = (range.task, range.address, range.bytes)
+built_of header (command.Inherit task address bytes inherit) plain range built = (range.task, range.address, range.bytes)
 built_of header (command.Load task address size) plain range built = (range.task, range.address, range.size)
 built_of header (command.Store task address size value) plain range built = (range.0.task, range.0.address, range.0.size, range.1)
 built_of header other plain range built = absurd (cc)

@@ -1,5 +1,5 @@
 -- A command's step was made, by what each part of the runner is then.
-use Rattle.std.proofs.Common.{◌≡◌, ℕ, ◌+◌, ◌-◌, ◌/◌, ◌%◌, ◌<◌, ◌≤◌, ◌==◌, ◌||◌, nat_lt, nat_le, not, Bool, true, false, List, [], ◌∷◌, length, replicate, slice_range, refl, sym, ◌∙◌, subst, arith, Some, None, Option}
+use Rattle.std.proofs.Common.{◌≡◌, ℕ, ◌+◌, ◌-◌, ◌/◌, ◌%◌, ◌^◌, ◌<◌, ◌≤◌, ◌==◌, ◌||◌, nat_lt, nat_le, not, Bool, true, false, List, [], ◌∷◌, length, replicate, slice_range, refl, sym, ◌∙◌, subst, arith, Some, None, Option}
 use Rattle.std.proofs.lemmas.Bool.Decides.{nat_tests}
 use Rattle.std.proofs.Math.Nat.{div-mul-le_self}
 use Rattle.std.proofs.lemmas.Nat.{le-div}
@@ -8,6 +8,8 @@ use Rattle.vm_base.specs.declared.code.Code.{Code}
 use Rattle.vm_base.specs.declared.code.Code.TheVariants as code
 use Rattle.vm_base.specs.declared.entry.Entry.{Entry}
 use Rattle.vm_base.specs.declared.ids.HostId.{HostId}
+use Rattle.vm_base.specs.declared.ids.Inherit.{Inherit}
+use Rattle.vm_base.specs.declared.ids.Prot.{Prot}
 use Rattle.vm_base.specs.declared.ids.TaskId.{TaskId}
 use Rattle.vm_base.specs.Entries.{entered, is_range, meets_range, most_entries, page_at}
 use Rattle.vm_base.specs.Pages.{IsAccessSize, access_fits, little_endian, little_endian_bytes, page_positive, with_bytes}
@@ -45,8 +47,8 @@ is_change (command.Fork task child) built load store = absurd built
 is_change (command.Exit task) built load store = absurd built
 is_change (command.Map task address bytes object offset) built load store = absurd built
 is_change (command.Deallocate task address bytes) built load store = absurd built
-is_change (command.Protect task address bytes prot) built load store = absurd built
-is_change (command.Inherit task address bytes inherit) built load store = absurd built
+is_change (command.Protect task address bytes prot) built load store = tt
+is_change (command.Inherit task address bytes inherit) built load store = tt
 is_change (command.Copy task address bytes target to) built load store = absurd built
 is_change (command.Take channel) built load store = absurd built
 is_change (command.Settle count) built load store = absurd built
@@ -58,27 +60,29 @@ is_change (command.FailFiles count) built load store = absurd built
 is_change (command.FailPaging count) built load store = absurd built
 is_change (command.Say host object message) built load store = absurd built
 
-pub no_change : (c : Command) → IsChange c → ((task : TaskId) (host : HostId) → c ≢ command.Task task host) → ((task : TaskId) (address bytes : ℕ) → c ≢ command.Allocate task address bytes) → ⊥
-no_change (command.Task task host) change made range = made task host refl
-no_change (command.Allocate task address bytes) change made range = range task address bytes refl
-no_change (command.Load task address size) change made range = change
-no_change (command.Store task address size value) change made range = change
-no_change (command.Fork task child) change made range = change
-no_change (command.Exit task) change made range = change
-no_change (command.Map task address bytes object offset) change made range = change
-no_change (command.Deallocate task address bytes) change made range = change
-no_change (command.Protect task address bytes prot) change made range = change
-no_change (command.Inherit task address bytes inherit) change made range = change
-no_change (command.Copy task address bytes target to) change made range = change
-no_change (command.Take channel) change made range = change
-no_change (command.Settle count) change made range = change
-no_change (command.Pageout host count) change made range = change
-no_change (command.Clean object page count flush) change made range = change
-no_change (command.Wire host count) change made range = change
-no_change (command.Unwire host count) change made range = change
-no_change (command.FailFiles count) change made range = change
-no_change (command.FailPaging count) change made range = change
-no_change (command.Say host object message) change made range = change
+-- all commands on tasks and entries were tried
+pub no_change : (c : Command) → IsChange c → ((task : TaskId) (host : HostId) → c ≢ command.Task task host) → ((task : TaskId) (address bytes : ℕ) → c ≢ command.Allocate task address bytes)
+    → ((task : TaskId) (address bytes : ℕ) (prot : Prot) → c ≢ command.Protect task address bytes prot) → ((task : TaskId) (address bytes : ℕ) (inherit : Inherit) → c ≢ command.Inherit task address bytes inherit) → ⊥
+no_change (command.Task task host) change made range protect inherit = made task host refl
+no_change (command.Allocate task address bytes) change made range protect inherit = range task address bytes refl
+no_change (command.Load task address size) change made range protect inherit = change
+no_change (command.Store task address size value) change made range protect inherit = change
+no_change (command.Fork task child) change made range protect inherit = change
+no_change (command.Exit task) change made range protect inherit = change
+no_change (command.Map task address bytes object offset) change made range protect inherit = change
+no_change (command.Deallocate task address bytes) change made range protect inherit = change
+no_change (command.Protect task address bytes prot) change made range protect inherit = protect task address bytes prot refl
+no_change (command.Inherit task address bytes inheritance) change made range protect inherit = inherit task address bytes inheritance refl
+no_change (command.Copy task address bytes target to) change made range protect inherit = change
+no_change (command.Take channel) change made range protect inherit = change
+no_change (command.Settle count) change made range protect inherit = change
+no_change (command.Pageout host count) change made range protect inherit = change
+no_change (command.Clean object page count flush) change made range protect inherit = change
+no_change (command.Wire host count) change made range protect inherit = change
+no_change (command.Unwire host count) change made range protect inherit = change
+no_change (command.FailFiles count) change made range protect inherit = change
+no_change (command.FailPaging count) change made range protect inherit = change
+no_change (command.Say host object message) change made range protect inherit = change
 
 -- a command by its parts
 pub stepped_as : (header : Header) (numbered : Numbered) (c : Command) (old new : Runner) → numbered.command ≡ c → Stepped header (record { line = numbered.line; command = c }) old new → Stepped header numbered old new
@@ -115,8 +119,9 @@ passed false why later none = (refl, none)
 -- what an allocation that isn't refused has
 pub record Fits (header : Header) (runner : Runner) (task address bytes : ℕ) : Type 0 where
   pub lives : entries_in task runner.maps ≡ Some (rows_in task runner.maps)
-  pub start : address % header.size ≡ 0
   pub whole : bytes % header.size ≡ 0
+  pub some : 0 < bytes
+  pub below : address + bytes ≤ 2 ^ 32
   pub few : bytes / header.size ≤ 4096
   pub range : is_range header.size address bytes ≡ true
   pub free : meets_range address bytes (rows_in task runner.maps) ≡ false
@@ -139,8 +144,9 @@ fits_of header runner task address bytes a fine = go (entries_in task.0 runner.m
         let limits : full ≡ false = third.0 in
         record {
           lives = rw is refl;
-          start = grind (arith, nat_tests);
           whole = grind (arith, nat_tests);
+          some = grind (arith, nat_tests);
+          below = grind (arith, nat_tests);
           few = grind (arith, nat_tests);
           range = range;
           free = rw is second.0;
@@ -170,7 +176,7 @@ stepped_range header task address bytes line old new a fine has changes pages hi
     record {
       agrees = record {
         plain = a.plain;
-        kept = rw (pages, history) (kept_range header old.maps new.maps old.pages (event.Line line ∷ old.history.items) task address bytes a.kept changes fits.lives fits.start fits.whole (omega arith));
+        kept = rw (pages, history) (kept_range header old.maps new.maps old.pages (event.Line line ∷ old.history.items) task address bytes a.kept changes fits.lives fits.whole fits.some fits.below);
         none = rw history a.none;
         enough = (has.0, has.1, rw pages (let most = has.2 in omega arith));
       };

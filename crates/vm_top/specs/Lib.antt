@@ -1,3 +1,4 @@
+pub mod Changes
 pub mod Ending
 pub mod Pages
 pub mod Reading

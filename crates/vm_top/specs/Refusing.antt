@@ -22,12 +22,12 @@ range_code size (Some rows) count address bytes =
     (where_true (meets_range address bytes rows) NoSpace
     (where_true (nat_lt most_entries (length rows + 1) || nat_le 8192 count) TableFull None))
 
--- the code of a load or store of so many bytes
-abbrev pub access_code : List Event → ℕ → ℕ → ℕ → Access → Option Code
-access_code past task address bytes what =
+-- the code of a load or store of so many bytes; the first number is the page size
+abbrev pub access_code : ℕ → List Event → ℕ → ℕ → ℕ → Access → Option Code
+access_code size past task address bytes what =
     acting past task
     (where_true (not (address % bytes == 0)) InvalidArgument
-    (access_refusal what (entry_at address (entries_of task past))))
+    (access_refusal what (entry_at address (entries_of size task past))))
 
 -- an access of a living task leads through an entry to a place in a page of a region
 pub record LeadsTo (size : ℕ) (runner : Runner) (task address bytes : ℕ) (place : Place) : Type 0 where
@@ -41,5 +41,5 @@ pub record LeadsTo (size : ℕ) (runner : Runner) (task address bytes : ℕ) (pl
 
 -- an access leads to a place, or has a code
 abbrev pub FoundAs : ℕ → Runner → ℕ → ℕ → ℕ → Access → Result Place Code → Type 0
-FoundAs size runner task address bytes what (Ok place) = (access_code runner.history.items task address bytes what ≡ None) × LeadsTo size runner task address bytes place
-FoundAs size runner task address bytes what (Err code) = access_code runner.history.items task address bytes what ≡ Some code
+FoundAs size runner task address bytes what (Ok place) = (access_code size runner.history.items task address bytes what ≡ None) × LeadsTo size runner task address bytes place
+FoundAs size runner task address bytes what (Err code) = access_code size runner.history.items task address bytes what ≡ Some code

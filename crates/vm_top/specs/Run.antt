@@ -29,6 +29,8 @@ pub record IsRunnable (script : Script) : Type 0 where
 abbrev pub is_built : Command → Bool
 is_built (command.Task task host) = true
 is_built (command.Allocate task address bytes) = true
+is_built (command.Protect task address bytes prot) = true
+is_built (command.Inherit task address bytes inherit) = true
 is_built (command.Load task address size) = true
 is_built (command.Store task address size value) = true
 is_built other = false

@@ -4,7 +4,6 @@ use Rattle.vm_base.specs.declared.ids.HostId.{HostId}
 use Rattle.vm_base.specs.declared.ids.RegionId.{RegionId}
 use Rattle.vm_base.specs.declared.ids.Inherit.TheVariants.{Copy}
 use Rattle.vm_base.specs.declared.entry.Entry.{Entry}
-use Rattle.vm_base.specs.Entries.{HasWholePages}
 use Rattle.vm_base.specs.Pages.{IsPageSize, IsAccessSize}
 use Rattle.vm_model.specs.declared.event.Event.{Event}
 use Rattle.vm_model.specs.declared.command.Command.{Command}
@@ -12,7 +11,8 @@ use Rattle.vm_model.specs.declared.command.Command.TheVariants as command
 use Rattle.vm_model.specs.declared.command.Numbered.{Numbered}
 use Rattle.vm_model.specs.declared.script.Header.{Header}
 use Rattle.vm_model.specs.Moments.{BeforeSteps, before_last_line}
-use Rattle.vm_model.specs.Tasks.{host_of, entries_of}
+use Rattle.vm_model.specs.Rows.{AllRows, Inside}
+use Rattle.vm_model.specs.Tasks.{host_of, entries_of, has_entry}
 use Rattle.vm_model.specs.Regions.{next_region, next_object, top_of}
 use Rattle.vm_model.specs.Flat.{flat_page}
 use Rattle.vm_model.specs.Local.{Place, Local, local}
@@ -66,12 +66,16 @@ IsSized size (Some bytes) = length bytes ≡ size
 -- an entry lies within its region
 pub record IsInside (size : ℕ) (table : Table) (row : Entry) : Type 0 where
   pub region : row.region.0 < length table
-  pub whole : HasWholePages size row
-  pub within : row.offset + row.bytes / size ≤ pages_of table row.region.0
+  pub some : 0 < row.bytes
+  pub below : row.address + row.bytes ≤ 2 ^ 32
+  pub inside : Inside size (pages_of table row.region.0) row
 
 abbrev pub AllInside : ℕ → Table → List Entry → Type 0
-AllInside size table [] = Unit {0}
-AllInside size table (row ∷ rows) = IsInside size table row × AllInside size table rows
+AllInside size table rows = AllRows (IsInside size table) rows
+
+-- some task has an entry on the region
+abbrev pub IsUsed : ℕ → Mapped → Type 0
+IsUsed region maps = (task : ℕ) × (has_entry region (rows_in task maps) ≡ true)
 
 -- maps and pages agree with what a history says of tasks, entries, regions, pages and frames
 pub record IsKept (header : Header) (maps : Mapped) (table : Table) (host_at : ℕ → Option ℕ) (rows_at : ℕ → List Entry) (region_count object_count : ℕ) (top_at : ℕ → Option ℕ) (flat_at : ℕ → ℕ → List ℕ) (local_at : ℕ → ℕ → Local) (frame_count : ℕ) : Type 0 where
@@ -83,7 +87,8 @@ pub record IsKept (header : Header) (maps : Mapped) (table : Table) (host_at : �
   pub regions : region_count ≡ length table
   pub objects : object_count ≡ length table
   pub tops : (region : ℕ) → region < length table → top_at region ≡ Some region
-  pub flat : (region page : ℕ) → region < length table → flat_at region page ≡ or_zeros header.size (held table region page)
+  -- what was stored in a region without entries is lost
+  pub flat : (region page : ℕ) → region < length table → IsUsed region maps → flat_at region page ≡ or_zeros header.size (held table region page)
   pub pages : (region page : ℕ) → IsShown (local_at region page) (held table region page)
   pub sized : (region page : ℕ) → IsSized header.size (held table region page)
   pub used : frame_count ≡ count_all table
@@ -91,7 +96,7 @@ pub record IsKept (header : Header) (maps : Mapped) (table : Table) (host_at : �
 -- also inside a step
 abbrev pub Kept : Header → Mapped → Table → List Event → Type 0
 Kept header maps table h =
-    IsKept header maps table (λ task. host_of task h) (λ task. entries_of task h) (next_region header h) (next_object header h) (λ region. top_of region h)
+    IsKept header maps table (λ task. host_of task h) (λ task. entries_of header.size task h) (next_region header h) (next_object header h) (λ region. top_of region h)
     (λ region page. flat_page header.size region page h) (λ region page. local header.size 0 (place_of region page) h) (frames_used 0 h)
 
 pub record Agrees (header : Header) (runner : Runner) : Type 0 where
@@ -108,12 +113,16 @@ IsBuilt (command.Task task host) = (task.0 < 1024) × (host ≡ the_host)
 IsBuilt (command.Allocate task address bytes) = (task.0 < 1024) × (address < 2 ^ 32) × (bytes ≤ 2 ^ 32)
 IsBuilt (command.Load task address size) = (task.0 < 1024) × (address < 2 ^ 32) × IsAccessSize size
 IsBuilt (command.Store task address size value) = (task.0 < 1024) × (address < 2 ^ 32) × IsAccessSize size × (value < 256 ^ size)
+IsBuilt (command.Protect task address bytes prot) = (task.0 < 1024) × (address < 2 ^ 32) × (bytes ≤ 2 ^ 32)
+IsBuilt (command.Inherit task address bytes inherit) = (task.0 < 1024) × (address < 2 ^ 32) × (bytes ≤ 2 ^ 32)
 IsBuilt other = ⊥
 
 -- those of them that are on tasks and entries
 abbrev pub IsChange : Command → Type 0
 IsChange (command.Task task host) = host ≡ the_host
 IsChange (command.Allocate task address bytes) = Unit {0}
+IsChange (command.Protect task address bytes prot) = Unit {0}
+IsChange (command.Inherit task address bytes inherit) = Unit {0}
 IsChange other = ⊥
 
 -- how many pages a command asks for, refused or not: a part of a page counts as one

@@ -48,6 +48,8 @@ fn is_built(command: &Command) -> bool
     match command {
         Command::Task { .. }
         | Command::Allocate { .. }
+        | Command::Protect { .. }
+        | Command::Inherit { .. }
         | Command::Load { .. }
         | Command::Store { .. } => true,
         _ => false,

@@ -11,6 +11,7 @@ ghost use Rattle.vm_top.specs.Pages.{room_all};
 ghost use Rattle.vm_top.specs.Runner.{Agrees, HasFrames, IsBuilt, IsChange, Stepped, pages_asked, the_host, whole_entry};
 ghost use Rattle.vm_top.specs.Refusing.{FoundAs, LeadsTo, access_code, range_code};
 
+use crate::changes::{inheritance, protection};
 use crate::pages::PageTable;
 use std::alloc::Global;
 use vm_base::{
@@ -74,6 +75,18 @@ impl Runner {
                 size,
                 ..
             } => self.access_refusal(*task, *address, *size, Access::Store),
+            Command::Protect {
+                task,
+                address,
+                bytes,
+                prot,
+            } => self.change_refusal(*task, &protection(*address, *bytes, *prot)),
+            Command::Inherit {
+                task,
+                address,
+                bytes,
+                inherit,
+            } => self.change_refusal(*task, &inheritance(*address, *bytes, *inherit)),
             _ => None,
         }
     }
@@ -116,7 +129,7 @@ impl Runner {
 
     fn access_refusal(&self, task: TaskId, address: u64, size: u32, need: Access) -> Option<Code>
         requires size { 0 < size }
-        ensures { (header : Header) → Agrees header self.now → result ≡ access_code self.now.history.items task.0 address size need }
+        ensures { (header : Header) → Agrees header self.now → result ≡ access_code header.size self.now.history.items task.0 address size need }
     {
         match self.find(task, address, size, need) {
             Ok(_) => None,
@@ -186,6 +199,18 @@ impl Runner {
                 address,
                 bytes,
             } => self.allocate(header, line, *task, *address, *bytes),
+            Command::Protect {
+                task,
+                address,
+                bytes,
+                prot,
+            } => self.protect(header, line, *task, *address, *bytes, *prot),
+            Command::Inherit {
+                task,
+                address,
+                bytes,
+                inherit,
+            } => self.inherit(header, line, *task, *address, *bytes, *inherit),
             _ => Ok(()),
         }
     }

@@ -8,7 +8,7 @@ use Rattle.std.specs.List.{flat_map}
 use Rattle.std.specs.Prelude.{nat_lt, nat_le, max, min, ◌==◌, ◌&&◌, ◌||◌}
 use Rattle.vm_base.specs.Entries.{cut, rewritten, entered, entry_at, page_at}
 use Rattle.vm_base.specs.declared.entry.Entry.{Entry}
-use Rattle.vm_flat.specs.Regions.{has_entry}
+use Rattle.vm_model.specs.Tasks.{has_entry}
 
 abbrev pub AllRows : (Entry → Type 0) → List Entry → Type 0
 AllRows P [] = Unit {0}
@@ -18,11 +18,11 @@ pub rows_map : (P Q : Entry → Type 0) → ((row : Entry) → P row → Q row) 
 rows_map P Q f [] all = tt
 rows_map P Q f (row ∷ rows) all = (f row all.0, rows_map P Q f rows all.1)
 
-rows_append : (P : Entry → Type 0) (rows more : List Entry) → AllRows P rows → AllRows P more → AllRows P (rows ++ more)
+pub rows_append : (P : Entry → Type 0) (rows more : List Entry) → AllRows P rows → AllRows P more → AllRows P (rows ++ more)
 rows_append P [] more all next = next
 rows_append P (row ∷ rows) more all next = (all.0, rows_append P rows more all.1 next)
 
-rows_flat : (P : Entry → Type 0) (f : Entry → List Entry) → ((row : Entry) → P row → AllRows P (f row)) → (rows : List Entry) → AllRows P rows → AllRows P (flat_map f rows)
+pub rows_flat : (P : Entry → Type 0) (f : Entry → List Entry) → ((row : Entry) → P row → AllRows P (f row)) → (rows : List Entry) → AllRows P rows → AllRows P (flat_map f rows)
 rows_flat P f each [] all = tt
 rows_flat P f each (row ∷ rows) all = rows_append P (f row) (flat_map f rows) (each row all.0) (rows_flat P f each rows all.1)
 
@@ -34,7 +34,7 @@ part size row start end = record row { address = start; bytes = end - start; off
 abbrev pub Parts : ℕ → (Entry → Type 0) → Type 0
 Parts size P = (row : Entry) (start end : ℕ) → P row → row.address ≤ start → start < end → end ≤ row.address + row.bytes → P (part size row start end)
 
-rows_cut : (size : ℕ) (P : Entry → Type 0) → Parts size P → (from to : ℕ) (row : Entry) → P row → AllRows P (cut size from to row)
+pub rows_cut : (size : ℕ) (P : Entry → Type 0) → Parts size P → (from to : ℕ) (row : Entry) → P row → AllRows P (cut size from to row)
 rows_cut size P parts from to row is = by_test (nat_lt (max from row.address) (min to (row.address + row.bytes))) refl
   where
     by_test : (b : Bool) → nat_lt (max from row.address) (min to (row.address + row.bytes)) ≡ b → AllRows P (if b then part size row (max from row.address) (min to (row.address + row.bytes)) ∷ [] else [])
@@ -88,11 +88,11 @@ rows_known P (row ∷ rows) all =
 
 -- whole pages
 
-div_grows : (size a b : ℕ) → a ≤ b → a / size ≤ b / size
+pub div_grows : (size a b : ℕ) → a ≤ b → a / size ≤ b / size
 div_grows zero a b le = rw (div-zero a, div-zero b) (omega arith)
 div_grows (suc size) a b le = le-div (a / suc size) b (suc size) (omega arith) (omega (arith, div-mul-le_self a (suc size)))
 
-div_sum : (size a b : ℕ) → a / size + b / size ≤ (a + b) / size
+pub div_sum : (size a b : ℕ) → a / size + b / size ≤ (a + b) / size
 div_sum zero a b = rw (div-zero a, div-zero b, div-zero (a + b)) (omega arith)
 div_sum (suc size) a b = le-div (a / suc size + b / suc size) (a + b) (suc size) (omega arith) (omega (arith, div-mul-le_self a (suc size), div-mul-le_self b (suc size)))
 
