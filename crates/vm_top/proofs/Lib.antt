@@ -6,6 +6,7 @@ pub mod Kepts
 pub mod Refusals
 pub mod Starts
 pub mod Steps
+pub mod Sums
 pub mod Tables
 pub mod Words
 pub mod Writings

@@ -5,5 +5,6 @@ pub mod Refusing
 pub mod Run
 pub mod Runner
 pub mod Status
+pub mod Summary
 pub mod Top
 pub mod Writing

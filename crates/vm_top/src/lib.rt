@@ -7,6 +7,9 @@ mod reading;
 mod render;
 mod run;
 mod runner;
+mod summary;
+#[cfg(test)]
+mod summary_tests;
 #[cfg(test)]
 mod tests;
 mod top;
