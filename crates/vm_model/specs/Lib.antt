@@ -12,6 +12,7 @@ pub mod Name
 pub mod Prompt
 pub mod Refusal
 pub mod Regions
+pub mod Summary
 pub mod Tasks
 pub mod Text
 pub mod Waiting

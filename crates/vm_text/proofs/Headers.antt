@@ -1,5 +1,5 @@
 -- Where no header line is one for which nothing is built, a script has one host and no object.
-use Rattle.std.proofs.Common.{◌≡◌, ℕ, ◌+◌, ◌-◌, ◌<◌, ◌≤◌, nat_lt, nat_le, Bool, true, false, ◌&&◌, ◌||◌, cond, List, [], ◌∷◌, length, reverse, replicate, Option, Some, None, Result, Ok, Err, refl, ap, sym, ◌∙◌, arith, slice_set, subst}
+use Rattle.std.proofs.Common.{◌≡◌, ℕ, ◌+◌, ◌-◌, ◌≤◌, nat_lt, nat_le, Bool, true, false, ◌&&◌, ◌||◌, cond, List, [], ◌∷◌, length, reverse, replicate, Option, Some, None, Result, Ok, Err, refl, ap, sym, ◌∙◌, arith, slice_set, subst}
 use Rattle.std.proofs.lemmas.Bool.{ltb-true, ltb-false}
 use Rattle.std.proofs.lemmas.List.{length-set, length-replicate, length-reverse}
 use Rattle.vm_model.specs.declared.fault.ScriptFault.{ScriptFault}

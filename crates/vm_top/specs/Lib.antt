@@ -6,6 +6,7 @@ pub mod Refusing
 pub mod Run
 pub mod Runner
 pub mod Status
+pub mod Summary
 pub mod Top
 pub mod Words
 pub mod Writing

@@ -9,6 +9,8 @@ mod run;
 mod runner;
 mod summary;
 #[cfg(test)]
+mod summary_tests;
+#[cfg(test)]
 mod tests;
 mod top;
 mod words;
