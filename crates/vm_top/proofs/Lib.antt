@@ -6,11 +6,8 @@ pub mod Refusals
 pub mod Rewriting
 pub mod Starts
 pub mod Steps
-<<<<<<< HEAD
 pub mod Stops
-=======
 pub mod Sums
->>>>>>> summary
 pub mod Tables
 pub mod Asking
 pub mod Writings
