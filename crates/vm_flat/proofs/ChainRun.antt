@@ -7,7 +7,7 @@ use Rattle.vm_model.specs.declared.event.Event.{Event}
 use Rattle.vm_model.specs.declared.event.Event.TheVariants as event
 use Rattle.vm_model.specs.declared.script.Header.{Header}
 use Rattle.vm_model.specs.Moments.{EachEvent}
-use Rattle.vm_flat.specs.Waiting.{Storing}
+use Rattle.vm_model.specs.Waiting.{Storing}
 use Rattle.vm_flat.specs.Declared.{Outside, Told}
 use Rattle.vm_flat.specs.Licences.{AllLicensed}
 use Rattle.vm_flat.specs.Bytes.{CopiesCurrent, FlatBytes}

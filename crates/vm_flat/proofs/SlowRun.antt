@@ -10,7 +10,7 @@ use Rattle.vm_model.specs.declared.message.Channel.TheVariants.{Up, Down}
 use Rattle.vm_model.specs.declared.message.Message.TheVariants as message
 use Rattle.vm_model.specs.declared.script.Header.{Header}
 use Rattle.vm_model.specs.Moments.{EachEvent}
-use Rattle.vm_flat.specs.Waiting.{Loading}
+use Rattle.vm_model.specs.Waiting.{Loading}
 use Rattle.vm_flat.specs.Declared.{Outside, Untold}
 use Rattle.vm_flat.specs.Licences.{AllLicensed, Flushed}
 use Rattle.vm_flat.specs.Bytes.{CopiesCurrent, FlatBytes}

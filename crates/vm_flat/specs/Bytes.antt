@@ -6,7 +6,7 @@ use Rattle.vm_model.specs.declared.script.Header.{Header}
 use Rattle.vm_base.specs.Entries.{page_at}
 use Rattle.vm_model.specs.Bytes.{number_in}
 use Rattle.vm_flat.specs.Declared.{Outside, is_private}
-use Rattle.vm_flat.specs.Waiting.{Loading}
+use Rattle.vm_model.specs.Waiting.{Loading}
 use Rattle.vm_flat.specs.Flat.{flat_page}
 use Rattle.vm_flat.specs.Places.{spot}
 use Rattle.vm_flat.specs.Tasks.{lives_on}

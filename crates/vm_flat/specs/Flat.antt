@@ -11,7 +11,7 @@ use Rattle.vm_model.specs.declared.message.Message.TheVariants as message
 use Rattle.vm_model.specs.declared.script.Header.{Header}
 use Rattle.vm_flat.specs.Declared.{Outside, is_file, is_said, start_page, zeros}
 use Rattle.vm_model.specs.Tasks.{entries_of}
-use Rattle.vm_flat.specs.Waiting.{Access, Storing, waiting}
+use Rattle.vm_model.specs.Waiting.{Access, Storing, waiting}
 
 -- what a store changes: these bytes stand at this place of the region's page
 pub record Change : Type 0 where

@@ -7,6 +7,5 @@ pub mod Places
 pub mod Regions
 pub mod Spot
 pub mod Tasks
-pub mod Waiting
 pub mod Walks
 pub mod Words

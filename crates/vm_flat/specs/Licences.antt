@@ -12,7 +12,7 @@ use Rattle.vm_model.specs.Tasks.{host_of, entries_of}
 use Rattle.vm_model.specs.Bytes.{number_in}
 use Rattle.vm_flat.specs.Declared.{Outside, named, is_private, is_said, zeros}
 use Rattle.vm_flat.specs.Tasks.{tasks}
-use Rattle.vm_flat.specs.Waiting.{Access, Loading, Storing, Copying, waiting, next_page, copy_target, address_of, is_store}
+use Rattle.vm_model.specs.Waiting.{Access, Loading, Storing, Copying, waiting, next_page, copy_target, address_of, is_store}
 use Rattle.vm_flat.specs.Regions.{next_region, next_object, region_of, backing_of, is_filled, in_use}
 use Rattle.vm_flat.specs.Channels.{queue}
 use Rattle.vm_flat.specs.Spot.{Spot, first}

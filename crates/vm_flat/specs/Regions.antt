@@ -7,7 +7,7 @@ use Rattle.vm_model.specs.declared.script.Header.{Header}
 use Rattle.vm_flat.specs.Declared.{Outside, named, is_file, declared_pages}
 use Rattle.vm_model.specs.Tasks.{entries_of, has_entry}
 use Rattle.vm_flat.specs.Tasks.{lives_on, tasks}
-use Rattle.vm_flat.specs.Waiting.{waiting, copy_target, fills}
+use Rattle.vm_model.specs.Waiting.{waiting, copy_target, fills}
 
 -- the number of the next region: those of the declared objects come first
 abbrev pub next_region : Header → List Event → ℕ

@@ -6,7 +6,7 @@ use Rattle.vm_model.specs.declared.event.Event.{Event}
 use Rattle.vm_model.specs.declared.event.Event.TheVariants as event
 use Rattle.vm_model.specs.declared.script.Header.{Header}
 use Rattle.vm_model.specs.Tasks.{host_of, entries_of}
-use Rattle.vm_model.specs.Waiting.{Access, Loading, Storing, address_of, waiting}
+use Rattle.vm_model.specs.Waiting.{Access, Loading, Storing, address_of, next_page, waiting}
 use Rattle.vm_model.specs.Chains.{IsUnreachable, places, walk}
 use Rattle.vm_model.specs.Local.{Place, local}
 
@@ -16,11 +16,11 @@ pub record Waits (size task : ℕ) (access : Access) (past : List Event) : Type 
   pub entry : Entry
   pub waits : waiting task past ≡ Some access
   pub lives : host_of task past ≡ Some host
-  pub found : entry_at (address_of access) (entries_of size task past) ≡ Some entry
+  pub found : entry_at (address_of size (next_page task past) access) (entries_of size task past) ≡ Some entry
 
 -- the places of its page, for a page size
 abbrev pub its_places : (size task : ℕ) (access : Access) (past : List Event) → Waits size task access past → List Place
-its_places size task access past it = places it.entry.region.0 (page_at size (address_of access) it.entry) past
+its_places size task access past it = places it.entry.region.0 (page_at size (address_of size (next_page task past) access) it.entry) past
 
 -- the top place of these
 abbrev pub IsTop : List Place → Place → Type 0

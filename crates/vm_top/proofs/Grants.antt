@@ -21,7 +21,7 @@ use Rattle.vm_model.specs.Moments.{EachMoment}
 use Rattle.vm_model.specs.Refusal.{refusal}
 use Rattle.vm_model.specs.Regions.{top_of}
 use Rattle.vm_model.specs.Tasks.{host_of, entries_of}
-use Rattle.vm_model.specs.Waiting.{Access, Loading, Storing, address_of, waiting}
+use Rattle.vm_model.specs.Waiting.{Access, Loading, Storing, address_of, next_page, waiting}
 use Rattle.vm_maps.specs.Maps.{Mapped, entries_in, rows_in}
 use Rattle.vm_top.specs.Pages.{Table, held, pages_of, put_in, room_all}
 use Rattle.vm_top.specs.Runner.{HasFrames, IsShown, Kept, KeepsLegal, host_for, or_zeros, place_of, the_host, whole_entry}
@@ -54,6 +54,11 @@ legal_refused header c why h refused run legal =
       prompt_at_end = legal.prompt_at_end;
     }
 
+-- a task that begins or ends waits with nothing
+pub none_anew : (b : Bool) (w : Option Access) → w ≡ None → cond b None w ≡ None
+none_anew true w e = refl
+none_anew false w e = e
+
 -- a new task
 pub legal_task : (header : Header) (task : TaskId) (line : ℕ) (h : List Event) → refusal header h (command.Task task the_host) ≡ None
     → KeepsLegal header (record { line = line; command = command.Task task the_host }) h (event.TaskMade task the_host ∷ event.Line line ∷ h)
@@ -65,7 +70,7 @@ legal_task header task line h fine run legal =
       flat_bytes = (tt, (tt, legal.flat_bytes));
       frames = (now, (now, legal.frames));
       prompt = (legal.prompt_at_end, legal.prompt);
-      prompt_at_end = legal.prompt_at_end;
+      prompt_at_end = λ t. none_anew (task.0 == t) (waiting t h) (legal.prompt_at_end t);
     }
 
 -- a new region, and the entry on it
@@ -113,7 +118,7 @@ pub record Leads (header : Header) (maps : Mapped) (table : Table) (task address
   pub region : entry.region.0 < length table
   pub page : page_at header.size address entry < pages_of table entry.region.0
 
-abbrev it_waits : (size task : ℕ) (access : Access) (past : List Event) (entry : Entry) → waiting task past ≡ Some access → host_of task past ≡ Some 0 → entry_at (address_of access) (entries_of size task past) ≡ Some entry → Waits size task access past
+abbrev it_waits : (size task : ℕ) (access : Access) (past : List Event) (entry : Entry) → waiting task past ≡ Some access → host_of task past ≡ Some 0 → entry_at (address_of size (next_page task past) access) (entries_of size task past) ≡ Some entry → Waits size task access past
 it_waits size task access past entry waits lives found = record { host = 0; entry = entry; waits = waits; lives = lives; found = found }
 
 home : (header : Header) (maps : Mapped) (table : Table) (h : List Event) (task address : ℕ) (entry : Entry) → Kept header maps table h → Leads header maps table task address entry → host_of task h ≡ Some 0

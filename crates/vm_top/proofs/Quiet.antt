@@ -21,7 +21,7 @@ use Rattle.vm_top.proofs.Grants.{moment_now}
 pub record Quiet (header : Header) (e : Event) : Type 0 where
   pub own : (past : List Event) → OwnBytes header e past
   pub flat : (past : List Event) → FlatBytes header e past
-  pub waits : (task : ℕ) (past : List Event) → waiting task (e ∷ past) ≡ waiting task past
+  pub waits : (task : ℕ) (past : List Event) → waiting task past ≡ None → waiting task (e ∷ past) ≡ None
   pub frames : (host : ℕ) (past : List Event) → frames_used host (e ∷ past) ≤ frames_used host past
   pub prompt : (past : List Event) → BeforeSteps Prompt past → BeforeSteps Prompt (e ∷ past)
   pub limit : (past : List Event) → IsBelowLimit past → IsBelowLimit (e ∷ past)
@@ -50,9 +50,9 @@ all_frames header (e ∷ group) past quiet each =
     let now = moment_now (FramesSuffice header) (group ++ past) later in
     ((λ host. fewer (slice_get (reverse header.frames.items) host) (frames_used host (e ∷ (group ++ past))) (frames_used host (group ++ past)) (quiet.0.frames host (group ++ past)) (now host)), later)
 
-pub all_waits : (header : Header) (group past : List Event) (task : ℕ) → AllQuiet header group → waiting task (group ++ past) ≡ waiting task past
-all_waits header [] past task quiet = refl
-all_waits header (e ∷ group) past task quiet = quiet.0.waits task (group ++ past) ∙ all_waits header group past task quiet.1
+pub all_waits : (header : Header) (group past : List Event) (task : ℕ) → AllQuiet header group → waiting task past ≡ None → waiting task (group ++ past) ≡ None
+all_waits header [] past task quiet none = none
+all_waits header (e ∷ group) past task quiet none = quiet.0.waits task (group ++ past) (all_waits header group past task quiet.1 none)
 
 all_prompt : (header : Header) (group past : List Event) → AllQuiet header group → BeforeSteps Prompt past → BeforeSteps Prompt (group ++ past)
 all_prompt header [] past quiet before = before
@@ -79,7 +79,7 @@ legal_quiet header c h first more fine is quiet licensed run legal =
       flat_bytes = all_flat header group past quiet (tt, legal.flat_bytes);
       frames = all_frames header group past quiet (now, legal.frames);
       prompt = all_prompt header group past quiet (legal.prompt_at_end, legal.prompt);
-      prompt_at_end = λ t. all_waits header group past t quiet ∙ legal.prompt_at_end t;
+      prompt_at_end = λ t. all_waits header group past t quiet (legal.prompt_at_end t);
     }
 
 pub stepped_quiet : (header : Header) (numbered : Numbered) (old new : Runner) (first more : List Event) → refusal header old.history.items numbered.command ≡ None → head header old.history.items numbered.command ≡ Some first

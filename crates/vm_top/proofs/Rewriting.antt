@@ -132,10 +132,10 @@ with_inherit : (header : Header) (table : Table) (rows : List Entry) (inherit : 
 with_inherit header table rows inherit row is = ((record { region = is.0.region; some = is.0.some; below = is.0.below; inside = record { whole = is.0.inside.whole; each = is.0.inside.each } }, is.1), tt)
 
 quiet_protected : (header : Header) (task : TaskId) (address bytes : ℕ) (prot : Prot) → Quiet header (event.Protected task address bytes prot)
-quiet_protected header task address bytes prot = record { own = λ past. tt; flat = λ past. tt; waits = λ t past. refl; frames = λ host past. omega arith; prompt = λ past before. before; limit = λ past before. before; front = λ past. refl }
+quiet_protected header task address bytes prot = record { own = λ past. tt; flat = λ past. tt; waits = λ t past none. none; frames = λ host past. omega arith; prompt = λ past before. before; limit = λ past before. before; front = λ past. refl }
 
 quiet_inherited : (header : Header) (task : TaskId) (address bytes : ℕ) (inherit : Inherit) → Quiet header (event.Inherited task address bytes inherit)
-quiet_inherited header task address bytes inherit = record { own = λ past. tt; flat = λ past. tt; waits = λ t past. refl; frames = λ host past. omega arith; prompt = λ past before. before; limit = λ past before. before; front = λ past. refl }
+quiet_inherited header task address bytes inherit = record { own = λ past. tt; flat = λ past. tt; waits = λ t past none. none; frames = λ host past. omega arith; prompt = λ past before. before; limit = λ past before. before; front = λ past. refl }
 
 pub stepped_protect : (header : Header) (task : TaskId) (address bytes : ℕ) (prot : Prot) (line : ℕ) (old new : Runner) → Agrees header old → refusal header old.history.items (command.Protect task address bytes prot) ≡ None
     → ChangesOnly old.maps new.maps task.0 (Some (protected old.maps.size address bytes prot (rows_in task.0 old.maps))) → new.pages ≡ old.pages

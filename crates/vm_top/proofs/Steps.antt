@@ -27,7 +27,7 @@ use Rattle.vm_top.specs.Pages.{held, put_in, room_all}
 use Rattle.vm_top.specs.Refusing.{LeadsTo, range_code}
 use Rattle.vm_top.specs.Runner.{Agrees, HasFrames, IsBuilt, IsChange, Stepped, pages_asked, the_host, whole_entry}
 use Rattle.vm_top.specs.declared.runner.Runner.{Runner}
-use Rattle.vm_top.proofs.Grants.{Leads, begun_load, begun_store, itself, legal_hit, legal_miss, legal_range, legal_refused, legal_store, legal_store_miss, legal_task, ranged, wait_over}
+use Rattle.vm_top.proofs.Grants.{Leads, begun_load, begun_store, itself, legal_hit, legal_miss, legal_range, legal_refused, legal_store, legal_store_miss, legal_task, none_anew, ranged, wait_over}
 use Rattle.vm_top.proofs.Kepts.{kept_range, kept_stored, kept_task, kept_zeroed}
 use Rattle.vm_top.proofs.Refusals.{allocate_code}
 use Rattle.vm_top.proofs.Tables.{held_put, length_put, pages_put, put_twice, room_added, room_put, with_region}
@@ -104,7 +104,7 @@ pub stepped_task : (header : Header) (task : TaskId) (line : ℕ) (old new : Run
     → ChangesOnly old.maps new.maps task.0 (Some []) → new.pages ≡ old.pages → new.history.items ≡ event.TaskMade task the_host ∷ event.Line line ∷ old.history.items
     → Stepped header (record { line = line; command = command.Task task the_host }) old new
 stepped_task header task line old new a fine changes pages history = record {
-  agrees = record { plain = a.plain; kept = rw (pages, history) (kept_task header old.maps new.maps old.pages (event.Line line ∷ old.history.items) task a.kept changes); none = rw history a.none; enough = rw pages a.enough };
+  agrees = record { plain = a.plain; kept = rw (pages, history) (kept_task header old.maps new.maps old.pages (event.Line line ∷ old.history.items) task a.kept changes); none = rw history (λ t. none_anew (task.0 == t) (waiting t old.history.items) (a.none t)); enough = rw pages a.enough };
   legal = rw history (legal_task header task line old.history.items fine);
   step = record { more = event.TaskMade task the_host ∷ event.Line line ∷ []; longer = history; front = rw history refl };
   limit = λ less below. rw history (less, below);
