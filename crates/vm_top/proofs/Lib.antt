@@ -1,8 +1,12 @@
+pub mod Counting
+pub mod Dropping
+pub mod Endings
 pub mod Ends
 pub mod Firsts
 pub mod Forms
 pub mod Grants
 pub mod Kepts
+pub mod Prompts
 pub mod Quiet
 pub mod Refusals
 pub mod Rewriting

@@ -17,6 +17,8 @@ use Rattle.vm_top.specs.Runner.{Agrees, HasFrames, IsPlain, IsBuilt, Kept, Keeps
 use Rattle.vm_top.specs.Writing.{oldest, WroteStart}
 use Rattle.vm_top.specs.declared.run.RunEnd.TheVariants as ends
 use Rattle.vm_top.specs.declared.runner.Runner.{Runner}
+use Rattle.vm_top.specs.Uses.{AreUses, most_tasks}
+use Rattle.vm_top.proofs.Counting.{by_none}
 use Rattle.vm_top.proofs.Grants.{suffices}
 use Rattle.vm_top.proofs.Writings.{start_all}
 
@@ -36,12 +38,16 @@ kept_start header plain = record {
   used = refl;
 }
 
-pub agrees_start : (header : Header) (runner : Runner) → IsPlain header → runner.maps ≡ record { size = header.size; tasks = [] } → runner.pages ≡ [] → runner.history.items ≡ [] → Agrees header runner
-agrees_start header runner plain maps pages history = record {
+uses_start : (size : ℕ) → AreUses (record { size = size; tasks = [] }) [] [] []
+uses_start size = record { count = refl; tasks = most_tasks; most = refl; none = λ task le. refl; sums = λ region. sym (by_none most_tasks region (record { size = size; tasks = [] }) (λ task. refl)); swept = λ region page nothing. refl }
+
+pub agrees_start : (header : Header) (runner : Runner) → IsPlain header → runner.maps ≡ record { size = header.size; tasks = [] } → runner.pages ≡ [] → runner.uses ≡ [] → runner.history.items ≡ [] → Agrees header runner
+agrees_start header runner plain maps pages uses history = record {
   plain = plain;
   kept = rw (maps, pages, history) (kept_start header plain);
   none = rw history (λ task. refl);
   enough = (plain.frames, plain.hosts, rw pages (omega arith));
+  uses = rw (maps, pages, uses) (uses_start header.size);
 }
 
 pub legal_start : (header : Header) → IsPlain header → LegalFor header [] []
@@ -51,7 +57,7 @@ legal_start header plain = record {
   flat_bytes = tt;
   frames = suffices header 0 [] (plain.frames, plain.hosts, omega arith) (omega arith);
   prompt = tt;
-  prompt_at_end = λ task. refl;
+  prompt_at_end = record { none = λ task. refl; swept = λ host object page below temporary away. refl };
 }
 
 drop_whole : {A : Type 0} (items : List A) → drop (length items) items ≡ []

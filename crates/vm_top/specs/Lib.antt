@@ -6,5 +6,7 @@ pub mod Refusing
 pub mod Run
 pub mod Runner
 pub mod Status
+pub mod Sweeping
 pub mod Top
+pub mod Uses
 pub mod Writing

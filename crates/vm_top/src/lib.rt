@@ -8,8 +8,10 @@ mod reading;
 mod render;
 mod run;
 mod runner;
+mod sweep;
 #[cfg(test)]
 mod tests;
 mod top;
+mod uses;
 
 pub use top::{Outcome, Status, pagers_main};

@@ -12,12 +12,12 @@ loop-i-init g c =
     let new = c.new-runner.ensures in
     let plain = c.requires.plain in
     record {
-      agrees = agrees_start c.args.script.now.header c.new-runner.result plain new.0 new.1 new.2;
+      agrees = agrees_start c.args.script.now.header c.new-runner.result plain new.0 new.1 new.2 new.3;
       room = rw new.1 (omega arith);
-      legal = rw (new.2, oldest_none) (legal_start c.args.script.now.header plain);
-      limit = rw new.2 tt;
+      legal = rw (new.3, oldest_none) (legal_start c.args.script.now.header plain);
+      limit = rw new.3 tt;
       later = omega arith;
-      written = rw new.2 (Appends-nil (g.K.Sink.written c.args.out.now));
+      written = rw new.3 (Appends-nil (g.K.Sink.written c.args.out.now));
     }
 
 pub turn-requires-clause-built : goal.turn-requires-clause-built
