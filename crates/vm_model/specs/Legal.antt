@@ -20,9 +20,9 @@ pub record LegalFor (header : Header) (commands : List Numbered) (history : List
   pub flat_bytes : EachEvent (FlatBytes header) history
   -- at every moment the frames suffice
   pub frames : EachMoment (FramesSuffice header) history
-  -- no access waits in vain, at the end of each step
-  pub prompt : BeforeSteps Prompt history
-  pub prompt_at_end : Prompt history
+  -- at the end of each step no access waits in vain, and no page is left behind
+  pub prompt : BeforeSteps (Prompt header) history
+  pub prompt_at_end : Prompt header history
 
 abbrev pub Legal : Script → List Event → Type 0
 Legal script history = LegalFor script.header script.commands.items history

@@ -18,6 +18,7 @@ use Rattle.vm_model.specs.Frames.{FramesSuffice, frames_used}
 use Rattle.vm_model.specs.Licences.{IsTop, Waits}
 use Rattle.vm_model.specs.Local.{local}
 use Rattle.vm_model.specs.Moments.{EachMoment}
+use Rattle.vm_model.specs.Prompt.{Prompt}
 use Rattle.vm_model.specs.Refusal.{refusal}
 use Rattle.vm_model.specs.Regions.{top_of}
 use Rattle.vm_model.specs.Tasks.{host_of, entries_of}
@@ -42,8 +43,8 @@ suffices header count h has le = λ host. rw has.1 (only_host has.0 host h (let 
 
 -- a refused command adds its line and its code
 pub legal_refused : (header : Header) (c : Numbered) (why : Code) (h : List Event)
-    → refusal header h c.command ≡ Some why → KeepsLegal header c h (event.Refused why ∷ event.Line c.line ∷ h)
-legal_refused header c why h refused run legal =
+    → refusal header h c.command ≡ Some why → Prompt header (event.Refused why ∷ event.Line c.line ∷ h) → KeepsLegal header c h (event.Refused why ∷ event.Line c.line ∷ h)
+legal_refused header c why h refused last run legal =
     let now = moment_now (FramesSuffice header) h legal.frames in
     record {
       follows = (h, event.Refused why ∷ [], refl, rw refused refl, legal.follows);
@@ -51,27 +52,13 @@ legal_refused header c why h refused run legal =
       flat_bytes = (tt, (tt, legal.flat_bytes));
       frames = (now, (now, legal.frames));
       prompt = (legal.prompt_at_end, legal.prompt);
-      prompt_at_end = legal.prompt_at_end;
+      prompt_at_end = last;
     }
 
 -- a task that begins or ends waits with nothing
 pub none_anew : (b : Bool) (w : Option Access) → w ≡ None → cond b None w ≡ None
 none_anew true w e = refl
 none_anew false w e = e
-
--- a new task
-pub legal_task : (header : Header) (task : TaskId) (line : ℕ) (h : List Event) → refusal header h (command.Task task the_host) ≡ None
-    → KeepsLegal header (record { line = line; command = command.Task task the_host }) h (event.TaskMade task the_host ∷ event.Line line ∷ h)
-legal_task header task line h fine run legal =
-    let now = moment_now (FramesSuffice header) h legal.frames in
-    record {
-      follows = (h, event.TaskMade task the_host ∷ [], refl, rw fine ([], refl, tt), legal.follows);
-      own_bytes = (tt, (tt, legal.own_bytes));
-      flat_bytes = (tt, (tt, legal.flat_bytes));
-      frames = (now, (now, legal.frames));
-      prompt = (legal.prompt_at_end, legal.prompt);
-      prompt_at_end = λ t. none_anew (task.0 == t) (waiting t h) (legal.prompt_at_end t);
-    }
 
 -- a new region, and the entry on it
 abbrev pub ranged : Header → TaskId → ℕ → ℕ → ℕ → ℕ → List Event → List Event
@@ -80,9 +67,9 @@ ranged header task address bytes number line h =
     ∷ event.RegionMade (record { 0 = number }) (record { 0 = number }) (bytes / header.size) ∷ event.Line line ∷ h
 
 pub legal_range : (header : Header) (maps : Mapped) (table : Table) (task : TaskId) (address bytes line : ℕ) (h : List Event) → Kept header maps table h
-    → refusal header h (command.Allocate task address bytes) ≡ None
+    → refusal header h (command.Allocate task address bytes) ≡ None → Prompt header (ranged header task address bytes (length table) line h)
     → KeepsLegal header (record { line = line; command = command.Allocate task address bytes }) h (ranged header task address bytes (length table) line h)
-legal_range header maps table task address bytes line h k fine run legal =
+legal_range header maps table task address bytes line h k fine last run legal =
     let now = moment_now (FramesSuffice header) h legal.frames in
     record {
       follows = (
@@ -97,7 +84,7 @@ legal_range header maps table task address bytes line h k fine run legal =
       flat_bytes = (tt, (tt, (tt, legal.flat_bytes)));
       frames = (now, (now, (now, legal.frames)));
       prompt = (legal.prompt_at_end, legal.prompt);
-      prompt_at_end = legal.prompt_at_end;
+      prompt_at_end = last;
     }
 
 -- the access of a task waits once it has begun, and leads through an entry
@@ -147,9 +134,10 @@ begun_store task address n value line h = event.BegunStore task address n value 
 pub legal_hit : (header : Header) (maps : Mapped) (table : Table) (task : TaskId) (address n line : ℕ) (entry : Entry) (bytes : List ℕ) (h : List Event)
     → Kept header maps table h → Leads header maps table task.0 address entry → held table entry.region.0 (page_at header.size address entry) ≡ Some bytes
     → refusal header h (command.Load task address n) ≡ None
+    → Prompt header (event.Loaded task (record { 0 = entry.region.0 }) (record { 0 = page_at header.size address entry }) (number_in bytes header.size address n) ∷ begun_load task address n line h)
     → KeepsLegal header (record { line = line; command = command.Load task address n }) h
     (event.Loaded task (record { 0 = entry.region.0 }) (record { 0 = page_at header.size address entry }) (number_in bytes header.size address n) ∷ begun_load task address n line h)
-legal_hit header maps table task address n line entry bytes h k leads here fine run legal =
+legal_hit header maps table task address n line entry bytes h k leads here fine last run legal =
     let r = entry.region.0 in
     let p = page_at header.size address entry in
     let past = begun_load task address n line h in
@@ -164,17 +152,20 @@ legal_hit header maps table task address n line entry bytes h k leads here fine 
       flat_bytes = ((address, n, it, ap (λ z. number_in z header.size address n) (sym flat)), (tt, (tt, legal.flat_bytes)));
       frames = (now, (now, (now, legal.frames)));
       prompt = (legal.prompt_at_end, legal.prompt);
-      prompt_at_end = λ t. wait_over (task.0 == t) (Some (Loading address n)) (waiting t h) (legal.prompt_at_end t);
+      prompt_at_end = last;
     }
 
 -- a load from a page that comes now
 pub legal_miss : (header : Header) (maps : Mapped) (table : Table) (task : TaskId) (address n line : ℕ) (entry : Entry) (h : List Event)
     → Kept header maps table h → HasFrames header (room_all table) → Leads header maps table task.0 address entry → held table entry.region.0 (page_at header.size address entry) ≡ None
     → refusal header h (command.Load task address n) ≡ None
+    → Prompt header
+    (event.Loaded task (record { 0 = entry.region.0 }) (record { 0 = page_at header.size address entry }) (number_in (replicate header.size 0) header.size address n)
+    ∷ event.Zeroed the_host (record { 0 = entry.region.0 }) (record { 0 = page_at header.size address entry }) ∷ begun_load task address n line h)
     → KeepsLegal header (record { line = line; command = command.Load task address n }) h
     (event.Loaded task (record { 0 = entry.region.0 }) (record { 0 = page_at header.size address entry }) (number_in (replicate header.size 0) header.size address n)
     ∷ event.Zeroed the_host (record { 0 = entry.region.0 }) (record { 0 = page_at header.size address entry }) ∷ begun_load task address n line h)
-legal_miss header maps table task address n line entry h k has leads absent fine run legal =
+legal_miss header maps table task address n line entry h k has leads absent fine last run legal =
     let r = entry.region.0 in
     let p = page_at header.size address entry in
     let past = begun_load task address n line h in
@@ -214,7 +205,7 @@ legal_miss header maps table task address n line entry h k has leads absent fine
       flat_bytes = ((address, n, after, ap (λ z. number_in z header.size address n) (sym flat)), (tt, (tt, (tt, legal.flat_bytes))));
       frames = (more, (more, (now, (now, legal.frames))));
       prompt = (legal.prompt_at_end, legal.prompt);
-      prompt_at_end = λ t. wait_over (task.0 == t) (Some (Loading address n)) (waiting t h) (legal.prompt_at_end t);
+      prompt_at_end = last;
     }
 
 abbrev pub stored : Header → TaskId → ℕ → ℕ → ℕ → Entry → Event
@@ -224,37 +215,39 @@ stored header task address n value entry = event.Stored task (record { 0 = entry
 pub legal_store : (header : Header) (maps : Mapped) (table : Table) (task : TaskId) (address n value line : ℕ) (entry : Entry) (bytes : List ℕ) (h : List Event)
     → Kept header maps table h → Leads header maps table task.0 address entry → held table entry.region.0 (page_at header.size address entry) ≡ Some bytes
     → refusal header h (command.Store task address n value) ≡ None
+    → Prompt header (stored header task address n value entry ∷ begun_store task address n value line h)
     → KeepsLegal header (record { line = line; command = command.Store task address n value }) h (stored header task address n value entry ∷ begun_store task address n value line h)
-legal_store header maps table task address n value line entry bytes h k leads here fine run legal =
+legal_store header maps table task address n value line entry bytes h k leads here fine last run legal =
     let r = entry.region.0 in
     let p = page_at header.size address entry in
     let past = begun_store task address n value line h in
-    let last : Event = stored header task address n value entry in
+    let ending : Event = stored header task address n value entry in
     let now = moment_now (FramesSuffice header) h legal.frames in
     let shown : IsShown (local header.size 0 (place_of r p) h) (Some bytes) = subst (IsShown (local header.size 0 (place_of r p) h)) here (k.pages r p) in
     let it = it_waits header.size task.0 (Storing address n value) past entry (begun_waits task.0 (Storing address n value) (waiting task.0 h)) (home header maps table h task.0 address entry k leads) (through header maps table h task.0 address entry k leads) in
     record {
-      follows = (h, last ∷ event.BegunStore task address n value ∷ [], refl, rw fine (last ∷ [], refl, ((address, it, is_top r p past (k.tops r leads.region), shown.0, refl), tt)), legal.follows);
+      follows = (h, ending ∷ event.BegunStore task address n value ∷ [], refl, rw fine (ending ∷ [], refl, ((address, it, is_top r p past (k.tops r leads.region), shown.0, refl), tt)), legal.follows);
       own_bytes = ((address, it, record { here = shown.0; unlocked = shown.2 }, refl), (tt, (tt, legal.own_bytes)));
       flat_bytes = (tt, (tt, (tt, legal.flat_bytes)));
       frames = (now, (now, (now, legal.frames)));
       prompt = (legal.prompt_at_end, legal.prompt);
-      prompt_at_end = λ t. wait_over (task.0 == t) (Some (Storing address n value)) (waiting t h) (legal.prompt_at_end t);
+      prompt_at_end = last;
     }
 
 -- a store into a page that comes now
 pub legal_store_miss : (header : Header) (maps : Mapped) (table : Table) (task : TaskId) (address n value line : ℕ) (entry : Entry) (h : List Event)
     → Kept header maps table h → HasFrames header (room_all table) → Leads header maps table task.0 address entry → held table entry.region.0 (page_at header.size address entry) ≡ None
     → refusal header h (command.Store task address n value) ≡ None
+    → Prompt header (stored header task address n value entry ∷ event.Zeroed the_host (record { 0 = entry.region.0 }) (record { 0 = page_at header.size address entry }) ∷ begun_store task address n value line h)
     → KeepsLegal header (record { line = line; command = command.Store task address n value }) h
     (stored header task address n value entry ∷ event.Zeroed the_host (record { 0 = entry.region.0 }) (record { 0 = page_at header.size address entry }) ∷ begun_store task address n value line h)
-legal_store_miss header maps table task address n value line entry h k has leads absent fine run legal =
+legal_store_miss header maps table task address n value line entry h k has leads absent fine last run legal =
     let r = entry.region.0 in
     let p = page_at header.size address entry in
     let past = begun_store task address n value line h in
     let zeros : List ℕ = replicate header.size 0 in
     let zeroed : Event = event.Zeroed the_host (record { 0 = r }) (record { 0 = p }) in
-    let last : Event = stored header task address n value entry in
+    let ending : Event = stored header task address n value entry in
     let now = moment_now (FramesSuffice header) h legal.frames in
     let missing : IsShown (local header.size 0 (place_of r p) h) None = subst (IsShown (local header.size 0 (place_of r p) h)) absent (k.pages r p) in
     let k2 = kept_zeroed header maps table past r p k leads.region leads.page absent in
@@ -271,10 +264,10 @@ legal_store_miss header maps table task address n value line entry h k has leads
     record {
       follows = (
         h,
-        last ∷ zeroed ∷ event.BegunStore task address n value ∷ [],
+        ending ∷ zeroed ∷ event.BegunStore task address n value ∷ [],
         refl,
         rw fine (
-          last ∷ zeroed ∷ [],
+          ending ∷ zeroed ∷ [],
           refl,
           (
             (address, after, is_top r p (zeroed ∷ past) (k.tops r leads.region), shown.0, refl),
@@ -287,5 +280,5 @@ legal_store_miss header maps table task address n value line entry h k has leads
       flat_bytes = (tt, (tt, (tt, (tt, legal.flat_bytes))));
       frames = (more, (more, (now, (now, legal.frames))));
       prompt = (legal.prompt_at_end, legal.prompt);
-      prompt_at_end = λ t. wait_over (task.0 == t) (Some (Storing address n value)) (waiting t h) (legal.prompt_at_end t);
+      prompt_at_end = last;
     }

@@ -11,14 +11,14 @@ use Rattle.vm_model.specs.declared.event.Event.{Event}
 use Rattle.vm_model.specs.declared.event.Event.TheVariants as event
 use Rattle.vm_model.specs.declared.script.Header.{Header}
 use Rattle.vm_model.specs.Flat.{flat_page}
-use Rattle.vm_model.specs.Local.{local, moved, Zeroes, Stores, Elsewhere}
+use Rattle.vm_model.specs.Local.{local, moved, Zeroes, Stores, Drops, Elsewhere}
 use Rattle.vm_model.specs.Waiting.{waiting, Storing}
 use Rattle.vm_model.specs.Rows.{AllRows, found_row, page_below, rows_entered, rows_known, rows_map}
 use Rattle.vm_model.specs.Tasks.{entries_of, has_entry, host_of}
 use Rattle.vm_maps.specs.Maps.{Mapped, ChangesOnly, entries_in, rows_in}
 use Rattle.vm_top.specs.Pages.{Table, held, pages_of, put_in}
 use Rattle.vm_top.specs.Runner.{AllInside, IsInside, IsShown, IsSized, IsUsed, Kept, host_for, or_zeros, place_of, the_host, whole_entry}
-use Rattle.vm_top.proofs.Tables.{count_added, count_put_more, count_put_other, each_held, held_added, length_added, length_put, none_past, pages_added, pages_kept, pages_put, with_region}
+use Rattle.vm_top.proofs.Tables.{count_added, count_put_less, count_put_more, count_put_other, each_held, held_added, length_added, length_put, none_past, pages_added, pages_kept, pages_put, with_region}
 
 -- entries lie within their regions still
 pub inside_put : (size : ℕ) (table : Table) (r p : ℕ) (x : Option (List ℕ)) (rows : List Entry) → r < length table → AllInside size table rows → AllInside size (put_in table r p x) rows
@@ -81,6 +81,27 @@ kept_zeroed header maps table h r p k inside within absent =
           (refl, refl, refl) (λ r2 p2. k.pages r2 p2);
       sized = each_held table r p zeros inside within (λ r2 p2 b page. IsSized header.size page) (length-replicate header.size 0) (λ r2 p2. k.sized r2 p2);
       used = ap (λ z. z + 1) k.used ∙ sym (count_put_more table r p (replicate header.size 0) inside within absent);
+    }
+
+-- a page of a region without entries goes
+pub kept_dropped : (header : Header) (maps : Mapped) (table : Table) (h : List Event) (r p : ℕ) (bytes : List ℕ) → Kept header maps table h → r < length table → p < pages_of table r → held table r p ≡ Some bytes → (IsUsed r maps → ⊥)
+    → Kept header maps (put_in table r p None) (event.Dropped the_host (record { 0 = r }) (record { 0 = p }) ∷ h)
+kept_dropped header maps table h r p bytes k inside within here unused =
+    let same : length (put_in table r p None) ≡ length table = length_put table r p None in
+    record {
+      size = k.size;
+      hosts = k.hosts;
+      rows = k.rows;
+      inside = λ task. inside_put header.size table r p None (rows_in task maps) inside (k.inside task);
+      regions = k.regions ∙ sym same;
+      objects = k.objects ∙ sym same;
+      tops = λ region less. k.tops region (omega arith);
+      flat = each_held table r p None inside within (λ r2 p2 b page. r2 < length (put_in table r p None) → IsUsed r2 maps → flat_page header.size r2 p2 h ≡ or_zeros header.size page)
+          (λ less used. absurd (unused used)) (λ r2 p2 less used. k.flat r2 p2 (omega arith) used);
+      pages = each_held table r p None inside within (λ r2 p2 b page. IsShown (moved header.size (if b then Drops else Elsewhere) (local header.size 0 (place_of r2 p2) h)) page)
+          refl (λ r2 p2. k.pages r2 p2);
+      sized = each_held table r p None inside within (λ r2 p2 b page. IsSized header.size page) tt (λ r2 p2. k.sized r2 p2);
+      used = let less = count_put_less table r p bytes here in let was = k.used in omega arith;
     }
 
 -- bytes put into a page leave its length
@@ -212,3 +233,28 @@ kept_range header maps new table h task address bytes k changes lives whole some
       sized = λ region page. rw (held_added table n region page) (k.sized region page);
       used = k.used ∙ sym (count_added table n);
     }
+
+-- a task ends
+pub kept_ended : (header : Header) (maps new : Mapped) (table : Table) (h : List Event) (task : TaskId) → Kept header maps table h → ChangesOnly maps new task.0 None → Kept header new table (event.TaskEnded task ∷ h)
+kept_ended header maps new table h task k changes = record {
+  size = changes.size ∙ k.size;
+  hosts = λ t. elim (eqb_tells task.0 t) [
+    | inl same ↦ rw (same.0, ← same.1, changes.changed) refl
+    | inr apart ↦ rw (apart.0, changes.others t (λ e. apart.1 (sym e))) (k.hosts t)
+  ];
+  rows = λ t. elim (eqb_tells task.0 t) [
+    | inl same ↦ rw (same.0, ← same.1, changes.changed) refl
+    | inr apart ↦ rw (apart.0, changes.others t (λ e. apart.1 (sym e))) (k.rows t)
+  ];
+  inside = λ t. elim (eqb_tells task.0 t) [
+    | inl same ↦ rw (← same.1, changes.changed) tt
+    | inr apart ↦ rw (changes.others t (λ e. apart.1 (sym e))) (k.inside t)
+  ];
+  regions = k.regions;
+  objects = k.objects;
+  tops = k.tops;
+  flat = λ region page less used. k.flat region page less (used_before maps new task.0 region None changes (λ has. absurd (let bad : false ≡ true = has in cc)) used);
+  pages = k.pages;
+  sized = k.sized;
+  used = k.used;
+}

@@ -1,6 +1,10 @@
+pub mod Counting
+pub mod Dropping
+pub mod Endings
 pub mod Ends
 pub mod Grants
 pub mod Kepts
+pub mod Prompts
 pub mod Quiet
 pub mod Refusals
 pub mod Rewriting

@@ -1,5 +1,5 @@
 -- Events that begin and end no access, and bring no page: groups of them keep a history legal.
-use Rattle.std.proofs.Common.{◌≡◌, ℕ, ◌+◌, ◌≤◌, List, [], ◌∷◌, ◌++◌, reverse, refl, sym, ◌∙◌, arith, append_assoc, Some, None, Option}
+use Rattle.std.proofs.Common.{◌≡◌, ℕ, ◌+◌, ◌≤◌, List, [], ◌∷◌, ◌++◌, reverse, refl, sym, ◌∙◌, subst, arith, append_assoc, Some, None, Option}
 use Rattle.std.specs.Prelude.{slice_get, IfSome}
 use Rattle.vm_model.specs.declared.event.Event.{Event}
 use Rattle.vm_model.specs.declared.event.Event.TheVariants as event
@@ -17,13 +17,14 @@ use Rattle.vm_top.specs.Pages.{room_all}
 use Rattle.vm_top.specs.Runner.{Agrees, IsBelowLimit, KeepsLegal, Stepped, pages_asked}
 use Rattle.vm_top.specs.declared.runner.Runner.{Runner}
 use Rattle.vm_top.proofs.Grants.{moment_now}
+use Rattle.vm_top.proofs.Prompts.{prompt_of}
 
 pub record Quiet (header : Header) (e : Event) : Type 0 where
   pub own : (past : List Event) → OwnBytes header e past
   pub flat : (past : List Event) → FlatBytes header e past
   pub waits : (task : ℕ) (past : List Event) → waiting task past ≡ None → waiting task (e ∷ past) ≡ None
   pub frames : (host : ℕ) (past : List Event) → frames_used host (e ∷ past) ≤ frames_used host past
-  pub prompt : (past : List Event) → BeforeSteps Prompt past → BeforeSteps Prompt (e ∷ past)
+  pub prompt : (past : List Event) → BeforeSteps (Prompt header) past → BeforeSteps (Prompt header) (e ∷ past)
   pub limit : (past : List Event) → IsBelowLimit past → IsBelowLimit (e ∷ past)
   pub front : (past : List Event) → before_last_line (e ∷ past) ≡ before_last_line past
 
@@ -54,7 +55,7 @@ pub all_waits : (header : Header) (group past : List Event) (task : ℕ) → All
 all_waits header [] past task quiet none = none
 all_waits header (e ∷ group) past task quiet none = quiet.0.waits task (group ++ past) (all_waits header group past task quiet.1 none)
 
-all_prompt : (header : Header) (group past : List Event) → AllQuiet header group → BeforeSteps Prompt past → BeforeSteps Prompt (group ++ past)
+all_prompt : (header : Header) (group past : List Event) → AllQuiet header group → BeforeSteps (Prompt header) past → BeforeSteps (Prompt header) (group ++ past)
 all_prompt header [] past quiet before = before
 all_prompt header (e ∷ group) past quiet before = quiet.0.prompt (group ++ past) (all_prompt header group past quiet.1 before)
 
@@ -68,8 +69,9 @@ all_front header (e ∷ group) past quiet = quiet.0.front (group ++ past) ∙ al
 
 -- a command's head and what follows from it, all quiet
 pub legal_quiet : (header : Header) (c : Numbered) (h first more : List Event) → refusal header h c.command ≡ None → head header h c.command ≡ Some first
-    → AllQuiet header (more ++ reverse first) → AllLicensed header more (reverse first ++ event.Line c.line ∷ h) → KeepsLegal header c h ((more ++ reverse first) ++ event.Line c.line ∷ h)
-legal_quiet header c h first more fine is quiet licensed run legal =
+    → AllQuiet header (more ++ reverse first) → AllLicensed header more (reverse first ++ event.Line c.line ∷ h)
+    → Prompt header ((more ++ reverse first) ++ event.Line c.line ∷ h) → KeepsLegal header c h ((more ++ reverse first) ++ event.Line c.line ∷ h)
+legal_quiet header c h first more fine is quiet licensed last run legal =
     let now = moment_now (FramesSuffice header) h legal.frames in
     let group = more ++ reverse first in
     let past = event.Line c.line ∷ h in
@@ -79,7 +81,7 @@ legal_quiet header c h first more fine is quiet licensed run legal =
       flat_bytes = all_flat header group past quiet (tt, legal.flat_bytes);
       frames = all_frames header group past quiet (now, legal.frames);
       prompt = all_prompt header group past quiet (legal.prompt_at_end, legal.prompt);
-      prompt_at_end = λ t. all_waits header group past t quiet (legal.prompt_at_end t);
+      prompt_at_end = last;
     }
 
 pub stepped_quiet : (header : Header) (numbered : Numbered) (old new : Runner) (first more : List Event) → refusal header old.history.items numbered.command ≡ None → head header old.history.items numbered.command ≡ Some first
@@ -91,7 +93,7 @@ stepped_quiet header numbered old new first more fine is quiet licensed history 
     let past = event.Line numbered.line ∷ old.history.items in
     record {
       agrees = agrees;
-      legal = rw history (legal_quiet header numbered old.history.items first more fine is quiet licensed);
+      legal = rw history (legal_quiet header numbered old.history.items first more fine is quiet licensed (subst (Prompt header) history (prompt_of header new agrees)));
       step = record { more = group ++ event.Line numbered.line ∷ []; longer = history ∙ sym (append_assoc group (event.Line numbered.line ∷ []) old.history.items); front = rw history (all_front header group past quiet) };
       limit = λ less below. rw history (all_limit header group past quiet (less, below));
       room = room;

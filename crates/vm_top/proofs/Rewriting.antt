@@ -1,5 +1,5 @@
 -- Changes of a task's entries: why they are refused, and what they keep.
-use Rattle.std.proofs.Common.{◌≡◌, ℕ, ◌==◌, ◌&&◌, ◌||◌, Bool, true, false, not, List, [], ◌∷◌, refl, ap, sym, ◌∙◌, subst, arith, Some, None, Option, inl, inr}
+use Rattle.std.proofs.Common.{◌≡◌, ℕ, ◌≤◌, ◌^◌, ◌+◌, ◌==◌, ◌&&◌, ◌||◌, Bool, true, false, not, List, [], ◌∷◌, refl, ap, sym, ◌∙◌, subst, arith, Some, None, Option, inl, inr}
 use Rattle.std.proofs.lemmas.Bool.Decides.{eqb_tells, nat_tests}
 use Rattle.std.specs.Prelude.{if◌then◌else◌, unwrap_or, is_none, nat_lt, IsSome}
 use Rattle.vm_base.specs.declared.code.Code.TheVariants as code
@@ -7,7 +7,7 @@ use Rattle.vm_base.specs.declared.entry.Entry.{Entry}
 use Rattle.vm_base.specs.declared.ids.Inherit.{Inherit}
 use Rattle.vm_base.specs.declared.ids.Prot.{Prot}
 use Rattle.vm_base.specs.declared.ids.TaskId.{TaskId}
-use Rattle.vm_base.specs.Entries.{inherited, is_mapped, is_range, protected}
+use Rattle.vm_base.specs.Entries.{inherited, is_mapped, is_range, protected, removed}
 use Rattle.vm_model.specs.declared.event.Event.{Event}
 use Rattle.vm_model.specs.declared.event.Event.TheVariants as event
 use Rattle.vm_model.specs.declared.command.Command.TheVariants as command
@@ -22,10 +22,11 @@ use Rattle.vm_model.specs.Tasks.{entries_of, has_entry, host_of, is_copied}
 use Rattle.vm_maps.specs.declared.change.MapChange.{MapChange}
 use Rattle.vm_maps.specs.Judge.{judged}
 use Rattle.vm_maps.specs.Maps.{ChangesOnly, Mapped, entries_in, rows_in}
-use Rattle.vm_top.specs.Changes.{change_code, inheritance, protection}
+use Rattle.vm_top.specs.Changes.{change_code, exit_code, inheritance, protection, removal}
 use Rattle.vm_top.specs.Pages.{Table, pages_of}
 use Rattle.vm_top.specs.Runner.{Agrees, IsInside, IsKept, Kept, Stepped, host_for, place_of}
 use Rattle.vm_top.specs.declared.runner.Runner.{Runner}
+use Rattle.vm_top.proofs.Counting.{on_rewritten, uses_changed}
 use Rattle.vm_top.proofs.Kepts.{among, used_before}
 use Rattle.vm_top.proofs.Quiet.{Quiet, stepped_quiet}
 
@@ -65,6 +66,25 @@ inherit_code header runner task address bytes inherit a =
         (where_true (are_many (inherited size address bytes inherit (unwrap_or o []))) code.TableFull None)))
     go size None = refl
     go size (Some rows) = rw (none_declared address bytes rows, nothing_more (not (is_range size address bytes)) (is_copied inherit)) refl
+
+pub removal_code : (header : Header) (runner : Runner) (task : TaskId) (address bytes : ℕ) → Agrees header runner
+    → change_code runner.maps.size (removal address bytes) (entries_in task.0 runner.maps) ≡ refusal header runner.history.items (command.Deallocate task address bytes)
+removal_code header runner task address bytes a =
+    rw (a.kept.hosts task.0, a.none task.0, a.kept.rows task.0, a.kept.size) (go header.size (entries_in task.0 runner.maps))
+  where
+    go : (size : ℕ) (o : Option (List Entry)) → change_code size (removal address bytes) o
+        ≡ where_true (is_none (host_for o)) code.NoSuchName
+        (where_true (not (is_range size address bytes)) code.InvalidArgument
+        (where_true (are_many (removed size address bytes (unwrap_or o []))) code.TableFull None))
+    go size None = refl
+    go size (Some rows) = refl
+
+pub end_code : (header : Header) (runner : Runner) (task : TaskId) → Agrees header runner → exit_code (entries_in task.0 runner.maps) ≡ refusal header runner.history.items (command.Exit task)
+end_code header runner task a = rw (a.kept.hosts task.0, a.none task.0) (go (entries_in task.0 runner.maps))
+  where
+    go : (o : Option (List Entry)) → exit_code o ≡ where_true (is_none (host_for o)) code.NoSuchName None
+    go None = refl
+    go (Some rows) = refl
 
 -- a change that isn't refused is of a living task, and its maps allow it
 pub record MayChange (maps : Mapped) (task : ℕ) (change : MapChange) : Type 0 where
@@ -138,25 +158,29 @@ quiet_inherited : (header : Header) (task : TaskId) (address bytes : ℕ) (inher
 quiet_inherited header task address bytes inherit = record { own = λ past. tt; flat = λ past. tt; waits = λ t past none. none; frames = λ host past. omega arith; prompt = λ past before. before; limit = λ past before. before; front = λ past. refl }
 
 pub stepped_protect : (header : Header) (task : TaskId) (address bytes : ℕ) (prot : Prot) (line : ℕ) (old new : Runner) → Agrees header old → refusal header old.history.items (command.Protect task address bytes prot) ≡ None
-    → ChangesOnly old.maps new.maps task.0 (Some (protected old.maps.size address bytes prot (rows_in task.0 old.maps))) → new.pages ≡ old.pages
+    → ChangesOnly old.maps new.maps task.0 (Some (protected old.maps.size address bytes prot (rows_in task.0 old.maps))) → new.pages ≡ old.pages → new.uses ≡ old.uses
     → new.history.items ≡ event.Protected task address bytes prot ∷ event.Line line ∷ old.history.items → Stepped header (record { line = line; command = command.Protect task address bytes prot }) old new
-stepped_protect header task address bytes prot line old new a fine changes pages history =
+stepped_protect header task address bytes prot line old new a fine changes pages uses history =
     let may = may_change old.maps task.0 (protection address bytes prot) (protect_code header old task address bytes prot a ∙ fine) in
     let rows = rows_in task.0 old.maps in
     let known = rows_known (IsInside header.size old.pages) rows (a.kept.inside task.0) in
     let all = rows_rewritten header.size (λ row. IsInside header.size old.pages row × (has_entry row.region.0 rows ≡ true)) (λ row. record row { prot = prot } ∷ []) (old_parts header old.pages rows) (with_prot header old.pages rows prot) address bytes rows known in
     let kept = kept_rewritten header old.maps new.maps old.pages (event.Line line ∷ old.history.items) task.0 (protected header.size address bytes prot) a.kept (subst (λ (z : ℕ). ChangesOnly old.maps new.maps task.0 (Some (protected z address bytes prot rows))) a.kept.size changes) may.lives all in
+    let same = λ (r : ℕ). on_rewritten r header.size address bytes (λ row. record row { prot = prot } ∷ []) rows (λ row. refl) (rows_map (IsInside header.size old.pages) (λ row. row.address + row.bytes ≤ 2 ^ 32) (λ row is. is.below) rows (a.kept.inside task.0)) in
+    let counts = uses_changed old.maps new.maps old.pages old.uses task.0 (Some (protected header.size address bytes prot rows)) [] a.uses (subst (λ (z : ℕ). ChangesOnly old.maps new.maps task.0 (Some (protected z address bytes prot rows))) a.kept.size changes) may.lives (λ r. omega (arith, same r)) in
     stepped_quiet header (record { line = line; command = command.Protect task address bytes prot }) old new (event.Protected task address bytes prot ∷ []) [] fine refl (quiet_protected header task address bytes prot, tt) tt history
-    (record { plain = a.plain; kept = rw (pages, history) kept; none = rw history a.none; enough = rw pages a.enough }) (rw pages (omega arith))
+    (record { plain = a.plain; kept = rw (pages, history) kept; none = rw history a.none; enough = rw pages a.enough; uses = rw (pages, uses) counts }) (rw pages (omega arith))
 
 pub stepped_inherit : (header : Header) (task : TaskId) (address bytes : ℕ) (inherit : Inherit) (line : ℕ) (old new : Runner) → Agrees header old → refusal header old.history.items (command.Inherit task address bytes inherit) ≡ None
-    → ChangesOnly old.maps new.maps task.0 (Some (inherited old.maps.size address bytes inherit (rows_in task.0 old.maps))) → new.pages ≡ old.pages
+    → ChangesOnly old.maps new.maps task.0 (Some (inherited old.maps.size address bytes inherit (rows_in task.0 old.maps))) → new.pages ≡ old.pages → new.uses ≡ old.uses
     → new.history.items ≡ event.Inherited task address bytes inherit ∷ event.Line line ∷ old.history.items → Stepped header (record { line = line; command = command.Inherit task address bytes inherit }) old new
-stepped_inherit header task address bytes inherit line old new a fine changes pages history =
+stepped_inherit header task address bytes inherit line old new a fine changes pages uses history =
     let may = may_change old.maps task.0 (inheritance address bytes inherit) (inherit_code header old task address bytes inherit a ∙ fine) in
     let rows = rows_in task.0 old.maps in
     let known = rows_known (IsInside header.size old.pages) rows (a.kept.inside task.0) in
     let all = rows_rewritten header.size (λ row. IsInside header.size old.pages row × (has_entry row.region.0 rows ≡ true)) (λ row. record row { inherit = inherit } ∷ []) (old_parts header old.pages rows) (with_inherit header old.pages rows inherit) address bytes rows known in
     let kept = kept_rewritten header old.maps new.maps old.pages (event.Line line ∷ old.history.items) task.0 (inherited header.size address bytes inherit) a.kept (subst (λ (z : ℕ). ChangesOnly old.maps new.maps task.0 (Some (inherited z address bytes inherit rows))) a.kept.size changes) may.lives all in
+    let same = λ (r : ℕ). on_rewritten r header.size address bytes (λ row. record row { inherit = inherit } ∷ []) rows (λ row. refl) (rows_map (IsInside header.size old.pages) (λ row. row.address + row.bytes ≤ 2 ^ 32) (λ row is. is.below) rows (a.kept.inside task.0)) in
+    let counts = uses_changed old.maps new.maps old.pages old.uses task.0 (Some (inherited header.size address bytes inherit rows)) [] a.uses (subst (λ (z : ℕ). ChangesOnly old.maps new.maps task.0 (Some (inherited z address bytes inherit rows))) a.kept.size changes) may.lives (λ r. omega (arith, same r)) in
     stepped_quiet header (record { line = line; command = command.Inherit task address bytes inherit }) old new (event.Inherited task address bytes inherit ∷ []) [] fine refl (quiet_inherited header task address bytes inherit, tt) tt history
-    (record { plain = a.plain; kept = rw (pages, history) kept; none = rw history a.none; enough = rw pages a.enough }) (rw pages (omega arith))
+    (record { plain = a.plain; kept = rw (pages, history) kept; none = rw history a.none; enough = rw pages a.enough; uses = rw (pages, uses) counts }) (rw pages (omega arith))

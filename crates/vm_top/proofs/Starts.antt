@@ -25,6 +25,8 @@ use Rattle.vm_top.specs.declared.run.RunEnd.TheVariants as ends
 use Rattle.vm_top.specs.declared.runner.Runner.{Runner}
 use Rattle.vm_top.specs.declared.words.Report.{Report}
 use Rattle.vm_top.specs.declared.words.Report.TheVariants as reports
+use Rattle.vm_top.specs.Uses.{AreUses, most_tasks}
+use Rattle.vm_top.proofs.Counting.{by_none}
 use Rattle.vm_top.proofs.Writings.{start_all}
 
 -- a run begins with nothing
@@ -43,12 +45,16 @@ kept_start header plain = record {
   used = refl;
 }
 
-pub agrees_start : (header : Header) (runner : Runner) → IsPlain header → runner.maps ≡ record { size = header.size; tasks = [] } → runner.pages ≡ [] → runner.history.items ≡ [] → Agrees header runner
-agrees_start header runner plain maps pages history = record {
+uses_start : (size : ℕ) → AreUses (record { size = size; tasks = [] }) [] [] []
+uses_start size = record { count = refl; tasks = most_tasks; most = refl; none = λ task le. refl; sums = λ region. sym (by_none most_tasks region (record { size = size; tasks = [] }) (λ task. refl)); swept = λ region page nothing. refl }
+
+pub agrees_start : (header : Header) (runner : Runner) → IsPlain header → runner.maps ≡ record { size = header.size; tasks = [] } → runner.pages ≡ [] → runner.uses ≡ [] → runner.history.items ≡ [] → Agrees header runner
+agrees_start header runner plain maps pages uses history = record {
   plain = plain;
   kept = rw (maps, pages, history) (kept_start header plain);
   none = rw history (λ task. refl);
   enough = (plain.frames, plain.hosts, rw pages (omega arith));
+  uses = rw (maps, pages, uses) (uses_start header.size);
 }
 
 some_frames : (frames : Option ℕ) → IfSome frames (λ count. 0 ≤ count)
@@ -62,7 +68,7 @@ legal_start header = record {
   flat_bytes = tt;
   frames = λ host. some_frames (slice_get (reverse header.frames.items) host);
   prompt = tt;
-  prompt_at_end = λ task. refl;
+  prompt_at_end = record { none = λ task. refl; swept = λ host object page below temporary away. refl };
 }
 
 drop_whole : {A : Type 0} (items : List A) → drop (length items) items ≡ []
@@ -92,6 +98,8 @@ built_of header (command.Task task host) plain range built =
     let first : host.0 ≡ 0 = let less = range.1 in omega arith in
     (range.0, ap (λ n. record { 0 = n }) first)
 built_of header (command.Allocate task address bytes) plain range built = (range.task, range.address, range.bytes)
+built_of header (command.Exit task) plain range built = range
+built_of header (command.Deallocate task address bytes) plain range built = (range.task, range.address, range.bytes)
 built_of header (command.Protect task address bytes prot) plain range built = (range.task, range.address, range.bytes)
 built_of header (command.Inherit task address bytes inherit) plain range built = (range.task, range.address, range.bytes)
 built_of header (command.Load task address size) plain range built = (range.task, range.address, range.size)

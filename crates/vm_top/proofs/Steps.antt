@@ -1,5 +1,5 @@
 -- A command's step was made, by what each part of the runner is then.
-use Rattle.std.proofs.Common.{◌≡◌, ℕ, ◌+◌, ◌-◌, ◌/◌, ◌%◌, ◌^◌, ◌<◌, ◌≤◌, ◌==◌, ◌||◌, nat_lt, nat_le, not, Bool, true, false, List, [], ◌∷◌, length, replicate, slice_range, refl, sym, ◌∙◌, subst, arith, Some, None, Option}
+use Rattle.std.proofs.Common.{◌≡◌, ℕ, ◌+◌, ◌-◌, ◌/◌, ◌%◌, ◌^◌, ◌<◌, ◌≤◌, ◌==◌, ◌||◌, nat_lt, nat_le, not, Bool, true, false, List, [], ◌∷◌, ◌++◌, length, replicate, slice_range, refl, sym, ◌∙◌, subst, arith, Some, None, Option}
 use Rattle.std.proofs.lemmas.Bool.Decides.{nat_tests}
 use Rattle.std.proofs.Math.Nat.{div-mul-le_self}
 use Rattle.std.proofs.lemmas.Nat.{le-div}
@@ -19,6 +19,7 @@ use Rattle.vm_model.specs.declared.command.Command.{Command}
 use Rattle.vm_model.specs.declared.command.Command.TheVariants as command
 use Rattle.vm_model.specs.declared.command.Numbered.{Numbered}
 use Rattle.vm_model.specs.declared.script.Header.{Header}
+use Rattle.vm_model.specs.Prompt.{Prompt}
 use Rattle.vm_model.specs.Refusal.{refusal, where_true}
 use Rattle.vm_model.specs.Waiting.{Loading, Storing, waiting}
 use Rattle.vm_maps.specs.declared.place.Place.{Place}
@@ -27,9 +28,12 @@ use Rattle.vm_top.specs.Pages.{held, put_in, room_all}
 use Rattle.vm_top.specs.Refusing.{LeadsTo, range_code}
 use Rattle.vm_top.specs.Runner.{Agrees, HasFrames, IsBuilt, IsChange, Stepped, pages_asked, the_host, whole_entry}
 use Rattle.vm_top.specs.declared.runner.Runner.{Runner}
-use Rattle.vm_top.proofs.Grants.{Leads, begun_load, begun_store, itself, legal_hit, legal_miss, legal_range, legal_refused, legal_store, legal_store_miss, legal_task, none_anew, ranged, wait_over}
-use Rattle.vm_top.proofs.Kepts.{kept_range, kept_stored, kept_task, kept_zeroed}
-use Rattle.vm_top.proofs.Refusals.{allocate_code}
+use Rattle.vm_top.proofs.Grants.{Leads, begun_load, begun_store, itself, legal_hit, legal_miss, legal_range, legal_refused, legal_store, legal_store_miss, none_anew, ranged, wait_over}
+use Rattle.vm_top.proofs.Counting.{uses_put, uses_range, uses_task}
+use Rattle.vm_top.proofs.Kepts.{found_used, kept_range, kept_stored, kept_task, kept_zeroed}
+use Rattle.vm_top.proofs.Prompts.{prompt_of}
+use Rattle.vm_top.proofs.Quiet.{Quiet, stepped_quiet}
+use Rattle.vm_top.proofs.Refusals.{allocate_code, task_code}
 use Rattle.vm_top.proofs.Tables.{held_put, length_put, pages_put, put_twice, room_added, room_put, with_region}
 
 -- what follows where a call succeeds
@@ -39,14 +43,14 @@ on_ok (Err e) P Q f p = tt
 
 -- a command that is built and no access is on tasks and entries
 pub is_change : (c : Command) → IsBuilt c → ((task : TaskId) (address size : ℕ) → c ≢ command.Load task address size) → ((task : TaskId) (address size value : ℕ) → c ≢ command.Store task address size value) → IsChange c
-is_change (command.Task task host) built load store = built.1
+is_change (command.Task task host) built load store = built
 is_change (command.Allocate task address bytes) built load store = tt
 is_change (command.Load task address size) built load store = absurd (load task address size refl)
 is_change (command.Store task address size value) built load store = absurd (store task address size value refl)
 is_change (command.Fork task child) built load store = absurd built
-is_change (command.Exit task) built load store = absurd built
+is_change (command.Exit task) built load store = tt
 is_change (command.Map task address bytes object offset) built load store = absurd built
-is_change (command.Deallocate task address bytes) built load store = absurd built
+is_change (command.Deallocate task address bytes) built load store = tt
 is_change (command.Protect task address bytes prot) built load store = tt
 is_change (command.Inherit task address bytes inherit) built load store = tt
 is_change (command.Copy task address bytes target to) built load store = absurd built
@@ -62,27 +66,28 @@ is_change (command.Say host object message) built load store = absurd built
 
 -- all commands on tasks and entries were tried
 pub no_change : (c : Command) → IsChange c → ((task : TaskId) (host : HostId) → c ≢ command.Task task host) → ((task : TaskId) (address bytes : ℕ) → c ≢ command.Allocate task address bytes)
+    → ((task : TaskId) → c ≢ command.Exit task) → ((task : TaskId) (address bytes : ℕ) → c ≢ command.Deallocate task address bytes)
     → ((task : TaskId) (address bytes : ℕ) (prot : Prot) → c ≢ command.Protect task address bytes prot) → ((task : TaskId) (address bytes : ℕ) (inherit : Inherit) → c ≢ command.Inherit task address bytes inherit) → ⊥
-no_change (command.Task task host) change made range protect inherit = made task host refl
-no_change (command.Allocate task address bytes) change made range protect inherit = range task address bytes refl
-no_change (command.Load task address size) change made range protect inherit = change
-no_change (command.Store task address size value) change made range protect inherit = change
-no_change (command.Fork task child) change made range protect inherit = change
-no_change (command.Exit task) change made range protect inherit = change
-no_change (command.Map task address bytes object offset) change made range protect inherit = change
-no_change (command.Deallocate task address bytes) change made range protect inherit = change
-no_change (command.Protect task address bytes prot) change made range protect inherit = protect task address bytes prot refl
-no_change (command.Inherit task address bytes inheritance) change made range protect inherit = inherit task address bytes inheritance refl
-no_change (command.Copy task address bytes target to) change made range protect inherit = change
-no_change (command.Take channel) change made range protect inherit = change
-no_change (command.Settle count) change made range protect inherit = change
-no_change (command.Pageout host count) change made range protect inherit = change
-no_change (command.Clean object page count flush) change made range protect inherit = change
-no_change (command.Wire host count) change made range protect inherit = change
-no_change (command.Unwire host count) change made range protect inherit = change
-no_change (command.FailFiles count) change made range protect inherit = change
-no_change (command.FailPaging count) change made range protect inherit = change
-no_change (command.Say host object message) change made range protect inherit = change
+no_change (command.Task task host) change made range ended gone protect inherit = made task host refl
+no_change (command.Allocate task address bytes) change made range ended gone protect inherit = range task address bytes refl
+no_change (command.Load task address size) change made range ended gone protect inherit = change
+no_change (command.Store task address size value) change made range ended gone protect inherit = change
+no_change (command.Fork task child) change made range ended gone protect inherit = change
+no_change (command.Exit task) change made range ended gone protect inherit = ended task refl
+no_change (command.Map task address bytes object offset) change made range ended gone protect inherit = change
+no_change (command.Deallocate task address bytes) change made range ended gone protect inherit = gone task address bytes refl
+no_change (command.Protect task address bytes prot) change made range ended gone protect inherit = protect task address bytes prot refl
+no_change (command.Inherit task address bytes inheritance) change made range ended gone protect inherit = inherit task address bytes inheritance refl
+no_change (command.Copy task address bytes target to) change made range ended gone protect inherit = change
+no_change (command.Take channel) change made range ended gone protect inherit = change
+no_change (command.Settle count) change made range ended gone protect inherit = change
+no_change (command.Pageout host count) change made range ended gone protect inherit = change
+no_change (command.Clean object page count flush) change made range ended gone protect inherit = change
+no_change (command.Wire host count) change made range ended gone protect inherit = change
+no_change (command.Unwire host count) change made range ended gone protect inherit = change
+no_change (command.FailFiles count) change made range ended gone protect inherit = change
+no_change (command.FailPaging count) change made range ended gone protect inherit = change
+no_change (command.Say host object message) change made range ended gone protect inherit = change
 
 -- a command by its parts
 pub stepped_as : (header : Header) (numbered : Numbered) (c : Command) (old new : Runner) → numbered.command ≡ c → Stepped header (record { line = numbered.line; command = c }) old new → Stepped header numbered old new
@@ -91,25 +96,38 @@ stepped_as header numbered c old new is stepped =
     subst P (sym is) stepped
 
 pub stepped_refused : (header : Header) (numbered : Numbered) (why : Code) (old new : Runner) → Agrees header old → refusal header old.history.items numbered.command ≡ Some why
-    → new.maps ≡ old.maps → new.pages ≡ old.pages → new.history.items ≡ event.Refused why ∷ event.Line numbered.line ∷ old.history.items → Stepped header numbered old new
-stepped_refused header numbered why old new a refused maps pages history = record {
-  agrees = record { plain = a.plain; kept = rw (maps, pages, history) a.kept; none = rw history a.none; enough = rw pages a.enough };
-  legal = rw history (legal_refused header numbered why old.history.items refused);
-  step = record { more = event.Refused why ∷ event.Line numbered.line ∷ []; longer = history; front = rw history refl };
-  limit = λ less below. rw history (less, below);
-  room = rw pages (omega arith);
-}
+    → new.maps ≡ old.maps → new.pages ≡ old.pages → new.uses ≡ old.uses → new.history.items ≡ event.Refused why ∷ event.Line numbered.line ∷ old.history.items → Stepped header numbered old new
+stepped_refused header numbered why old new a refused maps pages uses history =
+    let agrees : Agrees header new = record { plain = a.plain; kept = rw (maps, pages, history) a.kept; none = rw history a.none; enough = rw pages a.enough; uses = rw (maps, pages, uses) a.uses } in
+    record {
+      agrees = agrees;
+      legal = rw history (legal_refused header numbered why old.history.items refused (subst (Prompt header) history (prompt_of header new agrees)));
+      step = record { more = event.Refused why ∷ event.Line numbered.line ∷ []; longer = history; front = rw history refl };
+      limit = λ less below. rw history (less, below);
+      room = rw pages (omega arith);
+    }
 
-pub stepped_task : (header : Header) (task : TaskId) (line : ℕ) (old new : Runner) → Agrees header old → refusal header old.history.items (command.Task task the_host) ≡ None
-    → ChangesOnly old.maps new.maps task.0 (Some []) → new.pages ≡ old.pages → new.history.items ≡ event.TaskMade task the_host ∷ event.Line line ∷ old.history.items
+free_task : (o : Option (List Entry)) → where_true (is_some o) code.NameTaken None ≡ None → o ≡ None
+free_task None fine = refl
+free_task (Some rows) fine = absurd (let bad : Some code.NameTaken ≡ None = fine in cc)
+
+quiet_made : (header : Header) (task : TaskId) (host : HostId) → Quiet header (event.TaskMade task host)
+quiet_made header task host = record { own = λ past. tt; flat = λ past. tt; waits = λ t past none. none_anew (task.0 == t) (waiting t past) none; frames = λ at past. omega arith; prompt = λ past before. before; limit = λ past before. before; front = λ past. refl }
+
+pub stepped_task : (header : Header) (task : TaskId) (line : ℕ) (old new : Runner) → Agrees header old → task.0 < 1024 → refusal header old.history.items (command.Task task the_host) ≡ None
+    → ChangesOnly old.maps new.maps task.0 (Some []) → new.pages ≡ old.pages → new.uses ≡ old.uses → new.history.items ≡ event.TaskMade task the_host ∷ event.Line line ∷ old.history.items
     → Stepped header (record { line = line; command = command.Task task the_host }) old new
-stepped_task header task line old new a fine changes pages history = record {
-  agrees = record { plain = a.plain; kept = rw (pages, history) (kept_task header old.maps new.maps old.pages (event.Line line ∷ old.history.items) task a.kept changes); none = rw history (λ t. none_anew (task.0 == t) (waiting t old.history.items) (a.none t)); enough = rw pages a.enough };
-  legal = rw history (legal_task header task line old.history.items fine);
-  step = record { more = event.TaskMade task the_host ∷ event.Line line ∷ []; longer = history; front = rw history refl };
-  limit = λ less below. rw history (less, below);
-  room = rw pages (omega arith);
-}
+stepped_task header task line old new a few fine changes pages uses history =
+    let free = free_task (entries_in task.0 old.maps) (sym (task_code header old task the_host a) ∙ fine) in
+    stepped_quiet header (record { line = line; command = command.Task task the_host }) old new (event.TaskMade task the_host ∷ []) [] fine refl (quiet_made header task the_host, tt) tt history
+    (record {
+      plain = a.plain;
+      kept = rw (pages, history) (kept_task header old.maps new.maps old.pages (event.Line line ∷ old.history.items) task a.kept changes);
+      none = rw history (λ t. none_anew (task.0 == t) (waiting t old.history.items) (a.none t));
+      enough = rw pages a.enough;
+      uses = rw (pages, uses) (uses_task old.maps new.maps old.pages old.uses task.0 a.uses changes free few);
+    })
+    (rw pages (omega arith))
 
 -- of a list of tests that finds nothing, each found nothing
 pub passed : (b : Bool) (why : Code) (later : Option Code) → where_true b why later ≡ None → (b ≡ false) × (later ≡ None)
@@ -165,22 +183,24 @@ asked_whole size bytes positive = le-div (bytes / size) (bytes + (size - 1)) siz
 pub stepped_range : (header : Header) (task : TaskId) (address bytes line : ℕ) (old new : Runner) → Agrees header old → refusal header old.history.items (command.Allocate task address bytes) ≡ None
     → HasFrames header (room_all old.pages + pages_asked header.size (command.Allocate task address bytes))
     → ChangesOnly old.maps new.maps task.0 (Some (entered (whole_entry address bytes (record { 0 = length old.pages })) (rows_in task.0 old.maps)))
-    → new.pages ≡ with_region old.pages (bytes / header.size) → new.history.items ≡ ranged header task address bytes (length old.pages) line old.history.items
+    → new.pages ≡ with_region old.pages (bytes / header.size) → new.uses ≡ old.uses ++ bytes ∷ [] → new.history.items ≡ ranged header task address bytes (length old.pages) line old.history.items
     → Stepped header (record { line = line; command = command.Allocate task address bytes }) old new
-stepped_range header task address bytes line old new a fine has changes pages history =
+stepped_range header task address bytes line old new a fine has changes pages uses history =
     let fits = fits_of header old task address bytes a fine in
     let positive = page_positive header.size a.plain.size in
     let asked = asked_whole header.size bytes positive in
     let grown = room_added old.pages (bytes / header.size) in
     let few = fits.few in
+    let agrees : Agrees header new = record {
+      plain = a.plain;
+      kept = rw (pages, history) (kept_range header old.maps new.maps old.pages (event.Line line ∷ old.history.items) task address bytes a.kept changes fits.lives fits.whole fits.some fits.below);
+      none = rw history a.none;
+      enough = (has.0, has.1, rw pages (let most = has.2 in omega arith));
+      uses = rw (pages, uses) (uses_range old.maps new.maps old.pages old.uses task.0 (bytes / header.size) (whole_entry address bytes (record { 0 = length old.pages })) a.uses changes fits.lives refl);
+    } in
     record {
-      agrees = record {
-        plain = a.plain;
-        kept = rw (pages, history) (kept_range header old.maps new.maps old.pages (event.Line line ∷ old.history.items) task address bytes a.kept changes fits.lives fits.whole fits.some fits.below);
-        none = rw history a.none;
-        enough = (has.0, has.1, rw pages (let most = has.2 in omega arith));
-      };
-      legal = rw history (legal_range header old.maps old.pages task address bytes line old.history.items a.kept fine);
+      agrees = agrees;
+      legal = rw history (legal_range header old.maps old.pages task address bytes line old.history.items a.kept fine (subst (Prompt header) history (prompt_of header new agrees)));
       step = record { more = ranged header task address bytes (length old.pages) line []; longer = history; front = rw history refl };
       limit = λ less below. rw history (less, below);
       room = rw pages (omega arith);
@@ -206,20 +226,22 @@ leads_put header runner task address entry leads x = record {
 
 pub stepped_hit : (header : Header) (task : TaskId) (address n line value : ℕ) (place : Place) (bytes : List ℕ) (old new : Runner) → Agrees header old → refusal header old.history.items (command.Load task address n) ≡ None
     → LeadsTo header.size old task.0 address n place → held old.pages place.region.0 place.page.0 ≡ Some bytes → value ≡ little_endian (slice_range bytes place.at (place.at + n))
-    → new.maps ≡ old.maps → new.pages ≡ old.pages → new.history.items ≡ event.Loaded task (record { 0 = place.region.0 }) place.page value ∷ begun_load task address n line old.history.items
+    → new.maps ≡ old.maps → new.pages ≡ old.pages → new.uses ≡ old.uses → new.history.items ≡ event.Loaded task (record { 0 = place.region.0 }) place.page value ∷ begun_load task address n line old.history.items
     → Stepped header (record { line = line; command = command.Load task address n }) old new
-stepped_hit header task address n line value place bytes old new a fine to here number maps pages history =
+stepped_hit header task address n line value place bytes old new a fine to here number maps pages uses history =
     let leads = leads_of header old task.0 address n place to in
     let held_here = rw to.is at here in
     let is = rw (number, to.is) at history in
+    let agrees : Agrees header new = record {
+      plain = a.plain;
+      kept = rw (maps, pages, history) a.kept;
+      none = rw history (λ t. wait_over (task.0 == t) (Some (Loading address n)) (waiting t old.history.items) (a.none t));
+      enough = rw pages a.enough;
+      uses = rw (maps, pages, uses) a.uses;
+    } in
     record {
-      agrees = record {
-        plain = a.plain;
-        kept = rw (maps, pages, history) a.kept;
-        none = rw history (λ t. wait_over (task.0 == t) (Some (Loading address n)) (waiting t old.history.items) (a.none t));
-        enough = rw pages a.enough;
-      };
-      legal = rw is (legal_hit header old.maps old.pages task address n line to.entry bytes old.history.items a.kept leads held_here fine);
+      agrees = agrees;
+      legal = rw is (legal_hit header old.maps old.pages task address n line to.entry bytes old.history.items a.kept leads held_here fine (subst (Prompt header) is (prompt_of header new agrees)));
       step = record { more = event.Loaded task (record { 0 = place.region.0 }) place.page value ∷ begun_load task address n line []; longer = history; front = rw history refl };
       limit = λ less below. rw history (less, below);
       room = rw pages (omega arith);
@@ -227,23 +249,25 @@ stepped_hit header task address n line value place bytes old new a fine to here 
 
 pub stepped_miss : (header : Header) (task : TaskId) (address n line value : ℕ) (place : Place) (old new : Runner) → Agrees header old → refusal header old.history.items (command.Load task address n) ≡ None
     → LeadsTo header.size old task.0 address n place → held old.pages place.region.0 place.page.0 ≡ None → value ≡ little_endian (slice_range (replicate header.size 0) place.at (place.at + n))
-    → new.maps ≡ old.maps → new.pages ≡ put_in old.pages place.region.0 place.page.0 (Some (replicate header.size 0))
+    → new.maps ≡ old.maps → new.pages ≡ put_in old.pages place.region.0 place.page.0 (Some (replicate header.size 0)) → new.uses ≡ old.uses
     → new.history.items ≡ event.Loaded task (record { 0 = place.region.0 }) place.page value ∷ event.Zeroed the_host (record { 0 = place.region.0 }) place.page ∷ begun_load task address n line old.history.items
     → Stepped header (record { line = line; command = command.Load task address n }) old new
-stepped_miss header task address n line value place old new a fine to absent number maps pages history =
+stepped_miss header task address n line value place old new a fine to absent number maps pages uses history =
     let leads = leads_of header old task.0 address n place to in
     let absent_here = rw to.is at absent in
     let is = rw (number, to.is) at history in
     let put = rw to.is at pages in
     let room = room_put old.pages to.entry.region.0 (page_at header.size address to.entry) (Some (replicate header.size 0)) in
+    let agrees : Agrees header new = record {
+      plain = a.plain;
+      kept = rw (maps, put, is) (kept_zeroed header old.maps old.pages (begun_load task address n line old.history.items) to.entry.region.0 (page_at header.size address to.entry) a.kept leads.region leads.page absent_here);
+      none = rw is (λ t. wait_over (task.0 == t) (Some (Loading address n)) (waiting t old.history.items) (a.none t));
+      enough = rw (put, room) a.enough;
+      uses = rw (maps, put, uses) (uses_put header.size old.maps old.pages old.uses to.entry.region.0 (page_at header.size address to.entry) (Some (replicate header.size 0)) a.uses a.kept.inside (found_used old.maps task.0 address to.entry leads.found) leads.region leads.page);
+    } in
     record {
-      agrees = record {
-        plain = a.plain;
-        kept = rw (maps, put, is) (kept_zeroed header old.maps old.pages (begun_load task address n line old.history.items) to.entry.region.0 (page_at header.size address to.entry) a.kept leads.region leads.page absent_here);
-        none = rw is (λ t. wait_over (task.0 == t) (Some (Loading address n)) (waiting t old.history.items) (a.none t));
-        enough = rw (put, room) a.enough;
-      };
-      legal = rw is (legal_miss header old.maps old.pages task address n line to.entry old.history.items a.kept a.enough leads absent_here fine);
+      agrees = agrees;
+      legal = rw is (legal_miss header old.maps old.pages task address n line to.entry old.history.items a.kept a.enough leads absent_here fine (subst (Prompt header) is (prompt_of header new agrees)));
       step = record { more = event.Loaded task (record { 0 = place.region.0 }) place.page value ∷ event.Zeroed the_host (record { 0 = place.region.0 }) place.page ∷ begun_load task address n line []; longer = history; front = rw history refl };
       limit = λ less below. rw history (less, below);
       room = rw (put, room) (omega arith);
@@ -251,10 +275,10 @@ stepped_miss header task address n line value place old new a fine to absent num
 
 pub stepped_store : (header : Header) (task : TaskId) (address n value line : ℕ) (place : Place) (bytes : List ℕ) (old new : Runner) → IsAccessSize n → Agrees header old → refusal header old.history.items (command.Store task address n value) ≡ None
     → LeadsTo header.size old task.0 address n place → held old.pages place.region.0 place.page.0 ≡ Some bytes
-    → new.maps ≡ old.maps → new.pages ≡ put_in old.pages place.region.0 place.page.0 (Some (with_bytes place.at (little_endian_bytes n value) bytes))
+    → new.maps ≡ old.maps → new.pages ≡ put_in old.pages place.region.0 place.page.0 (Some (with_bytes place.at (little_endian_bytes n value) bytes)) → new.uses ≡ old.uses
     → new.history.items ≡ event.Stored task (record { 0 = place.region.0 }) place.page place.at n value ∷ begun_store task address n value line old.history.items
     → Stepped header (record { line = line; command = command.Store task address n value }) old new
-stepped_store header task address n value line place bytes old new width a fine to here maps pages history =
+stepped_store header task address n value line place bytes old new width a fine to here maps pages uses history =
     let leads = leads_of header old task.0 address n place to in
     let held_here = rw to.is at here in
     let is = rw to.is at history in
@@ -265,14 +289,16 @@ stepped_store header task address n value line place bytes old new width a fine 
     let fits = access_fits header.size n address a.plain.size width to.even in
     let past = begun_store task address n value line old.history.items in
     let waits : waiting task.0 past ≡ Some (Storing address n value) = rw (itself task.0) refl in
+    let agrees : Agrees header new = record {
+      plain = a.plain;
+      kept = rw (maps, put, is) (kept_stored header old.maps old.pages past task address n value to.entry bytes a.kept waits leads.lives leads.found leads.region leads.page held_here fits);
+      none = rw is (λ t. wait_over (task.0 == t) (Some (Storing address n value)) (waiting t old.history.items) (a.none t));
+      enough = rw (put, room) a.enough;
+      uses = rw (maps, put, uses) (uses_put header.size old.maps old.pages old.uses to.entry.region.0 (page_at header.size address to.entry) (Some (with_bytes (address % header.size) (little_endian_bytes n value) bytes)) a.uses a.kept.inside (found_used old.maps task.0 address to.entry leads.found) leads.region leads.page);
+    } in
     record {
-      agrees = record {
-        plain = a.plain;
-        kept = rw (maps, put, is) (kept_stored header old.maps old.pages past task address n value to.entry bytes a.kept waits leads.lives leads.found leads.region leads.page held_here fits);
-        none = rw is (λ t. wait_over (task.0 == t) (Some (Storing address n value)) (waiting t old.history.items) (a.none t));
-        enough = rw (put, room) a.enough;
-      };
-      legal = rw is (legal_store header old.maps old.pages task address n value line to.entry bytes old.history.items a.kept leads held_here fine);
+      agrees = agrees;
+      legal = rw is (legal_store header old.maps old.pages task address n value line to.entry bytes old.history.items a.kept leads held_here fine (subst (Prompt header) is (prompt_of header new agrees)));
       step = record { more = event.Stored task (record { 0 = place.region.0 }) place.page place.at n value ∷ begun_store task address n value line []; longer = history; front = rw history refl };
       limit = λ less below. rw history (less, below);
       room = rw (put, room) (omega arith);
@@ -280,10 +306,10 @@ stepped_store header task address n value line place bytes old new width a fine 
 
 pub stepped_store_miss : (header : Header) (task : TaskId) (address n value line : ℕ) (place : Place) (old new : Runner) → IsAccessSize n → Agrees header old → refusal header old.history.items (command.Store task address n value) ≡ None
     → LeadsTo header.size old task.0 address n place → held old.pages place.region.0 place.page.0 ≡ None
-    → new.maps ≡ old.maps → new.pages ≡ put_in old.pages place.region.0 place.page.0 (Some (with_bytes place.at (little_endian_bytes n value) (replicate header.size 0)))
+    → new.maps ≡ old.maps → new.pages ≡ put_in old.pages place.region.0 place.page.0 (Some (with_bytes place.at (little_endian_bytes n value) (replicate header.size 0))) → new.uses ≡ old.uses
     → new.history.items ≡ event.Stored task (record { 0 = place.region.0 }) place.page place.at n value ∷ event.Zeroed the_host (record { 0 = place.region.0 }) place.page ∷ begun_store task address n value line old.history.items
     → Stepped header (record { line = line; command = command.Store task address n value }) old new
-stepped_store_miss header task address n value line place old new width a fine to absent maps pages history =
+stepped_store_miss header task address n value line place old new width a fine to absent maps pages uses history =
     let leads = leads_of header old task.0 address n place to in
     let absent_here = rw to.is at absent in
     let is = rw to.is at history in
@@ -301,14 +327,16 @@ stepped_store_miss header task address n value line place old new width a fine t
     let wide = leads_put header old task.0 address to.entry leads (Some zeros) in
     let here = held_put old.pages r p (Some zeros) leads.region leads.page in
     let k3 = kept_stored header old.maps (put_in old.pages r p (Some zeros)) (zeroed ∷ past) task address n value to.entry zeros k2 waits leads.lives leads.found wide.region wide.page here fits in
+    let agrees : Agrees header new = record {
+      plain = a.plain;
+      kept = rw (maps, put, is) (rw (put_twice old.pages r p (Some zeros) made leads.region) at k3);
+      none = rw is (λ t. wait_over (task.0 == t) (Some (Storing address n value)) (waiting t old.history.items) (a.none t));
+      enough = rw (put, room) a.enough;
+      uses = rw (maps, put, uses) (uses_put header.size old.maps old.pages old.uses to.entry.region.0 (page_at header.size address to.entry) made a.uses a.kept.inside (found_used old.maps task.0 address to.entry leads.found) leads.region leads.page);
+    } in
     record {
-      agrees = record {
-        plain = a.plain;
-        kept = rw (maps, put, is) (rw (put_twice old.pages r p (Some zeros) made leads.region) at k3);
-        none = rw is (λ t. wait_over (task.0 == t) (Some (Storing address n value)) (waiting t old.history.items) (a.none t));
-        enough = rw (put, room) a.enough;
-      };
-      legal = rw is (legal_store_miss header old.maps old.pages task address n value line to.entry old.history.items a.kept a.enough leads absent_here fine);
+      agrees = agrees;
+      legal = rw is (legal_store_miss header old.maps old.pages task address n value line to.entry old.history.items a.kept a.enough leads absent_here fine (subst (Prompt header) is (prompt_of header new agrees)));
       step = record { more = event.Stored task (record { 0 = place.region.0 }) place.page place.at n value ∷ event.Zeroed the_host (record { 0 = place.region.0 }) place.page ∷ begun_store task address n value line []; longer = history; front = rw history refl };
       limit = λ less below. rw history (less, below);
       room = rw (put, room) (omega arith);
@@ -317,12 +345,12 @@ stepped_store_miss header task address n value line place old new width a fine t
 -- the same, where the page is told by a test
 pub stepped_store_here : (header : Header) (task : TaskId) (address n value line : ℕ) (place : Place) (o : Option (List ℕ)) (old new : Runner) → IsAccessSize n → Agrees header old → refusal header old.history.items (command.Store task address n value) ≡ None
     → LeadsTo header.size old task.0 address n place → held old.pages place.region.0 place.page.0 ≡ o → is_some o ≡ true
-    → new.maps ≡ old.maps → IfSome o (λ bytes. new.pages ≡ put_in old.pages place.region.0 place.page.0 (Some (with_bytes place.at (little_endian_bytes n value) bytes)))
+    → new.maps ≡ old.maps → IfSome o (λ bytes. new.pages ≡ put_in old.pages place.region.0 place.page.0 (Some (with_bytes place.at (little_endian_bytes n value) bytes))) → new.uses ≡ old.uses
     → new.history.items ≡ event.Stored task (record { 0 = place.region.0 }) place.page place.at n value ∷ begun_store task address n value line old.history.items
     → Stepped header (record { line = line; command = command.Store task address n value }) old new
-stepped_store_here header task address n value line place None old new width a fine to here some maps pages history = absurd (let bad : false ≡ true = some in cc)
-stepped_store_here header task address n value line place (Some bytes) old new width a fine to here some maps pages history =
-    stepped_store header task address n value line place bytes old new width a fine to here maps pages history
+stepped_store_here header task address n value line place None old new width a fine to here some maps pages uses history = absurd (let bad : false ≡ true = some in cc)
+stepped_store_here header task address n value line place (Some bytes) old new width a fine to here some maps pages uses history =
+    stepped_store header task address n value line place bytes old new width a fine to here maps pages uses history
 
 pub none_is : (o : Option (List ℕ)) → is_some o ≡ false → o ≡ None
 none_is None none = refl

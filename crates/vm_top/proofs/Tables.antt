@@ -98,6 +98,14 @@ one_other (Some z ∷ pages) zero x y held = refl
 one_other (None ∷ pages) (suc i) x y held = one_other pages i x y held
 one_other (Some z ∷ pages) (suc i) x y held = ap (λ w. w + 1) (one_other pages i x y held)
 
+-- a page fewer is here
+one_less : (pages : List (Option (List ℕ))) (i : ℕ) (y : List ℕ) → get_or pages i None ≡ Some y → count_here (set pages i None) + 1 ≡ count_here pages
+one_less [] i y held = absurd (let bad : None ≡ Some y = held in cc)
+one_less (None ∷ pages) zero y held = absurd (let bad : None ≡ Some y = held in cc)
+one_less (Some z ∷ pages) zero y held = refl
+one_less (None ∷ pages) (suc i) y held = one_less pages i y held
+one_less (Some z ∷ pages) (suc i) y held = ap (λ w. w + 1) (one_less pages i y held)
+
 count_le : (pages : List (Option (List ℕ))) → count_here pages ≤ length pages
 count_le [] = omega arith
 count_le (None ∷ pages) = omega (arith, count_le pages)
@@ -116,6 +124,41 @@ pub count_put_other : (table : Table) (r p : ℕ) (x y : List ℕ) → held tabl
 count_put_other [] r p x y here = refl
 count_put_other (row ∷ table) zero p x y here = omega (arith, one_other row p x y here)
 count_put_other (row ∷ table) (suc r) p x y here = omega (arith, count_put_other table r p x y here)
+
+pub count_put_less : (table : Table) (r p : ℕ) (y : List ℕ) → held table r p ≡ Some y → count_all (put_in table r p None) + 1 ≡ count_all table
+count_put_less [] r p y here = absurd (let bad : None ≡ Some y = here in cc)
+count_put_less (row ∷ table) zero p y here = omega (arith, one_less row p y here)
+count_put_less (row ∷ table) (suc r) p y here = omega (arith, count_put_less table r p y here)
+
+set_same : {A : Type 0} (xs : List A) (i : ℕ) (d : A) → i < length xs → set xs i (get_or xs i d) ≡ xs
+set_same [] i d less = absurd (omega arith)
+set_same (x ∷ xs) zero d less = refl
+set_same (x ∷ xs) (suc i) d less = ap (λ z. x ∷ z) (set_same xs i d (omega arith))
+
+-- a page that is not here is gone already
+pub put_none : (table : Table) (r p : ℕ) → r < length table → p < pages_of table r → held table r p ≡ None → put_in table r p None ≡ table
+put_none table r p inside within absent =
+    let row : set (get_or table r []) p None ≡ get_or table r [] = ap (λ z. set (get_or table r []) p z) (sym absent) ∙ set_same (get_or table r []) p None within in
+    ap (λ z. set table r z) row ∙ set_same table r [] inside
+
+-- the other pages are as they were
+pub held_other : (table : Table) (r p : ℕ) (x : Option (List ℕ)) → r < length table → p < pages_of table r → (r2 p2 : ℕ) → (r == r2 && p == p2) ≡ false → held (put_in table r p x) r2 p2 ≡ held table r2 p2
+held_other table r p x inside within =
+    each_held table r p x inside within (λ r2 p2 b page. b ≡ false → page ≡ held table r2 p2) (λ isnt. absurd (let bad : true ≡ false = isnt in cc)) (λ r2 p2 isnt. refl)
+
+-- no page is past a region's pages
+pub none_behind : (table : Table) (r p : ℕ) → pages_of table r ≤ p → held table r p ≡ None
+none_behind table r p le = past (get_or table r []) p le
+  where
+    past : (row : List (Option (List ℕ))) (p : ℕ) → length row ≤ p → get_or row p None ≡ None
+    past [] p le = refl
+    past (x ∷ row) zero le = absurd (omega arith)
+    past (x ∷ row) (suc p) le = past row p (omega arith)
+
+pub page_few : (table : Table) (r : ℕ) → pages_of table r ≤ room_all table
+page_few [] r = omega arith
+page_few (row ∷ table) zero = omega arith
+page_few (row ∷ table) (suc r) = omega (arith, page_few table r)
 
 pub room_put : (table : Table) (r p : ℕ) (x : Option (List ℕ)) → room_all (put_in table r p x) ≡ room_all table
 room_put [] r p x = refl

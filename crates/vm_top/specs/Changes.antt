@@ -10,6 +10,10 @@ use Rattle.vm_maps.specs.declared.change.MapChange.{MapChange}
 use Rattle.vm_maps.specs.declared.change.MapKind.TheVariants as kind
 use Rattle.vm_maps.specs.Judge.{judged}
 
+-- the range is unmapped
+abbrev pub removal : ℕ → ℕ → MapChange
+removal address bytes = record { kind = kind.Remove; address = address; bytes = bytes; entry = None; prot = record { read = false; write = false }; inherit = Never }
+
 -- the range gets a protection
 abbrev pub protection : ℕ → ℕ → Prot → MapChange
 protection address bytes prot = record { kind = kind.Protect; address = address; bytes = bytes; entry = None; prot = prot; inherit = Never }
@@ -22,3 +26,8 @@ inheritance address bytes inherit = record { kind = kind.Inherit; address = addr
 abbrev pub change_code : ℕ → MapChange → Option (List Entry) → Option Code
 change_code size change None = Some NoSuchName
 change_code size change (Some rows) = judged size change rows
+
+-- the code of an end of a task with these entries, if it lives
+abbrev pub exit_code : Option (List Entry) → Option Code
+exit_code None = Some NoSuchName
+exit_code (Some rows) = None

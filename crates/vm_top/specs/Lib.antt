@@ -7,6 +7,8 @@ pub mod Run
 pub mod Runner
 pub mod Status
 pub mod Summary
+pub mod Sweeping
 pub mod Top
+pub mod Uses
 pub mod Words
 pub mod Writing

@@ -28,7 +28,9 @@ pub record IsRunnable (script : Script) : Type 0 where
 -- the commands that are built
 abbrev pub is_built : Command → Bool
 is_built (command.Task task host) = true
+is_built (command.Exit task) = true
 is_built (command.Allocate task address bytes) = true
+is_built (command.Deallocate task address bytes) = true
 is_built (command.Protect task address bytes prot) = true
 is_built (command.Inherit task address bytes inherit) = true
 is_built (command.Load task address size) = true

@@ -21,6 +21,7 @@ use Rattle.vm_model.specs.Frames.{frames_used}
 use Rattle.vm_model.specs.Legal.{LegalFor}
 use Rattle.vm_maps.specs.Maps.{Mapped, entries_in, rows_in}
 use Rattle.vm_top.specs.Pages.{Table, held, pages_of, count_all, room_all}
+use Rattle.vm_top.specs.Uses.{AreUses}
 use Rattle.vm_top.specs.declared.runner.Runner.{Runner}
 
 -- all tasks live on host 0
@@ -106,6 +107,7 @@ pub record Agrees (header : Header) (runner : Runner) : Type 0 where
   pub none : (task : ℕ) → waiting task runner.history.items ≡ None
   -- all pages of all regions would find a frame
   pub enough : HasFrames header (room_all runner.pages)
+  pub uses : AreUses runner.maps runner.pages runner.uses []
 
 -- what the runner is given: tasks of host 0, temporary memory, loads and stores, with numbers in their ranges
 abbrev pub IsBuilt : Command → Type 0
@@ -113,14 +115,18 @@ IsBuilt (command.Task task host) = (task.0 < 1024) × (host ≡ the_host)
 IsBuilt (command.Allocate task address bytes) = (task.0 < 1024) × (address < 2 ^ 32) × (bytes ≤ 2 ^ 32)
 IsBuilt (command.Load task address size) = (task.0 < 1024) × (address < 2 ^ 32) × IsAccessSize size
 IsBuilt (command.Store task address size value) = (task.0 < 1024) × (address < 2 ^ 32) × IsAccessSize size × (value < 256 ^ size)
+IsBuilt (command.Exit task) = task.0 < 1024
+IsBuilt (command.Deallocate task address bytes) = (task.0 < 1024) × (address < 2 ^ 32) × (bytes ≤ 2 ^ 32)
 IsBuilt (command.Protect task address bytes prot) = (task.0 < 1024) × (address < 2 ^ 32) × (bytes ≤ 2 ^ 32)
 IsBuilt (command.Inherit task address bytes inherit) = (task.0 < 1024) × (address < 2 ^ 32) × (bytes ≤ 2 ^ 32)
 IsBuilt other = ⊥
 
 -- those of them that are on tasks and entries
 abbrev pub IsChange : Command → Type 0
-IsChange (command.Task task host) = host ≡ the_host
+IsChange (command.Task task host) = (task.0 < 1024) × (host ≡ the_host)
 IsChange (command.Allocate task address bytes) = Unit {0}
+IsChange (command.Exit task) = Unit {0}
+IsChange (command.Deallocate task address bytes) = Unit {0}
 IsChange (command.Protect task address bytes prot) = Unit {0}
 IsChange (command.Inherit task address bytes inherit) = Unit {0}
 IsChange other = ⊥

@@ -10,9 +10,11 @@ mod runner;
 mod summary;
 #[cfg(test)]
 mod summary_tests;
+mod sweep;
 #[cfg(test)]
 mod tests;
 mod top;
+mod uses;
 mod words;
 
 pub use top::{Outcome, Status, pagers_main};

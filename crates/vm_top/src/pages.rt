@@ -78,6 +78,25 @@ impl PageTable {
         self.page(region, page).is_some()
     }
 
+    /// The number of pages of a region.
+    pub fn count(&self, region: u32) -> u32
+        requires region { region < length self.now }
+        requires few { pages_of self.now region < 2 ^ 32 }
+        ensures { result ≡ pages_of self.now region }
+    {
+        self.regions[region as usize].pages.len() as u32
+    }
+
+    /// Takes a page away.
+    pub fn take(&mut self, region: u32, page: u32)
+        requires region { region < length self.old }
+        requires page { page < pages_of self.old region }
+        ensures { self.new ≡ put_in self.old region page None }
+    {
+        let row = &mut self.regions[region as usize];
+        row.pages[page as usize] = None;
+    }
+
     /// Puts a page there.
     pub fn put(&mut self, region: u32, page: u32, bytes: PageBytes)
         requires region { region < length self.old }

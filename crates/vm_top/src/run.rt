@@ -47,7 +47,9 @@ fn is_built(command: &Command) -> bool
 {
     match command {
         Command::Task { .. }
+        | Command::Exit { .. }
         | Command::Allocate { .. }
+        | Command::Deallocate { .. }
         | Command::Protect { .. }
         | Command::Inherit { .. }
         | Command::Load { .. }

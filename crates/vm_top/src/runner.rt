@@ -11,8 +11,9 @@ ghost use Rattle.vm_top.specs.Pages.{room_all};
 ghost use Rattle.vm_top.specs.Runner.{Agrees, HasFrames, IsBuilt, IsChange, Stepped, pages_asked, the_host, whole_entry};
 ghost use Rattle.vm_top.specs.Refusing.{FoundAs, LeadsTo, access_code, range_code};
 
-use crate::changes::{inheritance, protection};
+use crate::changes::{inheritance, protection, removal};
 use crate::pages::PageTable;
+use crate::uses::Uses;
 use std::alloc::Global;
 use vm_base::{
     Access, Code, Entry, HostId, Inherit, NoMemory, ObjectId, PageBytes, PageSize, Prot, RegionId,
@@ -21,7 +22,7 @@ use vm_base::{
 use vm_maps::{MapChange, MapKind, Maps, Place};
 use vm_model::{Command, Event, Header, History, Numbered};
 
-const HOST: HostId = HostId(0);
+pub const HOST: HostId = HostId(0);
 
 const MOST_PAGES: u64 = 4096;
 
@@ -35,18 +36,20 @@ pub struct Runner {
     pub alloc: Global,
     pub maps: Maps,
     pub pages: PageTable,
+    pub uses: Uses,
     pub history: History,
 }
 
 impl Runner {
     /// Nothing has happened yet.
     pub fn new(alloc: Global, size: PageSize) -> Runner
-        ensures { (result.maps ≡ record { size = size; tasks = [] }) × (result.pages ≡ []) × (result.history.items ≡ []) }
+        ensures { (result.maps ≡ record { size = size; tasks = [] }) × (result.pages ≡ []) × (result.uses ≡ []) × (result.history.items ≡ []) }
     {
         Runner {
             alloc,
             maps: Maps::new(alloc, size),
             pages: PageTable::new(alloc),
+            uses: Uses::new(alloc),
             history: History::new(alloc),
         }
     }
@@ -75,6 +78,12 @@ impl Runner {
                 size,
                 ..
             } => self.access_refusal(*task, *address, *size, Access::Store),
+            Command::Exit { task } => self.exit_refusal(*task),
+            Command::Deallocate {
+                task,
+                address,
+                bytes,
+            } => self.change_refusal(*task, &removal(*address, *bytes)),
             Command::Protect {
                 task,
                 address,
@@ -199,6 +208,12 @@ impl Runner {
                 address,
                 bytes,
             } => self.allocate(header, line, *task, *address, *bytes),
+            Command::Exit { task } => self.exit(header, line, *task),
+            Command::Deallocate {
+                task,
+                address,
+                bytes,
+            } => self.deallocate(header, line, *task, *address, *bytes),
             Command::Protect {
                 task,
                 address,
@@ -217,6 +232,7 @@ impl Runner {
 
     fn make_task(&mut self, header: &Header, line: u32, task: TaskId) -> Result<(), NoMemory>
         requires agrees { Agrees header.now self.old }
+        requires number { task.0 < 1024 }
         requires accepted { refusal header.now self.old.history.items (command.Task task the_host) ≡ None }
         ensures ok { OnOk result (Stepped header.now (record { line = line; command = command.Task task the_host }) self.old self.new) }
         ensures err { OnErr result (self.new.history.items ≡ self.old.history.items) }
@@ -249,6 +265,7 @@ impl Runner {
         let entry = new_entry(address, bytes, region);
         self.history.reserve(3)?;
         self.pages.add(pages)?;
+        self.uses.add(bytes)?;
         self.maps
             .enter(task, &enter_change(address, bytes, region))?;
         self.history.push(Event::Line { line })?;

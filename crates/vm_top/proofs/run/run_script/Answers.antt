@@ -12,15 +12,15 @@ loop-i-init g c =
     let plain = c.requires.plain in
     let none = oldest_none c.args.script.now.commands.items in
     record {
-      agrees = agrees_start c.args.script.now.header c.new-runner.result plain new.0 new.1 new.2;
+      agrees = agrees_start c.args.script.now.header c.new-runner.result plain new.0 new.1 new.2 new.3;
       wanted = rw none refl;
       few = omega arith;
       room = rw new.1 (omega arith);
       built = rw none refl;
-      legal = rw (new.2, none) (legal_start c.args.script.now.header);
-      limit = rw new.2 tt;
+      legal = rw (new.3, none) (legal_start c.args.script.now.header);
+      limit = rw new.3 tt;
       later = omega arith;
-      written = rw new.2 (shown_none (g.K.Sink.written c.args.out.now) c.args.report);
+      written = rw new.3 (shown_none (g.K.Sink.written c.args.out.now) c.args.report);
     }
 
 pub pages_asked-wanted-requires : goal.pages_asked-wanted-requires

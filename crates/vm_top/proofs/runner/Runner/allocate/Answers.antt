@@ -8,4 +8,5 @@ returns-clause-ok c =
     stepped_range c.args.header.now c.args.task c.args.address c.args.bytes c.args.line c.args.self.now _ c.requires.agrees c.requires.accepted c.requires.room
     (rw (c.enter_change.ensures.3, c.len-number.ensures) at c.in_ok-enter.ensures.changes)
     (rw (c.from.ensures, c.bytes.ensures.value) at c.in_ok-add.ensures.ok)
+    c.in_ok-add-2.ensures.ok
     (cc (entered, made, c.in_ok-push.ensures.ok, c.in_ok-reserve.ensures.same))

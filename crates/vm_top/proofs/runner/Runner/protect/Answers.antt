@@ -9,5 +9,5 @@ pub returns-clause-ok : goal.returns-clause-ok
 returns-clause-ok c =
     let maps = c.args.self.now.maps in
     let changes = subst (λ (z : MapChange). ChangesOnly maps c.protect.new.self c.args.task.0 (Some (protected maps.size z.address z.bytes z.prot (rows_in c.args.task.0 maps)))) c.protection-change.ensures c.in_ok-protect.ensures.changes in
-    stepped_protect c.args.header.now c.args.task c.args.address c.args.bytes c.args.prot c.args.line c.args.self.now _ c.requires.agrees c.requires.accepted changes refl
+    stepped_protect c.args.header.now c.args.task c.args.address c.args.bytes c.args.prot c.args.line c.args.self.now _ c.requires.agrees c.requires.accepted changes refl refl
     (cc (c.in_ok-push-2.ensures.ok, c.in_ok-push.ensures.ok, c.in_ok-reserve.ensures.same))

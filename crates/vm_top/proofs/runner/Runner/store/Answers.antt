@@ -7,7 +7,7 @@ use Rattle.vm_top.proofs.runner.Runner.store.Goals as goal
 pub returns-then-has-clause-ok : goal.returns-then-has-clause-ok
 returns-then-has-clause-ok c =
     stepped_store_here c.args.header.now c.args.task c.args.address c.args.size c.args.value c.args.line c.args.place _ c.args.self.now _ c.requires.size c.requires.agrees c.requires.accepted c.requires.leads
-    refl (sym c.has.ensures ∙ c.if-has.true) refl c.store.ensures c.in_ok-push_three.ensures.ok
+    refl (sym c.has.ensures ∙ c.if-has.true) refl c.store.ensures refl c.in_ok-push_three.ensures.ok
 
 pub put-requires-clause-inside : goal.put-requires-clause-inside
 put-requires-clause-inside c =
@@ -17,4 +17,4 @@ pub returns-clause-ok : goal.returns-clause-ok
 returns-clause-ok c =
     let absent : held c.args.self.now.pages c.args.place.region.0 c.args.place.page.0 ≡ None = none_is _ (sym c.has.ensures ∙ c.if-has.false) in
     stepped_store_miss c.args.header.now c.args.task c.args.address c.args.size c.args.value c.args.line c.args.place c.args.self.now _ c.requires.size c.requires.agrees c.requires.accepted c.requires.leads
-    absent refl (rw (c.put.ensures, c.in_ok-bytes.ensures) at c.put-2.ensures) c.in_ok-push_four.ensures.ok
+    absent refl (rw (c.put.ensures, c.in_ok-bytes.ensures) at c.put-2.ensures) refl c.in_ok-push_four.ensures.ok
