@@ -223,6 +223,12 @@ const PARTS: [Part; 16] = [
     (5, 0, 1, 8),
 ];
 
+const NOTHING: &str =
+    "lines 0\nrefused 0\nloads 0\nstores 0\ncopies 0\nfailed 0\nsent 0\ntaken 0\ndropped 0\nwaiting 0\nsum 0\n";
+
+const ALL: &str =
+    "lines 11\nrefused 2\nloads 3\nstores 4\ncopies 5\nfailed 6\nsent 7\ntaken 8\ndropped 9\nwaiting 12\nsum 18446744073709551613\n";
+
 fn add_part(history: &mut History, group: u32, from: u32, to: u32) -> Result<(), Fail> {
     for i in from..to {
         history.push(event_of(group, i))?;
@@ -243,16 +249,10 @@ fn add_parts(history: &mut History) -> Result<(), Fail> {
 fn a_history_in_numbers(rt: HostRuntime) -> Result<(), Fail> {
     let alloc = rt.alloc();
     let mut history = History::new(alloc);
-    let none = summary_text(alloc, &history)?;
-    assert_eq!(rt;
-        none.as_slice(),
-        b"lines 0\nrefused 0\nloads 0\nstores 0\ncopies 0\nfailed 0\nsent 0\ntaken 0\ndropped 0\nwaiting 0\nsum 0\n".as_slice()
-    );
+    let text = summary_text(alloc, &history)?;
+    assert_eq!(rt; text.as_slice(), NOTHING.as_bytes());
     add_parts(&mut history)?;
     let text = summary_text(alloc, &history)?;
-    assert_eq!(rt;
-        text.as_slice(),
-        b"lines 11\nrefused 2\nloads 3\nstores 4\ncopies 5\nfailed 6\nsent 7\ntaken 8\ndropped 9\nwaiting 12\nsum 18446744073709551613\n".as_slice()
-    );
+    assert_eq!(rt; text.as_slice(), ALL.as_bytes());
     Ok(())
 }
