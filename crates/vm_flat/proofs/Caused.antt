@@ -14,10 +14,12 @@ use Rattle.vm_model.specs.declared.message.Message.TheVariants as message
 use Rattle.vm_model.specs.declared.script.Header.{Header}
 use Rattle.vm_model.specs.Tasks.{host_of, entries_of}
 use Rattle.vm_base.specs.Entries.{page_at}
-use Rattle.vm_flat.specs.Declared.{Outside, named, is_private, is_file, is_said, are_untold, zeros}
+use Rattle.vm_model.specs.Named.{named}
+use Rattle.vm_flat.specs.Declared.{Outside, is_private, is_file, is_said, are_untold, zeros}
 use Rattle.vm_flat.specs.Tasks.{is_host, lives_on}
 use Rattle.vm_model.specs.Waiting.{Storing, next_page, address_of}
-use Rattle.vm_flat.specs.Regions.{next_region, region_of, backing_of, made_here, in_use}
+use Rattle.vm_model.specs.Regions.{next_region, region_of, backing_of}
+use Rattle.vm_flat.specs.Regions.{made_here, in_use}
 use Rattle.vm_flat.specs.Channels.{queue}
 use Rattle.vm_flat.specs.Words.{UpWord, Requesting, Returning, DownWord, Supplying, Unavailing, Erring, TakesRequest, TakesReturn, Answers, Takes}
 use Rattle.vm_flat.specs.Spot.{Spot, first, rest}

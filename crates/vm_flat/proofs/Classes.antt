@@ -8,7 +8,8 @@ use Rattle.vm_model.specs.declared.message.Channel.TheVariants.{Up, Down}
 use Rattle.vm_model.specs.declared.message.Message.{Message}
 use Rattle.vm_model.specs.declared.message.Message.TheVariants as message
 use Rattle.vm_model.specs.declared.script.Header.{Header}
-use Rattle.vm_flat.specs.Declared.{named, declared, is_file_kept, declared_pages, zeros, is_said, start_page}
+use Rattle.vm_model.specs.Named.{named, declared, declared_pages}
+use Rattle.vm_flat.specs.Declared.{is_file_kept, zeros, is_said, start_page}
 use Rattle.vm_flat.specs.Tasks.{lives_on}
 use Rattle.vm_flat.specs.Regions.{is_kept, made_here}
 use Rattle.vm_flat.specs.Places.{control_number}

@@ -18,7 +18,8 @@ use Rattle.vm_model.specs.declared.script.Header.{Header}
 use Rattle.vm_model.specs.Tasks.{host_of, entries_of, has_entry}
 use Rattle.vm_flat.specs.Declared.{Outside, is_private}
 use Rattle.vm_flat.specs.Tasks.{is_host, lives_on}
-use Rattle.vm_flat.specs.Regions.{next_region, region_of, made_here, in_use, is_kept}
+use Rattle.vm_model.specs.Regions.{next_region, region_of}
+use Rattle.vm_flat.specs.Regions.{made_here, in_use, is_kept}
 use Rattle.vm_flat.specs.Licences.{Enters}
 use Rattle.vm_flat.proofs.Regions.{if_no}
 use Rattle.vm_model.specs.Rows.{AllRows, rows_map, rows_rewritten, rows_entered, rows_known, Parts, Inside, inside_part, page_below}

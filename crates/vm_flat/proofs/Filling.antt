@@ -10,10 +10,12 @@ use Rattle.vm_model.specs.declared.event.Event.{Event}
 use Rattle.vm_model.specs.declared.event.Event.TheVariants as event
 use Rattle.vm_model.specs.declared.script.Header.{Header}
 use Rattle.vm_model.specs.Tasks.{host_of, entries_of}
-use Rattle.vm_flat.specs.Declared.{Outside, named}
+use Rattle.vm_model.specs.Named.{named}
+use Rattle.vm_flat.specs.Declared.{Outside}
 use Rattle.vm_flat.specs.Tasks.{is_host, lives_on, tasks}
 use Rattle.vm_model.specs.Waiting.{Access, Loading, Storing, Copying, waiting, begins_copy, Target, copy_target, fills}
-use Rattle.vm_flat.specs.Regions.{next_region, next_object, Region, region_of, made_here, in_use, is_kept, is_filled}
+use Rattle.vm_model.specs.Regions.{next_region, next_object, Region, region_of}
+use Rattle.vm_flat.specs.Regions.{made_here, in_use, is_kept, is_filled}
 use Rattle.vm_flat.specs.Flat.{made_over}
 use Rattle.vm_flat.specs.Licences as L
 use Rattle.vm_flat.specs.Licences.{Licensed}

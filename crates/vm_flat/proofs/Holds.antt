@@ -4,8 +4,10 @@ use Rattle.std.proofs.lemmas.Bool.{cases_lt}
 use Rattle.std.proofs.lemmas.Bool.Decides.{nat_tests}
 use Rattle.vm_model.specs.declared.event.Event.{Event}
 use Rattle.vm_model.specs.declared.script.Header.{Header}
-use Rattle.vm_flat.specs.Declared.{Outside, named, is_private, is_file}
-use Rattle.vm_flat.specs.Regions.{next_region, region_of, backing_of, in_use}
+use Rattle.vm_model.specs.Named.{named}
+use Rattle.vm_flat.specs.Declared.{Outside, is_private, is_file}
+use Rattle.vm_model.specs.Regions.{next_region, region_of, backing_of}
+use Rattle.vm_flat.specs.Regions.{in_use}
 use Rattle.vm_flat.specs.Spot.{Spot}
 use Rattle.vm_flat.proofs.Allowed.{Passed}
 use Rattle.vm_flat.specs.Places.{spot, control}

@@ -8,8 +8,9 @@ use Rattle.vm_base.specs.declared.ids.ObjectId.{ObjectId}
 use Rattle.vm_model.specs.declared.event.Event.{Event}
 use Rattle.vm_model.specs.declared.event.Event.TheVariants as event
 use Rattle.vm_model.specs.declared.script.Header.{Header}
-use Rattle.vm_flat.specs.Declared.{Outside, named, is_private}
-use Rattle.vm_flat.specs.Regions.{next_region, next_object, Region, region_of, Backing, backing_of}
+use Rattle.vm_model.specs.Named.{named}
+use Rattle.vm_flat.specs.Declared.{Outside, is_private}
+use Rattle.vm_model.specs.Regions.{next_region, next_object, Region, region_of, Backing, backing_of}
 use Rattle.vm_flat.proofs.Regions.{if_no, if_yes}
 
 pub record Numbered (first : ℕ) (regions : ℕ → Region) (backings : ℕ → Backing) (next_region next_object : ℕ) : Type 0 where

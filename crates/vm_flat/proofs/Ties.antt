@@ -1,5 +1,5 @@
 -- What the events leave is what their deeds leave.
-use Rattle.std.proofs.Common.{◌≡◌, ℕ, suc, List, [], ◌∷◌, Bool, true, refl, if◌then◌else◌, ◌∙◌, ap}
+use Rattle.std.proofs.Common.{◌≡◌, ℕ, List, [], ◌∷◌, Bool, true, refl, arith, if◌then◌else◌, ◌∙◌, ap}
 use Rattle.std.specs.Prelude.{◌==◌, ◌&&◌}
 use Rattle.vm_model.specs.declared.event.Event.{Event}
 use Rattle.vm_model.specs.declared.event.Event.TheVariants as event
@@ -9,7 +9,8 @@ use Rattle.vm_model.specs.declared.message.Message.TheVariants as message
 use Rattle.vm_model.specs.declared.script.Header.{Header}
 use Rattle.vm_flat.specs.Declared.{zeros, is_said}
 use Rattle.vm_flat.specs.Tasks.{lives_on}
-use Rattle.vm_flat.specs.Regions.{next_region, next_object, Region, region_of, Backing, backing_of, made_here, in_use}
+use Rattle.vm_model.specs.Regions.{next_region, next_object, Region, region_of, Backing, backing_of}
+use Rattle.vm_flat.specs.Regions.{made_here, in_use}
 use Rattle.vm_flat.specs.Words.{Effect, Raises, Nothing}
 use Rattle.vm_flat.specs.Spot.{Spot, move}
 use Rattle.vm_flat.specs.Places.{sent_up, taken_up, sent_down, taken_down, effect_of, at_place, spot, control, control_number}
@@ -50,8 +51,8 @@ row_is header outside host r (e ∷ past) = row_is header outside host r past
 
 pub regions_is : (header : Header) (outside : Outside) (host : ℕ) (past : List Event) → D.regions (ground header outside) (deeds header outside host past) ≡ next_region header past
 regions_is header outside host [] = refl
-regions_is header outside host (event.RegionMade region object pages ∷ past) = ap (λ n. suc n) (regions_is header outside host past)
-regions_is header outside host (event.RegionCopied region source offset pages ∷ past) = ap (λ n. suc n) (regions_is header outside host past)
+regions_is header outside host (event.RegionMade region object pages ∷ past) = omega (arith, regions_is header outside host past)
+regions_is header outside host (event.RegionCopied region source offset pages ∷ past) = omega (arith, regions_is header outside host past)
 regions_is header outside host (event.Sent (Up at object) m ∷ past) =
     up_case (λ d. D.regions (ground header outside) (d ∷ deeds header outside host past) ≡ D.regions (ground header outside) (deeds header outside host past)) (λ own o. refl) (λ own o p. refl) (λ own o p keep bytes. refl) (λ own o. refl) refl (at.0 == host) object.0 m
     ∙ regions_is header outside host past
@@ -68,8 +69,8 @@ regions_is header outside host (e ∷ past) = regions_is header outside host pas
 
 pub objects_is : (header : Header) (outside : Outside) (host : ℕ) (past : List Event) → D.objects (ground header outside) (deeds header outside host past) ≡ next_object header past
 objects_is header outside host [] = refl
-objects_is header outside host (event.RegionMade region object pages ∷ past) = ap (λ n. suc n) (objects_is header outside host past)
-objects_is header outside host (event.Shadowed region new old ∷ past) = ap (λ n. suc n) (objects_is header outside host past)
+objects_is header outside host (event.RegionMade region object pages ∷ past) = omega (arith, objects_is header outside host past)
+objects_is header outside host (event.Shadowed region new old ∷ past) = omega (arith, objects_is header outside host past)
 objects_is header outside host (event.Sent (Up at object) m ∷ past) =
     up_case (λ d. D.objects (ground header outside) (d ∷ deeds header outside host past) ≡ D.objects (ground header outside) (deeds header outside host past)) (λ own o. refl) (λ own o p. refl) (λ own o p keep bytes. refl) (λ own o. refl) refl (at.0 == host) object.0 m
     ∙ objects_is header outside host past

@@ -1,15 +1,10 @@
--- The objects that a header declares.
-use Rattle.std.specs.Prelude.{ℕ, ◌&&◌, ◌||◌, not, nat_lt, Bool, true, false, List, length, reverse, replicate, slice_get, Option, Some, None}
+-- What is told of the outside, and of which objects the law speaks.
+use Rattle.std.specs.Prelude.{ℕ, ◌&&◌, ◌||◌, not, nat_lt, Bool, true, false, List, replicate, Option, Some, None}
 use Rattle.vm_base.specs.declared.ids.ObjectKind.{ObjectKind}
 use Rattle.vm_base.specs.declared.ids.ObjectKind.TheVariants.{File}
 use Rattle.vm_model.specs.declared.script.Header.{Header}
 use Rattle.vm_model.specs.declared.script.Declared.{Declared}
-
-abbrev pub declared : Header → ℕ → Option Declared
-declared header object = slice_get (reverse header.objects.items) object
-
-abbrev pub named : Header → ℕ
-named header = length header.objects.items
+use Rattle.vm_model.specs.Named.{declared, named}
 
 abbrev pub is_file_kind : ObjectKind → Bool
 is_file_kind File = true
@@ -22,14 +17,6 @@ is_file_kept (Some object) = is_file_kind object.kind
 -- the number is a file object's, and its region's too
 abbrev pub is_file : Header → ℕ → Bool
 is_file header object = nat_lt object (named header) && is_file_kept (declared header object)
-
-abbrev pub pages_kept : Option Declared → ℕ
-pages_kept None = 0
-pages_kept (Some object) = object.pages
-
--- the pages of a declared object
-abbrev pub declared_pages : Header → ℕ → ℕ
-declared_pages header object = pages_kept (declared header object)
 
 -- what the files hold at the start, by object and page; or it is not told
 pub data Held : Type 0 where

@@ -10,10 +10,12 @@ use Rattle.vm_model.specs.declared.message.Message.TheVariants as message
 use Rattle.vm_model.specs.declared.script.Header.{Header}
 use Rattle.vm_model.specs.Tasks.{host_of, entries_of}
 use Rattle.vm_model.specs.Bytes.{number_in}
-use Rattle.vm_flat.specs.Declared.{Outside, named, is_private, is_said, zeros}
+use Rattle.vm_model.specs.Named.{named}
+use Rattle.vm_flat.specs.Declared.{Outside, is_private, is_said, zeros}
 use Rattle.vm_flat.specs.Tasks.{tasks}
 use Rattle.vm_model.specs.Waiting.{Access, Loading, Storing, Copying, waiting, next_page, copy_target, address_of, is_store}
-use Rattle.vm_flat.specs.Regions.{next_region, next_object, region_of, backing_of, is_filled, in_use}
+use Rattle.vm_model.specs.Regions.{next_region, next_object, region_of, backing_of}
+use Rattle.vm_flat.specs.Regions.{is_filled, in_use}
 use Rattle.vm_flat.specs.Channels.{queue}
 use Rattle.vm_flat.specs.Spot.{Spot, first}
 use Rattle.vm_flat.specs.Places.{spot, control, control_number}

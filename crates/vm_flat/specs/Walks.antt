@@ -1,7 +1,7 @@
 -- Chains, and the walk down a chain. What a host has of the places, and what stands on what, come in as functions.
 use Rattle.std.specs.Prelude.{ℕ, zero, suc, ◌+◌, ◌≡◌, Bool, true, false}
 use Rattle.vm_flat.specs.Spot.{Spot}
-use Rattle.vm_flat.specs.Regions.{Region, Backing}
+use Rattle.vm_model.specs.Regions.{Region, Backing}
 
 -- u is the n-th object below o
 abbrev pub Below : (ℕ → Backing) → ℕ → ℕ → ℕ → Type 0

@@ -9,6 +9,7 @@ pub mod Licences
 pub mod Local
 pub mod Moments
 pub mod Name
+pub mod Named
 pub mod Prompt
 pub mod Refusal
 pub mod Regions

@@ -1,23 +1,91 @@
--- Regions: their numbers and their objects.
-use Rattle.std.specs.Prelude.{ℕ, ◌+◌, List, [], ◌∷◌, length, if◌then◌else◌, ◌==◌, Option, Some, None}
+-- Regions and objects: their numbers, and what stands on what.
+use Rattle.std.specs.Prelude.{ℕ, ◌+◌, List, [], ◌∷◌, if◌then◌else◌, ◌==◌, Bool, true, false, Option, Some, None}
 use Rattle.vm_model.specs.declared.event.Event.{Event}
-use Rattle.vm_model.specs.declared.event.Event.TheVariants.{RegionMade}
+use Rattle.vm_model.specs.declared.event.Event.TheVariants as event
 use Rattle.vm_model.specs.declared.script.Header.{Header}
+use Rattle.vm_model.specs.Named.{named, declared_pages}
 
 -- the number of the next region: those of the declared objects come first
 abbrev pub next_region : Header → List Event → ℕ
-next_region header [] = length header.objects.items
-next_region header (RegionMade region object pages ∷ past) = next_region header past + 1
-next_region header (event ∷ past) = next_region header past
+next_region header [] = named header
+next_region header (event.RegionMade region object pages ∷ past) = next_region header past + 1
+next_region header (event.RegionCopied region source offset pages ∷ past) = next_region header past + 1
+next_region header (e ∷ past) = next_region header past
 
 -- the number of the next object: the declared ones come first
 abbrev pub next_object : Header → List Event → ℕ
-next_object header [] = length header.objects.items
-next_object header (RegionMade region object pages ∷ past) = next_object header past + 1
-next_object header (event ∷ past) = next_object header past
+next_object header [] = named header
+next_object header (event.RegionMade region object pages ∷ past) = next_object header past + 1
+next_object header (event.Shadowed region new old ∷ past) = next_object header past + 1
+next_object header (e ∷ past) = next_object header past
+
+-- a region: its copy mark, its top object, the page of that object that its page 0 is, and its pages
+pub record Region : Type 0 where
+  pub mark : Bool
+  pub top : ℕ
+  pub shift : ℕ
+  pub pages : ℕ
+
+-- a region over a new object
+abbrev pub made : Bool → ℕ → ℕ → Region → Region
+made this object pages was =
+    record {
+      mark = if this then false else was.mark;
+      top = if this then object else was.top;
+      shift = if this then 0 else was.shift;
+      pages = if this then pages else was.pages;
+    }
+
+-- a symmetric copy shares the source's top object, and both are marked
+abbrev pub copied : Bool → Bool → ℕ → ℕ → Region → Region → Region
+copied this source offset pages from was =
+    record {
+      mark = if this then true else (if source then true else was.mark);
+      top = if this then from.top else was.top;
+      shift = if this then from.shift + offset else was.shift;
+      pages = if this then pages else was.pages;
+    }
+
+-- a region that gets an object of its own above the old top
+abbrev pub shadowed : Bool → ℕ → Region → Region
+shadowed this new was =
+    record {
+      mark = if this then false else was.mark;
+      top = if this then new else was.top;
+      shift = if this then 0 else was.shift;
+      pages = was.pages;
+    }
+
+abbrev pub region_of : Header → ℕ → List Event → Region
+region_of header region [] = record { mark = false; top = region; shift = 0; pages = declared_pages header region }
+region_of header region (event.RegionMade new object pages ∷ past) = made (region == new.0) object.0 pages (region_of header region past)
+region_of header region (event.RegionCopied new source offset pages ∷ past) =
+    copied (region == new.0) (region == source.0) offset pages (region_of header source.0 past) (region_of header region past)
+region_of header region (event.Shadowed changed new old ∷ past) = shadowed (region == changed.0) new.0 (region_of header region past)
+region_of header region (e ∷ past) = region_of header region past
+
+-- the backing object of an object, if it has one, and the page of that object that its page 0 is over
+pub record Backing : Type 0 where
+  pub backed : Bool
+  pub under : ℕ
+  pub shift : ℕ
+
+-- a new shadow stands over the region's old top, as the region did
+abbrev pub over : Bool → Region → Backing → Backing
+over this region was =
+    record {
+      backed = if this then true else was.backed;
+      under = if this then region.top else was.under;
+      shift = if this then region.shift else was.shift;
+    }
+
+abbrev pub backing_of : Header → ℕ → List Event → Backing
+backing_of header object [] = record { backed = false; under = 0; shift = 0 }
+backing_of header object (event.Shadowed region new old ∷ past) = over (object == new.0) (region_of header region.0 past) (backing_of header object past)
+backing_of header object (e ∷ past) = backing_of header object past
 
 -- the top object of a region
 abbrev pub top_of : ℕ → List Event → Option ℕ
 top_of region [] = None
-top_of region (RegionMade made object pages ∷ past) = if made.0 == region then Some object.0 else top_of region past
-top_of region (event ∷ past) = top_of region past
+top_of region (event.RegionMade made object pages ∷ past) = if made.0 == region then Some object.0 else top_of region past
+top_of region (e ∷ past) = top_of region past

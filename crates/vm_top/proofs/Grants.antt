@@ -77,7 +77,7 @@ legal_range header maps table task address bytes line h k fine last run legal =
         event.Entered task address bytes (record { 0 = length table }) 0 (whole_entry address bytes (record { 0 = length table })).prot (whole_entry address bytes (record { 0 = length table })).inherit
             ∷ event.RegionMade (record { 0 = length table }) (record { 0 = length table }) (bytes / header.size) ∷ [],
         refl,
-        rw (fine, k.regions) ([], refl, tt),
+        rw (fine, k.regions, k.objects) ([], refl, tt),
         legal.follows,
       );
       own_bytes = (tt, (tt, (tt, legal.own_bytes)));

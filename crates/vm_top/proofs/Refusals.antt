@@ -45,7 +45,7 @@ range_cases size count address bytes (Some rows) = refl
 pub allocate_code : (header : Header) (runner : Runner) (task : TaskId) (address bytes : ℕ) → Agrees header runner
     → refusal header runner.history.items (command.Allocate task address bytes) ≡ range_code header.size (entries_in task.0 runner.maps) (length runner.pages) address bytes
 allocate_code header runner task address bytes a =
-    rw (a.kept.hosts task.0, a.none task.0, a.kept.rows task.0, a.kept.regions, twice (nat_le 8192 (length runner.pages))) (range_cases header.size (length runner.pages) address bytes (entries_in task.0 runner.maps))
+    rw (a.kept.hosts task.0, a.none task.0, a.kept.rows task.0, a.kept.regions, a.kept.objects, twice (nat_le 8192 (length runner.pages))) (range_cases header.size (length runner.pages) address bytes (entries_in task.0 runner.maps))
 
 -- the tests of an allocation, one after another
 no_task : (size count address bytes : ℕ) (o : Option (List Entry)) → is_some o ≡ false → Some code.NoSuchName ≡ range_code size o count address bytes
