@@ -11,6 +11,7 @@ use Rattle.vm_flat.specs.Regions.{in_use}
 use Rattle.vm_flat.specs.Spot.{Spot}
 use Rattle.vm_flat.proofs.Allowed.{Passed}
 use Rattle.vm_flat.specs.Places.{spot, control}
+use Rattle.vm_model.specs.Chains as M
 use Rattle.vm_flat.specs.Walks as W
 use Rattle.vm_flat.specs.Walks.{IsTop, Passes}
 use Rattle.vm_flat.specs.Flat.{flat_page}
@@ -122,7 +123,7 @@ sinks header outside host past num (suc n) o p above walk =
 
 -- chains
 
-below : (header : Header) (outside : Outside) (host : ℕ) (past : List Event) (n o u : ℕ) → C.Below (λ k. D.link (ground header outside) k (deeds header outside host past)) n o u → W.Below (λ k. backing_of header k past) n o u
+below : (header : Header) (outside : Outside) (host : ℕ) (past : List Event) (n o u : ℕ) → C.Below (λ k. D.link (ground header outside) k (deeds header outside host past)) n o u → M.Below (λ k. backing_of header k past) n o u
 below header outside host past zero o u is = is
 below header outside host past (suc n) o u is =
     let same : D.link (ground header outside) o (deeds header outside host past) ≡ as_link (backing_of header o past) = link_is header outside host o past in (

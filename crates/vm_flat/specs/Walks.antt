@@ -2,11 +2,7 @@
 use Rattle.std.specs.Prelude.{ℕ, zero, suc, ◌+◌, ◌≡◌, Bool, true, false}
 use Rattle.vm_flat.specs.Spot.{Spot}
 use Rattle.vm_model.specs.Regions.{Region, Backing}
-
--- u is the n-th object below o
-abbrev pub Below : (ℕ → Backing) → ℕ → ℕ → ℕ → Type 0
-Below backings zero o u = o ≡ u
-Below backings (suc n) o u = ((backings o).backed ≡ true) × Below backings n (backings o).under u
+use Rattle.vm_model.specs.Chains.{Below}
 
 -- in the chain of a region that is in use
 abbrev pub Reaches : (ℕ → Bool) → (ℕ → Region) → (ℕ → Backing) → ℕ → Type 0

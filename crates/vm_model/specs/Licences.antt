@@ -18,9 +18,9 @@ pub record Waits (size task : ℕ) (access : Access) (past : List Event) : Type 
   pub lives : host_of task past ≡ Some host
   pub found : entry_at (address_of size (next_page task past) access) (entries_of size task past) ≡ Some entry
 
--- the places of its page, for a page size
-abbrev pub its_places : (size task : ℕ) (access : Access) (past : List Event) → Waits size task access past → List Place
-its_places size task access past it = places it.entry.region.0 (page_at size (address_of size (next_page task past) access) it.entry) past
+-- the places of its page
+abbrev pub its_places : (header : Header) (task : ℕ) (access : Access) (past : List Event) → Waits header.size task access past → List Place
+its_places header task access past it = places header it.entry.region.0 (page_at header.size (address_of header.size (next_page task past) access) it.entry) past
 
 -- the top place of these
 abbrev pub IsTop : List Place → Place → Type 0
@@ -33,22 +33,22 @@ abbrev pub Licensed : Header → Event → List Event → Type 0
 Licensed header (event.Zeroed host object page) past =
     (task : ℕ) × (access : Access) × (it : Waits header.size task access past)
     × (it.host ≡ host.0)
-    × IsTop (its_places header.size task access past it) (record { object = object.0; page = page.0 })
-    × (walk header.size it.host (its_places header.size task access past it) past ≡ None)
+    × IsTop (its_places header task access past it) (record { object = object.0; page = page.0 })
+    × (walk header.size it.host (its_places header task access past it) past ≡ None)
 -- a load ends with the page where its walk found it
 Licensed header (event.Loaded task object page value) past =
     (address : ℕ) × (bytes : ℕ) × (it : Waits header.size task.0 (Loading address bytes) past)
-    × (walk header.size it.host (its_places header.size task.0 (Loading address bytes) past it) past ≡ Some (record { object = object.0; page = page.0 }))
+    × (walk header.size it.host (its_places header task.0 (Loading address bytes) past it) past ≡ Some (record { object = object.0; page = page.0 }))
 -- a store ends with the page at its top place, which is here: it puts its own value there
 Licensed header (event.Stored task object page at size value) past =
     (address : ℕ) × (it : Waits header.size task.0 (Storing address size value) past)
-    × IsTop (its_places header.size task.0 (Storing address size value) past it) (record { object = object.0; page = page.0 })
+    × IsTop (its_places header task.0 (Storing address size value) past it) (record { object = object.0; page = page.0 })
     × ((local header.size it.host (record { object = object.0; page = page.0 }) past).here ≡ true)
     × (at ≡ address % header.size)
 -- a page of a temporary object goes once no entry leads to the object
 Licensed header (event.Dropped host object page) past =
     (length header.objects.items ≤ object.0)
-    × IsUnreachable header.size object.0 past
+    × IsUnreachable header object.0 past
     × ((local header.size host.0 (record { object = object.0; page = page.0 }) past).here ≡ true)
 Licensed header other past = ⊥
 

@@ -10,5 +10,5 @@ pub record Prompt (header : Header) (past : List Event) : Type 0 where
   -- no access waits in vain: nothing is on its way to anybody, so none waits at all
   pub none : (task : ℕ) → waiting task past ≡ None
   -- no host has a page of a temporary object to which no entry leads
-  pub swept : (host object page : ℕ) → host < length header.frames.items → length header.objects.items ≤ object → IsUnreachable header.size object past
+  pub swept : (host object page : ℕ) → host < length header.frames.items → length header.objects.items ≤ object → IsUnreachable header object past
       → (local header.size host (record { object = object; page = page }) past).here ≡ false

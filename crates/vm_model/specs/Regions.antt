@@ -1,5 +1,5 @@
 -- Regions and objects: their numbers, and what stands on what.
-use Rattle.std.specs.Prelude.{ℕ, ◌+◌, List, [], ◌∷◌, if◌then◌else◌, ◌==◌, Bool, true, false, Option, Some, None}
+use Rattle.std.specs.Prelude.{ℕ, ◌+◌, List, [], ◌∷◌, if◌then◌else◌, ◌==◌, Bool, true, false}
 use Rattle.vm_model.specs.declared.event.Event.{Event}
 use Rattle.vm_model.specs.declared.event.Event.TheVariants as event
 use Rattle.vm_model.specs.declared.script.Header.{Header}
@@ -83,9 +83,3 @@ abbrev pub backing_of : Header → ℕ → List Event → Backing
 backing_of header object [] = record { backed = false; under = 0; shift = 0 }
 backing_of header object (event.Shadowed region new old ∷ past) = over (object == new.0) (region_of header region.0 past) (backing_of header object past)
 backing_of header object (e ∷ past) = backing_of header object past
-
--- the top object of a region
-abbrev pub top_of : ℕ → List Event → Option ℕ
-top_of region [] = None
-top_of region (event.RegionMade made object pages ∷ past) = if made.0 == region then Some object.0 else top_of region past
-top_of region (e ∷ past) = top_of region past

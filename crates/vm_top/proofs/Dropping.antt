@@ -9,32 +9,35 @@ use Rattle.vm_base.specs.declared.entry.Entry.{Entry}
 use Rattle.vm_model.specs.declared.event.Event.{Event}
 use Rattle.vm_model.specs.declared.event.Event.TheVariants as event
 use Rattle.vm_model.specs.declared.script.Header.{Header}
-use Rattle.vm_model.specs.Chains.{IsUnreachable}
+use Rattle.vm_model.specs.Chains.{Below, IsUnreachable}
+use Rattle.vm_model.specs.Regions.{region_of, backing_of}
 use Rattle.vm_model.specs.Licences.{AllLicensed, Licensed}
 use Rattle.vm_model.specs.Local.{local}
 use Rattle.vm_model.specs.Rows.{AllRows, rows_map}
 use Rattle.vm_model.specs.Tasks.{has_entry}
 use Rattle.vm_maps.specs.Maps.{Mapped, rows_in}
 use Rattle.vm_top.specs.Pages.{Table, held, pages_of, put_in, room_all}
-use Rattle.vm_top.specs.Runner.{IsInside, IsPlain, IsShown, IsUsed, Kept, place_of, the_host}
+use Rattle.vm_top.specs.Runner.{IsOwn, IsPlain, IsShown, IsUsed, Kept, place_of, the_host}
 use Rattle.vm_top.specs.Sweeping.{AreDrops, Drops, Gone, Loses, Lost, Sweeping, Swept}
 use Rattle.vm_top.specs.declared.runner.Runner.{Runner}
 use Rattle.vm_top.proofs.Counting.{unused_last, uses_lower}
 use Rattle.vm_top.proofs.Kepts.{among, kept_dropped}
 use Rattle.vm_top.proofs.Tables.{count_put_less, held_other, held_put, length_put, none_behind, pages_put, put_none, room_put}
 
--- no entry leads to the object of a region that is unused
-unreachable : (header : Header) (maps : Mapped) (table : Table) (h : List Event) (r : ℕ) → Kept header maps table h → (IsUsed r maps → ⊥) → IsUnreachable header.size r h
-unreachable header maps table h r k unused task region top = rw (k.rows task) (by_test (has_entry region (rows_in task maps)) refl)
-  where
-    some_is : (a b : ℕ) → ◌≡◌ {A = Option ℕ} (Some a) (Some b) → a ≡ b
-    some_is a b e = cc
+-- a region leads to the object with its number alone
+led_to : (header : Header) (h : List Event) (region n r : ℕ) → IsOwn (region_of header region h) region → ((object : ℕ) → (backing_of header object h).backed ≡ false)
+    → Below (λ o. backing_of header o h) n (region_of header region h).top r → region ≡ r
+led_to header h region zero r own bare below = sym own.top ∙ below
+led_to header h region (suc n) r own bare below = absurd (let bad : false ≡ true = sym (bare (region_of header region h).top) ∙ below.0 in cc)
 
+-- no entry leads to the object of a region that is unused
+unreachable : (header : Header) (maps : Mapped) (table : Table) (h : List Event) (r : ℕ) → Kept header maps table h → (IsUsed r maps → ⊥) → IsUnreachable header r h
+unreachable header maps table h r k unused task region n below = rw (k.rows task) (by_test (has_entry region (rows_in task maps)) refl)
+  where
     by_test : (b : Bool) → has_entry region (rows_in task maps) ≡ b → b ≡ false
     by_test false has = refl
     by_test true has =
-        let less = among (λ z. z < length table) region (rows_in task maps) (rows_map (IsInside header.size table) (λ row. row.region.0 < length table) (λ row is. is.region) (rows_in task maps) (k.inside task)) has in
-        let same = some_is region r (sym (k.tops region less) ∙ top) in
+        let same = led_to header h region n r (k.tops region) k.unbacked below in
         absurd (unused (task, subst (λ (z : ℕ). has_entry z (rows_in task maps) ≡ true) same has))
 
 licensed_drop : (header : Header) (maps : Mapped) (table : Table) (h : List Event) (r p : ℕ) (bytes : List ℕ) → IsPlain header → Kept header maps table h → (IsUsed r maps → ⊥) → held table r p ≡ Some bytes

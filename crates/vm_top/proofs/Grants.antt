@@ -1,7 +1,7 @@
 -- The history stays legal with the group of each command.
-use Rattle.std.proofs.Common.{◌≡◌, ℕ, zero, suc, ◌/◌, ◌%◌, ◌<◌, ◌≤◌, ◌==◌, Bool, true, false, List, [], ◌∷◌, length, replicate, refl, ap, sym, ◌∙◌, subst, arith, Some, None, Option, cond, inl, inr}
+use Rattle.std.proofs.Common.{◌≡◌, ℕ, zero, suc, ◌+◌, ◌/◌, ◌%◌, ◌<◌, ◌≤◌, ◌==◌, Bool, true, false, List, [], ◌∷◌, length, replicate, refl, ap, sym, ◌∙◌, subst, arith, Some, None, Option, cond, inl, inr}
 use Rattle.std.proofs.lemmas.Bool.Decides.{eqb_tells}
-use Rattle.std.specs.Prelude.{slice_get, IfSome}
+use Rattle.std.specs.Prelude.{slice_get, IfSome, if◌then◌else◌}
 use Rattle.vm_base.specs.declared.code.Code.{Code}
 use Rattle.vm_base.specs.declared.entry.Entry.{Entry}
 use Rattle.vm_base.specs.declared.ids.TaskId.{TaskId}
@@ -12,20 +12,20 @@ use Rattle.vm_model.specs.declared.command.Command.TheVariants as command
 use Rattle.vm_model.specs.declared.command.Numbered.{Numbered}
 use Rattle.vm_model.specs.declared.script.Header.{Header}
 use Rattle.vm_model.specs.Bytes.{number_in}
-use Rattle.vm_model.specs.Chains.{places, walk}
+use Rattle.vm_model.specs.Chains.{places, places_from, walk}
 use Rattle.vm_model.specs.Flat.{flat_page}
 use Rattle.vm_model.specs.Frames.{FramesSuffice, frames_used}
 use Rattle.vm_model.specs.Licences.{IsTop, Waits}
-use Rattle.vm_model.specs.Local.{local}
+use Rattle.vm_model.specs.Local.{Place, local}
 use Rattle.vm_model.specs.Moments.{EachMoment}
 use Rattle.vm_model.specs.Prompt.{Prompt}
 use Rattle.vm_model.specs.Refusal.{refusal}
-use Rattle.vm_model.specs.Regions.{top_of}
+use Rattle.vm_model.specs.Regions.{region_of, backing_of}
 use Rattle.vm_model.specs.Tasks.{host_of, entries_of}
 use Rattle.vm_model.specs.Waiting.{Access, Loading, Storing, address_of, next_page, waiting}
 use Rattle.vm_maps.specs.Maps.{Mapped, entries_in, rows_in}
 use Rattle.vm_top.specs.Pages.{Table, held, pages_of, put_in, room_all}
-use Rattle.vm_top.specs.Runner.{HasFrames, IsShown, Kept, KeepsLegal, host_for, or_zeros, place_of, the_host, whole_entry}
+use Rattle.vm_top.specs.Runner.{HasFrames, IsOwn, IsShown, Kept, KeepsLegal, host_for, or_zeros, place_of, the_host, whole_entry}
 use Rattle.vm_top.proofs.Kepts.{found_used, kept_zeroed}
 use Rattle.vm_top.proofs.Tables.{all_le, held_put, room_put}
 
@@ -114,15 +114,30 @@ home header maps table h task address entry k leads = k.hosts task ∙ ap host_f
 through : (header : Header) (maps : Mapped) (table : Table) (h : List Event) (task address : ℕ) (entry : Entry) → Kept header maps table h → Leads header maps table task address entry → entry_at address (entries_of header.size task h) ≡ Some entry
 through header maps table h task address entry k leads = ap (entry_at address) (k.rows task) ∙ leads.found
 
+-- a page of a region has one place
+stops : (b : Bool) (place : Place) (more : List Place) → b ≡ false → place ∷ (if b then more else []) ≡ place ∷ []
+stops true place more last = absurd (let bad : true ≡ false = last in cc)
+stops false place more last = refl
+
+only_place : (header : Header) (r p : ℕ) (past : List Event) → IsOwn (region_of header r past) r → ((object : ℕ) → (backing_of header object past).backed ≡ false) → places header r p past ≡ place_of r p ∷ []
+only_place header r p past own bare =
+    let top = (region_of header r past).top in
+    let page = (region_of header r past).shift + p in
+    let under = backing_of header top past in
+    let same : page ≡ p = omega (arith, own.shift) in
+    stops under.backed (place_of top page) (places_from (λ o. backing_of header o past) (length past) under.under (under.shift + page)) (bare top) ∙ ap (λ z. place_of z page ∷ []) own.top ∙ ap (λ z. place_of r z ∷ []) same
+
 -- where the walk ends
-walk_found : (size r p : ℕ) (past : List Event) → top_of r past ≡ Some r → (local size 0 (place_of r p) past).here ≡ true → walk size 0 (places r p past) past ≡ Some (place_of r p)
-walk_found size r p past top here = rw (top, places, here, walk) refl
+walk_found : (header : Header) (r p : ℕ) (past : List Event) → IsOwn (region_of header r past) r → ((object : ℕ) → (backing_of header object past).backed ≡ false) → (local header.size 0 (place_of r p) past).here ≡ true → walk header.size 0 (places header r p past) past ≡ Some (place_of r p)
+walk_found header r p past own bare here =
+    subst (λ (z : List Place). walk header.size 0 z past ≡ Some (place_of r p)) (sym (only_place header r p past own bare)) (ap (λ b. if b then Some (place_of r p) else None) here)
 
-walk_missed : (size r p : ℕ) (past : List Event) → top_of r past ≡ Some r → (local size 0 (place_of r p) past).here ≡ false → walk size 0 (places r p past) past ≡ None
-walk_missed size r p past top here = rw (top, places, here, walk) refl
+walk_missed : (header : Header) (r p : ℕ) (past : List Event) → IsOwn (region_of header r past) r → ((object : ℕ) → (backing_of header object past).backed ≡ false) → (local header.size 0 (place_of r p) past).here ≡ false → walk header.size 0 (places header r p past) past ≡ None
+walk_missed header r p past own bare here =
+    subst (λ (z : List Place). walk header.size 0 z past ≡ None) (sym (only_place header r p past own bare)) (ap (λ b. if b then Some (place_of r p) else None) here)
 
-is_top : (r p : ℕ) (past : List Event) → top_of r past ≡ Some r → IsTop (places r p past) (place_of r p)
-is_top r p past top = rw (top, places) refl
+is_top : (header : Header) (r p : ℕ) (past : List Event) → IsOwn (region_of header r past) r → ((object : ℕ) → (backing_of header object past).backed ≡ false) → IsTop (places header r p past) (place_of r p)
+is_top header r p past own bare = subst (λ (z : List Place). IsTop z (place_of r p)) (sym (only_place header r p past own bare)) refl
 
 abbrev pub begun_load : TaskId → ℕ → ℕ → ℕ → List Event → List Event
 begun_load task address n line h = event.BegunLoad task address n ∷ event.Line line ∷ h
@@ -147,7 +162,7 @@ legal_hit header maps table task address n line entry bytes h k leads here fine 
     let flat : flat_page header.size r p h ≡ bytes = k.flat r p leads.region (found_used maps task.0 address entry leads.found) ∙ ap (or_zeros header.size) here in
     let it = it_waits header.size task.0 (Loading address n) past entry (begun_waits task.0 (Loading address n) (waiting task.0 h)) (home header maps table h task.0 address entry k leads) (through header maps table h task.0 address entry k leads) in
     record {
-      follows = (h, number ∷ event.BegunLoad task address n ∷ [], refl, rw fine (number ∷ [], refl, ((address, n, it, walk_found header.size r p past (k.tops r leads.region) shown.0), tt)), legal.follows);
+      follows = (h, number ∷ event.BegunLoad task address n ∷ [], refl, rw fine (number ∷ [], refl, ((address, n, it, walk_found header r p past (k.tops r) k.unbacked shown.0), tt)), legal.follows);
       own_bytes = ((address, n, it, record { here = shown.0; unlocked = inl shown.2 }, ap (λ z. number_in z header.size address n) (sym shown.1)), (tt, (tt, legal.own_bytes)));
       flat_bytes = ((address, n, it, ap (λ z. number_in z header.size address n) (sym flat)), (tt, (tt, legal.flat_bytes)));
       frames = (now, (now, (now, legal.frames)));
@@ -195,8 +210,8 @@ legal_miss header maps table task address n line entry h k has leads absent fine
           number ∷ zeroed ∷ [],
           refl,
           (
-            (address, n, after, walk_found header.size r p (zeroed ∷ past) (k.tops r leads.region) shown.0),
-            ((task.0, Loading address n, it, refl, is_top r p past (k.tops r leads.region), walk_missed header.size r p past (k.tops r leads.region) missing), tt),
+            (address, n, after, walk_found header r p (zeroed ∷ past) (k.tops r) k.unbacked shown.0),
+            ((task.0, Loading address n, it, refl, is_top header r p past (k.tops r) k.unbacked, walk_missed header r p past (k.tops r) k.unbacked missing), tt),
           ),
         ),
         legal.follows,
@@ -226,7 +241,7 @@ legal_store header maps table task address n value line entry bytes h k leads he
     let shown : IsShown (local header.size 0 (place_of r p) h) (Some bytes) = subst (IsShown (local header.size 0 (place_of r p) h)) here (k.pages r p) in
     let it = it_waits header.size task.0 (Storing address n value) past entry (begun_waits task.0 (Storing address n value) (waiting task.0 h)) (home header maps table h task.0 address entry k leads) (through header maps table h task.0 address entry k leads) in
     record {
-      follows = (h, ending ∷ event.BegunStore task address n value ∷ [], refl, rw fine (ending ∷ [], refl, ((address, it, is_top r p past (k.tops r leads.region), shown.0, refl), tt)), legal.follows);
+      follows = (h, ending ∷ event.BegunStore task address n value ∷ [], refl, rw fine (ending ∷ [], refl, ((address, it, is_top header r p past (k.tops r) k.unbacked, shown.0, refl), tt)), legal.follows);
       own_bytes = ((address, it, record { here = shown.0; unlocked = shown.2 }, refl), (tt, (tt, legal.own_bytes)));
       flat_bytes = (tt, (tt, (tt, legal.flat_bytes)));
       frames = (now, (now, (now, legal.frames)));
@@ -270,8 +285,8 @@ legal_store_miss header maps table task address n value line entry h k has leads
           ending ∷ zeroed ∷ [],
           refl,
           (
-            (address, after, is_top r p (zeroed ∷ past) (k.tops r leads.region), shown.0, refl),
-            ((task.0, Storing address n value, it, refl, is_top r p past (k.tops r leads.region), walk_missed header.size r p past (k.tops r leads.region) missing), tt),
+            (address, after, is_top header r p (zeroed ∷ past) (k.tops r) k.unbacked, shown.0, refl),
+            ((task.0, Storing address n value, it, refl, is_top header r p past (k.tops r) k.unbacked, walk_missed header r p past (k.tops r) k.unbacked missing), tt),
           ),
         ),
         legal.follows,

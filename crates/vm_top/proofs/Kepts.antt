@@ -1,5 +1,5 @@
 -- What is kept agrees with the history over each event that changes it.
-use Rattle.std.proofs.Common.{◌≡◌, ℕ, zero, suc, ◌+◌, ◌-◌, ◌/◌, ◌%◌, ◌<◌, ◌≤◌, ◌^◌, true, false, List, [], ◌∷◌, ◌++◌, length, take, drop, replicate, refl, ap, sym, ◌∙◌, subst, arith, Some, None, Option, inl, inr, length-append}
+use Rattle.std.proofs.Common.{◌≡◌, ℕ, zero, suc, ◌+◌, ◌-◌, ◌/◌, ◌%◌, ◌<◌, ◌≤◌, ◌^◌, ◌==◌, Bool, true, false, List, [], ◌∷◌, ◌++◌, length, take, drop, replicate, refl, ap, sym, ◌∙◌, subst, arith, Some, None, Option, inl, inr, length-append}
 use Rattle.std.proofs.lemmas.Bool.Decides.{eqb_tells}
 use Rattle.std.proofs.lemmas.List.{length-replicate, length-take, length-drop}
 use Rattle.std.specs.Prelude.{if◌then◌else◌, unwrap_or, ◌≢◌}
@@ -12,12 +12,14 @@ use Rattle.vm_model.specs.declared.event.Event.TheVariants as event
 use Rattle.vm_model.specs.declared.script.Header.{Header}
 use Rattle.vm_model.specs.Flat.{flat_page}
 use Rattle.vm_model.specs.Local.{local, moved, Zeroes, Stores, Drops, Elsewhere}
+use Rattle.vm_model.specs.Regions as R
+use Rattle.vm_model.specs.Regions.{Region, region_of}
 use Rattle.vm_model.specs.Waiting.{waiting, Storing}
 use Rattle.vm_model.specs.Rows.{AllRows, found_row, page_below, rows_entered, rows_known, rows_map}
 use Rattle.vm_model.specs.Tasks.{entries_of, has_entry, host_of}
 use Rattle.vm_maps.specs.Maps.{Mapped, ChangesOnly, entries_in, rows_in}
 use Rattle.vm_top.specs.Pages.{Table, held, pages_of, put_in}
-use Rattle.vm_top.specs.Runner.{AllInside, IsInside, IsShown, IsSized, IsUsed, Kept, host_for, or_zeros, place_of, the_host, whole_entry}
+use Rattle.vm_top.specs.Runner.{AllInside, IsInside, IsOwn, IsShown, IsSized, IsUsed, Kept, host_for, or_zeros, place_of, the_host, whole_entry}
 use Rattle.vm_top.proofs.Tables.{count_added, count_put_less, count_put_more, count_put_other, each_held, held_added, length_added, length_put, none_past, pages_added, pages_kept, pages_put, with_region}
 
 -- entries lie within their regions still
@@ -74,7 +76,8 @@ kept_zeroed header maps table h r p k inside within absent =
       inside = λ task. inside_put header.size table r p zeros (rows_in task maps) inside (k.inside task);
       regions = k.regions ∙ sym same;
       objects = k.objects ∙ sym same;
-      tops = λ region less. k.tops region (omega arith);
+      tops = k.tops;
+      unbacked = k.unbacked;
       flat = each_held table r p zeros inside within (λ r2 p2 b page. r2 < length (put_in table r p zeros) → IsUsed r2 maps → flat_page header.size r2 p2 h ≡ or_zeros header.size page)
           (λ less used. k.flat r p inside used ∙ ap (or_zeros header.size) absent) (λ r2 p2 less used. k.flat r2 p2 (omega arith) used);
       pages = each_held table r p zeros inside within (λ r2 p2 b page. IsShown (moved header.size (if b then Zeroes else Elsewhere) (local header.size 0 (place_of r2 p2) h)) page)
@@ -95,7 +98,8 @@ kept_dropped header maps table h r p bytes k inside within here unused =
       inside = λ task. inside_put header.size table r p None (rows_in task maps) inside (k.inside task);
       regions = k.regions ∙ sym same;
       objects = k.objects ∙ sym same;
-      tops = λ region less. k.tops region (omega arith);
+      tops = k.tops;
+      unbacked = k.unbacked;
       flat = each_held table r p None inside within (λ r2 p2 b page. r2 < length (put_in table r p None) → IsUsed r2 maps → flat_page header.size r2 p2 h ≡ or_zeros header.size page)
           (λ less used. absurd (unused used)) (λ r2 p2 less used. k.flat r2 p2 (omega arith) used);
       pages = each_held table r p None inside within (λ r2 p2 b page. IsShown (moved header.size (if b then Drops else Elsewhere) (local header.size 0 (place_of r2 p2) h)) page)
@@ -145,7 +149,8 @@ kept_stored header maps table h task address n value entry bytes k waits lives f
       inside = λ t. inside_put header.size table r p made (rows_in t maps) inside (k.inside t);
       regions = k.regions ∙ sym same;
       objects = k.objects ∙ sym same;
-      tops = λ region less. k.tops region (omega arith);
+      tops = k.tops;
+      unbacked = k.unbacked;
       flat = rw (waits, k.rows task.0, found) (each_held table r p made inside within
           (λ r2 p2 b page. r2 < length (put_in table r p made) → IsUsed r2 maps → (if b then with_bytes at put (flat_page header.size r2 p2 h) else flat_page header.size r2 p2 h) ≡ or_zeros header.size page)
           (λ less used. ap (with_bytes at put) was) (λ r2 p2 less used. k.flat r2 p2 (omega arith) used));
@@ -174,6 +179,7 @@ kept_task header maps new table h task k changes = record {
   regions = k.regions;
   objects = k.objects;
   tops = k.tops;
+  unbacked = k.unbacked;
   flat = λ region page less used. k.flat region page less (used_before maps new task.0 region (Some []) changes (λ has. absurd (let bad : false ≡ true = has in cc)) used);
   pages = k.pages;
   sized = k.sized;
@@ -185,6 +191,14 @@ has_entered : (r : ℕ) (new : Entry) (rows : List Entry) → new.region.0 ≢ r
 has_entered r new rows apart has =
     let all = rows_map (λ row. Unit {0} × (has_entry row.region.0 rows ≡ true)) (λ row. row.region.0 ≡ r → has_entry r rows ≡ true) (λ row is e. subst (λ (z : ℕ). has_entry z rows ≡ true) e is.1) rows (rows_known (λ row. Unit {0}) rows (rows_all rows)) in
     among (λ z. z ≡ r → has_entry r rows ≡ true) r (entered new rows) (rows_entered (λ row. row.region.0 ≡ r → has_entry r rows ≡ true) new rows (λ e. absurd (apart e)) all) has refl
+
+-- a region that is made over the object with its number
+own_made : (b : Bool) (object pages region : ℕ) (was : Region) → (b ≡ true → object ≡ region) → IsOwn was region → IsOwn (R.made b object pages was) region
+own_made true object pages region was is own = record { top = is refl; shift = refl }
+own_made false object pages region was is own = record { top = own.top; shift = own.shift }
+
+eqb_means : (a b : ℕ) → (a == b) ≡ true → b ≡ a
+eqb_means a b same_number = elim (eqb_tells a b) [ inl same ↦ sym same.1 | inr apart ↦ absurd (let bad : false ≡ true = sym apart.0 ∙ same_number in cc) ]
 
 -- a new region, and an entry on the whole of it
 pub kept_range : (header : Header) (maps new : Mapped) (table : Table) (h : List Event) (task : TaskId) (address bytes : ℕ) → Kept header maps table h
@@ -219,10 +233,8 @@ kept_range header maps new table h task address bytes k changes lives whole some
       ];
       regions = ap (λ z. z + 1) k.regions ∙ sym grown;
       objects = ap (λ z. z + 1) k.objects ∙ sym grown;
-      tops = λ region less. elim (eqb_tells (length table) region) [
-        | inl same ↦ rw (same.0, same.1) refl
-        | inr apart ↦ rw apart.0 (k.tops region (let other = apart.1 in grind arith))
-      ];
+      tops = λ region. own_made (region == length table) (length table) n region (region_of header region h) (eqb_means region (length table)) (k.tops region);
+      unbacked = k.unbacked;
       flat = λ region page less used. rw (held_added table n region page) (elim (eqb_tells (length table) region) [
         | inl same ↦ rw (same.0, none_past table region page (omega (arith, same.1))) refl
         | inr apart ↦
@@ -253,6 +265,7 @@ kept_ended header maps new table h task k changes = record {
   regions = k.regions;
   objects = k.objects;
   tops = k.tops;
+  unbacked = k.unbacked;
   flat = λ region page less used. k.flat region page less (used_before maps new task.0 region None changes (λ has. absurd (let bad : false ≡ true = has in cc)) used);
   pages = k.pages;
   sized = k.sized;

@@ -14,11 +14,11 @@ use Rattle.vm_top.proofs.Counting.{by_none}
 use Rattle.vm_top.proofs.Tables.{none_past}
 
 -- a region without entries has no page
-left_none : (header : Header) (runner : Runner) (object page : ℕ) → Agrees header runner → IsUnreachable header.size object runner.history.items → held runner.pages object page ≡ None
+left_none : (header : Header) (runner : Runner) (object page : ℕ) → Agrees header runner → IsUnreachable header object runner.history.items → held runner.pages object page ≡ None
 left_none header runner object page a away =
     ⊎_elim
     (λ less.
-    let none = λ (task : ℕ). subst (λ (z : List Entry). has_entry object z ≡ false) (a.kept.rows task) (away task object (a.kept.tops object less)) in
+    let none = λ (task : ℕ). subst (λ (z : List Entry). has_entry object z ≡ false) (a.kept.rows task) (away task object 0 (a.kept.tops object).top) in
     let nothing = by_none a.uses.tasks object runner.maps none in
     let sum = a.uses.sums object in
     a.uses.swept object page (omega arith))

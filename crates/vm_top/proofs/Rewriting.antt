@@ -16,7 +16,7 @@ use Rattle.vm_model.specs.Flat.{flat_page}
 use Rattle.vm_model.specs.Frames.{frames_used}
 use Rattle.vm_model.specs.Local.{local}
 use Rattle.vm_model.specs.Refusal.{are_many, meets_declared, refusal, where_true}
-use Rattle.vm_model.specs.Regions.{next_object, next_region, top_of}
+use Rattle.vm_model.specs.Regions.{next_object, next_region, region_of, backing_of}
 use Rattle.vm_model.specs.Rows.{AllRows, Parts, inside_part, rows_known, rows_map, rows_rewritten}
 use Rattle.vm_model.specs.Tasks.{entries_of, has_entry, host_of, is_copied}
 use Rattle.vm_maps.specs.declared.change.MapChange.{MapChange}
@@ -102,7 +102,7 @@ may_change maps task change fine = go (entries_in task maps) refl fine
 -- entries of one task are cut, and what lies in a range is changed or taken out
 pub kept_rewritten : (header : Header) (maps new : Mapped) (table : Table) (h : List Event) (task : ℕ) (f : List Entry → List Entry) → Kept header maps table h
     → ChangesOnly maps new task (Some (f (rows_in task maps))) → entries_in task maps ≡ Some (rows_in task maps) → AllRows (λ row. IsInside header.size table row × (has_entry row.region.0 (rows_in task maps) ≡ true)) (f (rows_in task maps))
-    → IsKept header new table (λ t. host_of t h) (λ t. if task == t then f (entries_of header.size t h) else entries_of header.size t h) (next_region header h) (next_object header h) (λ region. top_of region h)
+    → IsKept header new table (λ t. host_of t h) (λ t. if task == t then f (entries_of header.size t h) else entries_of header.size t h) (next_region header h) (next_object header h) (λ region. region_of header region h) (λ object. backing_of header object h)
     (λ region page. flat_page header.size region page h) (λ region page. local header.size 0 (place_of region page) h) (frames_used 0 h)
 kept_rewritten header maps new table h task f k changes lives all =
     let rows = rows_in task maps in
@@ -124,6 +124,7 @@ kept_rewritten header maps new table h task f k changes lives all =
       regions = k.regions;
       objects = k.objects;
       tops = k.tops;
+      unbacked = k.unbacked;
       flat = λ region page less used. k.flat region page less
           (used_before maps new task region (Some (f rows)) changes (λ has. (task, among (λ z. has_entry z rows ≡ true) region (f rows) (rows_map P (λ row. has_entry row.region.0 rows ≡ true) (λ row is. is.1) (f rows) all) has)) used);
       pages = k.pages;

@@ -38,7 +38,8 @@ kept_start header plain = record {
   inside = λ task. tt;
   regions = ap length plain.objects;
   objects = ap length plain.objects;
-  tops = λ region less. absurd (omega arith);
+  tops = λ region. record { top = refl; shift = refl };
+  unbacked = λ object. refl;
   flat = λ region page less. absurd (omega arith);
   pages = λ region page. refl;
   sized = λ region page. tt;

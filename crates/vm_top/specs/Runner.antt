@@ -13,7 +13,7 @@ use Rattle.vm_model.specs.declared.script.Header.{Header}
 use Rattle.vm_model.specs.Moments.{BeforeSteps, before_last_line}
 use Rattle.vm_model.specs.Rows.{AllRows, Inside}
 use Rattle.vm_model.specs.Tasks.{host_of, entries_of, has_entry}
-use Rattle.vm_model.specs.Regions.{next_region, next_object, top_of}
+use Rattle.vm_model.specs.Regions.{next_region, next_object, Region, Backing, region_of, backing_of}
 use Rattle.vm_model.specs.Flat.{flat_page}
 use Rattle.vm_model.specs.Local.{Place, Local, local}
 use Rattle.vm_model.specs.Waiting.{waiting}
@@ -78,8 +78,13 @@ AllInside size table rows = AllRows (IsInside size table) rows
 abbrev pub IsUsed : ℕ → Mapped → Type 0
 IsUsed region maps = (task : ℕ) × (has_entry region (rows_in task maps) ≡ true)
 
+-- a region is that of the object with its number, from its page 0 on
+pub record IsOwn (region : Region) (number : ℕ) : Type 0 where
+  pub top : region.top ≡ number
+  pub shift : region.shift ≡ 0
+
 -- maps and pages agree with what a history says of tasks, entries, regions, pages and frames
-pub record IsKept (header : Header) (maps : Mapped) (table : Table) (host_at : ℕ → Option ℕ) (rows_at : ℕ → List Entry) (region_count object_count : ℕ) (top_at : ℕ → Option ℕ) (flat_at : ℕ → ℕ → List ℕ) (local_at : ℕ → ℕ → Local) (frame_count : ℕ) : Type 0 where
+pub record IsKept (header : Header) (maps : Mapped) (table : Table) (host_at : ℕ → Option ℕ) (rows_at : ℕ → List Entry) (region_count object_count : ℕ) (region_at : ℕ → Region) (backing_at : ℕ → Backing) (flat_at : ℕ → ℕ → List ℕ) (local_at : ℕ → ℕ → Local) (frame_count : ℕ) : Type 0 where
   pub size : maps.size ≡ header.size
   pub hosts : (task : ℕ) → host_at task ≡ host_for (entries_in task maps)
   pub rows : (task : ℕ) → rows_at task ≡ rows_in task maps
@@ -87,7 +92,8 @@ pub record IsKept (header : Header) (maps : Mapped) (table : Table) (host_at : �
   -- region and object have one number
   pub regions : region_count ≡ length table
   pub objects : object_count ≡ length table
-  pub tops : (region : ℕ) → region < length table → top_at region ≡ Some region
+  pub tops : (region : ℕ) → IsOwn (region_at region) region
+  pub unbacked : (object : ℕ) → (backing_at object).backed ≡ false
   -- what was stored in a region without entries is lost
   pub flat : (region page : ℕ) → region < length table → IsUsed region maps → flat_at region page ≡ or_zeros header.size (held table region page)
   pub pages : (region page : ℕ) → IsShown (local_at region page) (held table region page)
@@ -97,7 +103,7 @@ pub record IsKept (header : Header) (maps : Mapped) (table : Table) (host_at : �
 -- also inside a step
 abbrev pub Kept : Header → Mapped → Table → List Event → Type 0
 Kept header maps table h =
-    IsKept header maps table (λ task. host_of task h) (λ task. entries_of header.size task h) (next_region header h) (next_object header h) (λ region. top_of region h)
+    IsKept header maps table (λ task. host_of task h) (λ task. entries_of header.size task h) (next_region header h) (next_object header h) (λ region. region_of header region h) (λ object. backing_of header object h)
     (λ region page. flat_page header.size region page h) (λ region page. local header.size 0 (place_of region page) h) (frames_used 0 h)
 
 pub record Agrees (header : Header) (runner : Runner) : Type 0 where
