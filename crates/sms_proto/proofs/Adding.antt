@@ -1,0 +1,20 @@
+-- One more event, and events behind events.
+use Rattle.std.proofs.Common.{◌≡◌, List, ◌∷◌, ℕ, sym, subst}
+use Rattle.vm_model.specs.declared.message.Channel.TheVariants.{Up}
+use Rattle.vm_model.specs.declared.message.Message.{Message}
+use Rattle.vm_model.specs.declared.event.Event.{Event}
+use Rattle.vm_model.specs.declared.event.Event.TheVariants.{Sent}
+use Rattle.vm_base.specs.declared.ids.HostId.{HostId}
+use Rattle.sms_proto.specs.Adds.{Adds, Same, More, HostDoes, IsLetter}
+
+pub added : (P : Event → Type 0) (old new : List Event) (e : Event) → new ≡ e ∷ old → P e → Adds P old new
+added P old new e is own = subst (λ (l : List Event). Adds P old l) (sym is) (More e old own Same)
+
+pub added_letter : (host : HostId) (old new : List Event) (e : Event) (m : Message) → new ≡ e ∷ old → e ≡ Sent (Up host (record { 0 = 0 })) m → IsLetter m → Adds (HostDoes host.0) old new
+added_letter host old new e m is sent letter = added (HostDoes host.0) old new e is (subst (λ (x : Event). HostDoes host.0 x) (sym sent) (refl_of, refl_of, letter)) where
+  refl_of : {A : Type 0} {x : A} → x ≡ x
+  refl_of {A} {x} = λ i. x
+
+pub adds_more : (P : Event → Type 0) (old middle new : List Event) → Adds P middle new → Adds P old middle → Adds P old new
+adds_more P old middle middle Same first = first
+adds_more P old middle (e ∷ past) (More e past own rest) first = More e past own (adds_more P old middle past rest first)

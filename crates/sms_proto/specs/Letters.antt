@@ -1,0 +1,45 @@
+-- What is on the way, as messages and as words of the page.
+use Rattle.std.specs.Prelude.{ℕ, Bool, true, false, if◌then◌else◌}
+use Rattle.vm_base.specs.declared.ids.PageNo.{PageNo}
+use Rattle.vm_model.specs.declared.message.Message.{Message}
+use Rattle.vm_model.specs.declared.message.Message.TheVariants as message
+use Rattle.vm_model.specs.Words.{UpWord, Asking, Unlocking, Returning, Doing, Ending, DownWord, Supplying, Locking}
+use Rattle.sms_pages.specs.Directory.{access_number}
+use Rattle.sms_proto.specs.declared.letter.Letter.{Letter}
+use Rattle.sms_proto.specs.declared.letter.Letter.TheVariants as letter
+use Rattle.sms_proto.specs.declared.letter.Order.{Order}
+use Rattle.sms_proto.specs.declared.letter.Order.TheVariants as order
+
+-- the world's one page
+abbrev pub the_page : PageNo
+the_page = record { 0 = 0 }
+
+abbrev pub letter_message : Letter → Message
+letter_message (letter.Request control access) = message.Request control the_page (access_number access)
+letter_message (letter.Unlock control) = message.Unlock control the_page 3
+letter_message (letter.Return control keep bytes) = message.Return control the_page true keep bytes
+letter_message (letter.Completed control) = message.Completed control the_page 1
+letter_message (letter.Terminate control) = message.Terminate control
+
+abbrev pub letter_word : Letter → UpWord
+letter_word (letter.Request control access) = Asking control (access_number access)
+letter_word (letter.Unlock control) = Unlocking 3
+letter_word (letter.Return control keep bytes) = Returning true keep bytes
+letter_word (letter.Completed control) = Doing control 1
+letter_word (letter.Terminate control) = Ending control
+
+-- the lock of a supply
+abbrev pub supply_lock : Bool → ℕ
+supply_lock writes = if writes then 0 else 2
+
+abbrev pub order_message : Order → Message
+order_message (order.Supply writes bytes) = message.Supply the_page (supply_lock writes) false bytes
+order_message order.Flush = message.Lock the_page 1 1 true 8 true
+order_message order.Clean = message.Lock the_page 1 1 false 2 true
+order_message order.Unlock = message.Lock the_page 1 0 false 0 false
+
+abbrev pub order_word : Order → DownWord
+order_word (order.Supply writes bytes) = Supplying (supply_lock writes) false bytes
+order_word order.Flush = Locking 1 1 true 8 true
+order_word order.Clean = Locking 1 1 false 2 true
+order_word order.Unlock = Locking 1 0 false 0 false

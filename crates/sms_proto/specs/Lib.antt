@@ -1,0 +1,4 @@
+pub mod Adds
+pub mod Letters
+pub mod Kernels
+pub mod Steps

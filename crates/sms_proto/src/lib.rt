@@ -1,0 +1,5 @@
+//! The world of one shared page: up to eight hosts, one server, and every order of their messages.
+#![tactic(auto)]
+
+mod kernel;
+mod letter;
