@@ -16,5 +16,5 @@ added_letter host old new e m is sent letter = added (HostDoes host.0) old new e
   refl_of {A} {x} = λ i. x
 
 pub adds_more : (P : Event → Type 0) (old middle new : List Event) → Adds P middle new → Adds P old middle → Adds P old new
-adds_more P old middle middle Same first = first
-adds_more P old middle (e ∷ past) (More e past own rest) first = More e past own (adds_more P old middle past rest first)
+adds_more P old middle _ Same first = first
+adds_more P old middle _ (More e past own rest) first = More e past own (adds_more P old middle past rest first)

@@ -1,3 +1,4 @@
 pub mod Queues
 pub mod Pages
 pub mod Adding
+pub mod Beginning

@@ -75,6 +75,7 @@ pub record Fits (history : List Event) (k : Kernel) : Type 0 where
   -- a host without a control has nothing; what is asked is not here, and somebody waits for it
   pub gone_right : k.live ≡ false → k.right ≡ 0
   pub gone_down : k.live ≡ false → k.down.items ≡ []
+  pub gone_asked : k.live ≡ false → k.asked ≡ false
   pub asked_away : k.asked ≡ true → k.right ≡ 0
   pub asked_waits : k.asked ≡ true → k.want ≢ None
   pub bounded : k.right ≤ 2

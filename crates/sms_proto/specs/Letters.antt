@@ -1,5 +1,9 @@
 -- What is on the way, as messages and as words of the page.
-use Rattle.std.specs.Prelude.{ℕ, Bool, true, false, if◌then◌else◌}
+use Rattle.std.specs.Prelude.{ℕ, Bool, true, false, if◌then◌else◌, Option, Some, None, List}
+use Rattle.vm_base.specs.declared.ids.HostId.{HostId}
+use Rattle.vm_model.specs.declared.message.Channel.TheVariants.{Up, Down}
+use Rattle.vm_model.specs.declared.event.Event.{Event}
+use Rattle.vm_model.specs.declared.event.Event.TheVariants.{Sent, Taken, Dropped}
 use Rattle.vm_base.specs.declared.ids.PageNo.{PageNo}
 use Rattle.vm_model.specs.declared.message.Message.{Message}
 use Rattle.vm_model.specs.declared.message.Message.TheVariants as message
@@ -43,3 +47,22 @@ order_word (order.Supply writes bytes) = Supplying (supply_lock writes) false by
 order_word order.Flush = Locking 1 1 true 8 true
 order_word order.Clean = Locking 1 1 false 2 true
 order_word order.Unlock = Locking 1 0 false 0 false
+
+-- the taking of an order by a control of the host
+abbrev pub order_taken : HostId → ℕ → Order → Event
+order_taken host control o = Taken (Down host (record { 0 = 0 }) control) (order_message o)
+
+abbrev pub taken_first : HostId → ℕ → Option Order → Option Event
+taken_first host control None = None
+taken_first host control (Some o) = Some (order_taken host control o)
+
+-- what a host does while it takes an order
+
+abbrev pub done_event : HostId → ℕ → Event
+done_event host control = Sent (Up host (record { 0 = 0 })) (message.Completed control the_page 1)
+
+abbrev pub return_event : HostId → ℕ → Bool → List ℕ → Event
+return_event host control keep bytes = Sent (Up host (record { 0 = 0 })) (message.Return control the_page true keep bytes)
+
+abbrev pub drop_event : HostId → Event
+drop_event host = Dropped host (record { 0 = 0 }) the_page

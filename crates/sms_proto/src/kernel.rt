@@ -6,7 +6,9 @@ ghost use Rattle.sms_pages.specs.Directory.{access_number};
 ghost use Rattle.vm_model.specs.declared.event.Event.TheVariants.{Sent, Dropped};
 ghost use Rattle.vm_model.specs.declared.message.Message.TheVariants.{Return, Terminate};
 ghost use Rattle.vm_model.specs.declared.message.Channel.TheVariants.{Up};
-ghost use Rattle.sms_proto.specs.Steps.{put_away_event};
+ghost use Rattle.vm_model.specs.Side.{right_of, locked};
+ghost use Rattle.sms_proto.specs.Letters.{supply_lock};
+ghost use Rattle.sms_proto.specs.Steps.{put_away_event, begun_event};
 ghost use Rattle.sms_proto.specs.Adds.{Adds, HostDoes};
 ghost use Rattle.sms_proto.specs.Kernels.{Fits, HasRoom, IsPrompt};
 
@@ -41,6 +43,23 @@ impl Right {
     pub const READ: Right = Right(1);
 
     pub const WRITE: Right = Right(2);
+
+    /// What a supply gives that prohibits nothing, or prohibits writing.
+    pub fn of(writes: bool) -> Right
+        ensures { result ≡ right_of (supply_lock writes) }
+    {
+        if writes { Right::WRITE } else { Right::READ }
+    }
+
+    /// What a lock leaves of it that prohibits nothing, or prohibits writing.
+    pub fn locked(self, writes: bool) -> Right
+        ensures { result ≡ locked self false (supply_lock writes) }
+    {
+        if self == Right::AWAY {
+            return self;
+        }
+        Right::of(writes)
+    }
 }
 
 /// An access that waits: a load, or a store of a value.
@@ -112,13 +131,20 @@ impl Kernel {
         ensures kept { OnOk result ((self.new.right ≡ 0) × (self.new.want ≡ self.old.want) × (self.new.live ≡ self.old.live) × (self.new.asked ≡ self.old.asked)) }
         ensures room { (n : ℕ) → HasRoom (n + 1) events.old self.old → HasRoom n events.new self.new }
     {
-        events.push(Event::Dropped {
+        events.push(self.dropped())?;
+        self.right = Right::AWAY;
+        Ok(())
+    }
+
+    /// The event of dropping the page.
+    pub fn dropped(&self) -> Event
+        ensures { result ≡ Dropped self.now.host (record { 0 = 0 }) (record { 0 = 0 }) }
+    {
+        Event::Dropped {
             host: self.host,
             object: OBJECT,
             page: PAGE,
-        })?;
-        self.right = Right::AWAY;
-        Ok(())
+        }
     }
 
     // Returns the page, which has something unsaved. It fails for want of memory alone, and then
@@ -356,5 +382,71 @@ impl Kernel {
             return Ok(());
         }
         self.unlock(want, events)
+    }
+
+    /// Begins an access of a host that has a control.
+    pub fn begin(&mut self, want: Want, events: &mut Events) -> Result<(), NoMemory>
+        requires live { self.old.live ≡ true }
+        requires idle { self.old.want ≡ None }
+        requires plain { want.store ≡ false → want.value ≡ 0 }
+        requires room { HasRoom 2 events.old self.old }
+        requires fits { Fits events.old.items self.old }
+        requires licensed { Licensed self.old.size (world_part self.old.size events.old.items) }
+        ensures ok { IsOk result }
+        ensures fits { OnOk result (Fits events.new.items self.new) }
+        ensures licensed { OnOk result (Licensed self.new.size (world_part self.new.size events.new.items)) }
+        ensures same { (self.new.host ≡ self.old.host) × (self.new.size ≡ self.old.size) }
+        ensures exact { OnOk result (events.new.items ≡ begun_event self.old.host.0 want.store want.value ∷ events.old.items) }
+        ensures begun { OnOk result ((self.new.live ≡ true) × (self.new.want ≡ Some want)) }
+        ensures room { HasRoom 1 events.new self.new }
+    {
+        events.push(begun(self.host, want))?;
+        self.want = Some(want);
+        Ok(())
+    }
+
+    /// Begins an access of a host that has no control: its next one begins.
+    pub fn begin_anew(&mut self, control: u32, want: Want, events: &mut Events) -> Result<(), NoMemory>
+        requires gone { self.old.live ≡ false }
+        requires next { control ≡ self.old.control + 1 }
+        requires idle { self.old.want ≡ None }
+        requires plain { want.store ≡ false → want.value ≡ 0 }
+        requires room { HasRoom 2 events.old self.old }
+        requires fits { Fits events.old.items self.old }
+        requires licensed { Licensed self.old.size (world_part self.old.size events.old.items) }
+        ensures ok { IsOk result }
+        ensures fits { OnOk result (Fits events.new.items self.new) }
+        ensures licensed { OnOk result (Licensed self.new.size (world_part self.new.size events.new.items)) }
+        ensures same { (self.new.host ≡ self.old.host) × (self.new.size ≡ self.old.size) }
+        ensures exact { OnOk result (events.new.items ≡ begun_event self.old.host.0 want.store want.value ∷ events.old.items) }
+        ensures begun { OnOk result ((self.new.live ≡ true) × (self.new.want ≡ Some want)) }
+        ensures room { HasRoom 1 events.new self.new }
+    {
+        events.push(begun(self.host, want))?;
+        self.control = control;
+        self.live = true;
+        self.want = Some(want);
+        Ok(())
+    }
+}
+
+// The event of beginning an access.
+fn begun(host: HostId, want: Want) -> Event
+    ensures { result ≡ begun_event host.0 want.store want.value }
+{
+    let task = TaskId(host.0);
+    if want.store {
+        Event::BegunStore {
+            task,
+            address: 0,
+            size: 8,
+            value: want.value,
+        }
+    } else {
+        Event::BegunLoad {
+            task,
+            address: 0,
+            size: 8,
+        }
     }
 }

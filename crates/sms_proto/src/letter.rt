@@ -114,8 +114,8 @@ impl Order {
     }
 }
 
-// A lock request over the page.
-fn lock(returns: u32, flush: bool, lock: u32, reply: bool) -> Message
+/// A lock request over the page.
+pub fn lock(returns: u32, flush: bool, lock: u32, reply: bool) -> Message
     ensures { result ≡ Lock (record { 0 = 0 }) 1 returns flush lock reply }
 {
     Message::Lock {

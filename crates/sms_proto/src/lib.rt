@@ -3,3 +3,4 @@
 
 mod kernel;
 mod letter;
+mod orders;
