@@ -2,3 +2,4 @@ pub mod Queues
 pub mod Pages
 pub mod Adding
 pub mod Beginning
+pub mod Supplies
