@@ -1,5 +1,6 @@
 -- One more event, and events behind events.
-use Rattle.std.proofs.Common.{◌≡◌, List, ◌∷◌, ℕ, sym, subst}
+use Rattle.std.proofs.Common.{◌≡◌, List, ◌∷◌, ℕ, sym, subst, OnOk}
+use Rattle.std.specs.Prelude.{Result, Ok, Err}
 use Rattle.vm_model.specs.declared.message.Channel.TheVariants.{Up}
 use Rattle.vm_model.specs.declared.message.Message.{Message}
 use Rattle.vm_model.specs.declared.event.Event.{Event}
@@ -24,3 +25,7 @@ adds_next P base middle new e f is same own rest = subst (λ (l : List Event). A
 
 pub adds_none : (P : Event → Type 0) (old middle : List Event) (e f : Event) → middle ≡ e ∷ old → e ≡ f → Adds P (f ∷ old) middle
 adds_none P old middle e f is same = subst (λ (l : List Event). Adds P (f ∷ old) l) (sym is) (subst (λ (x : Event). Adds P (x ∷ old) (e ∷ old)) same Same)
+
+pub on_ok : {E : Type 0} (r : Result (Unit {0}) E) (A B : Type 0) → (A → B) → OnOk r A → OnOk r B
+on_ok (Ok u) A B f a = f a
+on_ok (Err e) A B f a = tt

@@ -3,3 +3,5 @@ pub mod Pages
 pub mod Adding
 pub mod Beginning
 pub mod Supplies
+pub mod Hosts
+pub mod Standing

@@ -21,12 +21,23 @@ use Rattle.sms_proto.specs.declared.letter.Order.{Order}
 use Rattle.sms_proto.specs.declared.letter.Order.TheVariants as order
 use Rattle.sms_proto.specs.declared.kernel.Kernel.{Kernel}
 use Rattle.sms_proto.specs.declared.kernel.Want.{Want}
-use Rattle.sms_proto.specs.Letters.{letter_message, letter_word, order_message, order_word}
+use Rattle.sms_proto.specs.Letters.{letter_message, letter_word, order_message, order_word, taken_first}
+use Rattle.vm_model.specs.Server.{first}
+use Rattle.sms_proto.specs.Steps.{begun_event, put_away_event}
 
 -- P holds of each
 abbrev pub Each : {A : Type 0} → (A → Type 0) → List A → Type 0
 Each P [] = Unit {0}
 Each P (x ∷ xs) = P x × Each P xs
+
+-- one or the other, as no access waits or one does
+abbrev pub where_idle : {A B : Type 0} → Option A → B → B → B
+where_idle None idle busy = idle
+where_idle (Some want) idle busy = busy
+
+abbrev pub idle_head : {A : Type 0} → Option A → Event → Option Event
+idle_head None e = Some e
+idle_head (Some want) e = None
 
 -- an access of a task that waits: eight bytes from the page's front on
 abbrev pub waiter : ℕ → Want → Waiter
@@ -93,3 +104,20 @@ IsPrompt k = k.want ≢ None → k.asked ≡ false → (0 < k.right) × (k.unloc
 pub record HasRoom (n : ℕ) (list : Listed Event) (k : Kernel) : Type 0 where
   pub events : n ≤ list.room
   pub letters : deque_len k.up + n ≤ deque_capacity k.up
+
+-- what a kernel's steps add
+
+abbrev pub access_head : Kernel → Want → Option Event
+access_head k want = idle_head k.want (begun_event k.host.0 want.store want.value)
+
+abbrev pub order_head : Kernel → Option Event
+order_head k = if k.live then taken_first k.host k.control (first k.down.items) else None
+
+abbrev pub given_up : Kernel → List Event
+given_up k = if 0 == k.right then [] else put_away_event k.host.0 k.control k.dirty k.bytes ∷ []
+
+abbrev pub evicted_by : Kernel → List Event → List Event
+evicted_by k old = where_idle k.want (given_up k ++ old) old
+
+abbrev pub left_by : Kernel → List Event → List Event
+left_by k old = if k.live then where_idle k.want (event.Sent (Up k.host (record { 0 = 0 })) (message.Terminate k.control) ∷ given_up k ++ old) old else old

@@ -1,4 +1,5 @@
 pub mod Adds
-pub mod Letters
 pub mod Kernels
+pub mod Letters
 pub mod Steps
+pub mod Worlds

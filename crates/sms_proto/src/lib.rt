@@ -3,4 +3,5 @@
 
 mod kernel;
 mod letter;
+mod moves;
 mod orders;
