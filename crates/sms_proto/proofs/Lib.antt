@@ -5,3 +5,5 @@ pub mod Beginning
 pub mod Supplies
 pub mod Hosts
 pub mod Standing
+pub mod Turns
+pub mod Mail

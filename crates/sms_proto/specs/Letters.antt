@@ -66,3 +66,16 @@ return_event host control keep bytes = Sent (Up host (record { 0 = 0 })) (messag
 
 abbrev pub drop_event : HostId → Event
 drop_event host = Dropped host (record { 0 = 0 }) the_page
+
+-- the server's part
+
+abbrev pub letter_taken : HostId → Letter → Event
+letter_taken host l = Taken (Up host (record { 0 = 0 })) (letter_message l)
+
+abbrev pub order_sent : HostId → ℕ → Order → Event
+order_sent host control o = Sent (Down host (record { 0 = 0 }) control) (order_message o)
+
+-- the control of the last request taken from a host, once a letter of it is taken
+abbrev pub heard_by : ℕ → Letter → ℕ
+heard_by heard (letter.Request control access) = control
+heard_by heard l = heard

@@ -304,7 +304,7 @@ impl Kernel {
     }
 
     // Takes the oldest message from the server, if there is one.
-    fn take_order(&mut self, events: &mut Events) -> Result<(), NoMemory>
+    pub fn take_order(&mut self, events: &mut Events) -> Result<(), NoMemory>
         requires live { self.old.live ≡ true }
         requires room { HasRoom 4 events.old self.old }
         requires fits { Fits events.old.items self.old }
