@@ -7,3 +7,6 @@ pub mod Hosts
 pub mod Standing
 pub mod Turns
 pub mod Mail
+pub mod Seeing
+pub mod Answering
+pub mod Legal

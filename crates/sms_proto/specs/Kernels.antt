@@ -121,3 +121,12 @@ evicted_by k old = where_idle k.want (given_up k ++ old) old
 
 abbrev pub left_by : Kernel → List Event → List Event
 left_by k old = if k.live then where_idle k.want (event.Sent (Up k.host (record { 0 = 0 })) (message.Terminate k.control) ∷ given_up k ++ old) old else old
+
+-- the same host, with the same access waiting and the same of the page
+pub record SamePage (k m : Kernel) : Type 0 where
+  pub same_host : m.host ≡ k.host
+  pub same_size : m.size ≡ k.size
+  pub same_want : m.want ≡ k.want
+  pub same_asked : m.asked ≡ k.asked
+  pub same_right : m.right ≡ k.right
+  pub same_unlocking : m.unlocking ≡ k.unlocking

@@ -1,5 +1,5 @@
 -- The world beside its history: each host's kernel and the directory are what the history says.
-use Rattle.std.specs.Prelude.{ℕ, ◌≡◌, ◌≢◌, ◌≤◌, List, Option, Some, None, [], length, slice_get}
+use Rattle.std.specs.Prelude.{ℕ, ◌+◌, not, ◌≡◌, ◌≢◌, ◌≤◌, List, Option, Some, None, [], length, slice_get}
 use Rattle.vm_model.specs.declared.event.Event.{Event}
 use Rattle.vm_model.specs.Side.{side, nobody}
 use Rattle.vm_model.specs.Waiters.{waiters}
@@ -7,8 +7,17 @@ use Rattle.vm_model.specs.PagePart.{world_part}
 use Rattle.vm_model.specs.Channels.{up_queue, down_queue}
 use Rattle.vm_model.specs.PageLicences.{Licensed}
 use Rattle.vm_model.specs.Coherence.{Done, StepsDone, Served}
-use Rattle.sms_pages.specs.Directory.{Directory}
-use Rattle.sms_pages.specs.Stands.{StandsFor}
+use Rattle.std.specs.VecDeque.{deque_len, deque_capacity}
+use Rattle.vm_base.specs.declared.ids.HostId.{HostId}
+use Rattle.sms_pages.specs.Directory.{Directory, access_number, requested, unlocked, saved, finished, ended}
+use Rattle.sms_pages.specs.declared.reply.Reply.{Reply}
+use Rattle.sms_pages.specs.declared.reply.Reply.TheVariants as reply
+use Rattle.sms_pages.specs.Stands.{StandsFor, IsAnswered}
+use Rattle.sms_pages.specs.Desk.{AllLong}
+use Rattle.sms_proto.specs.declared.letter.Letter.{Letter}
+use Rattle.sms_proto.specs.declared.letter.Letter.TheVariants as letter
+use Rattle.sms_proto.specs.declared.letter.Order.{Order}
+use Rattle.sms_proto.specs.declared.letter.Order.TheVariants as order
 use Rattle.sms_proto.specs.declared.kernel.Kernel.{Kernel}
 use Rattle.sms_proto.specs.Kernels.{Fits, IsPrompt}
 
@@ -49,3 +58,56 @@ pub record WorldStands (size : ℕ) (kernels : List Kernel) (d : Directory) (his
   pub each : (g : ℕ) → StandsAt size g history (slice_get kernels g)
   pub few : length kernels ≤ 8
   pub long : length d.bytes ≡ size
+
+-- the server's answers
+
+-- what the server notes of a letter, before it serves its line
+abbrev pub noted_by : ℕ → Letter → Directory → Directory
+noted_by h (letter.Request control access) d = requested h (access_number access) d
+noted_by h (letter.Unlock control) d = unlocked h d
+noted_by h (letter.Return control keep bytes) d = saved h keep bytes d
+noted_by h (letter.Completed control) d = finished h d
+noted_by h (letter.Terminate control) d = ended h d
+
+abbrev pub heard_of : Option Kernel → ℕ
+heard_of None = 0
+heard_of (Some k) = k.heard
+
+-- the control of the last request taken from each host
+abbrev pub heard_in : List Kernel → ℕ → ℕ
+heard_in kernels g = heard_of (slice_get kernels g)
+
+-- the host and the order of a reply
+abbrev pub reply_host : Reply → HostId
+reply_host (reply.Supply host lock bytes) = host
+reply_host (reply.Flush host) = host
+reply_host (reply.CleanLock host) = host
+reply_host (reply.Unlock host) = host
+
+abbrev pub reply_order : Reply → Order
+reply_order (reply.Supply host lock bytes) = order.Supply (not lock.write) bytes
+reply_order (reply.Flush host) = order.Flush
+reply_order (reply.CleanLock host) = order.Clean
+reply_order (reply.Unlock host) = order.Unlock
+
+-- the server has replies to send, the newest first, and what it knows stands for the history with them
+pub record Answering (size : ℕ) (kernels : List Kernel) (d : Directory) (replies : List Reply) (history : List Event) : Type 0 where
+  pub answered : IsAnswered size (heard_in kernels) d replies (world_part size history)
+  pub steps : StepsDone (world_part size history)
+  pub each : (g : ℕ) → StandsAt size g history (slice_get kernels g)
+  pub few : length kernels ≤ 8
+  pub long : length d.bytes ≡ size
+
+-- each host has room for so many more orders
+abbrev pub HasPlaces : ℕ → List Kernel → Type 0
+HasPlaces n kernels = (g : ℕ) (k : Kernel) → slice_get kernels g ≡ Some k → deque_len k.down + n ≤ deque_capacity k.down
+
+-- the page that a letter carries has so many bytes
+abbrev pub IsLong : ℕ → Letter → Type 0
+IsLong size (letter.Return control keep bytes) = length bytes ≡ size
+IsLong size l = Unit {0}
+
+-- the pages at hand are as long as that of the order
+abbrev pub IsSupplied : Order → List (List ℕ) → Type 0
+IsSupplied (order.Supply writes bytes) pages = AllLong (length bytes) pages
+IsSupplied o pages = Unit {0}

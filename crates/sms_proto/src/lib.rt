@@ -5,3 +5,9 @@ mod kernel;
 mod letter;
 mod moves;
 mod orders;
+mod posting;
+mod serve;
+mod stage;
+mod step;
+
+pub use step::WorldStep;

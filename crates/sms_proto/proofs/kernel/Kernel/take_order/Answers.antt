@@ -10,7 +10,9 @@ use Rattle.sms_proto.proofs.Adding.{on_ok}
 use Rattle.sms_proto.proofs.kernel.Kernel.take_order.Goals as goal
 
 pub returns-in_ok-bytes-in-Supply-clause-goes : goal.returns-in_ok-bytes-in-Supply-clause-goes
-returns-in_ok-bytes-in-Supply-clause-goes c = ?
+returns-in_ok-bytes-in-Supply-clause-goes c =
+    let head : first c.args.self.now.down.items ≡ Some (order.Supply c.in-Supply.writes c.in_ok-bytes-in-Supply.bytes) = grind (arith, common_steps) in
+    on_ok c.take_supply.result _ _ (subst (λ (x : Option Order). Goes (HostDoes c.args.self.now.host.0) (taken_first c.args.self.now.host c.args.self.now.control x) c.args.events.now.items c.take_supply.new.events.items) (sym head)) c.take_supply.ensures.adds
 
 pub returns-in-Flush-clause-goes : goal.returns-in-Flush-clause-goes
 returns-in-Flush-clause-goes c =
