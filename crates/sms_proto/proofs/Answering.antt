@@ -20,8 +20,10 @@ use Rattle.vm_coherence.proofs.Law.{world, cause}
 use Rattle.vm_coherence.proofs.Protocol.{one_request, one_unlock, completed_awaited, ended_awaited}
 use Rattle.sms_pages.specs.declared.reply.Reply.{Reply}
 use Rattle.sms_pages.specs.declared.reply.Reply.TheVariants as reply
-use Rattle.sms_pages.specs.Directory.{Directory, IsServed, access_number}
-use Rattle.sms_pages.specs.Stands.{StandsFor, IsAnswered, Hears, lock_number, reply_act, reply_acts, taken}
+use Rattle.sms_pages.specs.Directory.{Directory, IsServed, IsSame, access_number}
+use Rattle.sms_pages.specs.Desk.{AllLong}
+use Rattle.std.specs.VecDeque.{deque_len, deque_capacity}
+use Rattle.sms_pages.specs.Stands.{Stands, StandsFor, IsAnswered, Hears, lock_number, reply_act, reply_acts, taken}
 use Rattle.sms_pages.proofs.Taken.{request_taken, unlock_taken, after_return, completed_taken, end_taken}
 use Rattle.sms_pages.proofs.Following.{serving}
 use Rattle.sms_proto.specs.declared.kernel.Kernel.{Kernel}
@@ -31,7 +33,7 @@ use Rattle.sms_proto.specs.declared.letter.Order.{Order}
 use Rattle.sms_proto.specs.declared.letter.Order.TheVariants as order
 use Rattle.sms_proto.specs.Letters.{letter_word, order_word, letter_taken, order_sent, supply_lock}
 use Rattle.sms_proto.specs.Kernels.{Fits, Each, IsProper, IsWhole, IsPrompt, SamePage}
-use Rattle.sms_proto.specs.Worlds.{Kept, Absent, Present, StandsAt, WorldStands, Answering, noted_by, heard_of, heard_in, reply_host, reply_order}
+use Rattle.sms_proto.specs.Worlds.{Kept, Absent, Present, StandsAt, WorldStands, Answering, noted_by, heard_of, heard_in, reply_host, reply_order, HasPlaces, IsSupplied}
 use Rattle.sms_proto.proofs.Hosts.{kept_act, kept_wait, not_mine, away}
 use Rattle.sms_proto.proofs.Standing.{step_at, each_after, get_set_same, get_set_other}
 use Rattle.sms_proto.proofs.Seeing.{present_of}
@@ -142,12 +144,18 @@ licensed_rest size (a ∷ front) past licensed = licensed_rest size front past l
 pub oldest_licensed : (size : ℕ) (ks : List Kernel) (d : Directory) (rest : List Reply) (r : Reply) (history : List Event) → Answering size ks d (rest ++ r ∷ []) history → Licensed size (reply_act (heard_in ks) r ∷ world_part size history)
 oldest_licensed size ks d rest r history a = licensed_rest size (reply_acts (heard_in ks) rest) _ (subst (λ (l : List Act). Licensed size l) (acts_end (heard_in ks) rest r (world_part size history)) a.answered.licensed)
 
+none_some : 0 < 0 → ⊥
+none_some some = omega arith
+
+none_one : 0 ≡ 1 → ⊥
+none_one e = omega arith
+
 -- a reply goes to a host that the world has
 reply_some : (size : ℕ) (heard : ℕ → ℕ) (r : Reply) (past : List Act) → Licensed size (reply_act heard r ∷ past) → (side (reply_host r).0 past) ≡ nobody → ⊥
-reply_some size heard (reply.Supply host lock bytes) past l is = let c = cause size host.0 (SentDown (heard host.0) (Supplying (lock_number lock) false bytes)) past (world size past l.1) l.0 in let some : 0 < 0 = subst (λ (s : Side). 0 < s.pending) is c.1 in absurd (omega arith)
-reply_some size heard (reply.Flush host) past l is = let some : 0 < 0 = subst (λ (s : Side). 0 < s.holds) is l.0.4 in absurd (omega arith)
-reply_some size heard (reply.CleanLock host) past l is = let some : 0 < 0 = subst (λ (s : Side). 0 < s.holds) is l.0.4 in absurd (omega arith)
-reply_some size heard (reply.Unlock host) past l is = let c = cause size host.0 (SentDown (heard host.0) (Locking 1 0 false 0 false)) past (world size past l.1) l.0 in let some : 0 ≡ 1 = subst (λ (s : Side). s.holds ≡ 1) is c.4 in absurd (omega arith)
+reply_some size heard (reply.Supply host lock bytes) past l is = let c = cause size host.0 (SentDown (heard host.0) (Supplying (lock_number lock) false bytes)) past (world size past l.1) l.0 in none_some (subst (λ (s : Side). 0 < s.pending) is c.1)
+reply_some size heard (reply.Flush host) past l is = none_some (subst (λ (s : Side). 0 < s.holds) is l.0.4)
+reply_some size heard (reply.CleanLock host) past l is = none_some (subst (λ (s : Side). 0 < s.holds) is l.0.4)
+reply_some size heard (reply.Unlock host) past l is = let c = cause size host.0 (SentDown (heard host.0) (Locking 1 0 false 0 false)) past (world size past l.1) l.0 in none_one (subst (λ (s : Side). s.holds ≡ 1) is c.4)
 
 within_or : (xs : List Kernel) (i : ℕ) → (i < length xs) ⊎ (slice_get xs i ≡ None)
 within_or [] i = inr refl
@@ -248,3 +256,74 @@ answering_none size ks d history a =
       few = a.few;
       long = a.long;
     }
+
+-- the pages at hand
+
+pub supplied_long : (size : ℕ) (o : Order) (pages : List (List ℕ)) → IsWhole size o → AllLong size pages → IsSupplied o pages
+supplied_long size (order.Supply writes bytes) pages whole long = subst (λ (n : ℕ). AllLong n pages) (sym whole) long
+supplied_long size order.Flush pages whole long = tt
+supplied_long size order.Clean pages whole long = tt
+supplied_long size order.Unlock pages whole long = tt
+
+pub answer_whole : (size : ℕ) (ks : List Kernel) (d : Directory) (rest : List Reply) (r : Reply) (history : List Event) → Answering size ks d (rest ++ r ∷ []) history → IsWhole size (reply_order r)
+answer_whole size ks d rest r history a = reply_whole size (heard_in ks) r (world_part size history) d.bytes (oldest_licensed size ks d rest r history a) (kept_acts (rest ++ r ∷ []) ∙ a.answered.stands.same_bytes) a.long where
+  kept_acts : (rs : List Reply) → kept size (world_part size history) ≡ kept size (reply_acts (heard_in ks) rs ++ world_part size history)
+  kept_acts [] = refl
+  kept_acts (reply.Supply host lock bytes ∷ rs) = kept_acts rs
+  kept_acts (reply.Flush host ∷ rs) = kept_acts rs
+  kept_acts (reply.CleanLock host ∷ rs) = kept_acts rs
+  kept_acts (reply.Unlock host ∷ rs) = kept_acts rs
+
+-- room for orders
+
+pub set_places : (n : ℕ) (ks : List Kernel) (h : ℕ) (m : Kernel) → h < length ks → HasPlaces (n + 1) ks → deque_len m.down + n ≤ deque_capacity m.down → HasPlaces n (set ks h m)
+set_places n ks h m within places own g k is = elim (ℕ_discrete g h) [
+  | yes e ↦
+      let found : slice_get (set ks h m) g ≡ Some m = ap (λ (i : ℕ). slice_get (set ks h m) i) e ∙ get_set_same ks h m within in
+      let same : Some m ≡ Some k = sym found ∙ is in
+      let m_is : m ≡ k = cc in
+      subst (λ (x : Kernel). deque_len x.down + n ≤ deque_capacity x.down) m_is own
+  | no e ↦ let more = places g k (sym (get_set_other ks h g m e) ∙ is) in omega (arith, more)
+]
+
+pub set_places_below : (n i : ℕ) (ks : List Kernel) (m : Kernel) → i < length ks → ((g : ℕ) (k : Kernel) → g < i → slice_get ks g ≡ Some k → deque_len k.down + n ≤ deque_capacity k.down) → deque_len m.down + n ≤ deque_capacity m.down → (g : ℕ) (k : Kernel) → g < i + 1 → slice_get (set ks i m) g ≡ Some k → deque_len k.down + n ≤ deque_capacity k.down
+set_places_below n i ks m within places own g k lt is = elim (ℕ_discrete g i) [
+  | yes e ↦
+      let found : slice_get (set ks i m) g ≡ Some m = ap (λ (j : ℕ). slice_get (set ks i m) j) e ∙ get_set_same ks i m within in
+      let same : Some m ≡ Some k = sym found ∙ is in
+      let m_is : m ≡ k = cc in
+      subst (λ (x : Kernel). deque_len x.down + n ≤ deque_capacity x.down) m_is own
+  | no e ↦ places g k (omega arith) (sym (get_set_other ks i g m e) ∙ is)
+]
+
+-- a host whose room alone changes
+pub set_same : (size : ℕ) (history : List Event) (ks : List Kernel) (h : ℕ) (k m : Kernel) → h < length ks → slice_get ks h ≡ Some k → ((e : List Event) → Fits e k → Fits e m) → SamePage k m → ((g : ℕ) → StandsAt size g history (slice_get ks g)) → (g : ℕ) → StandsAt size g history (slice_get (set ks h m) g)
+set_same size history ks h k m within is fits same each g = elim (ℕ_discrete g h) [
+  | yes e ↦ subst (λ (n : ℕ). StandsAt size n history (slice_get (set ks h m) n)) (sym e) (subst (λ (o : Option Kernel). StandsAt size h history o) (sym (get_set_same ks h m within)) own)
+  | no e ↦ subst (λ (o : Option Kernel). StandsAt size g history o) (sym (get_set_other ks h g m e)) (each g)
+] where
+  p : Present size h history k
+  p = subst (λ (o : Option Kernel). StandsAt size h history o) is (each h)
+
+  own : Present size h history m
+  own = record { same_host = ap (λ (x : HostId). x.0) same.same_host ∙ p.same_host; same_size = same.same_size ∙ p.same_size; fits = fits history p.fits; prompt = prompt_same k m same p.prompt }
+
+-- the directory has taken memory
+pub stands_reserved : (size : ℕ) (ks : List Kernel) (d e : Directory) (history : List Event) → IsSame d e → WorldStands size ks d history → WorldStands size ks e history
+stands_reserved size ks d e history same w =
+    record {
+      licensed = w.licensed;
+      steps = w.steps;
+      served = w.served;
+      noted = subst (λ (x : List ℕ). Stands size x e.awaits e.bytes e.line (world_part size history)) (sym same.holds)
+          (subst (λ (x : List ℕ). Stands size d.holds x e.bytes e.line (world_part size history)) (sym same.awaits)
+          (subst (λ (x : List ℕ). Stands size d.holds d.awaits x e.line (world_part size history)) (sym same.bytes)
+          (subst (λ (x : List Wanting). Stands size d.holds d.awaits d.bytes x (world_part size history)) (sym same.line) w.noted)));
+      each = w.each;
+      few = w.few;
+      long = ap (λ (b : List ℕ). length b) same.bytes ∙ w.long;
+    }
+
+pub stands_each : (size : ℕ) (ks ls : List Kernel) (d : Directory) (history : List Event) → length ls ≡ length ks → (((g : ℕ) → StandsAt size g history (slice_get ks g)) → (g : ℕ) → StandsAt size g history (slice_get ls g)) → WorldStands size ks d history → WorldStands size ls d history
+stands_each size ks ls d history same each w =
+    record { licensed = w.licensed; steps = w.steps; served = w.served; noted = w.noted; each = each w.each; few = omega (arith, w.few); long = w.long }

@@ -108,7 +108,7 @@ kept_more size g old middle new a b =
       same_down = λ n. b.same_down n ∙ a.same_down n;
     }
 
-not_mine : (a g : ℕ) (b : Bool) (x y : List Message) → a ≢ g → (if (a == g) && b then x else y) ≡ y
+pub not_mine : (a g : ℕ) (b : Bool) (x y : List Message) → a ≢ g → (if (a == g) && b then x else y) ≡ y
 not_mine a g b x y apart = grind (arith, nat_tests)
 
 -- an event of the host itself that begins no access
@@ -129,7 +129,7 @@ does_own h (event.Stored task object page at size value) own = own.0
 does_own h (event.Taken channel m) own = absurd own
 does_own h e own = own
 
-away : (a g h : ℕ) → a ≡ h → g ≢ h → a ≢ g
+pub away : (a g h : ℕ) → a ≡ h → g ≢ h → a ≢ g
 away a g h own apart is = apart (sym is ∙ own)
 
 -- a beginning, with or without a new control

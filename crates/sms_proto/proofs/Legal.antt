@@ -28,23 +28,20 @@ map_none f g (x ∷ xs) none = absurd (cc)
 at_host : (size h : ℕ) (history : List Event) (k : Kernel) (P : ℕ → ℕ → Type 0) → Present size h history k → P k.size k.host.0 → P size h
 at_host size h history k P p own = subst (λ (n : ℕ). P n h) p.same_size (subst (λ (g : ℕ). P k.size g) p.same_host own)
 
+abbrev Prompts : List Event → ℕ → ℕ → Type 0
+Prompts history n g = waiters g (world_part n history) ≢ [] → ((side g (world_part n history)).asked ≡ true) ⊎ (((0 < (side g (world_part n history)).right) × ((side g (world_part n history)).unlocking ≡ true)) ⊎ (((side g (world_part n history)).live ≡ true) × ((side g (world_part n history)).ready ≡ false)))
+
+own_prompt : (history : List Event) (h size : ℕ) (k : Kernel) → Present size h history k → Prompts history k.size k.host.0
+own_prompt history h size k p some = by_asked k.asked refl where
+  by_asked : (b : Bool) → k.asked ≡ b → ((side k.host.0 (world_part k.size history)).asked ≡ true) ⊎ (((0 < (side k.host.0 (world_part k.size history)).right) × ((side k.host.0 (world_part k.size history)).unlocking ≡ true)) ⊎ (((side k.host.0 (world_part k.size history)).live ≡ true) × ((side k.host.0 (world_part k.size history)).ready ≡ false)))
+  by_asked true e = inl (p.fits.asked ∙ e)
+  by_asked false e = let ready = p.prompt (λ none. some (p.fits.waits ∙ ap (waiting k.host.0) none)) e in inr (inl (subst (λ (n : ℕ). 0 < n) (sym p.fits.right) ready.0, p.fits.unlocking ∙ ready.1))
+
 prompt_world : (size : ℕ) (ks : List Kernel) (d : Directory) (history : List Event) → WorldStands size ks d history → Prompt (world_part size history)
 prompt_world size ks d history w h = one (slice_get ks h) (w.each h) where
-  Prompts : ℕ → ℕ → Type 0
-  unfolding Prompts
-  Prompts n g = waiters g (world_part n history) ≢ [] → ((side g (world_part n history)).asked ≡ true) ⊎ (((0 < (side g (world_part n history)).right) × ((side g (world_part n history)).unlocking ≡ true)) ⊎ (((side g (world_part n history)).live ≡ true) × ((side g (world_part n history)).ready ≡ false)))
-
-  own : (k : Kernel) → Present size h history k → Prompts k.size k.host.0
-  unfolding Prompts
-  own k p some = by_asked k.asked refl where
-    by_asked : (b : Bool) → k.asked ≡ b → ((side k.host.0 (world_part k.size history)).asked ≡ true) ⊎ (((0 < (side k.host.0 (world_part k.size history)).right) × ((side k.host.0 (world_part k.size history)).unlocking ≡ true)) ⊎ (((side k.host.0 (world_part k.size history)).live ≡ true) × ((side k.host.0 (world_part k.size history)).ready ≡ false)))
-    by_asked true e = inl (p.fits.asked ∙ e)
-    by_asked false e = let ready = p.prompt (λ none. some (p.fits.waits ∙ ap (waiting k.host.0) none)) e in inr (inl (subst (λ (n : ℕ). 0 < n) (sym p.fits.right) ready.0, p.fits.unlocking ∙ ready.1))
-
-  one : (o : Option Kernel) → StandsAt size h history o → waiters h (world_part size history) ≢ [] → ((side h (world_part size history)).asked ≡ true) ⊎ (((0 < (side h (world_part size history)).right) × ((side h (world_part size history)).unlocking ≡ true)) ⊎ (((side h (world_part size history)).live ≡ true) × ((side h (world_part size history)).ready ≡ false)))
-  unfolding Prompts
+  one : (o : Option Kernel) → StandsAt size h history o → Prompts history size h
   one None a some = absurd (some a.no_waits)
-  one (Some k) p some = at_host size h history k Prompts p (own k p) some
+  one (Some k) p some = at_host size h history k (Prompts history) p (own_prompt history h size k p) some
 
 quiet_world : (size : ℕ) (ks : List Kernel) (d : Directory) (history : List Event) → WorldStands size ks d history → AllDelivered size (length ks) history → Quiet (world_part size history)
 quiet_world size ks d history w delivered =

@@ -10,3 +10,4 @@ pub mod Mail
 pub mod Seeing
 pub mod Answering
 pub mod Legal
+pub mod Starting

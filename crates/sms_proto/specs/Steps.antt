@@ -66,3 +66,8 @@ Takes size (step.TakeDown host) old new =
 abbrev pub Runs : ℕ → List WorldStep → List Event → List Event → Type 0
 Runs size [] old new = new ≡ old
 Runs size (s ∷ steps) old new = (middle : List Event) × Takes size s old middle × Runs size steps middle new
+
+-- what one taking adds first
+abbrev pub IsTaken : Option Event → List Event → List Event → Type 0
+IsTaken None old new = ⊥
+IsTaken (Some e) old new = new ≡ e ∷ old

@@ -102,6 +102,30 @@ pub struct Kernel {
 }
 
 impl Kernel {
+    /// The kernel of a host that has nothing of the page.
+    #[tactic(auto, using(crate::proofs::Pages::load_within))]
+    pub fn new(alloc: Global, host: HostId, size: PageSize) -> Result<Kernel, NoMemory>
+        ensures fits { IfOk result (λ kernel. Fits [] kernel) }
+        ensures prompt { IfOk result (λ kernel. IsPrompt kernel) }
+        ensures same { IfOk result (λ kernel. (kernel.host ≡ host) × (kernel.size ≡ size)) }
+    {
+        Ok(Kernel {
+            host,
+            size,
+            control: 0,
+            live: false,
+            right: Right::AWAY,
+            bytes: PageBytes::zero(alloc, size)?,
+            dirty: false,
+            asked: false,
+            unlocking: false,
+            want: None,
+            up: VecDeque::new(alloc),
+            down: VecDeque::new(alloc),
+            heard: 0,
+        })
+    }
+
     // The event of sending a message to the server.
     pub fn sent(&self, message: Message) -> Event
         ensures { result ≡ Sent (Up self.now.host (record { 0 = 0 })) message }

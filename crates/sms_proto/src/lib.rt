@@ -9,5 +9,7 @@ mod posting;
 mod serve;
 mod stage;
 mod step;
+mod world;
 
 pub use step::WorldStep;
+pub use world::World;

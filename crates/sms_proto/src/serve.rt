@@ -4,6 +4,10 @@ ghost use Rattle.std.specs.VecDeque.{deque_len, deque_capacity};
 ghost use Rattle.vm_model.specs.declared.event.Event.{Event};
 ghost use Rattle.sms_pages.specs.Desk.{AllLong};
 ghost use Rattle.sms_pages.specs.Directory.{IsServed, most_replies};
+ghost use Rattle.vm_model.specs.declared.message.Channel.TheVariants.{Up};
+ghost use Rattle.vm_model.specs.Channels.{up_queue};
+ghost use Rattle.sms_proto.specs.declared.step.WorldStep.TheVariants as step;
+ghost use Rattle.sms_proto.specs.Steps.{Takes, taken_head, IsTaken};
 ghost use Rattle.sms_proto.specs.Adds.{Adds, ServerDoes};
 ghost use Rattle.sms_proto.specs.Kernels.{Fits, IsWhole, SamePage};
 ghost use Rattle.sms_proto.specs.Letters.{order_message, heard_by, letter_taken, order_sent};
@@ -199,6 +203,75 @@ impl Stage {
         'each: while let Some(reply) = replies.take_first() {
             self.send_one(reply, &replies)?;
         }
+        Ok(())
+    }
+
+    // Room for all that the server may answer.
+    fn prepare(&mut self) -> Result<(), NoMemory>
+        requires stands { WorldStands self.old.size self.old.kernels.items self.old.directory self.old.events.items }
+        requires spare { AllLong self.old.size self.old.spare.items }
+        ensures stands { WorldStands self.new.size self.new.kernels.items self.new.directory self.new.events.items }
+        ensures spare { AllLong self.new.size self.new.spare.items }
+        ensures same { (self.new.size ≡ self.old.size) × (length self.new.kernels.items ≡ length self.old.kernels.items) × (self.new.events.items ≡ self.old.events.items) }
+        ensures prepared { OnOk result (self.new.directory.prepared ≡ true) }
+        ensures events { OnOk result (most_replies self.new.directory + 1 ≤ self.new.events.room) }
+        ensures pages { OnOk result (most_replies self.new.directory ≤ length self.new.spare.items) }
+        ensures places { OnOk result (HasPlaces (most_replies self.new.directory) self.new.kernels.items) }
+    {
+        let most = self.directory.reserve()?;
+        let Some(room) = most.checked_add(1) else {
+            return Err(NoMemory);
+        };
+        self.events.reserve(room)?;
+        make_pages(&mut self.spare, self.alloc, self.size, most)?;
+        make_places(&mut self.kernels, most)?;
+        Ok(())
+    }
+
+    // The server takes the host's oldest letter and serves its line; the replies stay to be sent. It
+    // fails for want of memory alone, or where there is no letter, and then nothing has changed.
+    fn hear(&mut self, host: HostId) -> Result<Replies, NoMemory>
+        requires host { host.0 < length self.old.kernels.items }
+        requires stands { WorldStands self.old.size self.old.kernels.items self.old.directory self.old.events.items }
+        requires prepared { self.old.directory.prepared ≡ true }
+        requires events { most_replies self.old.directory + 1 ≤ self.old.events.room }
+        requires places { HasPlaces (most_replies self.old.directory) self.old.kernels.items }
+        ensures answering { IfOk result (λ replies. Answering self.new.size self.new.kernels.items self.new.directory replies.items self.new.events.items) }
+        ensures few { IfOk result (λ replies. length replies.items ≤ most_replies self.old.directory) }
+        ensures events { IfOk result (λ replies. length replies.items ≤ self.new.events.room) }
+        ensures places { IfOk result (λ replies. HasPlaces (length replies.items) self.new.kernels.items) }
+        ensures same { (self.new.size ≡ self.old.size) × (length self.new.kernels.items ≡ length self.old.kernels.items) × (self.new.spare.items ≡ self.old.spare.items) }
+        ensures taken { OnOk result (IsTaken (taken_head (Up host (record { 0 = 0 })) (up_queue host.0 0 self.old.events.items)) self.old.events.items self.new.events.items) }
+        ensures err { OnErr result (WorldStands self.new.size self.new.kernels.items self.new.directory self.new.events.items × (self.new.events.items ≡ self.old.events.items)) }
+    {
+        let index = host.0 as usize;
+        let Some(letter) = self.kernels[index].up.front() else {
+            return Err(NoMemory);
+        };
+        let message = letter.message()?;
+        let heard = letter.heard(self.kernels[index].heard);
+        let replies = note(&mut self.directory, host, letter)?;
+        self.kernels[index].hear(heard, message, &mut self.events)?;
+        Ok(replies)
+    }
+
+    /// The server takes the oldest message of the host, if there is one, and answers.
+    pub fn take_up(&mut self, host: HostId) -> Result<(), NoMemory>
+        requires host { host.0 < length self.old.kernels.items }
+        requires stands { WorldStands self.old.size self.old.kernels.items self.old.directory self.old.events.items }
+        requires spare { AllLong self.old.size self.old.spare.items }
+        ensures stands { WorldStands self.new.size self.new.kernels.items self.new.directory self.new.events.items }
+        ensures same { (self.new.size ≡ self.old.size) × (length self.new.kernels.items ≡ length self.old.kernels.items) }
+        ensures spare { AllLong self.new.size self.new.spare.items }
+        ensures takes { OnOk result (Takes self.old.size (step.TakeUp host) self.old.events.items self.new.events.items) }
+        ensures err { OnErr result (self.new.events.items ≡ self.old.events.items) }
+    {
+        if self.kernels[host.0 as usize].up.is_empty() {
+            return Ok(());
+        }
+        self.prepare()?;
+        let replies = self.hear(host)?;
+        self.send(replies)?;
         Ok(())
     }
 }
