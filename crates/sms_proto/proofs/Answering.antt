@@ -10,6 +10,7 @@ use Rattle.vm_model.specs.declared.message.Message.{Message}
 use Rattle.vm_model.specs.declared.event.Event.{Event}
 use Rattle.vm_model.specs.Words.{Act, Effect, UpWord, TakenUp, SentDown, Supplying, Locking}
 use Rattle.vm_model.specs.Side.{Side, side, nobody}
+use Rattle.vm_model.specs.Side.{rest as tail}
 use Rattle.vm_model.specs.Waiters.{waiters}
 use Rattle.vm_model.specs.Server.{first, Wanting, line, kept}
 use Rattle.vm_model.specs.PagePart.{world_part}
@@ -33,6 +34,9 @@ use Rattle.sms_proto.specs.declared.letter.Order.{Order}
 use Rattle.sms_proto.specs.declared.letter.Order.TheVariants as order
 use Rattle.sms_proto.specs.Letters.{letter_word, order_word, letter_taken, order_sent, supply_lock}
 use Rattle.sms_proto.specs.Kernels.{Fits, Each, IsProper, IsWhole, IsPrompt, SamePage}
+use Rattle.vm_model.specs.declared.message.Channel.TheVariants.{Up}
+use Rattle.vm_model.specs.declared.event.Event.TheVariants.{Taken}
+use Rattle.sms_proto.specs.Steps.{taken_head, IsTaken}
 use Rattle.sms_proto.specs.Worlds.{Kept, Absent, Present, StandsAt, WorldStands, Answering, noted_by, heard_of, heard_in, reply_host, reply_order, HasPlaces, IsSupplied}
 use Rattle.sms_proto.proofs.Hosts.{kept_act, kept_wait, not_mine, away}
 use Rattle.sms_proto.proofs.Standing.{step_at, each_after, get_set_same, get_set_other}
@@ -147,15 +151,15 @@ oldest_licensed size ks d rest r history a = licensed_rest size (reply_acts (hea
 none_some : 0 < 0 → ⊥
 none_some some = omega arith
 
-none_one : 0 ≡ 1 → ⊥
-none_one e = omega arith
+none_one : (n : ℕ) → n ≡ 0 → n ≡ 1 → ⊥
+none_one n e f = omega arith
 
 -- a reply goes to a host that the world has
 reply_some : (size : ℕ) (heard : ℕ → ℕ) (r : Reply) (past : List Act) → Licensed size (reply_act heard r ∷ past) → (side (reply_host r).0 past) ≡ nobody → ⊥
 reply_some size heard (reply.Supply host lock bytes) past l is = let c = cause size host.0 (SentDown (heard host.0) (Supplying (lock_number lock) false bytes)) past (world size past l.1) l.0 in none_some (subst (λ (s : Side). 0 < s.pending) is c.1)
 reply_some size heard (reply.Flush host) past l is = none_some (subst (λ (s : Side). 0 < s.holds) is l.0.4)
 reply_some size heard (reply.CleanLock host) past l is = none_some (subst (λ (s : Side). 0 < s.holds) is l.0.4)
-reply_some size heard (reply.Unlock host) past l is = let c = cause size host.0 (SentDown (heard host.0) (Locking 1 0 false 0 false)) past (world size past l.1) l.0 in none_one (subst (λ (s : Side). s.holds ≡ 1) is c.4)
+reply_some size heard (reply.Unlock host) past l is = let c = cause size host.0 (SentDown (heard host.0) (Locking 1 0 false 0 false)) past (world size past l.1) l.0 in none_one (side host.0 past).holds (ap (λ (s : Side). s.holds) is) c.4
 
 within_or : (xs : List Kernel) (i : ℕ) → (i < length xs) ⊎ (slice_get xs i ≡ None)
 within_or [] i = inr refl
@@ -327,3 +331,26 @@ stands_reserved size ks d e history same w =
 pub stands_each : (size : ℕ) (ks ls : List Kernel) (d : Directory) (history : List Event) → length ls ≡ length ks → (((g : ℕ) → StandsAt size g history (slice_get ks g)) → (g : ℕ) → StandsAt size g history (slice_get ls g)) → WorldStands size ks d history → WorldStands size ls d history
 stands_each size ks ls d history same each w =
     record { licensed = w.licensed; steps = w.steps; served = w.served; noted = w.noted; each = each w.each; few = omega (arith, w.few); long = w.long }
+
+pub first_items : (ls : List Letter) (l : Letter) → first ls ≡ Some l → ls ≡ l ∷ tail ls
+first_items [] l is = absurd (cc)
+first_items (x ∷ ls) l is = grind arith
+
+pub same_kernel : (o : Option Kernel) (a b : Kernel) → o ≡ Some a → o ≡ Some b → a ≡ b
+same_kernel o a b is also = cc
+
+pub set_places_fewer : (n most : ℕ) (ks : List Kernel) (h : ℕ) (k m : Kernel) → n ≤ most → h < length ks → slice_get ks h ≡ Some k → HasPlaces most ks → deque_len m.down ≡ deque_len k.down → deque_capacity m.down ≡ deque_capacity k.down → HasPlaces n (set ks h m)
+set_places_fewer n most ks h k m le within is places len cap g x found = elim (ℕ_discrete g h) [
+  | yes e ↦
+      let here : slice_get (set ks h m) g ≡ Some m = ap (λ (i : ℕ). slice_get (set ks h m) i) e ∙ get_set_same ks h m within in
+      let m_is : m ≡ x = same_kernel (slice_get (set ks h m) g) m x here found in
+      let more = places h k is in
+      let room : deque_len m.down + n ≤ deque_capacity m.down = omega (arith, more, len, cap) in
+      subst (λ (y : Kernel). deque_len y.down + n ≤ deque_capacity y.down) m_is room
+  | no e ↦ let more = places g x (sym (get_set_other ks h g m e) ∙ found) in omega (arith, more)
+]
+
+pub taken_is : (host k : HostId) (q qs : List Message) (m : Message) (old new : List Event) → q ≡ m ∷ qs → k ≡ host → new ≡ Taken (Up k (record { 0 = 0 })) m ∷ old → IsTaken (taken_head (Up host (record { 0 = 0 })) q) old new
+taken_is host k q qs m old new is same added =
+    subst (λ (ms : List Message). IsTaken (taken_head (Up host (record { 0 = 0 })) ms) old new) (sym is)
+    (added ∙ ap (λ (g : HostId). Taken (Up g (record { 0 = 0 })) m ∷ old) same)

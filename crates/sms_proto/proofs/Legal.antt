@@ -43,6 +43,9 @@ prompt_world size ks d history w h = one (slice_get ks h) (w.each h) where
   one None a some = absurd (some a.no_waits)
   one (Some k) p some = at_host size h history k (Prompts history) p (own_prompt history h size k p) some
 
+not_live : (b : Bool) → b ≡ false → b ≡ true → ⊥
+not_live b gone live = absurd (cc)
+
 quiet_world : (size : ℕ) (ks : List Kernel) (d : Directory) (history : List Event) → WorldStands size ks d history → AllDelivered size (length ks) history → Quiet (world_part size history)
 quiet_world size ks d history w delivered =
     record {
@@ -68,9 +71,7 @@ quiet_world size ks d history w delivered =
         by_live false e = p.fits.down ∙ ap (map order_word) (p.fits.gone_down e)
 
       readies : (h : ℕ) (o : Option Kernel) → StandsAt size h history o → (side h (world_part size history)).live ≡ true → (side h (world_part size history)).ready ≡ true
-      readies h None a live = absurd (not_live (sym (ap (λ (s : Side). s.live) a.nothing) ∙ live)) where
-        not_live : false ≡ true → ⊥
-        not_live e = absurd (cc)
+      readies h None a = λ live. absurd (not_live (side h (world_part size history)).live (ap (λ (s : Side). s.live) a.nothing) live)
       readies h (Some k) p = at_host size h history k (λ n g. (side g (world_part n history)).live ≡ true → (side g (world_part n history)).ready ≡ true) p (λ live. p.fits.ready (sym p.fits.live ∙ live))
 
 pub page_world : (size : ℕ) (ks : List Kernel) (d : Directory) (history : List Event) → WorldStands size ks d history → IsPageWorld size (length ks) history

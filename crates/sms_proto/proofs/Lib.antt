@@ -11,3 +11,4 @@ pub mod Seeing
 pub mod Answering
 pub mod Legal
 pub mod Starting
+pub mod Running

@@ -9,6 +9,8 @@ mod posting;
 mod serve;
 mod stage;
 mod step;
+#[cfg(test)]
+mod tests;
 mod world;
 
 pub use step::WorldStep;
