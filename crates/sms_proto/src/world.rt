@@ -74,6 +74,26 @@ impl World {
         }
     }
 
+    // Takes the steps one by one.
+    fn take_steps(&mut self, steps: &[WorldStep]) -> Result<(), NoMemory>
+        requires { AllWithin self.old.hosts steps.now }
+        ensures same { (self.new.size ≡ self.old.size) × (self.new.hosts ≡ self.old.hosts) }
+        ensures runs { OnOk result (Runs self.old.size steps.now self.old.events self.new.events) }
+        ensures err { OnErr result ((n : ℕ) × (n ≤ length steps.now) × Runs self.old.size (take n steps.now) self.old.events self.new.events) }
+    {
+        for step in steps {
+            self.step(step)?;
+        }
+        Ok(())
+    }
+
+    // What holds of a world at every time.
+    fn stands(&self)
+        ensures { IsPageWorld self.now.size self.now.hosts self.now.events }
+    {
+        let _stage = &self.stage;
+    }
+
     /// Takes the steps one by one; one that isn't possible changes nothing. It fails for want of
     /// memory alone, and then some first steps were taken, each whole.
     ///
@@ -87,10 +107,9 @@ impl World {
         ensures err { OnErr result ((n : ℕ) × (n ≤ length steps.now) × Runs self.old.size (take n steps.now) self.old.events self.new.events) }
         ensures holds { IsPageWorld self.new.size self.new.hosts self.new.events }
     {
-        for step in steps {
-            self.step(step)?;
-        }
-        Ok(())
+        let result = self.take_steps(steps);
+        self.stands();
+        result
     }
 
     /// The events so far.

@@ -1,6 +1,6 @@
 use Rattle.std.proofs.Common.{◌≡◌, take}
 use Rattle.sms_proto.specs.Steps.{Runs}
-use Rattle.sms_proto.proofs.world.World.run.Given as goal
+use Rattle.sms_proto.proofs.world.World.take_steps.Given as goal
 
 abbrev pub invariant-loop-step : goal.invariant-loop-step
 invariant-loop-step l =
