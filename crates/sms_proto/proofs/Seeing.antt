@@ -84,10 +84,10 @@ saw_left size h old new k p is =
     subst (λ (n : ℕ). new ≡ left h (side h (world_part n old)) (waiters h (world_part n old)) old) p.same_size
     (subst (λ (g : ℕ). new ≡ left g (side g (world_part k.size old)) (waiters g (world_part k.size old)) old) p.same_host
     (is ∙ (ap (λ (l : List Event). if k.live then l else old)
-        (idle_where k.host.0 k.want (ends k.host old k.control (given_up k)) old
-        ∙ (ap (λ (ws : List Waiter). when_idle ws (ends k.host old k.control (given_up k)) old) (sym p.fits.waits)
-        ∙ (ap (λ (l : List Event). when_idle (waiters k.host.0 (world_part k.size old)) (ends k.host old k.control l) old) (given_by k (seen old k) p.fits.right p.fits.control p.fits.dirty p.fits.bytes)
-        ∙ ap (λ (n : ℕ). when_idle (waiters k.host.0 (world_part k.size old)) (ends k.host old n (gives_up k.host.0 (seen old k))) old) (sym p.fits.control))))
+    (idle_where k.host.0 k.want (ends k.host old k.control (given_up k)) old
+    ∙ (ap (λ (ws : List Waiter). when_idle ws (ends k.host old k.control (given_up k)) old) (sym p.fits.waits)
+    ∙ (ap (λ (l : List Event). when_idle (waiters k.host.0 (world_part k.size old)) (ends k.host old k.control l) old) (given_by k (seen old k) p.fits.right p.fits.control p.fits.dirty p.fits.bytes)
+    ∙ ap (λ (n : ℕ). when_idle (waiters k.host.0 (world_part k.size old)) (ends k.host old n (gives_up k.host.0 (seen old k))) old) (sym p.fits.control))))
     ∙ ap (λ (b : Bool). if b then when_idle (waiters k.host.0 (world_part k.size old)) (ends k.host old (seen old k).control (gives_up k.host.0 (seen old k))) old else old) (sym p.fits.live))))
 
 -- the oldest order is the oldest message

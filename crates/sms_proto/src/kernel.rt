@@ -430,7 +430,12 @@ impl Kernel {
     }
 
     /// Begins an access of a host that has no control: its next one begins.
-    pub fn begin_anew(&mut self, control: u32, want: Want, events: &mut Events) -> Result<(), NoMemory>
+    pub fn begin_anew(
+        &mut self,
+        control: u32,
+        want: Want,
+        events: &mut Events,
+    ) -> Result<(), NoMemory>
         requires gone { self.old.live ≡ false }
         requires next { control ≡ self.old.control + 1 }
         requires idle { self.old.want ≡ None }

@@ -83,10 +83,7 @@ pub fn access_of(access: Access) -> u32
 #[derive(Drop)]
 pub enum Order {
     /// The page, with no access prohibited, or with writing prohibited.
-    Supply {
-        writes: bool,
-        bytes: PageBytes,
-    },
+    Supply { writes: bool, bytes: PageBytes },
     /// A lock with a reply: what is unsaved comes back, and the page goes.
     Flush,
     /// A lock with a reply: what is unsaved comes back, and writing is prohibited.

@@ -62,11 +62,7 @@ fn make_places(kernels: &mut Vec<Kernel>, count: u32) -> Result<(), NoMemory>
 }
 
 // What the directory notes of a letter, and how it answers.
-fn note(
-    directory: &mut PageDirectory,
-    host: HostId,
-    letter: &Letter,
-) -> Result<Replies, NoMemory>
+fn note(directory: &mut PageDirectory, host: HostId, letter: &Letter) -> Result<Replies, NoMemory>
     requires host { host.0 < 8 }
     requires size { IsLong (length directory.old.bytes) letter.now }
     requires prepared { directory.old.prepared ≡ true }
