@@ -1,0 +1,14 @@
+pub mod Queues
+pub mod Pages
+pub mod Adding
+pub mod Beginning
+pub mod Supplies
+pub mod Hosts
+pub mod Standing
+pub mod Turns
+pub mod Mail
+pub mod Seeing
+pub mod Answering
+pub mod Legal
+pub mod Starting
+pub mod Running
