@@ -1,5 +1,5 @@
 -- One more event, and events behind events.
-use Rattle.std.proofs.Common.{◌≡◌, List, ◌∷◌, ℕ, sym, subst, OnOk}
+use Rattle.std.proofs.Common.{◌≡◌, List, ◌∷◌, sym, subst, OnOk}
 use Rattle.std.specs.Prelude.{Result, Ok, Err}
 use Rattle.vm_model.specs.declared.message.Channel.TheVariants.{Up}
 use Rattle.vm_model.specs.declared.message.Message.{Message}

@@ -8,7 +8,7 @@ use Rattle.vm_base.specs.declared.ids.HostId.{HostId}
 use Rattle.vm_base.specs.declared.ids.Lock.{Lock}
 use Rattle.vm_model.specs.declared.message.Message.{Message}
 use Rattle.vm_model.specs.declared.event.Event.{Event}
-use Rattle.vm_model.specs.Words.{Act, Effect, UpWord, TakenUp, SentDown, Supplying, Locking}
+use Rattle.vm_model.specs.Words.{Act, UpWord, TakenUp, SentDown, Supplying, Locking}
 use Rattle.vm_model.specs.Side.{Side, side, nobody}
 use Rattle.vm_model.specs.Side.{rest as tail}
 use Rattle.vm_model.specs.Waiters.{waiters}
@@ -37,8 +37,8 @@ use Rattle.sms_proto.specs.Kernels.{Fits, Each, IsProper, IsWhole, IsPrompt, Sam
 use Rattle.vm_model.specs.declared.message.Channel.TheVariants.{Up}
 use Rattle.vm_model.specs.declared.event.Event.TheVariants.{Taken}
 use Rattle.sms_proto.specs.Steps.{taken_head, IsTaken}
-use Rattle.sms_proto.specs.Worlds.{Kept, Absent, Present, StandsAt, WorldStands, Answering, noted_by, heard_of, heard_in, reply_host, reply_order, HasPlaces, IsSupplied}
-use Rattle.sms_proto.proofs.Hosts.{kept_act, kept_wait, not_mine, away}
+use Rattle.sms_proto.specs.Worlds.{Kept, Present, StandsAt, WorldStands, Answering, noted_by, heard_of, heard_in, reply_host, reply_order, HasPlaces, IsSupplied}
+use Rattle.sms_proto.proofs.Hosts.{kept_act, kept_wait, not_mine}
 use Rattle.sms_proto.proofs.Standing.{step_at, each_after, get_set_same, get_set_other}
 use Rattle.sms_proto.proofs.Seeing.{present_of}
 use Rattle.sms_proto.proofs.Mail.{taken_part, sent_part}

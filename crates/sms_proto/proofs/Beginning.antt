@@ -1,9 +1,8 @@
 -- A kernel that begins an access.
-use Rattle.std.proofs.Common.{◌≡◌, ◌≢◌, ◌<◌, ◌≤◌, ◌+◌, ◌%◌, ◌==◌, ◌∙◌, ℕ, List, [], ◌∷◌, Bool, true, false, if◌then◌else◌, Option, Some, None, arith, refl, ap, sym, subst, map}
-use Rattle.std.proofs.lemmas.Bool.Decides.{nat_tests}
+use Rattle.std.proofs.Common.{◌≡◌, ◌≢◌, ◌≤◌, ◌+◌, ◌%◌, ◌∙◌, ℕ, List, [], ◌∷◌, Bool, true, false, if◌then◌else◌, Option, Some, None, arith, refl, ap, sym, map}
 use Rattle.vm_model.specs.declared.event.Event.{Event}
 use Rattle.vm_model.specs.Words.{Act, Effect, Begins, Opens}
-use Rattle.vm_model.specs.Side.{Side, side, opened, move}
+use Rattle.vm_model.specs.Side.{Side, side, opened}
 use Rattle.vm_model.specs.Waiters.{waiters, waiters_after}
 use Rattle.vm_model.specs.PagePart.{world_part}
 use Rattle.vm_model.specs.Channels.{up_queue, down_queue}
@@ -12,8 +11,8 @@ use Rattle.sms_proto.specs.declared.kernel.Kernel.{Kernel}
 use Rattle.sms_proto.specs.declared.kernel.Want.{Want}
 use Rattle.sms_proto.specs.declared.letter.Letter.{Letter}
 use Rattle.sms_proto.specs.declared.letter.Letter.TheVariants as letter
-use Rattle.sms_proto.specs.Letters.{letter_message, order_message, order_word}
-use Rattle.sms_proto.specs.Kernels.{Fits, Each, IsProper, seen, waiter, waiting}
+use Rattle.sms_proto.specs.Letters.{order_message, order_word}
+use Rattle.sms_proto.specs.Kernels.{Fits, Each, IsProper, seen, waiting}
 use Rattle.sms_proto.specs.Steps.{begun_event}
 
 abbrev pub begins : ℕ → ℕ → Bool → ℕ → Act

@@ -1,6 +1,5 @@
 -- What a host does leaves the other hosts, and what the server knows, as they were.
 use Rattle.std.proofs.Common.{◌≡◌, ◌≢◌, ◌+◌, ◌%◌, ◌==◌, ◌&&◌, ◌∙◌, ℕ, List, [], ◌∷◌, ◌++◌, Bool, true, false, if◌then◌else◌, arith, refl, ap, sym, subst}
-use Rattle.std.specs.Prelude.{slice_index}
 use Rattle.std.proofs.lemmas.Bool.Decides.{nat_tests}
 use Rattle.vm_base.specs.declared.ids.TaskId.{TaskId}
 use Rattle.vm_model.specs.declared.message.Channel.TheVariants.{Up, Down}
@@ -8,19 +7,19 @@ use Rattle.vm_model.specs.declared.message.Message.{Message}
 use Rattle.vm_model.specs.declared.message.Message.TheVariants as message
 use Rattle.vm_model.specs.declared.event.Event.{Event}
 use Rattle.vm_model.specs.declared.event.Event.TheVariants as event
-use Rattle.vm_model.specs.Words.{Act, UpWord, DownWord, Effect, Opens, SendsUp, TakenUp, SentDown, TakesDown, Puts, Drops, Begins, Loads, Stores, Fails, StepBegins, Nothing, down_word, sent_effect, to_others, act_of}
+use Rattle.vm_model.specs.Words.{Act, UpWord, DownWord, Effect, Opens, SendsUp, TakenUp, SentDown, TakesDown, Drops, Begins, Loads, Stores, StepBegins, Nothing, down_word, sent_effect, to_others, act_of}
 use Rattle.vm_model.specs.Side.{Side, side, move, hears, reaches, sent_up}
 use Rattle.vm_model.specs.Waiters.{Waiter, waiters, waiters_after}
 use Rattle.vm_model.specs.Server.{Wanting, line, joined, kept, kept_after, trimmed_line}
 use Rattle.vm_model.specs.Channels.{up_queue, down_queue}
 use Rattle.vm_model.specs.PagePart.{world_part, with_control}
-use Rattle.vm_model.specs.Coherence.{Done, StepsDone, begins_step}
-use Rattle.vm_coherence.proofs.Law.{own_effect, other_effect, own_side, other_side}
+use Rattle.vm_model.specs.Coherence.{StepsDone, begins_step}
+use Rattle.vm_coherence.proofs.Law.{other_effect, other_side}
 use Rattle.sms_pages.specs.Directory.{Directory}
-use Rattle.sms_pages.specs.Stands.{StandsFor, counted}
+use Rattle.sms_pages.specs.Stands.{StandsFor}
 use Rattle.sms_pages.proofs.Facts.{holds_kept, awaits_kept, counted_same}
 use Rattle.sms_proto.specs.Worlds.{Kept, Moved}
-use Rattle.sms_proto.specs.Adds.{Adds, Same, More, HostDoes, IsLetter}
+use Rattle.sms_proto.specs.Adds.{Adds, Same, More, HostDoes}
 
 -- acts
 

@@ -3,17 +3,15 @@ use Rattle.std.proofs.Common.{inl, inr, ◌≡◌, ◌≢◌, ◌<◌, ◌∙◌
 use Rattle.std.specs.Prelude.{slice_get, ◌⊎◌}
 use Rattle.std.proofs.lemmas.Option.{slice_get_within}
 use Rattle.vm_model.specs.declared.event.Event.{Event}
-use Rattle.vm_model.specs.Words.{Act}
-use Rattle.vm_model.specs.Side.{Side, side, nobody}
+use Rattle.vm_model.specs.Side.{Side, side}
 use Rattle.vm_model.specs.Waiters.{waiters}
 use Rattle.vm_model.specs.PagePart.{world_part}
 use Rattle.vm_model.specs.Channels.{up_queue, down_queue}
-use Rattle.vm_model.specs.Coherence.{Prompt, Quiet, NobodyWaits}
+use Rattle.vm_model.specs.Coherence.{Prompt, Quiet}
 use Rattle.vm_coherence.proofs.Whole.{page_legal}
 use Rattle.vm_coherence.proofs.Still.{still}
 use Rattle.sms_pages.specs.Directory.{Directory}
 use Rattle.sms_proto.specs.declared.kernel.Kernel.{Kernel}
-use Rattle.sms_proto.specs.declared.kernel.Want.{Want}
 use Rattle.sms_proto.specs.Letters.{letter_message, letter_word, order_message, order_word}
 use Rattle.sms_proto.specs.Kernels.{waiting}
 use Rattle.sms_proto.specs.Worlds.{Present, StandsAt, WorldStands}

@@ -1,12 +1,12 @@
 -- A kernel whose messages move, and nothing else.
-use Rattle.std.proofs.Common.{◌≡◌, ◌≢◌, ◌<◌, ◌≤◌, ◌==◌, ◌&&◌, ◌∙◌, ℕ, List, [], ◌∷◌, ◌++◌, Bool, true, false, if◌then◌else◌, map, arith, refl, ap, sym, subst, length}
+use Rattle.std.proofs.Common.{◌≡◌, ◌<◌, ◌≤◌, ◌==◌, ◌&&◌, ◌∙◌, ℕ, List, [], ◌∷◌, ◌++◌, Bool, true, false, if◌then◌else◌, map, arith, refl, ap, sym, subst}
 use Rattle.std.proofs.lemmas.Bool.Decides.{nat_tests}
 use Rattle.vm_base.specs.declared.ids.HostId.{HostId}
 use Rattle.vm_model.specs.declared.message.Message.{Message}
 use Rattle.vm_model.specs.declared.event.Event.{Event}
 use Rattle.vm_model.specs.Words.{Act, Effect, DownWord, TakenUp, SentDown}
-use Rattle.vm_model.specs.Side.{Side, side, move, rest, taken_up, sent_down, reaches}
-use Rattle.vm_model.specs.Waiters.{Waiter, waiters, waiters_after}
+use Rattle.vm_model.specs.Side.{Side, side, rest, taken_up, sent_down, reaches}
+use Rattle.vm_model.specs.Waiters.{waiters, waiters_after}
 use Rattle.vm_model.specs.PagePart.{world_part}
 use Rattle.vm_model.specs.Channels.{up_queue, down_queue}
 use Rattle.vm_coherence.proofs.Law.{own_effect, own_side}
@@ -16,7 +16,7 @@ use Rattle.sms_proto.specs.declared.letter.Letter.TheVariants as letter
 use Rattle.sms_proto.specs.declared.letter.Order.{Order}
 use Rattle.sms_proto.specs.declared.letter.Order.TheVariants as order
 use Rattle.sms_proto.specs.Letters.{letter_message, letter_word, order_message, order_word, letter_taken, order_sent, heard_by}
-use Rattle.sms_proto.specs.Kernels.{Fits, Each, IsProper, IsWhole, seen, waiting}
+use Rattle.sms_proto.specs.Kernels.{Fits, Each, IsProper, IsWhole, seen}
 use Rattle.sms_proto.proofs.Queues.{map_end, each_end}
 
 record SameHost (s t : Side) : Type 0 where

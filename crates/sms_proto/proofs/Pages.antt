@@ -1,8 +1,8 @@
 -- Eight bytes at the front of a page, and the one access that waits.
-use Rattle.std.proofs.Common.{◌≡◌, ◌≤◌, ◌+◌, ◌%◌, ◌==◌, ℕ, arith, Option, Some, None, List, [], ◌∷◌, length, refl, take, drop, ◌++◌, length-append, length-drop}
+use Rattle.std.proofs.Common.{◌≡◌, ◌≤◌, ℕ, arith, Some, List, [], ◌∷◌, length, length-append, length-drop}
 use Rattle.std.proofs.lemmas.Bool.Decides.{nat_tests}
 use Rattle.vm_base.specs.Pages.{IsPageSize, with_bytes, little_endian_bytes}
-use Rattle.vm_model.specs.Waiters.{Waiter, waiter_of, without_task}
+use Rattle.vm_model.specs.Waiters.{Waiter, waiter_of}
 
 pub one_waits : (task : ℕ) (w : Waiter) → w.task ≡ task → waiter_of task (w ∷ []) ≡ Some w
 one_waits task w is = grind (arith, nat_tests)

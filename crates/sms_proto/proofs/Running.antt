@@ -1,5 +1,5 @@
 -- Steps one after another.
-use Rattle.std.proofs.Common.{zero, suc, ◌≡◌, ◌<◌, ◌∙◌, ℕ, List, [], ◌∷◌, ◌++◌, Some, refl, ap, subst, sym, arith, take, take-suc, get_or, length, ◌+◌}
+use Rattle.std.proofs.Common.{zero, suc, ◌≡◌, ◌<◌, ◌∙◌, ℕ, List, [], ◌∷◌, ◌++◌, refl, ap, subst, arith, take, take-suc, get_or, length, ◌+◌}
 use Rattle.vm_model.specs.declared.event.Event.{Event}
 use Rattle.sms_proto.specs.declared.step.WorldStep.{WorldStep}
 use Rattle.sms_proto.specs.Steps.{Takes, Runs}

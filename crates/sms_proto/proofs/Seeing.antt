@@ -1,5 +1,5 @@
 -- What a kernel's steps add, in the history's own words.
-use Rattle.std.proofs.Common.{◌≡◌, ◌≢◌, ◌<◌, ◌==◌, ◌∙◌, ℕ, List, [], ◌∷◌, ◌++◌, Bool, true, false, if◌then◌else◌, Option, Some, None, map, refl, ap, sym, subst, arith, length}
+use Rattle.std.proofs.Common.{◌≡◌, ◌<◌, ◌==◌, ◌∙◌, ℕ, List, [], ◌∷◌, ◌++◌, Bool, true, false, if◌then◌else◌, Option, Some, None, map, refl, ap, sym, subst, arith, length}
 use Rattle.std.specs.Prelude.{slice_get}
 use Rattle.std.proofs.Math.ListN.{set}
 use Rattle.std.proofs.lemmas.Bool.Decides.{nat_tests}
@@ -13,7 +13,7 @@ use Rattle.vm_model.specs.Side.{Side, side}
 use Rattle.vm_model.specs.Waiters.{Waiter, waiters}
 use Rattle.vm_model.specs.Server.{first}
 use Rattle.vm_model.specs.PagePart.{world_part}
-use Rattle.vm_model.specs.Channels.{up_queue, down_queue}
+use Rattle.vm_model.specs.Channels.{down_queue}
 use Rattle.vm_model.specs.PageLicences.{Licensed}
 use Rattle.sms_pages.specs.Directory.{Directory}
 use Rattle.sms_proto.specs.declared.kernel.Kernel.{Kernel}
@@ -21,7 +21,7 @@ use Rattle.sms_proto.specs.declared.kernel.Want.{Want}
 use Rattle.sms_proto.specs.declared.letter.Order.{Order}
 use Rattle.sms_proto.specs.Adds.{HostDoes}
 use Rattle.sms_proto.specs.Letters.{order_message, taken_first}
-use Rattle.sms_proto.specs.Kernels.{Fits, IsPrompt, seen, waiting, access_head, order_head, evicted_by, left_by, given_up, idle_head, where_idle}
+use Rattle.sms_proto.specs.Kernels.{Fits, IsPrompt, seen, waiting, order_head, evicted_by, left_by, given_up, idle_head, where_idle}
 use Rattle.sms_proto.specs.Steps.{Goes, begun_event, put_away_event, when_idle, taken_head, down_head, gives_up, left}
 use Rattle.sms_proto.specs.Worlds.{Moved, Present, StandsAt, WorldStands}
 use Rattle.sms_proto.proofs.Standing.{stands_host}

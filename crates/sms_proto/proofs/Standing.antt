@@ -1,23 +1,20 @@
 -- A step of one host leaves the world standing for its history.
-use Rattle.std.proofs.Common.{zero, suc, ◌≡◌, ◌≢◌, ◌<◌, ◌≤◌, ◌∙◌, ℕ, List, [], ◌∷◌, length, get_or, Option, Some, None, arith, refl, ap, sym, subst, Bool, true, false}
-use Rattle.std.specs.Prelude.{slice_get, slice_set}
+use Rattle.std.proofs.Common.{zero, suc, ◌≡◌, ◌≢◌, ◌<◌, ◌∙◌, ℕ, List, [], ◌∷◌, length, Option, Some, None, arith, refl, ap, sym, subst}
+use Rattle.std.specs.Prelude.{slice_get}
 use Rattle.std.proofs.Math.ListN.{set, length-set}
-use Rattle.std.proofs.lemmas.List.{get_or-set_same, get_or-set_other}
-use Rattle.std.proofs.lemmas.Option.{slice_get_within, slice_get_past, get_or_from_slice_get, slice_get-get_or}
+use Rattle.std.proofs.lemmas.List.{get_or-set_same}
+use Rattle.std.proofs.lemmas.Option.{slice_get-get_or}
 use native.Mathlib.Decide.{ℕ_discrete}
 use Rattle.vm_model.specs.declared.event.Event.{Event}
 use Rattle.vm_model.specs.Words.{Act}
-use Rattle.vm_model.specs.Side.{Side, side, nobody}
-use Rattle.vm_model.specs.Waiters.{waiters}
-use Rattle.vm_model.specs.Server.{line}
+use Rattle.vm_model.specs.Side.{Side, side}
 use Rattle.vm_model.specs.PagePart.{world_part}
 use Rattle.vm_model.specs.PageLicences.{Licensed}
-use Rattle.vm_model.specs.Coherence.{Done, StepsDone, Served}
+use Rattle.vm_model.specs.Coherence.{Done, Served}
 use Rattle.sms_pages.specs.Directory.{Directory}
 use Rattle.sms_pages.specs.Stands.{StandsFor}
 use Rattle.sms_proto.specs.declared.kernel.Kernel.{Kernel}
-use Rattle.sms_proto.specs.Kernels.{Fits, IsPrompt, waiting}
-use Rattle.sms_proto.specs.Worlds.{Kept, Moved, Absent, Present, StandsAt, WorldStands}
+use Rattle.sms_proto.specs.Worlds.{Kept, Moved, Present, StandsAt, WorldStands}
 use Rattle.sms_proto.proofs.Beginning.{fits_same}
 
 -- a host to which nothing happens

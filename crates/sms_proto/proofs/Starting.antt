@@ -1,7 +1,6 @@
 -- A world at its beginning.
-use Rattle.std.proofs.Common.{inl, inr, zero, suc, ◌≡◌, ◌+◌, ◌≤◌, ◌<◌, ◌∙◌, ℕ, List, [], ◌∷◌, ◌++◌, Option, Some, None, refl, ap, sym, subst, length, arith, true}
+use Rattle.std.proofs.Common.{inl, inr, zero, suc, ◌≡◌, ◌≤◌, ℕ, List, [], ◌∷◌, ◌++◌, Option, Some, refl, ap, sym, subst, length}
 use Rattle.std.specs.Prelude.{slice_get, ◌⊎◌}
-use Rattle.vm_model.specs.PagePart.{world_part}
 use Rattle.sms_pages.specs.Directory.{Directory, IsNew}
 use Rattle.sms_pages.proofs.Taken.{begins}
 use Rattle.sms_proto.specs.declared.kernel.Kernel.{Kernel}

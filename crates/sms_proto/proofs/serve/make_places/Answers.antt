@@ -1,5 +1,4 @@
-use Rattle.std.proofs.Common.{◌≡◌, ◌<◌, ◌∙◌, refl, Some, length, length-set, arith}
-use Rattle.std.specs.Prelude.{slice_get}
+use Rattle.std.proofs.Common.{◌<◌, ◌∙◌, refl, length, length-set, arith}
 use Rattle.std.proofs.lemmas.Option.{slice_get_read, slice_get_within}
 use Rattle.sms_proto.specs.declared.kernel.Kernel.{Kernel}
 use Rattle.sms_proto.proofs.Answering.{set_same, set_places_below}

@@ -1,4 +1,4 @@
-use Rattle.std.proofs.Common.{◌≡◌, ◌+◌, ◌∙◌, ◌∷◌, ◌++◌, [], ap, sym, subst, List, ℕ, length, length-append, arith}
+use Rattle.std.proofs.Common.{◌≡◌, ◌+◌, ◌∙◌, ◌∷◌, ◌++◌, [], ap, sym, subst, List, ℕ, length, length-append}
 use Rattle.std.specs.Prelude.{slice_get}
 use Rattle.vm_base.specs.declared.ids.HostId.{HostId}
 use Rattle.sms_proto.specs.declared.kernel.Kernel.{Kernel}

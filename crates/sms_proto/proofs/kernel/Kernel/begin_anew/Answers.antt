@@ -1,4 +1,4 @@
-use Rattle.std.proofs.Common.{refl, ◌∙◌, ap, sym, subst, ◌∷◌, List, Some, true}
+use Rattle.std.proofs.Common.{◌∙◌, ap, sym, subst, ◌∷◌, List, Some, true}
 use Rattle.vm_model.specs.declared.event.Event.{Event}
 use Rattle.sms_proto.specs.Kernels.{Fits}
 use Rattle.sms_proto.proofs.Beginning.{fits_anew}

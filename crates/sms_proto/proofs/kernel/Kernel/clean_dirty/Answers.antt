@@ -1,11 +1,10 @@
-use Rattle.std.proofs.Common.{refl, ◌∙◌, ap, sym, subst, arith, ◌∷◌}
+use Rattle.std.proofs.Common.{refl, ◌∙◌, ap, sym, subst, arith}
 use Rattle.std.proofs.lemmas.Grind.{common_steps}
 use Rattle.std.proofs.lemmas.Bool.Decides.{nat_tests}
 use Rattle.vm_model.specs.declared.message.Message.{Message}
 use Rattle.vm_model.specs.declared.event.Event.TheVariants.{Taken}
 use Rattle.vm_model.specs.declared.message.Channel.TheVariants.{Down}
 use Rattle.sms_proto.specs.Adds.{IsLetter}
-use Rattle.sms_proto.specs.Kernels.{Fits}
 use Rattle.sms_proto.proofs.Adding.{adds_next, adds_none}
 use Rattle.sms_proto.proofs.Queues.{map_end, each_end}
 use Rattle.sms_proto.proofs.kernel.Kernel.clean_dirty.Goals as goal

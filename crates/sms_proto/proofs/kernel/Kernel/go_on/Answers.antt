@@ -1,6 +1,4 @@
-use Rattle.std.proofs.Common.{refl}
 use Rattle.sms_proto.specs.Adds.{Same}
-use Rattle.sms_proto.proofs.Adding.{added, added_letter}
 use Rattle.sms_proto.proofs.kernel.Kernel.go_on.Goals as goal
 
 pub returns-in_default-clause-adds : goal.returns-in_default-clause-adds

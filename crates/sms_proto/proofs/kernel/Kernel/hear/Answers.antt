@@ -5,8 +5,7 @@ use Rattle.vm_model.specs.declared.event.Event.TheVariants.{Taken}
 use Rattle.vm_model.specs.declared.message.Channel.TheVariants.{Up}
 use Rattle.vm_model.specs.declared.message.Message.{Message}
 use Rattle.sms_proto.specs.Kernels.{Fits}
-use Rattle.sms_proto.specs.Letters.{letter_taken}
-use Rattle.sms_proto.proofs.Mail.{fits_heard, mailed}
+use Rattle.sms_proto.proofs.Mail.{fits_heard}
 use Rattle.sms_proto.proofs.kernel.Kernel.hear.Goals as goal
 
 pub returns-clause-fits : goal.returns-clause-fits

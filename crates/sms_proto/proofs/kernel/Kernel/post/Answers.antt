@@ -6,7 +6,7 @@ use Rattle.vm_model.specs.declared.event.Event.TheVariants.{Sent}
 use Rattle.vm_model.specs.declared.message.Channel.TheVariants.{Down}
 use Rattle.vm_model.specs.declared.message.Message.{Message}
 use Rattle.sms_proto.specs.Kernels.{Fits}
-use Rattle.sms_proto.proofs.Mail.{fits_posted, mailed, posted}
+use Rattle.sms_proto.proofs.Mail.{fits_posted, posted}
 use Rattle.sms_proto.proofs.kernel.Kernel.post.Goals as goal
 
 pub returns-clause-fits : goal.returns-clause-fits

@@ -1,6 +1,5 @@
 use Rattle.std.proofs.Common.{refl}
-use Rattle.sms_proto.specs.Adds.{Same}
-use Rattle.sms_proto.proofs.Adding.{added, added_letter}
+use Rattle.sms_proto.proofs.Adding.{added}
 use Rattle.sms_proto.proofs.kernel.Kernel.store.Goals as goal
 
 pub returns-clause-adds : goal.returns-clause-adds

@@ -1,4 +1,4 @@
-use Rattle.std.proofs.Common.{◌≡◌, refl, ◌∙◌, ap, sym, subst, Some, Option, arith}
+use Rattle.std.proofs.Common.{◌≡◌, sym, subst, Some, Option, arith}
 use Rattle.std.proofs.lemmas.Grind.{common_steps}
 use Rattle.vm_model.specs.Server.{first}
 use Rattle.sms_proto.specs.declared.letter.Order.{Order}

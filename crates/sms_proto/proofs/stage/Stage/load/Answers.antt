@@ -1,4 +1,4 @@
-use Rattle.std.proofs.Common.{◌≡◌, Some, refl, true, false}
+use Rattle.std.proofs.Common.{◌≡◌, Some, refl, false}
 use Rattle.std.specs.Prelude.{slice_get}
 use Rattle.std.proofs.lemmas.Option.{slice_get_read}
 use Rattle.sms_proto.proofs.Adding.{on_ok}

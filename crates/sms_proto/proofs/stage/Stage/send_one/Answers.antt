@@ -1,12 +1,10 @@
-use Rattle.std.proofs.Common.{◌≡◌, ◌<◌, ◌∙◌, ap, sym, subst, refl, Some, ℕ, List, ◌∷◌, length, arith}
+use Rattle.std.proofs.Common.{◌≡◌, ◌<◌, ◌∙◌, ap, sym, subst, refl, Some, ℕ, ◌∷◌, length, arith}
 use Rattle.std.specs.Prelude.{slice_get}
 use Rattle.std.proofs.lemmas.Option.{slice_get_read}
-use Rattle.vm_model.specs.declared.event.Event.{Event}
 use Rattle.vm_base.specs.declared.ids.HostId.{HostId}
 use Rattle.sms_proto.specs.declared.letter.Order.{Order}
 use Rattle.sms_proto.specs.declared.letter.Order.TheVariants as order
-use Rattle.sms_proto.specs.declared.kernel.Kernel.{Kernel}
-use Rattle.sms_proto.specs.Adds.{Adds, ServerDoes}
+use Rattle.sms_proto.specs.Adds.{ServerDoes}
 use Rattle.sms_proto.specs.Letters.{order_sent}
 use Rattle.sms_proto.specs.Kernels.{IsWhole}
 use Rattle.sms_proto.specs.Worlds.{Present, StandsAt, IsSupplied}

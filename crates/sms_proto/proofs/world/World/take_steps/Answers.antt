@@ -1,4 +1,4 @@
-use Rattle.std.proofs.Common.{◌≡◌, ◌<◌, ◌∙◌, ℕ, List, length, sym, subst, arith, take, get_or}
+use Rattle.std.proofs.Common.{◌<◌, ◌∙◌, ℕ, List, length, sym, subst, arith, take, get_or}
 use Rattle.sms_proto.specs.declared.step.WorldStep.{WorldStep}
 use Rattle.sms_proto.specs.declared.step.WorldStep.TheVariants.{Load}
 use Rattle.sms_proto.specs.Steps.{Runs, Takes}
