@@ -1,0 +1,2 @@
+mod Spares
+mod Tables
