@@ -2,6 +2,7 @@
 #![tactic(auto)]
 
 mod changes;
+mod fork;
 mod pages;
 mod reading;
 mod render;
