@@ -1,9 +1,9 @@
 -- A fork makes a child, and gives it what is shared, one entry after another.
-use Rattle.std.proofs.Common.{◌≡◌, ℕ, ◌+◌, ◌/◌, ◌%◌, ◌<◌, ◌≤◌, ◌^◌, ◌==◌, ◌&&◌, Bool, true, false, not, List, [], ◌∷◌, ◌++◌, length, take, drop, reverse, slice_get, get_or, refl, ap, sym, ◌∙◌, subst, arith, append_assoc, Some, None, Option, length-append}
+use Rattle.std.proofs.Common.{◌≡◌, ℕ, ◌+◌, ◌<◌, ◌≤◌, ◌^◌, true, false, List, [], ◌∷◌, ◌++◌, length, take, drop, reverse, slice_get, refl, ap, sym, ◌∙◌, subst, arith, append_assoc, Some, None, Option, length-append}
 use Rattle.std.proofs.lemmas.Bool.Decides.{nat_tests}
 use Rattle.std.proofs.lemmas.List.{reverse-append}
 use Rattle.std.proofs.lemmas.Option.{slice_get_within}
-use Rattle.std.specs.Prelude.{if◌then◌else◌, unwrap_or, nat_lt, IsSome, ◌≢◌}
+use Rattle.std.specs.Prelude.{unwrap_or, nat_lt, IsSome, ◌≢◌}
 use Rattle.vm_base.specs.declared.entry.Entry.{Entry}
 use Rattle.vm_base.specs.declared.ids.TaskId.{TaskId}
 use Rattle.vm_base.specs.Entries.{AreEntries, HasWholePages, entered, is_range, most_entries}
@@ -11,20 +11,18 @@ use Rattle.vm_model.specs.declared.event.Event.{Event}
 use Rattle.vm_model.specs.declared.event.Event.TheVariants as event
 use Rattle.vm_model.specs.declared.command.Command.TheVariants as command
 use Rattle.vm_model.specs.declared.script.Header.{Header}
-use Rattle.vm_model.specs.Follows.{fork_head, gets, head}
+use Rattle.vm_model.specs.Follows.{gets, head}
 use Rattle.vm_model.specs.Refusal.{refusal}
 use Rattle.vm_model.specs.Rows.{AllRows, rows_known}
-use Rattle.vm_model.specs.Tasks.{copies, has_entry, is_shared, shared}
+use Rattle.vm_model.specs.Tasks.{has_entry, is_shared, shared}
 use Rattle.vm_model.specs.Waiting.{waiting}
-use Rattle.vm_maps.specs.Judge.{judged}
 use Rattle.vm_maps.specs.Maps.{ChangesOnly, entries_in, rows_in}
-use Rattle.vm_top.specs.Forking.{CanShare, Forking, Shares, got, sharing, with_child}
-use Rattle.vm_top.specs.Pages.{room_all}
+use Rattle.vm_top.specs.Forking.{CanShare, Forking, Shares, got, with_child}
 use Rattle.vm_top.specs.Runner.{Agrees, IsInside, IsUsed, Stepped, host_for, is_held_up, the_host}
 use Rattle.vm_top.specs.Uses.{bytes_on}
 use Rattle.vm_top.specs.declared.runner.Runner.{Runner}
 use Rattle.vm_top.proofs.Counting.{on_split, uses_entered, uses_small, uses_task}
-use Rattle.vm_top.proofs.Forks.{Behind, MayFork, behind, entered_behind, few_shared, fork_is, free_behind, gets_more, may_fork, nothing_copied, row_among, rows_shared, shared_more, shared_one, shared_other, split_at, take_all, take_next, whole_among}
+use Rattle.vm_top.proofs.Forks.{MayFork, behind, entered_behind, few_shared, fork_is, free_behind, gets_more, may_fork, nothing_copied, row_among, rows_shared, shared_more, shared_one, shared_other, split_at, take_all, take_next, whole_among}
 use Rattle.vm_top.proofs.Kepts.{kept_entered, kept_task}
 use Rattle.vm_top.proofs.Quiet.{AllQuiet, Quiet, all_waits, stepped_quiet}
 use Rattle.vm_top.proofs.Steps.{quiet_made}
@@ -184,8 +182,8 @@ stepped_fork header task child line i old new a fine free f end =
     let turned : reverse first ≡ reverse (gets child (shared rows)) ++ event.TaskMade child the_host ∷ [] = reverse-append (event.TaskMade child the_host ∷ []) (gets child (shared rows)) in
     let quiet : AllQuiet header (reverse first) = subst (AllQuiet header) (sym turned) (quiet_append header (reverse (gets child (shared rows))) (event.TaskMade child the_host ∷ []) (quiet_gets header child (shared rows)) (quiet_made header child the_host, tt)) in
     let whole : new.history.items ≡ reverse first ++ past =
-        f.history ∙ (ap (λ z. with_child child line (shared z) old.history.items) (take_all rows i end)
-        ∙ (sym (append_assoc (reverse (gets child (shared rows))) (event.TaskMade child the_host ∷ []) past) ∙ ap (λ z. z ++ past) (sym turned))) in
+    f.history ∙ (ap (λ z. with_child child line (shared z) old.history.items) (take_all rows i end)
+    ∙ (sym (append_assoc (reverse (gets child (shared rows))) (event.TaskMade child the_host ∷ []) past) ∙ ap (λ z. z ++ past) (sym turned))) in
     stepped_quiet header (record { line = line; command = command.Fork task child }) old new first [] fine (head_of header old task child a fine free) quiet tt whole
     (record {
       plain = a.plain;

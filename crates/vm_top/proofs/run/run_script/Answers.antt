@@ -1,4 +1,3 @@
-use Rattle.std.proofs.KnownBytes.{Appends-nil}
 use Rattle.std.proofs.Common.{Err, ap, sym, ◌∙◌, arith, length, ◌<◌, ◌≤◌, ◌+◌, refl}
 use Rattle.vm_top.specs.Runner.{event_limit}
 use Rattle.vm_top.specs.Writing.{oldest}
