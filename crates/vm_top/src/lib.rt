@@ -3,6 +3,8 @@
 
 mod changes;
 mod fork;
+#[cfg(test)]
+mod limit_tests;
 mod pages;
 mod reading;
 mod render;
