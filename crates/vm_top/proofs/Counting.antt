@@ -1,5 +1,5 @@
 -- How many bytes lead to a region, over each change of entries and pages.
-use Rattle.std.proofs.Common.{◌≡◌, ℕ, zero, suc, ◌+◌, ◌-◌, ◌<◌, ◌≤◌, ◌==◌, Bool, true, false, List, [], ◌∷◌, ◌++◌, length, get_or, set, refl, ap, sym, ◌∙◌, subst, arith, ⊎_elim, Some, None, Option, inl, inr, length-set}
+use Rattle.std.proofs.Common.{◌≡◌, ℕ, zero, suc, ◌+◌, ◌-◌, ◌*◌, ◌<◌, ◌≤◌, ◌==◌, Bool, true, false, List, [], ◌∷◌, ◌++◌, length, get_or, set, refl, ap, sym, ◌∙◌, subst, arith, ⊎_elim, Some, None, Option, inl, inr, length-set}
 use Rattle.std.proofs.lemmas.Bool.{cases_lt}
 use Rattle.std.proofs.lemmas.Bool.Decides.{eqb_tells, nat_tests}
 use Rattle.std.proofs.lemmas.List.{get_or-set_same, get_or-set_other}
@@ -8,7 +8,7 @@ use Rattle.std.specs.Prelude.{if◌then◌else◌, unwrap_or, nat_lt, max, min, 
 use Rattle.vm_base.specs.declared.entry.Entry.{Entry}
 use Rattle.vm_base.specs.Entries.{cut, entered, parts_in, removed, rewritten}
 use Rattle.vm_model.specs.Rows.{AllRows, part, rows_map}
-use Rattle.vm_model.specs.Tasks.{has_entry}
+use Rattle.vm_model.specs.Tasks.{has_entry, is_shared, shared}
 use Rattle.vm_maps.specs.Maps.{ChangesOnly, Mapped, entries_in, rows_in}
 use Rattle.vm_top.specs.Pages.{Table, held, pages_of, put_in}
 use Rattle.vm_top.specs.Runner.{AllInside, IsInside, IsUsed}
@@ -182,6 +182,13 @@ below_all maps table uses gone task u lives =
 other_rows : (maps new : Mapped) (task : ℕ) (rows : Option (List Entry)) → ChangesOnly maps new task rows → (other : ℕ) → other ≢ task → rows_in other new ≡ rows_in other maps
 other_rows maps new task rows changes other apart = ap (λ z. unwrap_or z []) (changes.others other apart)
 
+few_changed : (maps new : Mapped) (task : ℕ) (rows : Option (List Entry)) → ChangesOnly maps new task rows → ((r other : ℕ) → bytes_on r (rows_in other maps) ≤ 2 ^ 32) → ((r : ℕ) → bytes_on r (unwrap_or rows []) ≤ 2 ^ 32)
+    → (r other : ℕ) → bytes_on r (rows_in other new) ≤ 2 ^ 32
+few_changed maps new task rows changes few own r other = elim (eqb_tells task other) [
+  | inl same ↦ subst (λ (z : ℕ). bytes_on r (rows_in z new) ≤ 2 ^ 32) same.1 (omega (arith, own r, ap (λ z. bytes_on r (unwrap_or z [])) changes.changed))
+  | inr apart ↦ omega (arith, few r other, ap (bytes_on r) (other_rows maps new task rows changes other (λ e. apart.1 (sym e))))
+]
+
 -- a living task has other entries now, and what it lost is among what has gone
 pub uses_changed : (maps new : Mapped) (table : Table) (uses : List ℕ) (task : ℕ) (rows : Option (List Entry)) (gone : List Entry) → AreUses maps table uses [] → ChangesOnly maps new task rows → entries_in task maps ≡ Some (rows_in task maps)
     → ((r : ℕ) → bytes_on r (unwrap_or rows []) + bytes_on r gone ≡ bytes_on r (rows_in task maps)) → AreUses new table uses gone
@@ -192,6 +199,7 @@ uses_changed maps new table uses task rows gone u changes lives both =
       tasks = u.tasks;
       most = u.most;
       none = λ t le. changes.others t (λ e. omega (arith, e)) ∙ u.none t le;
+      few = few_changed maps new task rows changes u.few (λ r. omega (arith, both r, u.few r task));
       sums = λ r. omega (arith, u.sums r, both r, by_change u.tasks r task maps new below (other_rows maps new task rows changes), ap (λ z. bytes_on r (unwrap_or z [])) changes.changed);
       swept = u.swept;
     }
@@ -205,6 +213,7 @@ uses_task maps new table uses task u changes free few =
       tasks = u.tasks;
       most = u.most;
       none = λ t le. changes.others t (λ e. omega (arith, e)) ∙ u.none t le;
+      few = few_changed maps new task (Some []) changes u.few (λ r. omega arith);
       sums = λ r. omega (arith, u.sums r, by_change u.tasks r task maps new below (other_rows maps new task (Some []) changes), ap (λ z. bytes_on r (unwrap_or z [])) changes.changed, ap (λ z. bytes_on r (unwrap_or z [])) free);
       swept = u.swept;
     }
@@ -230,8 +239,8 @@ get_added uses x r n is = subst (λ (z : ℕ). get_or (uses ++ x ∷ []) r 0 ≡
 
 -- a new region, and an entry on the whole of it
 pub uses_range : (maps new : Mapped) (table : Table) (uses : List ℕ) (task n : ℕ) (entry : Entry) → AreUses maps table uses [] → ChangesOnly maps new task (Some (entered entry (rows_in task maps))) → entries_in task maps ≡ Some (rows_in task maps)
-    → entry.region.0 ≡ length table → AreUses new (with_region table n) (uses ++ entry.bytes ∷ []) []
-uses_range maps new table uses task n entry u changes lives is =
+    → entry.region.0 ≡ length table → entry.bytes ≤ 2 ^ 32 → AreUses new (with_region table n) (uses ++ entry.bytes ∷ []) []
+uses_range maps new table uses task n entry u changes lives is small =
     let below = below_all maps table uses [] task u lives in
     let added = λ (r : ℕ). get_added uses entry.bytes r entry.region.0 (u.count ∙ sym is) in
     record {
@@ -239,13 +248,86 @@ uses_range maps new table uses task n entry u changes lives is =
       tasks = u.tasks;
       most = u.most;
       none = λ t le. changes.others t (λ e. omega (arith, e)) ∙ u.none t le;
+      few = few_changed maps new task (Some (entered entry (rows_in task maps))) changes u.few (λ r. omega (arith, on_entered r entry (rows_in task maps), alone r));
       sums = λ r. omega (arith, added r, u.sums r, by_change u.tasks r task maps new below (other_rows maps new task (Some (entered entry (rows_in task maps))) changes), ap (λ z. bytes_on r (unwrap_or z [])) changes.changed, on_entered r entry (rows_in task maps));
       swept = λ r p nothing. held_added table n r p ∙ u.swept r p (omega (arith, added r));
     }
   where
+    past : (xs : List ℕ) (r : ℕ) → length xs ≤ r → get_or xs r 0 ≡ 0
+    past [] zero le = refl
+    past [] (suc r) le = refl
+    past (x ∷ xs) zero le = absurd (omega arith)
+    past (x ∷ xs) (suc r) le = past xs r (omega arith)
+
+    -- nothing led to the region before
+    alone : (r : ℕ) → bytes_on r (entry ∷ rows_in task maps) ≤ 2 ^ 32
+    alone r = elim (eqb_tells entry.region.0 r) [
+      | inl same ↦
+          let count = u.count in
+          let sum = u.sums r in
+          let number = same.1 in
+          let nothing = past uses r (omega arith) in
+          let none = by_zero u.tasks r task maps (below_all maps table uses [] task u lives) (omega arith) in
+          rw same.0 (omega arith)
+      | inr apart ↦ let few = u.few r task in rw apart.0 (omega arith)
+    ]
+
     more : (xs : List ℕ) (x : ℕ) → length (xs ++ x ∷ []) ≡ length xs + 1
     more [] x = refl
     more (y ∷ xs) x = omega (arith, more xs x)
+
+-- a task gets an entry on a region that is there
+pub uses_entered : (maps new : Mapped) (table : Table) (uses : List ℕ) (task : ℕ) (entry : Entry) → AreUses maps table uses [] → ChangesOnly maps new task (Some (entered entry (rows_in task maps))) → entries_in task maps ≡ Some (rows_in task maps)
+    → entry.region.0 < length uses → ((r : ℕ) → bytes_on r (entry ∷ rows_in task maps) ≤ 2 ^ 32) → AreUses new table (set uses entry.region.0 (get_or uses entry.region.0 0 + entry.bytes)) []
+uses_entered maps new table uses task entry u changes lives inside small =
+    let r = entry.region.0 in
+    let more = get_or uses r 0 + entry.bytes in
+    let below = below_all maps table uses [] task u lives in
+    let others = other_rows maps new task (Some (entered entry (rows_in task maps))) changes in
+    let own = λ (r2 : ℕ). ap (λ z. bytes_on r2 (unwrap_or z [])) changes.changed ∙ on_entered r2 entry (rows_in task maps) in
+    record {
+      count = length-set uses r more ∙ u.count;
+      tasks = u.tasks;
+      most = u.most;
+      none = λ t le. changes.others t (λ e. omega (arith, e)) ∙ u.none t le;
+      few = few_changed maps new task (Some (entered entry (rows_in task maps))) changes u.few (λ r2. omega (arith, on_entered r2 entry (rows_in task maps), small r2));
+      sums = λ r2. elim (eqb_tells r r2) [
+        | inl is ↦
+            let here : (if r == r2 then entry.bytes else 0) ≡ entry.bytes = rw is.0 refl in
+            let now : get_or (set uses r more) r2 0 ≡ more = ap (λ z. get_or (set uses r more) z 0) (sym is.1) ∙ get_or-set_same uses r more 0 inside in
+            let was : get_or uses r2 0 ≡ get_or uses r 0 = ap (λ z. get_or uses z 0) (sym is.1) in
+            omega (arith, here, now, was, u.sums r2, by_change u.tasks r2 task maps new below others, own r2)
+        | inr apart ↦
+            let here : (if r == r2 then entry.bytes else 0) ≡ 0 = rw apart.0 refl in
+            omega (arith, here, get_or-set_other uses r r2 more 0 (λ e. apart.1 (sym e)), u.sums r2, by_change u.tasks r2 task maps new below others, own r2)
+      ];
+      swept = λ r2 p nothing. elim (eqb_tells r r2) [
+        | inl is ↦
+            let now : get_or (set uses r more) r2 0 ≡ more = ap (λ z. get_or (set uses r more) z 0) (sym is.1) ∙ get_or-set_same uses r more 0 inside in
+            u.swept r2 p (omega (arith, now, nothing, ap (λ z. get_or uses z 0) (sym is.1)))
+        | inr apart ↦ u.swept r2 p (sym (get_or-set_other uses r r2 more 0 (λ e. apart.1 (sym e))) ∙ nothing)
+      ];
+    }
+
+by_bound : (n r : ℕ) (maps : Mapped) → ((task : ℕ) → bytes_on r (rows_in task maps) ≤ 2 ^ 32) → bytes_by n r maps ≤ n * 2 ^ 32
+by_bound zero r maps few = omega arith
+by_bound (suc n) r maps few = omega (arith, few n, by_bound n r maps few)
+
+-- the bytes that lead to a region, and those of one more entry
+pub uses_small : (maps : Mapped) (table : Table) (uses : List ℕ) (r bytes : ℕ) → AreUses maps table uses [] → bytes ≤ 2 ^ 32 → get_or uses r 0 + bytes < 2 ^ 64
+uses_small maps table uses r bytes u less = omega (arith, u.sums r, u.most, by_bound u.tasks r maps (u.few r))
+
+pub on_shared : (r : ℕ) (rows : List Entry) → bytes_on r (shared rows) ≤ bytes_on r rows
+on_shared r [] = omega arith
+on_shared r (row ∷ rows) = by_test (is_shared row.inherit) (on_shared r rows)
+  where
+    by_test : (b : Bool) → bytes_on r (shared rows) ≤ bytes_on r rows → bytes_on r (if b then row ∷ shared rows else shared rows) ≤ bytes_on r (row ∷ rows)
+    by_test true later = omega arith
+    by_test false later = omega arith
+
+-- what was shared of the entries in front of one has with it no more bytes than all
+pub on_split : (r : ℕ) (front : List Entry) (row : Entry) (left : List Entry) → bytes_on r (row ∷ shared front) ≤ bytes_on r (front ++ row ∷ left)
+on_split r front row left = omega (arith, on_append r front (row ∷ left), on_shared r front)
 
 -- a page of a region that is used
 pub uses_put : (size : ℕ) (maps : Mapped) (table : Table) (uses : List ℕ) (r p : ℕ) (x : Option (List ℕ)) → AreUses maps table uses [] → ((task : ℕ) → AllInside size table (rows_in task maps)) → IsUsed r maps → r < length table → p < pages_of table r
@@ -255,6 +337,7 @@ uses_put size maps table uses r p x u inside used less within = record {
   tasks = u.tasks;
   most = u.most;
   none = u.none;
+  few = u.few;
   sums = u.sums;
   swept = each_held table r p x less within (λ r2 p2 b page. get_or uses r2 0 ≡ 0 → page ≡ None) (λ nothing. absurd (unused size maps table uses [] r u inside nothing used)) (λ r2 p2. u.swept r2 p2);
 }
@@ -280,6 +363,7 @@ uses_lower maps table new uses entry rest u inside same gone others =
       tasks = u.tasks;
       most = u.most;
       none = u.none;
+      few = u.few;
       sums = λ r2. elim (eqb_tells r r2) [
         | inl is ↦
             let here : (if r == r2 then entry.bytes else 0) ≡ entry.bytes = rw is.0 refl in

@@ -21,7 +21,7 @@ use Rattle.vm_top.specs.Runner.{IsOwn, IsPlain, IsShown, IsUsed, Kept, place_of,
 use Rattle.vm_top.specs.Sweeping.{AreDrops, Drops, Gone, Loses, Lost, Sweeping, Swept}
 use Rattle.vm_top.specs.declared.runner.Runner.{Runner}
 use Rattle.vm_top.proofs.Counting.{unused_last, uses_lower}
-use Rattle.vm_top.proofs.Kepts.{among, kept_dropped}
+use Rattle.vm_top.proofs.Kepts.{kept_dropped}
 use Rattle.vm_top.proofs.Tables.{count_put_less, held_other, held_put, length_put, none_behind, pages_put, put_none, room_put}
 
 -- a region leads to the object with its number alone

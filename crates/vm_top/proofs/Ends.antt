@@ -1,5 +1,5 @@
 -- What was read is what the source had, and how a run ends tells the status.
-use Rattle.std.proofs.Common.{◌≡◌, ℕ, ◌<◌, ◌≤◌, ◌⊎◌, inl, inr, List, [], ◌∷◌, ◌++◌, length, true, refl, ap, sym, ◌∙◌, subst, arith, Some, None, Option, Result, Ok, Err, nat_lt, length-append, append-nil}
+use Rattle.std.proofs.Common.{◌≡◌, ℕ, ◌<◌, ◌≤◌, ◌⊎◌, inl, inr, List, [], ◌∷◌, ◌++◌, length, true, refl, ap, sym, ◌∙◌, subst, arith, Some, None, Option, Ok, Err, nat_lt, length-append, append-nil}
 use Rattle.std.specs.Prelude.{IfSome}
 use Rattle.std.specs.Io.KnownBytes.{Appends, Consumes, IsAtEnd}
 use Rattle.std.proofs.KnownBytes.{Consumes-all}
@@ -18,7 +18,7 @@ use Rattle.vm_top.specs.Ending.{EndsAs, HasEnded, Tells, WroteStuck}
 use Rattle.vm_top.specs.Reading.{ReadWhole}
 use Rattle.vm_top.specs.Run.{IsRunnable, IsStuck}
 use Rattle.vm_top.specs.Runner.{IsPlain}
-use Rattle.vm_top.specs.Top.{IsReadFrom, IsBadFrom, IsUnbuiltFrom, IsHeld, IsDone, IsEventLimit, IsStopped, IsNotBuilt, IsOutputFault, IsNoMemory, WroteStopped, not_built_text, stopped_text}
+use Rattle.vm_top.specs.Top.{IsReadFrom, IsBadFrom, IsUnbuiltFrom, IsDone, IsEventLimit, IsStopped, IsNotBuilt, IsOutputFault, IsNoMemory, WroteStopped, not_built_text, stopped_text}
 use Rattle.vm_top.specs.Writing.{WroteStart}
 use Rattle.vm_top.proofs.Starts.{legal_start, part_legal}
 use Rattle.vm_top.proofs.Writings.{start_all}

@@ -271,3 +271,35 @@ kept_ended header maps new table h task k changes = record {
   sized = k.sized;
   used = k.used;
 }
+
+-- a task gets an entry on a region that is used
+pub kept_entered : (header : Header) (maps new : Mapped) (table : Table) (h : List Event) (task : TaskId) (entry : Entry) → Kept header maps table h → ChangesOnly maps new task.0 (Some (entered entry (rows_in task.0 maps)))
+    → entries_in task.0 maps ≡ Some (rows_in task.0 maps) → IsInside header.size table entry → IsUsed entry.region.0 maps
+    → Kept header new table (event.Entered task entry.address entry.bytes entry.region entry.offset entry.prot entry.inherit ∷ h)
+kept_entered header maps new table h task entry k changes lives one used = record {
+  size = changes.size ∙ k.size;
+  hosts = λ t. elim (eqb_tells task.0 t) [
+    | inl same ↦ subst (λ (z : ℕ). host_of z h ≡ host_for (entries_in z new)) same.1 (rw changes.changed (k.hosts task.0 ∙ ap host_for lives))
+    | inr apart ↦ rw (changes.others t (λ e. apart.1 (sym e))) (k.hosts t)
+  ];
+  rows = λ t. elim (eqb_tells task.0 t) [
+    | inl same ↦ rw same.0 (subst (λ (z : ℕ). entered entry (entries_of header.size z h) ≡ rows_in z new) same.1 (rw (changes.changed, k.rows task.0) refl))
+    | inr apart ↦ rw (apart.0, changes.others t (λ e. apart.1 (sym e))) (k.rows t)
+  ];
+  inside = λ t. elim (eqb_tells task.0 t) [
+    | inl same ↦ rw (← same.1, changes.changed) (rows_entered (IsInside header.size table) entry (rows_in task.0 maps) one (k.inside task.0))
+    | inr apart ↦ rw (changes.others t (λ e. apart.1 (sym e))) (k.inside t)
+  ];
+  regions = k.regions;
+  objects = k.objects;
+  tops = k.tops;
+  unbacked = k.unbacked;
+  flat = λ region page less now. k.flat region page less (used_before maps new task.0 region (Some (entered entry (rows_in task.0 maps))) changes
+      (λ has. elim (eqb_tells entry.region.0 region) [
+        | inl same ↦ subst (λ (z : ℕ). IsUsed z maps) same.1 used
+        | inr apart ↦ (task.0, has_entered region entry (rows_in task.0 maps) apart.1 has)
+      ]) now);
+  pages = k.pages;
+  sized = k.sized;
+  used = k.used;
+}

@@ -2,6 +2,8 @@ pub mod Counting
 pub mod Dropping
 pub mod Endings
 pub mod Ends
+pub mod Forking
+pub mod Forks
 pub mod Grants
 pub mod Kepts
 pub mod Prompts

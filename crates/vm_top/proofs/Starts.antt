@@ -1,10 +1,10 @@
 -- A run begins with nothing, is given the commands one after another, and stays legal as far as it goes.
-use Rattle.std.proofs.Common.{◌≡◌, ℕ, zero, suc, ◌+◌, ◌-◌, ◌<◌, ◌≤◌, inl, inr, List, [], ◌∷◌, ◌++◌, length, drop, take, get_or, reverse, refl, ap, sym, ◌∙◌, subst, arith, slice_get, None, Some, Option, append_assoc, Bool, true, false, ◌&&◌, nat_le}
+use Rattle.std.proofs.Common.{◌≡◌, ℕ, ◌+◌, ◌-◌, ◌<◌, ◌≤◌, inl, inr, List, [], ◌∷◌, ◌++◌, length, drop, take, get_or, reverse, refl, ap, sym, ◌∙◌, subst, arith, slice_get, None, Some, Option, append_assoc, Bool, true, false, not, ◌&&◌, nat_le}
 use Rattle.std.specs.Prelude.{IfSome}
 use Rattle.std.specs.Io.KnownBytes.{Appends}
 use Rattle.std.proofs.KnownBytes.{Appends-nil}
 use Rattle.std.proofs.lemmas.List.Elements.{All-get_or}
-use Rattle.std.proofs.lemmas.List.{take-append-drop, get_or-reverse, length-reverse, length-take}
+use Rattle.std.proofs.lemmas.List.{take-append-drop, get_or-reverse, length-reverse}
 use Rattle.std.proofs.lemmas.Option.{slice_get_within, get_or_from_slice_get}
 use Rattle.std.proofs.Math.Seq.{take-append_seam}
 use Rattle.vm_model.specs.declared.event.Event.{Event}
@@ -19,7 +19,7 @@ use Rattle.vm_model.specs.Ranges.{InRange}
 use Rattle.vm_model.specs.Text.{text, line_of}
 use Rattle.vm_model.specs.Legal.{LegalFor, LegalSoFar}
 use Rattle.vm_top.specs.Run.{IsFull, IsPart, IsRunnable, IsStuck, RanAs, MayStep, WroteButLast, has_frames, is_built, is_next_built, shown, unbuilt_line}
-use Rattle.vm_top.specs.Runner.{Agrees, HasFrames, IsPlain, IsBuilt, Kept, KeepsLegal, event_limit, pages_asked, pages_wanted}
+use Rattle.vm_top.specs.Runner.{Agrees, HasFrames, IsPlain, IsBuilt, Kept, KeepsLegal, event_limit, is_held_up, pages_asked, pages_wanted}
 use Rattle.vm_top.specs.Writing.{oldest, WroteStart}
 use Rattle.vm_top.specs.declared.run.RunEnd.TheVariants as ends
 use Rattle.vm_top.specs.declared.runner.Runner.{Runner}
@@ -47,7 +47,7 @@ kept_start header plain = record {
 }
 
 uses_start : (size : ℕ) → AreUses (record { size = size; tasks = [] }) [] [] []
-uses_start size = record { count = refl; tasks = most_tasks; most = refl; none = λ task le. refl; sums = λ region. sym (by_none most_tasks region (record { size = size; tasks = [] }) (λ task. refl)); swept = λ region page nothing. refl }
+uses_start size = record { count = refl; tasks = most_tasks; most = refl; none = λ task le. refl; few = λ region task. omega arith; sums = λ region. sym (by_none most_tasks region (record { size = size; tasks = [] }) (λ task. refl)); swept = λ region page nothing. refl }
 
 pub agrees_start : (header : Header) (runner : Runner) → IsPlain header → runner.maps ≡ record { size = header.size; tasks = [] } → runner.pages ≡ [] → runner.uses ≡ [] → runner.history.items ≡ [] → Agrees header runner
 agrees_start header runner plain maps pages uses history = record {
@@ -99,6 +99,7 @@ built_of header (command.Task task host) plain range built =
     let first : host.0 ≡ 0 = let less = range.1 in omega arith in
     (range.0, ap (λ n. record { 0 = n }) first)
 built_of header (command.Allocate task address bytes) plain range built = (range.task, range.address, range.bytes)
+built_of header (command.Fork task child) plain range built = range
 built_of header (command.Exit task) plain range built = range
 built_of header (command.Deallocate task address bytes) plain range built = (range.task, range.address, range.bytes)
 built_of header (command.Protect task address bytes prot) plain range built = (range.task, range.address, range.bytes)
@@ -212,8 +213,28 @@ stuck_at script i n h next built legal more = record {
   next = n;
   run = oldest i script.commands.items;
   part = part_at script i n h next built legal;
-  unbuilt = more;
+  unbuilt = inl more;
 }
+
+-- the command at i can't be run now
+pub held_at : (script : Script) (i : ℕ) (n : Numbered) (h : List Event) → oldest (i + 1) script.commands.items ≡ n ∷ oldest i script.commands.items
+    → unbuilt_line script.header (oldest i script.commands.items) ≡ None → LegalFor script.header (oldest i script.commands.items) h
+    → unbuilt_line script.header (n ∷ oldest i script.commands.items) ≡ None → length h < event_limit → is_held_up script.header h n.command ≡ true → IsStuck script n.line h
+held_at script i n h next built legal more below held = record {
+  later = later_than script i;
+  next = n;
+  run = oldest i script.commands.items;
+  part = part_at script i n h next built legal;
+  unbuilt = inr (record { built = more; below = below; here = refl; held = held });
+}
+
+pub held_up : (b : Bool) → not b ≡ false → b ≡ true
+held_up true e = refl
+held_up false e = absurd (let bad : true ≡ false = e in cc)
+
+pub not_held : (b : Bool) → not b ≡ true → b ≡ false
+not_held false e = refl
+not_held true e = absurd (let bad : false ≡ true = e in cc)
 
 -- a run that was made of a part is legal as far as it goes
 pub part_legal : (script : Script) (later run : List Numbered) (h : List Event) → IsPart script later run h → LegalSoFar script h

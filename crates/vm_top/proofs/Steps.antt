@@ -47,7 +47,7 @@ is_change (command.Task task host) built load store = built
 is_change (command.Allocate task address bytes) built load store = tt
 is_change (command.Load task address size) built load store = absurd (load task address size refl)
 is_change (command.Store task address size value) built load store = absurd (store task address size value refl)
-is_change (command.Fork task child) built load store = absurd built
+is_change (command.Fork task child) built load store = built.1
 is_change (command.Exit task) built load store = tt
 is_change (command.Map task address bytes object offset) built load store = absurd built
 is_change (command.Deallocate task address bytes) built load store = tt
@@ -66,28 +66,28 @@ is_change (command.Say host object message) built load store = absurd built
 
 -- all commands on tasks and entries were tried
 pub no_change : (c : Command) → IsChange c → ((task : TaskId) (host : HostId) → c ≢ command.Task task host) → ((task : TaskId) (address bytes : ℕ) → c ≢ command.Allocate task address bytes)
-    → ((task : TaskId) → c ≢ command.Exit task) → ((task : TaskId) (address bytes : ℕ) → c ≢ command.Deallocate task address bytes)
+    → ((task child : TaskId) → c ≢ command.Fork task child) → ((task : TaskId) → c ≢ command.Exit task) → ((task : TaskId) (address bytes : ℕ) → c ≢ command.Deallocate task address bytes)
     → ((task : TaskId) (address bytes : ℕ) (prot : Prot) → c ≢ command.Protect task address bytes prot) → ((task : TaskId) (address bytes : ℕ) (inherit : Inherit) → c ≢ command.Inherit task address bytes inherit) → ⊥
-no_change (command.Task task host) change made range ended gone protect inherit = made task host refl
-no_change (command.Allocate task address bytes) change made range ended gone protect inherit = range task address bytes refl
-no_change (command.Load task address size) change made range ended gone protect inherit = change
-no_change (command.Store task address size value) change made range ended gone protect inherit = change
-no_change (command.Fork task child) change made range ended gone protect inherit = change
-no_change (command.Exit task) change made range ended gone protect inherit = ended task refl
-no_change (command.Map task address bytes object offset) change made range ended gone protect inherit = change
-no_change (command.Deallocate task address bytes) change made range ended gone protect inherit = gone task address bytes refl
-no_change (command.Protect task address bytes prot) change made range ended gone protect inherit = protect task address bytes prot refl
-no_change (command.Inherit task address bytes inheritance) change made range ended gone protect inherit = inherit task address bytes inheritance refl
-no_change (command.Copy task address bytes target to) change made range ended gone protect inherit = change
-no_change (command.Take channel) change made range ended gone protect inherit = change
-no_change (command.Settle count) change made range ended gone protect inherit = change
-no_change (command.Pageout host count) change made range ended gone protect inherit = change
-no_change (command.Clean object page count flush) change made range ended gone protect inherit = change
-no_change (command.Wire host count) change made range ended gone protect inherit = change
-no_change (command.Unwire host count) change made range ended gone protect inherit = change
-no_change (command.FailFiles count) change made range ended gone protect inherit = change
-no_change (command.FailPaging count) change made range ended gone protect inherit = change
-no_change (command.Say host object message) change made range ended gone protect inherit = change
+no_change (command.Task task host) change made range forked ended gone protect inherit = made task host refl
+no_change (command.Allocate task address bytes) change made range forked ended gone protect inherit = range task address bytes refl
+no_change (command.Load task address size) change made range forked ended gone protect inherit = change
+no_change (command.Store task address size value) change made range forked ended gone protect inherit = change
+no_change (command.Fork task child) change made range forked ended gone protect inherit = forked task child refl
+no_change (command.Exit task) change made range forked ended gone protect inherit = ended task refl
+no_change (command.Map task address bytes object offset) change made range forked ended gone protect inherit = change
+no_change (command.Deallocate task address bytes) change made range forked ended gone protect inherit = gone task address bytes refl
+no_change (command.Protect task address bytes prot) change made range forked ended gone protect inherit = protect task address bytes prot refl
+no_change (command.Inherit task address bytes inheritance) change made range forked ended gone protect inherit = inherit task address bytes inheritance refl
+no_change (command.Copy task address bytes target to) change made range forked ended gone protect inherit = change
+no_change (command.Take channel) change made range forked ended gone protect inherit = change
+no_change (command.Settle count) change made range forked ended gone protect inherit = change
+no_change (command.Pageout host count) change made range forked ended gone protect inherit = change
+no_change (command.Clean object page count flush) change made range forked ended gone protect inherit = change
+no_change (command.Wire host count) change made range forked ended gone protect inherit = change
+no_change (command.Unwire host count) change made range forked ended gone protect inherit = change
+no_change (command.FailFiles count) change made range forked ended gone protect inherit = change
+no_change (command.FailPaging count) change made range forked ended gone protect inherit = change
+no_change (command.Say host object message) change made range forked ended gone protect inherit = change
 
 -- a command by its parts
 pub stepped_as : (header : Header) (numbered : Numbered) (c : Command) (old new : Runner) → numbered.command ≡ c → Stepped header (record { line = numbered.line; command = c }) old new → Stepped header numbered old new
@@ -111,7 +111,7 @@ free_task : (o : Option (List Entry)) → where_true (is_some o) code.NameTaken 
 free_task None fine = refl
 free_task (Some rows) fine = absurd (let bad : Some code.NameTaken ≡ None = fine in cc)
 
-quiet_made : (header : Header) (task : TaskId) (host : HostId) → Quiet header (event.TaskMade task host)
+pub quiet_made : (header : Header) (task : TaskId) (host : HostId) → Quiet header (event.TaskMade task host)
 quiet_made header task host = record { own = λ past. tt; flat = λ past. tt; waits = λ t past none. none_anew (task.0 == t) (waiting t past) none; frames = λ at past. omega arith; prompt = λ past before. before; limit = λ past before. before; front = λ past. refl }
 
 pub stepped_task : (header : Header) (task : TaskId) (line : ℕ) (old new : Runner) → Agrees header old → task.0 < 1024 → refusal header old.history.items (command.Task task the_host) ≡ None
@@ -196,7 +196,7 @@ stepped_range header task address bytes line old new a fine has changes pages us
       kept = rw (pages, history) (kept_range header old.maps new.maps old.pages (event.Line line ∷ old.history.items) task address bytes a.kept changes fits.lives fits.whole fits.some fits.below);
       none = rw history a.none;
       enough = (has.0, has.1, rw pages (let most = has.2 in omega arith));
-      uses = rw (pages, uses) (uses_range old.maps new.maps old.pages old.uses task.0 (bytes / header.size) (whole_entry address bytes (record { 0 = length old.pages })) a.uses changes fits.lives refl);
+      uses = rw (pages, uses) (uses_range old.maps new.maps old.pages old.uses task.0 (bytes / header.size) (whole_entry address bytes (record { 0 = length old.pages })) a.uses changes fits.lives refl (let below = fits.below in omega arith));
     } in
     record {
       agrees = agrees;

@@ -1,5 +1,6 @@
 pub mod Changes
 pub mod Ending
+pub mod Forking
 pub mod Pages
 pub mod Reading
 pub mod Refusing

@@ -1,13 +1,13 @@
 -- Why the runner refuses a command, from what it keeps.
 use Rattle.std.specs.Prelude.{ℕ, ◌≡◌, ◌+◌, ◌/◌, ◌%◌, ◌<◌, not, ◌||◌, ◌==◌, List, length, nat_lt, nat_le, Option, Some, None, Result, Ok, Err}
 use Rattle.vm_base.specs.declared.code.Code.{Code}
-use Rattle.vm_base.specs.declared.code.Code.TheVariants.{NoSuchName, InvalidArgument, NoSpace, TableFull}
+use Rattle.vm_base.specs.declared.code.Code.TheVariants.{NoSuchName, NameTaken, InvalidArgument, NoSpace, TableFull}
 use Rattle.vm_base.specs.declared.entry.Entry.{Entry}
 use Rattle.vm_base.specs.declared.ids.Access.{Access}
 use Rattle.vm_base.specs.Entries.{entry_at, is_range, meets_range, most_entries}
 use Rattle.vm_model.specs.declared.event.Event.{Event}
 use Rattle.vm_model.specs.Refusal.{acting, access_refusal, where_true}
-use Rattle.vm_model.specs.Tasks.{entries_of}
+use Rattle.vm_model.specs.Tasks.{copies, entries_of, sources}
 use Rattle.vm_maps.specs.declared.place.Place.{Place}
 use Rattle.vm_maps.specs.Judge.{place_at}
 use Rattle.vm_maps.specs.Maps.{entries_in, rows_in}
@@ -21,6 +21,12 @@ range_code size (Some rows) count address bytes =
     where_true (not (is_range size address bytes) || nat_lt 4096 (bytes / size)) InvalidArgument
     (where_true (meets_range address bytes rows) NoSpace
     (where_true (nat_lt most_entries (length rows + 1) || nat_le 8192 count) TableFull None))
+
+-- the code of a fork, from the entries of the task and of its child, if they live, and the number of regions
+abbrev pub fork_code : Option (List Entry) → Option (List Entry) → ℕ → Option Code
+fork_code None child count = Some NoSuchName
+fork_code (Some rows) (Some others) count = Some NameTaken
+fork_code (Some rows) None count = where_true (nat_lt 8192 (count + copies rows + sources rows)) TableFull None
 
 -- the code of a load or store of so many bytes; the first number is the page size
 abbrev pub access_code : ℕ → List Event → ℕ → ℕ → ℕ → Access → Option Code

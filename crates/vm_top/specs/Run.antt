@@ -13,7 +13,7 @@ use Rattle.vm_model.specs.Ranges.{InRange}
 use Rattle.vm_model.specs.Summary.{summary_text}
 use Rattle.vm_model.specs.Text.{text}
 use Rattle.vm_model.specs.Legal.{Legal, LegalFor, LegalSoFar}
-use Rattle.vm_top.specs.Runner.{IsPlain, KeepsLegal, event_limit, pages_wanted}
+use Rattle.vm_top.specs.Runner.{IsPlain, KeepsLegal, event_limit, is_held_up, pages_wanted}
 use Rattle.vm_top.specs.Writing.{WroteStart, WroteBeyond}
 use Rattle.vm_top.specs.declared.run.RunEnd.{RunEnd}
 use Rattle.vm_top.specs.declared.run.RunEnd.TheVariants as end
@@ -28,6 +28,7 @@ pub record IsRunnable (script : Script) : Type 0 where
 -- the commands that are built
 abbrev pub is_built : Command → Bool
 is_built (command.Task task host) = true
+is_built (command.Fork task child) = true
 is_built (command.Exit task) = true
 is_built (command.Allocate task address bytes) = true
 is_built (command.Deallocate task address bytes) = true
@@ -74,13 +75,20 @@ pub record IsFull (script : Script) (history : List Event) : Type 0 where
   pub built : unbuilt_line script.header (next ∷ run) ≡ None
   pub full : event_limit ≤ length history
 
--- all commands in front of the first that isn't built were run
+-- the command behind those that were run is built so far, but can't be run now
+pub record IsHeldUp (header : Header) (line : ℕ) (next : Numbered) (run : List Numbered) (history : List Event) : Type 0 where
+  pub built : unbuilt_line header (next ∷ run) ≡ None
+  pub below : length history < event_limit
+  pub here : next.line ≡ line
+  pub held : is_held_up header history next.command ≡ true
+
+-- all commands in front of the first that isn't built, or can't be run now, were run
 pub record IsStuck (script : Script) (line : ℕ) (history : List Event) : Type 0 where
   pub later : List Numbered
   pub next : Numbered
   pub run : List Numbered
   pub part : IsPart script (later ++ next ∷ []) run history
-  pub unbuilt : unbuilt_line script.header (next ∷ run) ≡ Some line
+  pub unbuilt : (unbuilt_line script.header (next ∷ run) ≡ Some line) ⊎ IsHeldUp script.header line next run history
 
 -- the text of all steps but the last was written, and then a first part of the last step's
 abbrev pub WroteButLast : Option (List ℕ) → Option (List ℕ) → List Event → Type 0

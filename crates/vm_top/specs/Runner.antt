@@ -1,5 +1,5 @@
 -- What the runner keeps: its parts are what its history says.
-use Rattle.std.specs.Prelude.{ℕ, ◌≡◌, ◌+◌, ◌-◌, ◌/◌, ◌<◌, ◌≤◌, ◌^◌, true, false, List, [], ◌∷◌, ◌++◌, length, replicate, Option, Some, None}
+use Rattle.std.specs.Prelude.{ℕ, ◌≡◌, ◌+◌, ◌-◌, ◌/◌, ◌<◌, ◌≤◌, ◌^◌, ◌==◌, ◌&&◌, not, is_none, Bool, true, false, List, [], ◌∷◌, ◌++◌, length, replicate, Option, Some, None}
 use Rattle.vm_base.specs.declared.ids.HostId.{HostId}
 use Rattle.vm_base.specs.declared.ids.RegionId.{RegionId}
 use Rattle.vm_base.specs.declared.ids.Inherit.TheVariants.{Copy}
@@ -12,7 +12,8 @@ use Rattle.vm_model.specs.declared.command.Numbered.{Numbered}
 use Rattle.vm_model.specs.declared.script.Header.{Header}
 use Rattle.vm_model.specs.Moments.{BeforeSteps, before_last_line}
 use Rattle.vm_model.specs.Rows.{AllRows, Inside}
-use Rattle.vm_model.specs.Tasks.{host_of, entries_of, has_entry}
+use Rattle.vm_model.specs.Tasks.{copies, host_of, entries_of, has_entry}
+use Rattle.vm_model.specs.Refusal.{refusal}
 use Rattle.vm_model.specs.Regions.{next_region, next_object, Region, Backing, region_of, backing_of}
 use Rattle.vm_model.specs.Flat.{flat_page}
 use Rattle.vm_model.specs.Local.{Place, Local, local}
@@ -121,6 +122,7 @@ IsBuilt (command.Task task host) = (task.0 < 1024) × (host ≡ the_host)
 IsBuilt (command.Allocate task address bytes) = (task.0 < 1024) × (address < 2 ^ 32) × (bytes ≤ 2 ^ 32)
 IsBuilt (command.Load task address size) = (task.0 < 1024) × (address < 2 ^ 32) × IsAccessSize size
 IsBuilt (command.Store task address size value) = (task.0 < 1024) × (address < 2 ^ 32) × IsAccessSize size × (value < 256 ^ size)
+IsBuilt (command.Fork task child) = (task.0 < 1024) × (child.0 < 1024)
 IsBuilt (command.Exit task) = task.0 < 1024
 IsBuilt (command.Deallocate task address bytes) = (task.0 < 1024) × (address < 2 ^ 32) × (bytes ≤ 2 ^ 32)
 IsBuilt (command.Protect task address bytes prot) = (task.0 < 1024) × (address < 2 ^ 32) × (bytes ≤ 2 ^ 32)
@@ -131,11 +133,17 @@ IsBuilt other = ⊥
 abbrev pub IsChange : Command → Type 0
 IsChange (command.Task task host) = (task.0 < 1024) × (host ≡ the_host)
 IsChange (command.Allocate task address bytes) = Unit {0}
+IsChange (command.Fork task child) = child.0 < 1024
 IsChange (command.Exit task) = Unit {0}
 IsChange (command.Deallocate task address bytes) = Unit {0}
 IsChange (command.Protect task address bytes prot) = Unit {0}
 IsChange (command.Inherit task address bytes inherit) = Unit {0}
 IsChange other = ⊥
+
+-- a fork that isn't refused, of a task with entries that are to be copied
+abbrev pub is_held_up : Header → List Event → Command → Bool
+is_held_up header past (command.Fork task child) = is_none (refusal header past (command.Fork task child)) && not (copies (entries_of header.size task.0 past) == 0)
+is_held_up header past other = false
 
 -- how many pages a command asks for, refused or not: a part of a page counts as one
 abbrev pub pages_asked : ℕ → Command → ℕ

@@ -1,5 +1,5 @@
 -- How many bytes of addresses lead to each region.
-use Rattle.std.specs.Prelude.{ℕ, zero, suc, ◌+◌, ◌≡◌, ◌≤◌, ◌==◌, List, [], ◌∷◌, length, get_or, if◌then◌else◌, None}
+use Rattle.std.specs.Prelude.{ℕ, zero, suc, ◌+◌, ◌^◌, ◌≡◌, ◌≤◌, ◌==◌, List, [], ◌∷◌, length, get_or, if◌then◌else◌, None}
 use Rattle.vm_base.specs.declared.entry.Entry.{Entry}
 use Rattle.vm_maps.specs.Maps.{Mapped, entries_in, rows_in}
 use Rattle.vm_top.specs.Pages.{Table, held}
@@ -24,5 +24,7 @@ pub record AreUses (maps : Mapped) (table : Table) (uses : List ℕ) (gone : Lis
   pub tasks : ℕ
   pub most : tasks ≡ most_tasks
   pub none : (task : ℕ) → tasks ≤ task → entries_in task maps ≡ None
+  -- a task's entries don't meet
+  pub few : (region task : ℕ) → bytes_on region (rows_in task maps) ≤ 2 ^ 32
   pub sums : (region : ℕ) → get_or uses region 0 ≡ bytes_by tasks region maps + bytes_on region gone
   pub swept : (region page : ℕ) → get_or uses region 0 ≡ 0 → held table region page ≡ None

@@ -2,6 +2,9 @@
 #![tactic(auto)]
 
 mod changes;
+mod fork;
+#[cfg(test)]
+mod limit_tests;
 mod pages;
 mod reading;
 mod render;

@@ -1,12 +1,12 @@
 // Runs a script, and writes each command's events when its step has ended.
-ghost use Rattle.std.specs.Prelude.{◌≡◌, ◌+◌, ◌<◌, ◌≤◌, ◌^◌, ◌&&◌, true, IsTrue, List, ℕ, length, nat_le, OnOk, IsErrOf};
+ghost use Rattle.std.specs.Prelude.{◌≡◌, ◌+◌, ◌<◌, ◌≤◌, ◌^◌, ◌&&◌, true, false, IsTrue, List, ℕ, length, nat_le, OnOk, IsErrOf};
 ghost use Rattle.std.specs.Io.KnownBytes.{Appends};
 ghost use Rattle.std.specs.declared.option.Option.{Option};
 ghost use Rattle.vm_model.specs.Ranges.{InRange};
 ghost use Rattle.vm_outside.specs.Causes.{Rose};
 ghost use Rattle.vm_top.specs.Pages.{room_all};
 ghost use Rattle.vm_top.specs.Run.{IsRunnable, RanAs, WroteButLast, MayStep, has_frames, is_built, shown};
-ghost use Rattle.vm_top.specs.Runner.{Agrees, HasFrames, IsBelowLimit, IsBuilt, IsPlain, KeepsLegal, event_limit, pages_asked};
+ghost use Rattle.vm_top.specs.Runner.{Agrees, HasFrames, IsBelowLimit, IsBuilt, IsPlain, KeepsLegal, event_limit, is_held_up, pages_asked};
 
 use crate::render::write_step;
 use crate::runner::Runner;
@@ -30,7 +30,7 @@ pub enum RunEnd {
     NoMemory,
     /// A command is left, and the history has 200,000 events or more.
     EventLimit,
-    /// The command of this line isn't built.
+    /// The command of this line isn't built, or can't be run now.
     NotBuilt { line: u32 },
 }
 
@@ -47,6 +47,7 @@ fn is_built(command: &Command) -> bool
 {
     match command {
         Command::Task { .. }
+        | Command::Fork { .. }
         | Command::Exit { .. }
         | Command::Allocate { .. }
         | Command::Deallocate { .. }
@@ -103,6 +104,7 @@ fn turn<K: Sink>(
 ) -> Result<(), WriteStop>
     requires agrees { Agrees header.now runner.old }
     requires built { IsBuilt numbered.now.command }
+    requires free { is_held_up header.now runner.old.history.items numbered.now.command ≡ false }
     requires room { HasFrames header.now (room_all runner.old.pages + pages_asked header.now.size numbered.now.command) }
     ensures agrees { OnOk result (Agrees header.now runner.new) }
     ensures room { OnOk result (room_all runner.new.pages ≤ room_all runner.old.pages + pages_asked header.now.size numbered.now.command) }
@@ -144,7 +146,8 @@ fn ended(runner: Runner, end: RunEnd) -> Ran
 
 /// Runs the script to its end, or to a write that fails, or until memory ends, or until the history
 /// has 200,000 events at the begin of a step, or to a command that isn't built: one that no runner
-/// knows, or a range with which there would be more pages than frames.
+/// knows, or a range with which there would be more pages than frames, or a fork that would copy
+/// an entry.
 pub fn run_script<K: Sink>(alloc: Global, report: Report, script: &Script, out: &mut K) -> Ran
     requires { IsRunnable script.now }
     ensures ran { RanAs report script.now result.history.items result.end (K.written out.old) (K.written out.new) }
@@ -165,6 +168,10 @@ pub fn run_script<K: Sink>(alloc: Global, report: Report, script: &Script, out: 
         }
         if runner.history.len() >= MOST_EVENTS {
             return ended(runner, RunEnd::EventLimit);
+        }
+        if !runner.builds(header, &numbered.command) {
+            let line = numbered.line;
+            return ended(runner, RunEnd::NotBuilt { line });
         }
         match turn(alloc, report, header, &mut runner, numbered, out) {
             Ok(()) => {}

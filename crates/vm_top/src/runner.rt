@@ -1,5 +1,5 @@
 // Runs the commands of a script of temporary memory, one after another.
-ghost use Rattle.std.specs.Prelude.{◌≡◌, ◌+◌, ◌/◌, ◌^◌, ◌≤◌, ◌<◌, ◌∷◌, [], is_some, length, OnOk, OnErr, None, Some};
+ghost use Rattle.std.specs.Prelude.{◌≡◌, ◌+◌, ◌/◌, ◌^◌, ◌≤◌, ◌<◌, ◌∷◌, [], is_some, length, not, false, OnOk, OnErr, None, Some};
 ghost use Rattle.vm_base.specs.declared.code.Code.TheVariants as code;
 ghost use Rattle.vm_base.specs.Pages.{IsAccessSize};
 ghost use Rattle.vm_model.specs.declared.script.Header.{Header};
@@ -8,7 +8,7 @@ ghost use Rattle.vm_model.specs.Refusal.{refusal, where_true};
 ghost use Rattle.vm_maps.specs.Maps.{entries_in, rows_in};
 ghost use Rattle.vm_maps.specs.declared.change.MapKind.TheVariants as kind;
 ghost use Rattle.vm_top.specs.Pages.{room_all};
-ghost use Rattle.vm_top.specs.Runner.{Agrees, HasFrames, IsBuilt, IsChange, Stepped, pages_asked, the_host, whole_entry};
+ghost use Rattle.vm_top.specs.Runner.{Agrees, HasFrames, IsBuilt, IsChange, Stepped, is_held_up, pages_asked, the_host, whole_entry};
 ghost use Rattle.vm_top.specs.Refusing.{FoundAs, LeadsTo, access_code, range_code};
 
 use crate::changes::{inheritance, protection, removal};
@@ -26,7 +26,7 @@ pub const HOST: HostId = HostId(0);
 
 const MOST_PAGES: u64 = 4096;
 
-const MOST_REGIONS: usize = 8192;
+pub const MOST_REGIONS: usize = 8192;
 
 /// The tasks of host 0 with their entries, the pages of the regions, and the history so far.
 ///
@@ -78,6 +78,7 @@ impl Runner {
                 size,
                 ..
             } => self.access_refusal(*task, *address, *size, Access::Store),
+            Command::Fork { task, child } => self.fork_refusal(*task, *child),
             Command::Exit { task } => self.exit_refusal(*task),
             Command::Deallocate {
                 task,
@@ -97,6 +98,17 @@ impl Runner {
                 inherit,
             } => self.change_refusal(*task, &inheritance(*address, *bytes, *inherit)),
             _ => None,
+        }
+    }
+
+    /// Whether the command can be run now: a fork can't that would copy an entry.
+    pub fn builds(&self, header: &Header, command: &Command) -> bool
+        requires agrees { Agrees header.now self.now }
+        ensures { result ≡ not (is_held_up header.now self.now.history.items command.now) }
+    {
+        match command {
+            Command::Fork { task, child } => self.builds_fork(*task, *child),
+            _ => true,
         }
     }
 
@@ -164,6 +176,7 @@ impl Runner {
     pub fn step(&mut self, header: &Header, numbered: &Numbered) -> Result<(), NoMemory>
         requires agrees { Agrees header.now self.old }
         requires built { IsBuilt numbered.now.command }
+        requires free { is_held_up header.now self.old.history.items numbered.now.command ≡ false }
         requires room { HasFrames header.now (room_all self.old.pages + pages_asked header.now.size numbered.now.command) }
         ensures ok { OnOk result (Stepped header.now numbered.now self.old self.new) }
         ensures err { OnErr result (self.new.history.items ≡ self.old.history.items) }
@@ -196,6 +209,7 @@ impl Runner {
     fn change(&mut self, header: &Header, line: u32, command: &Command) -> Result<(), NoMemory>
         requires agrees { Agrees header.now self.old }
         requires built { IsChange command.now }
+        requires free { is_held_up header.now self.old.history.items command.now ≡ false }
         requires room { HasFrames header.now (room_all self.old.pages + pages_asked header.now.size command.now) }
         requires accepted { refusal header.now self.old.history.items command.now ≡ None }
         ensures ok { OnOk result (Stepped header.now (record { line = line; command = command.now }) self.old self.new) }
@@ -208,6 +222,7 @@ impl Runner {
                 address,
                 bytes,
             } => self.allocate(header, line, *task, *address, *bytes),
+            Command::Fork { task, child } => self.fork(header, line, *task, *child),
             Command::Exit { task } => self.exit(header, line, *task),
             Command::Deallocate {
                 task,

@@ -18,7 +18,7 @@ const TWO_PAGES: &str =
 /// The words, the script, the exit status and what is written.
 type Row = (&'static str, &'static str, u8, &'static str);
 
-const RUNS: [Row; 12] = [
+const RUNS: [Row; 15] = [
     ("run", SMALLEST, 0, SMALLEST_HISTORY),
     (
         "run",
@@ -81,6 +81,24 @@ const RUNS: [Row; 12] = [
         0,
         "line 3\nmade 0 0\nline 4\nmade 1 0\nline 5\nregion 0 0 1\nentered 0 0 16 0 0 3 1\nline 6\nregion 1 1 1\nentered 1 0 16 1 0 3 1\nline 7\nbegun 0 store 0 1 1\nzeroed 0 0 0\nstored 0 0 0 0 01\nline 8\nbegun 1 store 0 1 2\nzeroed 0 1 0\nstored 1 1 0 0 02\nline 9\nbegun 0 load 0 1\nloaded 0 0 0 1\n",
     ),
+    (
+        "run",
+        "page 16\nhosts 1 8\ntask 0 0\nallocate 0 0 64\nload 0 0 1\ndeallocate 0 16 32\nprotect 0 0 64 1\nprotect 0 0 16 1\ninherit 0 48 16 0\ninherit 0 0 16 2\nfork 0 1\nexit 0\nexit 1\n",
+        0,
+        "line 3\nmade 0 0\nline 4\nregion 0 0 4\nentered 0 0 64 0 0 3 1\nline 5\nbegun 0 load 0 1\nzeroed 0 0 0\nloaded 0 0 0 0\nline 6\nremoved 0 16 32\nline 7\nrefused 1\nline 8\nprotected 0 0 16 1\nline 9\ninherited 0 48 16 0\nline 10\ninherited 0 0 16 2\nline 11\nmade 1 0\nentered 1 48 16 0 3 3 0\nline 12\nended 0\nline 13\nended 1\ndropped 0 0 0\n",
+    ),
+    (
+        "run",
+        "page 16\nhosts 1 4\ntask 0 0\nallocate 0 32 16\nprotect 0 32 16 1\nstore 0 33 2 7\nstore 0 32 2 7\nprotect 0 32 16 3\nstore 0 32 2 7\nstore 9 33 2 7\n",
+        0,
+        "line 3\nmade 0 0\nline 4\nregion 0 0 1\nentered 0 32 16 0 0 3 1\nline 5\nprotected 0 32 16 1\nline 6\nrefused 4\nline 7\nrefused 2\nline 8\nprotected 0 32 16 3\nline 9\nbegun 0 store 32 2 7\nzeroed 0 0 0\nstored 0 0 0 0 0700\nline 10\nrefused 103\n",
+    ),
+    (
+        "run",
+        "page 16\nhosts 1 8\ntask 0 0\nallocate 0 0 32\ninherit 0 0 16 0\ninherit 0 16 16 2\nfork 0 1\nstore 1 0 1 7\nload 0 0 1\nload 1 16 1\nfork 1 0\nexit 0\nload 1 0 1\nfork 0 2\nfork 1 0\nexit 1\nexit 0\n",
+        0,
+        "line 3\nmade 0 0\nline 4\nregion 0 0 2\nentered 0 0 32 0 0 3 1\nline 5\ninherited 0 0 16 0\nline 6\ninherited 0 16 16 2\nline 7\nmade 1 0\nentered 1 0 16 0 0 3 0\nline 8\nbegun 1 store 0 1 7\nzeroed 0 0 0\nstored 1 0 0 0 07\nline 9\nbegun 0 load 0 1\nloaded 0 0 0 7\nline 10\nrefused 1\nline 11\nrefused 104\nline 12\nended 0\nline 13\nbegun 1 load 0 1\nloaded 1 0 0 7\nline 14\nrefused 103\nline 15\nmade 0 0\nentered 0 0 16 0 0 3 0\nline 16\nended 1\nline 17\nended 0\ndropped 0 0 0\n",
+    ),
 ];
 
 const FAULTS: [Row; 11] = [
@@ -128,7 +146,7 @@ const USAGES: [Row; 12] = [
     ("generate 7 000001", SMALLEST, 2, USAGE),
 ];
 
-const NOT_BUILT: [Row; 16] = [
+const NOT_BUILT: [Row; 17] = [
     ("generate 7 2000", SMALLEST, 7, "notbuilt 0\n"),
     ("generate 00000000000000000007 00001", "", 7, "notbuilt 0\n"),
     ("generate 18446744073709551615 10000", "", 7, "notbuilt 0\n"),
@@ -174,6 +192,13 @@ const NOT_BUILT: [Row; 16] = [
         "hosts 1 4096\nallocate 0 0 4294967296\n",
         7,
         "notbuilt 2\n",
+    ),
+    // a fork that would copy an entry isn't built, but may be refused
+    (
+        "run",
+        "page 16\nhosts 1 8\ntask 0 0\nallocate 0 0 32\ninherit 0 16 16 0\nfork 7 1\nfork 0 0\nfork 0 1\nexit 0\n",
+        7,
+        "line 3\nmade 0 0\nline 4\nregion 0 0 2\nentered 0 0 32 0 0 3 1\nline 5\ninherited 0 16 16 0\nline 6\nrefused 103\nline 7\nrefused 104\nnotbuilt 8\n",
     ),
 ];
 

@@ -1,5 +1,5 @@
 // How many bytes of addresses lead to each region.
-ghost use Rattle.std.specs.Prelude.{◌≡◌, ◌-◌, ◌≤◌, ◌<◌, ◌++◌, ◌∷◌, [], OnErr, OnOk, get_or, length, set};
+ghost use Rattle.std.specs.Prelude.{◌≡◌, ◌+◌, ◌-◌, ◌^◌, ◌≤◌, ◌<◌, ◌++◌, ◌∷◌, [], OnErr, OnOk, get_or, length, set};
 
 use std::alloc::Global;
 use std::marker::Model;
@@ -38,6 +38,16 @@ impl Uses {
     {
         self.bytes.push(bytes)?;
         Ok(())
+    }
+
+    /// So many bytes more lead to a region.
+    pub fn raise(&mut self, region: u32, bytes: u64)
+        requires region { region < length self.old }
+        requires few { get_or self.old region 0 + bytes < 2 ^ 64 }
+        ensures { self.new ≡ set self.old region (get_or self.old region 0 + bytes) }
+    {
+        let more = self.bytes[region as usize] + bytes;
+        self.bytes[region as usize] = more;
     }
 
     /// So many bytes lead to a region no more; gives how many still do.

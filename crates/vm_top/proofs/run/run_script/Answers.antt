@@ -1,9 +1,8 @@
-use Rattle.std.proofs.KnownBytes.{Appends-nil}
-use Rattle.std.proofs.Common.{Err, ap, sym, ◌∙◌, arith, length, ◌≤◌, ◌+◌, refl}
+use Rattle.std.proofs.Common.{Err, ap, sym, ◌∙◌, arith, length, ◌<◌, ◌≤◌, ◌+◌, refl}
 use Rattle.vm_top.specs.Runner.{event_limit}
 use Rattle.vm_top.specs.Writing.{oldest}
 use Rattle.vm_top.proofs.Writings.{oldest_step}
-use Rattle.vm_top.proofs.Starts.{agrees_start, legal_start, oldest_none, range_at, built_of, has_less, next_built, next_unbuilt, wanted_next, failed_at, full_at, memory_at, stuck_at, shown_none}
+use Rattle.vm_top.proofs.Starts.{agrees_start, legal_start, oldest_none, range_at, built_of, has_less, next_built, next_unbuilt, wanted_next, failed_at, full_at, held_at, held_up, memory_at, not_held, stuck_at, shown_none}
 use Rattle.vm_top.proofs.run.run_script.Goals as goal
 
 pub loop-i-init : goal.loop-i-init
@@ -47,6 +46,20 @@ returns-then-len-ge-MOST_EVENTS-clause-ran g c =
     let built = next_built script.header n (oldest c.loop-i.i script.commands.items) (c.loop-i.wanted + c.pages_asked-wanted.result) c.frames_of-frames.result c.loop-i.invariant.built (c.frames_of-frames.ensures.exact _) wanted (sym c.can_run.ensures.exact ∙ c.if-not-can_run.false) in
     let full : event_limit ≤ length c.loop-i.runner.history.items = rw c.len.ensures at c.if-len-ge-MOST_EVENTS.true in
     rw (c.ended-then-len-ge-MOST_EVENTS.ensures.0, c.ended-then-len-ge-MOST_EVENTS.ensures.1) (full_at script c.loop-i.i n c.loop-i.runner.history.items next c.loop-i.invariant.built c.loop-i.invariant.legal built full, c.loop-i.invariant.written)
+
+pub returns-then-not-builds-clause-ran : goal.returns-then-not-builds-clause-ran
+returns-then-not-builds-clause-ran g c =
+    let script = c.args.script.now in
+    let n = c.at-numbered.result.now in
+    let next = oldest_step script.commands.items c.loop-i.i n c.at-numbered.ensures in
+    let wanted = wanted_next script c.loop-i.i c.loop-i.wanted c.pages_asked-wanted.result n c.loop-i.invariant.wanted c.pages_asked-wanted.ensures.exact in
+    let built = next_built script.header n (oldest c.loop-i.i script.commands.items) (c.loop-i.wanted + c.pages_asked-wanted.result) c.frames_of-frames.result c.loop-i.invariant.built (c.frames_of-frames.ensures.exact _) wanted (sym c.can_run.ensures.exact ∙ c.if-not-can_run.false) in
+    let below : length c.loop-i.runner.history.items < event_limit = let less = c.if-len-ge-MOST_EVENTS.false in omega (arith, c.len.ensures) in
+    rw (c.ended-then-not-builds.ensures.0, c.ended-then-not-builds.ensures.1)
+    (held_at script c.loop-i.i n c.loop-i.runner.history.items next c.loop-i.invariant.built c.loop-i.invariant.legal built below (held_up _ (sym c.builds.ensures ∙ c.if-not-builds.true)), c.loop-i.invariant.written)
+
+pub turn-requires-clause-free : goal.turn-requires-clause-free
+turn-requires-clause-free g c = not_held _ (sym c.builds.ensures ∙ c.if-not-builds.false)
 
 pub turn-requires-clause-built : goal.turn-requires-clause-built
 turn-requires-clause-built g c =

@@ -3,7 +3,7 @@ use Rattle.std.specs.Io.KnownBytes.{Appends}
 use Rattle.vm_model.specs.Legal.{LegalFor}
 use Rattle.vm_top.specs.Pages.{room_all}
 use Rattle.vm_top.specs.Run.{shown, unbuilt_line}
-use Rattle.vm_top.specs.Runner.{Agrees, HasFrames, IsBelowLimit, pages_wanted}
+use Rattle.vm_top.specs.Runner.{Agrees, IsBelowLimit, pages_wanted}
 use Rattle.vm_top.specs.Writing.{oldest}
 use Rattle.vm_top.proofs.run.run_script.Given as goal
 

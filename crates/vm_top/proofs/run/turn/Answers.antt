@@ -1,4 +1,4 @@
-use Rattle.std.proofs.Common.{List, ℕ, Option, subst}
+use Rattle.std.proofs.Common.{subst}
 use Rattle.std.specs.Io.KnownBytes.{Appends}
 use Rattle.vm_top.specs.Run.{shown}
 use Rattle.vm_top.proofs.Writings.{oldest_before}
