@@ -44,8 +44,9 @@ pub enum Status {
     /// No memory was there.
     NoMemory,
     /// `line` is the first that isn't built: a header line for objects or for more than one host, or a
-    /// command other than `task`, `allocate`, `load` and `store`, or an `allocate` with which the ranges
-    /// up to there have more pages than the host has frames. It is 0 where a script was to be made.
+    /// command other than `task`, `fork`, `exit`, `allocate`, `deallocate`, `protect`, `inherit`, `load` and
+    /// `store`, or an `allocate` with which the ranges up to there have more pages than the host has
+    /// frames, or a `fork` that would copy an entry. It is 0 where a script was to be made.
     NotBuilt { line: u32 },
 }
 
