@@ -1,23 +1,44 @@
 -- The channels of a whole history, and that each is first in, first out.
-use Rattle.std.specs.Prelude.{◌≡◌, ◌≤◌, ◌<◌, ℕ, ◌==◌, ◌&&◌, List, [], ◌∷◌, ◌++◌, Some, if◌then◌else◌}
+use Rattle.std.specs.Prelude.{◌≡◌, ◌≤◌, ◌<◌, ℕ, ◌==◌, ◌&&◌, List, [], ◌∷◌, ◌++◌, Bool, false, Some, if◌then◌else◌}
+use Rattle.vm_model.specs.declared.message.Channel.{Channel}
 use Rattle.vm_model.specs.declared.message.Channel.TheVariants.{Up, Down}
 use Rattle.vm_model.specs.declared.message.Message.{Message}
 use Rattle.vm_model.specs.declared.message.Message.TheVariants as message
 use Rattle.vm_model.specs.declared.event.Event.{Event}
 use Rattle.vm_model.specs.declared.event.Event.TheVariants as event
+use Rattle.vm_model.specs.Controls.{last_control}
 use Rattle.vm_model.specs.Words.{UpWord, OtherUp, up_word, DownWord, Readying, OtherDown, down_word}
 use Rattle.vm_model.specs.Side.{rest}
 use Rattle.vm_model.specs.Server.{first}
 
--- what is on the way up from host h to object o, the oldest first
-abbrev pub up_after : ℕ → ℕ → Event → List Message → List Message
-up_after h o (event.Sent (Up host object) m) q = if host.0 == h && object.0 == o then q ++ m ∷ [] else q
-up_after h o (event.Taken (Up host object) m) q = if host.0 == h && object.0 == o then rest q else q
-up_after h o e q = q
+abbrev pub is_channel : Channel → Channel → Bool
+is_channel (Up h o) (Up host object) = host.0 == h.0 && object.0 == o.0
+is_channel (Down h o k) (Down host object control) = host.0 == h.0 && (object.0 == o.0 && control == k)
+is_channel mine other = false
+
+-- what is on the way in a channel: what was sent and not taken, the oldest first
+abbrev pub queue_after : Channel → Event → List Message → List Message
+queue_after mine (event.Sent channel m) q = if is_channel mine channel then q ++ m ∷ [] else q
+queue_after mine (event.Taken channel m) q = if is_channel mine channel then rest q else q
+queue_after mine e q = q
+
+abbrev pub queue : Channel → List Event → List Message
+queue mine [] = []
+queue mine (e ∷ past) = queue_after mine e (queue mine past)
+
+-- up from host h to object o
+abbrev pub up_port : ℕ → ℕ → Channel
+up_port h o = Up (record { 0 = h }) (record { 0 = o })
 
 abbrev pub up_queue : ℕ → ℕ → List Event → List Message
-up_queue h o [] = []
-up_queue h o (e ∷ past) = up_after h o e (up_queue h o past)
+up_queue h o past = queue (up_port h o) past
+
+-- down to control k
+abbrev pub down_port : ℕ → ℕ → ℕ → Channel
+down_port h o k = Down (record { 0 = h }) (record { 0 = o }) k
+
+abbrev pub down_queue : ℕ → ℕ → ℕ → List Event → List Message
+down_queue h o k past = queue (down_port h o k) past
 
 -- what is taken on a channel up is the oldest
 abbrev pub TakesFirst : Event → List Event → Type 0
@@ -36,26 +57,6 @@ with_word w ws = w ∷ ws
 abbrev pub up_words : ℕ → List Message → List UpWord
 up_words p [] = []
 up_words p (m ∷ q) = with_word (up_word p m) (up_words p q)
-
--- the control that host h began last for object o
-abbrev pub control_after : ℕ → ℕ → Event → ℕ → ℕ
-control_after h o (event.Sent (Up host object) (message.Init control size)) last = if host.0 == h && object.0 == o then control else last
-control_after h o (event.Sent (Up host object) (message.Create control size)) last = if host.0 == h && object.0 == o then control else last
-control_after h o e last = last
-
-abbrev pub last_control : ℕ → ℕ → List Event → ℕ
-last_control h o [] = 0
-last_control h o (e ∷ past) = control_after h o e (last_control h o past)
-
--- what is on the way down to control k, the oldest first
-abbrev pub down_after : ℕ → ℕ → ℕ → Event → List Message → List Message
-down_after h o k (event.Sent (Down host object control) m) q = if host.0 == h && (object.0 == o && control == k) then q ++ m ∷ [] else q
-down_after h o k (event.Taken (Down host object control) m) q = if host.0 == h && (object.0 == o && control == k) then rest q else q
-down_after h o k e q = q
-
-abbrev pub down_queue : ℕ → ℕ → ℕ → List Event → List Message
-down_queue h o k [] = []
-down_queue h o k (e ∷ past) = down_after h o k e (down_queue h o k past)
 
 -- what is taken on a channel down is the oldest, nothing is sent to a control before it begins, and a control has a new number
 abbrev pub DownFirst : Event → List Event → Type 0

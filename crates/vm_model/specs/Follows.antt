@@ -1,5 +1,5 @@
 -- What the commands make of a history: a group of events for each. Commands too have the newest first.
-use Rattle.std.specs.Prelude.{ℕ, ◌/◌, ◌≡◌, ◌==◌, true, List, [], ◌∷◌, ◌++◌, reverse, if◌then◌else◌, Option, Some, None, MatchOption}
+use Rattle.std.specs.Prelude.{ℕ, ◌+◌, ◌-◌, ◌/◌, ◌≡◌, ◌⊎◌, ◌==◌, true, false, List, [], ◌∷◌, ◌++◌, reverse, if◌then◌else◌, Option, Some, None, MatchOption}
 use Rattle.vm_base.specs.declared.entry.Entry.{Entry}
 use Rattle.vm_base.specs.declared.ids.Inherit.TheVariants.{Copy}
 use Rattle.vm_base.specs.declared.ids.TaskId.{TaskId}
@@ -12,7 +12,9 @@ use Rattle.vm_model.specs.declared.script.Header.{Header}
 use Rattle.vm_model.specs.Regions.{next_region, next_object}
 use Rattle.vm_model.specs.Tasks.{host_of, entries_of, copies, shared}
 use Rattle.vm_model.specs.Refusal.{refusal}
-use Rattle.vm_model.specs.Licences.{AllLicensed}
+use Rattle.vm_model.specs.Frames.{frames_wired}
+use Rattle.vm_model.specs.Local.{local}
+use Rattle.vm_model.specs.Licences.{AllLicensed, gone}
 
 -- a task gets these entries
 abbrev pub gets : TaskId → List Entry → List Event
@@ -38,18 +40,31 @@ head header past (command.Exit task) = Some (event.TaskEnded task ∷ [])
 head header past (command.Deallocate task address bytes) = Some (event.Removed task address bytes ∷ [])
 head header past (command.Protect task address bytes prot) = Some (event.Protected task address bytes prot ∷ [])
 head header past (command.Inherit task address bytes inherit) = Some (event.Inherited task address bytes inherit ∷ [])
+head header past (command.Wire host count) = Some (event.Wired host (frames_wired host.0 past + count) ∷ [])
+head header past (command.Unwire host count) = Some (event.Wired host (frames_wired host.0 past - count) ∷ [])
+head header past (command.Pageout host count) = Some []
 head header past other = None
 
--- the head, and behind it events that have their causes
-abbrev pub IsRun : Header → List Event → ℕ → List Event → List Event → Type 0
-IsRun header past line first group =
-    (more : List Event) × (group ≡ more ++ reverse first) × AllLicensed header more (reverse first ++ event.Line line ∷ past)
+-- no page is on the host
+abbrev pub IsBare : Header → ℕ → List Event → Type 0
+IsBare header host past = (object page : ℕ) → (local header.size host (record { object = object; page = page }) past).here ≡ false
+
+-- what else a command owes when its step ends: a pageout goes on until it has reclaimed so many pages, or none is left
+abbrev pub IsDone : Header → Command → List Event → Type 0
+IsDone header (command.Pageout host count) past = (gone past ≡ count) ⊎ IsBare header host.0 past
+IsDone header other past = Unit {0}
+
+-- the head, and behind it events that have their causes, until the command is done
+abbrev pub IsRun : Header → List Event → Numbered → List Event → List Event → Type 0
+IsRun header past numbered first group =
+    (more : List Event) × (group ≡ more ++ reverse first) × AllLicensed header numbered.command more (reverse first ++ event.Line numbered.line ∷ past)
+    × IsDone header numbered.command (group ++ event.Line numbered.line ∷ past)
 
 -- what stands behind the line of a command: its refusal alone, or its head and what follows from it
 abbrev pub IsGroup : Header → List Event → Numbered → List Event → Type 0
 IsGroup header past numbered group =
     MatchOption (refusal header past numbered.command)
-    (MatchOption (head header past numbered.command) ⊥ (λ first. IsRun header past numbered.line first group))
+    (MatchOption (head header past numbered.command) ⊥ (λ first. IsRun header past numbered first group))
     (λ code. group ≡ event.Refused code ∷ [])
 
 -- the groups are those of the commands

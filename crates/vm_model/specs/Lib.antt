@@ -3,6 +3,7 @@ pub mod Chains
 pub mod Fault
 pub mod Flat
 pub mod Follows
+pub mod Founded
 pub mod Frames
 pub mod Legal
 pub mod Licences
@@ -27,4 +28,5 @@ pub mod Coherence
 pub mod TaskPlace
 pub mod PagePart
 pub mod Channels
+pub mod Controls
 pub mod Ranges

@@ -1,30 +1,61 @@
 -- What a host has of a page of an object: each event is classified once, and moves one record.
-use Rattle.std.specs.Prelude.{ℕ, ◌≡◌, ◌⊎◌, Bool, true, false, ◌&&◌, List, [], ◌∷◌, replicate, if◌then◌else◌, ◌==◌, Option, Some, None}
+use Rattle.std.specs.Prelude.{ℕ, ◌≡◌, ◌⊎◌, Bool, true, false, ◌&&◌, ◌||◌, List, [], ◌∷◌, replicate, if◌then◌else◌, ◌==◌, not, nat_lt, Option, Some, None}
 use Rattle.vm_base.specs.Pages.{little_endian_bytes, with_bytes}
+use Rattle.vm_model.specs.declared.message.Channel.TheVariants.{Up, Down}
+use Rattle.vm_model.specs.declared.message.Message.{Message}
+use Rattle.vm_model.specs.declared.message.Message.TheVariants as message
 use Rattle.vm_model.specs.declared.event.Event.{Event}
-use Rattle.vm_model.specs.declared.event.Event.TheVariants.{Zeroed, Stored, Dropped}
+use Rattle.vm_model.specs.declared.event.Event.TheVariants.{Zeroed, Raised, CopiedPage, Stored, Dropped, Sent, Taken}
+use Rattle.vm_model.specs.declared.script.Header.{Header}
+use Rattle.vm_model.specs.Controls.{is_control, live_control}
+use Rattle.vm_model.specs.Named.{named}
 use Rattle.vm_model.specs.Tasks.{host_of}
+use Rattle.vm_model.specs.Words.{in_range}
 
 -- an object and a page of it
 pub record Place : Type 0 where
   pub object : ℕ
   pub page : ℕ
 
--- the page on the host: whether it is here, its bytes, its lock (1 prohibits reading, 2 writing, 3 both), and whether it was changed
 pub record Local : Type 0 where
+  -- the page on the host: whether it is here, its bytes, its lock (1 prohibits reading, 2 writing, 3 both), whether it was changed, and whether its pager wants it back even clean
   pub here : Bool
   pub bytes : List ℕ
   pub lock : ℕ
   pub dirty : Bool
+  pub precious : Bool
+  -- the live control asked for the page, and has taken no answer since
+  pub asked : Bool
+  -- an unlock was sent since the page came, and no lock over it was taken since
+  pub unlocking : Bool
+  -- the pager answered that it has no such page, and none was returned since
+  pub absent : Bool
 
 -- what an event is to a place of a host
 pub data Effect : Type 0 where
   -- a page of zeros is put there
   Zeroes : Effect
+  -- another page is copied there
+  Raises : (bytes : List ℕ) → Effect
   -- bytes are put into the page
   Stores : (at : ℕ) → (bytes : List ℕ) → Effect
   -- it goes
   Drops : Effect
+  -- it is returned to the pager, and stays or goes
+  Returns : (keep : Bool) → Effect
+  -- the live control asks for it
+  Asks : Effect
+  Unlocks : Effect
+  -- the live control takes what the pager answers: the page, that it has none, or that it can't
+  TakesPage : (lock : ℕ) → (precious : Bool) → (bytes : List ℕ) → Effect
+  TakesNothing : Effect
+  TakesError : Effect
+  -- it takes a lock over the page
+  TakesLock : (lock : ℕ) → (flush : Bool) → Effect
+  -- a control of the object begins
+  Begins : Effect
+  -- the live one ends
+  Ends : Effect
   -- it is about something else
   Elsewhere : Effect
 
@@ -36,24 +67,71 @@ abbrev pub is_on : ℕ → Option ℕ → Bool
 is_on host None = false
 is_on host (Some own) = own == host
 
--- the place is on the host, and the event's task too
-abbrev pub effect : ℕ → Place → Event → List Event → Effect
-effect host place (Zeroed at object page) past = if at.0 == host && is_place place object.0 page.0 then Zeroes else Elsewhere
-effect host place (Stored task object page at size value) past =
-    if is_on host (host_of task.0 past) && is_place place object.0 page.0 then Stores at (little_endian_bytes size value) else Elsewhere
-effect host place (Dropped at object page) past = if at.0 == host && is_place place object.0 page.0 then Drops else Elsewhere
-effect host place event past = Elsewhere
+-- what the host sends about the object is to a page of it
+abbrev pub sent_effect : ℕ → Option ℕ → Message → Effect
+sent_effect page live (message.Init control size) = Begins
+sent_effect page live (message.Create control size) = Begins
+sent_effect page live (message.Terminate control) = if is_control control live then Ends else Elsewhere
+sent_effect page live (message.Request control at access) = if at.0 == page && is_control control live then Asks else Elsewhere
+sent_effect page live (message.Unlock control at access) = if at.0 == page then Unlocks else Elsewhere
+sent_effect page live (message.Return control at dirty keep bytes) = if at.0 == page then Returns keep else Elsewhere
+sent_effect page live other = Elsewhere
 
+-- what the live control takes is to a page
+abbrev pub taken_effect : ℕ → Message → Effect
+taken_effect page (message.Supply at lock precious bytes) = if at.0 == page then TakesPage lock precious bytes else Elsewhere
+taken_effect page (message.Unavailable at) = if at.0 == page then TakesNothing else Elsewhere
+taken_effect page (message.Error at reason) = if at.0 == page then TakesError else Elsewhere
+taken_effect page (message.Lock at count returns flush lock reply) = if in_range page at.0 count then TakesLock lock flush else Elsewhere
+taken_effect page other = Elsewhere
+
+-- What an event is to the place on the host. What the host has of the other places comes in as a function.
+abbrev pub effect : ℕ → Place → (Place → Local) → Event → List Event → Effect
+effect host place others (Zeroed at object page) past = if at.0 == host && is_place place object.0 page.0 then Zeroes else Elsewhere
+effect host place others (Raised at lower lower_page upper upper_page) past =
+    if at.0 == host && is_place place upper.0 upper_page.0 then Raises (others (record { object = lower.0; page = lower_page.0 })).bytes else Elsewhere
+effect host place others (CopiedPage task page object object_page target) past =
+    if is_on host (host_of task.0 past) && is_place place target.0 page.0 then Raises (others (record { object = object.0; page = object_page.0 })).bytes else Elsewhere
+effect host place others (Stored task object page at size value) past =
+    if is_on host (host_of task.0 past) && is_place place object.0 page.0 then Stores at (little_endian_bytes size value) else Elsewhere
+effect host place others (Dropped at object page) past = if at.0 == host && is_place place object.0 page.0 then Drops else Elsewhere
+effect host place others (Sent (Up at object) m) past = if at.0 == host && object.0 == place.object then sent_effect place.page (live_control host place.object past) m else Elsewhere
+effect host place others (Taken (Down at object control) m) past =
+    if at.0 == host && (object.0 == place.object && is_control control (live_control host place.object past)) then taken_effect place.page m else Elsewhere
+effect host place others event past = Elsewhere
+
+abbrev pub came : List ℕ → ℕ → Bool → Bool → Local → Local
+came bytes lock dirty precious was = record was { here = true; bytes = bytes; lock = lock; dirty = dirty; precious = precious; unlocking = false }
+
+abbrev pub gone : Local → Local
+gone was = record was { here = false; bytes = []; lock = 0; dirty = false; precious = false; unlocking = false }
+
+-- an answer counts only where the page is asked; 8 leaves the lock as it is
 abbrev pub moved : ℕ → Effect → Local → Local
-moved size Zeroes was = record { here = true; bytes = replicate size 0; lock = 0; dirty = false }
+moved size Zeroes was = came (replicate size 0) 0 false false was
+moved size (Raises bytes) was = came bytes 0 true false was
 moved size (Stores at bytes) was = record was { bytes = with_bytes at bytes was.bytes; dirty = true }
-moved size Drops was = record { here = false; bytes = []; lock = 0; dirty = false }
+moved size Drops was = gone was
+moved size (Returns true) was = record was { dirty = false; precious = false; absent = false }
+moved size (Returns false) was = record (gone was) { absent = false }
+moved size Asks was = record was { asked = true }
+moved size Unlocks was = record was { unlocking = was.here }
+moved size (TakesPage lock precious bytes) was = if was.asked then record (came bytes lock false precious was) { asked = false } else was
+moved size TakesNothing was = if was.asked then record was { asked = false; absent = true } else was
+moved size TakesError was = record was { asked = false }
+moved size (TakesLock lock flush) was = if was.here then record was { lock = if flush || lock == 8 then was.lock else lock; unlocking = false } else was
+moved size Begins was = record was { asked = false }
+moved size Ends was = record was { asked = false }
 moved size Elsewhere was = was
+
+-- nothing is here, nor asked
+abbrev pub away : Local
+away = record { here = false; bytes = []; lock = 0; dirty = false; precious = false; asked = false; unlocking = false; absent = false }
 
 -- for a page size
 abbrev pub local : ℕ → ℕ → Place → List Event → Local
-local size host place [] = record { here = false; bytes = []; lock = 0; dirty = false }
-local size host place (event ∷ past) = moved size (effect host place event past) (local size host place past)
+local size host place [] = away
+local size host place (event ∷ past) = moved size (effect host place (λ source. local size host source past) event past) (local size host place past)
 
 -- the host can read the page
 pub record CanRead (page : Local) : Type 0 where
@@ -64,3 +142,7 @@ pub record CanRead (page : Local) : Type 0 where
 pub record CanWrite (page : Local) : Type 0 where
   pub here : page.here ≡ true
   pub unlocked : page.lock ≡ 0
+
+-- the pager of a temporary object is known to have no such page
+abbrev pub is_known_absent : Header → Place → Local → Bool
+is_known_absent header place page = not (nat_lt place.object (named header)) && page.absent

@@ -1,7 +1,7 @@
 -- Why a command is refused: the first test that holds.
 use Rattle.std.specs.Prelude.{ℕ, ◌+◌, ◌/◌, ◌%◌, Bool, false, not, ◌&&◌, ◌||◌, List, [], ◌∷◌, length, if◌then◌else◌, ◌==◌, nat_lt, nat_le, is_some, is_none, Option, Some, None}
 use Rattle.vm_base.specs.declared.code.Code.{Code}
-use Rattle.vm_base.specs.declared.code.Code.TheVariants.{NoSuchName, NameTaken, Blocked, InvalidArgument, InvalidAddress, ProtectionFailure, NoSpace, TableFull}
+use Rattle.vm_base.specs.declared.code.Code.TheVariants.{NoSuchName, NameTaken, Blocked, InvalidArgument, InvalidAddress, ProtectionFailure, NoSpace, ResourceShortage, TableFull}
 use Rattle.vm_base.specs.declared.entry.Entry.{Entry}
 use Rattle.vm_base.specs.declared.ids.Access.{Access}
 use Rattle.vm_base.specs.declared.ids.Access.TheVariants as need
@@ -13,6 +13,7 @@ use Rattle.vm_model.specs.declared.script.Header.{Header}
 use Rattle.vm_model.specs.Tasks.{host_of, entries_of, is_copied, copies, sources}
 use Rattle.vm_model.specs.Waiting.{waiting}
 use Rattle.vm_model.specs.Regions.{next_region, next_object}
+use Rattle.vm_model.specs.Frames.{frames_free, frames_wired}
 
 -- this code where the test holds, else what the later tests say
 abbrev pub where_true : Bool → Code → Option Code → Option Code
@@ -79,4 +80,6 @@ refusal header past (command.Inherit task address bytes inherit) =
     (where_true (not (is_range header.size address bytes) || (is_copied inherit && meets_declared (length header.objects.items) address bytes (entries_of header.size task.0 past))) InvalidArgument
     (where_true (not (is_mapped header.size address bytes (entries_of header.size task.0 past))) InvalidAddress
     (where_true (are_many (inherited header.size address bytes inherit (entries_of header.size task.0 past))) TableFull None)))
+refusal header past (command.Wire host count) = where_true (nat_lt (frames_free header host.0 past) count) ResourceShortage None
+refusal header past (command.Unwire host count) = where_true (nat_lt (frames_wired host.0 past) count) InvalidArgument None
 refusal header past other = None
