@@ -1,7 +1,8 @@
 -- What a place itself must say for an effect, and what it has to show.
 use Rattle.std.specs.Prelude.{ℕ, ◌&&◌, ◌≡◌, List, true, false, if◌then◌else◌, Option, Some, None}
 use Rattle.vm_flat.specs.Words.{Requesting, Returning, DownWord, Supplying, Unavailing, Erring, Effect, Creates, Requests, Returns, TakesRequest, TakesReturn, Answers, Takes, Zeroes, Raises, Stores, Drops, Ends, StepEnds, Nothing}
-use Rattle.vm_flat.specs.Spot.{Spot, first}
+use Rattle.vm_model.specs.Server.{first}
+use Rattle.vm_flat.specs.Spot.{Spot}
 
 -- the walk passes over the place
 pub record Passed (s : Spot) : Type 0 where
@@ -18,7 +19,7 @@ MayAnswer z s Erring = s.step ≡ true
 
 abbrev pub May : List ℕ → Spot → Effect → Type 0
 May z s Creates = s.control ≡ 0
-May z s Requests = (s.control ≡ 1) × (s.here ≡ false) × (s.asked ≡ false) × (s.absent ≡ false)
+May z s (Requests lives) = (s.control ≡ 1) × (s.here ≡ false) × (s.asked ≡ false) × (s.absent ≡ false) × (lives ≡ true)
 May z s (Returns keep bytes) = (s.control ≡ 1) × (s.here ≡ true) × (s.dirty ≡ true) × (bytes ≡ s.bytes)
 May z s TakesRequest = first s.up ≡ Some Requesting
 May z s (TakesReturn bytes) = first s.up ≡ Some (Returning bytes)

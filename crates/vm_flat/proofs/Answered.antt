@@ -11,7 +11,7 @@ use Rattle.vm_flat.proofs.Causes.{Cause, Ours, OwnRegion, Foreign}
 use Rattle.vm_flat.proofs.Good.{Good, good_answers, good_tells, good_again}
 use Rattle.vm_flat.proofs.World.{ReachAt, World, view, GoodAt, path_covered, under_view, Barren, each_place}
 use Rattle.vm_flat.proofs.Traffic.{After, rest_nothing}
-use Rattle.vm_flat.proofs.Stored.{and_no, and_yes, no_if, not_ours}
+use Rattle.vm_flat.proofs.Stored.{and_no, and_yes, page_no, page_yes, no_if, not_ours}
 
 -- it says what was known
 after_plain : (z : Ground) (own : Bool) (o p : ℕ) (word : DownWord) (past : List Deed) → World z past → (Ours z own o → May z.zeros (spot z o p past) (Answers false word)) → World z (Answered own false o p word ∷ past)
@@ -27,7 +27,7 @@ after_plain z own o p word past w c =
 -- it says what the file has
 after_told : (z : Ground) (k q : ℕ) (word : DownWord) (past : List Deed) → World z past → May z.zeros (spot z k q past) (Answers true word) → OwnRegion z k past → World z (Answered true true k q word ∷ past)
 after_told z k q word past w may c =
-    record { shape = w.shape; regional = regional; places = λ o p ours. places_if o p ours (o == k && p == q) refl }
+    record { shape = w.shape; regional = regional; places = λ o p ours. places_if o p ours (k == o && q == p) refl }
   where
     view_else : (o p : ℕ) → (o ≡ k → p ≡ q → ⊥) → view z o p (Answered true true k q word ∷ past) ≡ view z o p past
     view_else o p apart = and_no o p k q (said z.zeros word (view z o p past)) (view z o p past) apart
@@ -38,11 +38,11 @@ after_told z k q word past w may c =
     own_region : (i : ℕ) → (row z k past).used ≡ true → i < (row z k past).pages → flat z k i (Answered true true k q word ∷ past) ≡ view z (row z k past).top ((row z k past).shift + i) (Answered true true k q word ∷ past)
     own_region i used inside = elim (ℕ_discrete i q) [
       | yes e ↦
-          and_yes k i k q (said z.zeros word (flat z k i past)) (flat z k i past) refl e
+          page_yes k i k q (said z.zeros word (flat z k i past)) (flat z k i past) refl e
           ∙ ap (said z.zeros word) (w.regional k i used inside)
           ∙ sym (and_yes (row z k past).top ((row z k past).shift + i) k q (said z.zeros word (view z (row z k past).top ((row z k past).shift + i) past)) (view z (row z k past).top ((row z k past).shift + i) past) c.top (at_top i ∙ e))
       | no apart ↦
-          and_no k i k q (said z.zeros word (flat z k i past)) (flat z k i past) (λ e f. apart f)
+          page_no k i k q (said z.zeros word (flat z k i past)) (flat z k i past) (λ e f. apart f)
           ∙ w.regional k i used inside
           ∙ sym (view_else (row z k past).top ((row z k past).shift + i) (λ e f. apart (sym (at_top i) ∙ f)))
     ]
@@ -52,7 +52,7 @@ after_told z k q word past w may c =
       | yes e ↦ subst (λ (h : ℕ). flat z h i (Answered true true k q word ∷ past) ≡ view z (row z h past).top ((row z h past).shift + i) (Answered true true k q word ∷ past)) (sym e)
           (own_region i (subst (λ (h : ℕ). (row z h past).used ≡ true) e used) (subst (λ (h : ℕ). i < (row z h past).pages) e inside))
       | no apart ↦
-          and_no r i k q (said z.zeros word (flat z r i past)) (flat z r i past) (λ e f. apart e)
+          page_no r i k q (said z.zeros word (flat z r i past)) (flat z r i past) (λ e f. apart e)
           ∙ w.regional r i used inside
           ∙ sym (view_else (row z r past).top ((row z r past).shift + i) (λ e f. c.alone r used apart e))
     ]
@@ -79,7 +79,7 @@ after_told z k q word past w may c =
         good_again z.zeros (ReachAt z o p past) (ReachAt z o p past) (objects z past ≤ o) (objects z past ≤ o) (Barren z o p past) (Barren z o p (Answered true true k q word ∷ past)) (view z o p past) (view z o p past) (link z o past).backed (under_view z o p past) (under_view z o p (Answered true true k q word ∷ past)) (spot z o p past)
         (w.places o p ours) (λ x. x) (λ x. x) (λ x. refl) (λ reach none backed. under_same o p backed) (λ reach barren. barren_else o p apart barren)
 
-    places_if : (o p : ℕ) → covered z o ≡ true → (b : Bool) → (o == k && p == q) ≡ b
+    places_if : (o p : ℕ) → covered z o ≡ true → (b : Bool) → (k == o && q == p) ≡ b
         → Good z.zeros (ReachAt z o p past) (objects z past ≤ o) (Barren z o p (Answered true true k q word ∷ past)) (if b then said z.zeros word (view z o p past) else view z o p past) (link z o past).backed (under_view z o p (Answered true true k q word ∷ past))
         (move z.zeros (spot z o p past) (if b then Answers true word else Nothing))
     places_if o p ours true is = own o p ours (grind (arith, nat_tests)) (grind (arith, nat_tests))
@@ -98,7 +98,7 @@ after_away z own k q word past w f =
 
     regional : (g j : ℕ) → (row z g past).used ≡ true → j < (row z g past).pages → flat z g j (Answered own true k q word ∷ past) ≡ view z (row z g past).top ((row z g past).shift + j) (Answered own true k q word ∷ past)
     regional g j used inside =
-        and_no g j k q (said z.zeros word (flat z g j past)) (flat z g j past) (λ e e'. clash (row z g past).used (ap (λ h. (row z h past).used) e ∙ f.unused) used)
+        page_no g j k q (said z.zeros word (flat z g j past)) (flat z g j past) (λ e e'. clash (row z g past).used (ap (λ h. (row z h past).used) e ∙ f.unused) used)
         ∙ w.regional g j used inside
         ∙ sym (view_is (row z g past).top ((row z g past).shift + j) (w.shape.covers_tops g used))
 

@@ -16,15 +16,21 @@ use Rattle.vm_model.specs.Tasks.{host_of, entries_of}
 use Rattle.vm_base.specs.Entries.{page_at}
 use Rattle.vm_model.specs.Named.{named}
 use Rattle.vm_flat.specs.Declared.{Outside, is_private, is_file, is_said, are_untold, zeros}
-use Rattle.vm_flat.specs.Tasks.{is_host, lives_on}
+use Rattle.vm_model.specs.Local.{is_on}
+use Rattle.vm_flat.specs.Tasks.{lives_on}
 use Rattle.vm_model.specs.Waiting.{Storing, next_page, address_of}
 use Rattle.vm_model.specs.Regions.{next_region, region_of, backing_of}
 use Rattle.vm_flat.specs.Regions.{made_here, in_use}
-use Rattle.vm_flat.specs.Channels.{queue}
+use Rattle.vm_model.specs.Channels.{queue}
 use Rattle.vm_flat.specs.Words.{UpWord, Requesting, Returning, DownWord, Supplying, Unavailing, Erring, TakesRequest, TakesReturn, Answers, Takes}
-use Rattle.vm_flat.specs.Spot.{Spot, first, rest}
+use Rattle.vm_model.specs.Side.{rest}
+use Rattle.vm_model.specs.Server.{first}
+use Rattle.vm_flat.specs.Spot.{Spot}
 use Rattle.vm_flat.proofs.Allowed.{May}
-use Rattle.vm_flat.specs.Places.{spot, control, control_number}
+use Rattle.vm_model.specs.Controls.{is_control, last_control, live_control}
+use Rattle.vm_flat.proofs.Lives.{control_counts, has_control}
+use Rattle.vm_flat.proofs.Locals.{spot_is_local, known_absent}
+use Rattle.vm_flat.specs.Places.{page_on, spot, control}
 use Rattle.vm_flat.specs.Walks.{IsTop}
 use Rattle.vm_flat.specs.Flat.{Change, change_by, change_in, change_of, made_over, flat_page}
 use Rattle.vm_flat.specs.Licences as L
@@ -57,7 +63,7 @@ number_is a b is = grind (arith, nat_tests)
 
 -- the host of a task
 lives_is : (task h g : ℕ) (past : List Event) → host_of task past ≡ Some g → lives_on h task past ≡ (g == h)
-lives_is task h g past lives = ap (is_host h) lives
+lives_is task h g past lives = ap (is_on h) lives
 
 -- regions
 
@@ -89,23 +95,32 @@ shadow_cause header outside host region new old past h c =
 
 -- places
 
-here_is : (header : Header) (outside : Outside) (host o p : ℕ) (b : Bool) (past : List Event) → (spot header outside host o p past).here ≡ b → (D.spot (ground header outside) o p (deeds header outside host past)).here ≡ b
-here_is header outside host o p b past is = ap (λ (s : Spot). s.here) (spot_is header outside host o p past) ∙ is
+pub here_is : (header : Header) (outside : Outside) (host o p : ℕ) (b : Bool) (past : List Event) → (page_on header host o p past).here ≡ b → (D.spot (ground header outside) o p (deeds header outside host past)).here ≡ b
+here_is header outside host o p b past is = ap (λ (s : Spot). s.here) (spot_is header outside host o p past) ∙ (spot_is_local header outside past host o p).here ∙ is
+
+asked_is : (header : Header) (outside : Outside) (host o p : ℕ) (b : Bool) (past : List Event) → (page_on header host o p past).asked ≡ b → (D.spot (ground header outside) o p (deeds header outside host past)).asked ≡ b
+asked_is header outside host o p b past is = ap (λ (s : Spot). s.asked) (spot_is header outside host o p past) ∙ (spot_is_local header outside past host o p).asked ∙ is
+
+dirty_is : (header : Header) (outside : Outside) (host o p : ℕ) (b : Bool) (past : List Event) → (page_on header host o p past).dirty ≡ b → (D.spot (ground header outside) o p (deeds header outside host past)).dirty ≡ b
+dirty_is header outside host o p b past is = ap (λ (s : Spot). s.dirty) (spot_is header outside host o p past) ∙ (spot_is_local header outside past host o p).dirty ∙ is
+
+pub bytes_are : (header : Header) (outside : Outside) (host o p : ℕ) (past : List Event) → (D.spot (ground header outside) o p (deeds header outside host past)).bytes ≡ (page_on header host o p past).bytes
+bytes_are header outside host o p past = ap (λ (s : Spot). s.bytes) (spot_is header outside host o p past) ∙ (spot_is_local header outside past host o p).bytes
 
 zeroed_cause : (header : Header) (outside : Outside) (host : ℕ) (at : HostId) (object page : ℕ) (past : List Event) → Holds header outside past
-    → (is_private header outside object ≡ true → ((object < named header) × L.Fills (spot header outside at.0 object page past)) ⊎ L.Bottoms header outside at.0 object page past)
+    → (is_private header outside object ≡ true → ((object < named header) × L.Fills (spot header outside at.0 object page past) (page_on header at.0 object page past)) ⊎ L.Bottoms header outside at.0 object page past)
     → Cause (ground header outside) (D.Zeroed (at.0 == host) object page) (deeds header outside host past)
 zeroed_cause header outside host at object page past h c ours = by (c ours.covered)
   where
     is : at.0 ≡ host
     is = number_is at.0 host ours.on_host
 
-    by : ((object < named header) × L.Fills (spot header outside at.0 object page past)) ⊎ L.Bottoms header outside at.0 object page past
+    by : ((object < named header) × L.Fills (spot header outside at.0 object page past) (page_on header at.0 object page past)) ⊎ L.Bottoms header outside at.0 object page past
         → ((D.is_file (ground header outside) object ≡ true) × C.Void (D.spot (ground header outside) object page (deeds header outside host past))) ⊎ C.Bottoms (ground header outside) object page (deeds header outside host past)
     by (inl fills) =
-        let f : L.Fills (spot header outside host object page past) = subst (λ (k : ℕ). L.Fills (spot header outside k object page past)) is fills.1 in
+        let f : L.Fills (spot header outside host object page past) (page_on header host object page past) = subst (λ (k : ℕ). L.Fills (spot header outside k object page past) (page_on header k object page past)) is fills.1 in
         let same : D.spot (ground header outside) object page (deeds header outside host past) ≡ spot header outside host object page past = spot_is header outside host object page past in
-        inl (file_below header outside object fills.0 ours.covered, record { void = ap (λ (s : Spot). s.void) same ∙ f.void; away = ap (λ (s : Spot). s.here) same ∙ f.away; unasked = ap (λ (s : Spot). s.asked) same ∙ f.unasked })
+        inl (file_below header outside object fills.0 ours.covered, record { void = ap (λ (s : Spot). s.void) same ∙ f.void; away = here_is header outside host object page false past f.away; unasked = asked_is header outside host object page false past f.unasked })
       where
         file_below : (header : Header) (outside : Outside) (o : ℕ) → o < named header → is_private header outside o ≡ true → is_file header o ≡ true
         file_below header outside o less private = grind (arith, nat_tests)
@@ -135,7 +150,7 @@ raised_cause header outside host at lower lower_page upper upper_page past h c o
       steps = c.steps;
       tops = tops header outside host c.waits.at.entry.region.0 (page_at header.size c.address c.waits.at.entry) upper upper_page past used c.is_top (row.is.inside.each c.address row.from row.below);
       walks = subst (λ (k : ℕ). C.Walks (ground header outside) (suc c.steps) upper upper_page lower lower_page (deeds header outside k past)) is (walks header outside at.0 past h.numbered (suc c.steps) upper upper_page lower lower_page c.walks);
-      here = here_is header outside host lower lower_page true past (subst (λ (k : ℕ). (spot header outside k lower lower_page past).here ≡ true) is c.here);
+      here = here_is header outside host lower lower_page true past (subst (λ (k : ℕ). (page_on header k lower lower_page past).here ≡ true) is c.here);
     }
 
 -- what a store changes
@@ -189,7 +204,7 @@ stored_cause header outside host task object page at size value past h c =
               record {
                 tops = tops header outside host c.waits.at.entry.region.0 (page_at header.size c.address c.waits.at.entry) object page past used c.is_top (row.is.inside.each c.address row.from row.below);
                 unmarked = mark_is header outside host c.waits.at.entry.region.0 past c.unmarked;
-                here = here_is header outside host object page true past (subst (λ (k : ℕ). (spot header outside k object page past).here ≡ true) on c.here);
+                here = here_is header outside host object page true past (subst (λ (k : ℕ). (page_on header k object page past).here ≡ true) on c.here);
                 pushed = λ file v q reached backed under. absurd (stands file v backed under);
               },
             )
@@ -202,7 +217,7 @@ stored_cause header outside host task object page at size value past h c =
                 clash (is_file header object) (not_file header object (omega (arith, above, e))) file
 
 copied_cause : (header : Header) (outside : Outside) (host task index object page target : ℕ) (past : List Event) → Holds header outside past → L.CopiesPage header outside task index object page target past
-    → (is_private header outside object ≡ false → (host : ℕ) → lives_on host task past ≡ true → (spot header outside host object page past).bytes ≡ flat_page header outside object page past)
+    → (is_private header outside object ≡ false → (host : ℕ) → lives_on host task past ≡ true → (page_on header host object page past).bytes ≡ flat_page header outside object page past)
     → Cause (ground header outside) (D.Copied (lives_on host task past) object page object page (number_or_zero (made_over target past)) index target index) (deeds header outside host past)
 copied_cause header outside host task index object page target past h c current =
     let f : FilledAt header outside past c.waits.at.host (record { region = c.region; object = target }) = h.filling task c.waits.at.host c.address c.bytes c.to (record { region = c.region; object = target }) c.waits.at.lives c.waits.waits c.filled in
@@ -227,7 +242,7 @@ copied_cause header outside host task index object page target past h c current 
         on = let t : lives_on host task past ≡ (c.waits.at.host == host) = lives_is task host c.waits.at.host past c.waits.at.lives in grind (arith, nat_tests)
 
         by_kind : (b : Bool) → is_private header outside object ≡ b → D.flat (ground header outside) object page (deeds header outside host past) ≡ (D.spot (ground header outside) object page (deeds header outside host past)).bytes
-        by_kind false isnt = h.flats host object page ∙ sym (current isnt host is) ∙ sym (ap (λ (s : Spot). s.bytes) (spot_is header outside host object page past))
+        by_kind false isnt = h.flats host object page ∙ sym (current isnt host is) ∙ sym (bytes_are header outside host object page past)
         by_kind true private =
             let row = led header outside task (c.address + next_page task past * header.size) past h.entries c.waits.at in
             let ours : is_private header outside c.waits.at.entry.region.0 ≡ true = region_private header outside c.waits.at.entry.region.0 (page_at header.size (c.address + next_page task past * header.size) c.waits.at.entry) object page past h.numbered row.is.made c.is_top private in
@@ -235,7 +250,7 @@ copied_cause header outside host task index object page target past h c current 
             let at : C.Tops (ground header outside) c.waits.at.entry.region.0 (page_at header.size (c.address + next_page task past * header.size) c.waits.at.entry) object page (deeds header outside host past) =
             tops header outside host c.waits.at.entry.region.0 (page_at header.size (c.address + next_page task past * header.size) c.waits.at.entry) object page past used c.is_top (row.is.inside.each (c.address + next_page task past * header.size) row.from row.below) in
             let got : (D.spot (ground header outside) object page (deeds header outside host past)).bytes ≡ D.flat (ground header outside) c.waits.at.entry.region.0 (page_at header.size (c.address + next_page task past * header.size) c.waits.at.entry) (deeds header outside host past) =
-            load (ground header outside) c.waits.at.entry.region.0 (page_at header.size (c.address + next_page task past * header.size) c.waits.at.entry) 0 object page object page (deeds header outside host past) (h.worlds host) at (refl, refl) (here_is header outside host object page true past (subst (λ (k : ℕ). (spot header outside k object page past).here ≡ true) on c.here)) in
+            load (ground header outside) c.waits.at.entry.region.0 (page_at header.size (c.address + next_page task past * header.size) c.waits.at.entry) 0 object page object page (deeds header outside host past) (h.worlds host) at (refl, refl) (here_is header outside host object page true past (subst (λ (k : ℕ). (page_on header k object page past).here ≡ true) on c.here)) in
             let region_is : c.waits.at.entry.region.0 ≡ object = sym (h.numbered.declared_top c.waits.at.entry.region.0 c.declared) ∙ c.is_top.object in
             let page_is : page_at header.size (c.address + next_page task past * header.size) c.waits.at.entry ≡ page = omega (arith, h.numbered.declared_shift c.waits.at.entry.region.0 c.declared, c.is_top.page) in
             sym (got ∙ ap (λ k. D.flat (ground header outside) k (page_at header.size (c.address + next_page task past * header.size) c.waits.at.entry) (deeds header outside host past)) region_is ∙ ap (λ q. D.flat (ground header outside) object q (deeds header outside host past)) page_is)
@@ -252,8 +267,8 @@ copied_cause header outside host task index object page target past h c current 
               record {
                 tops = tops header outside host c.region index target index past (subst (λ (k : ℕ). in_use header outside k c.region past ≡ true) on (f.used_here (later_told header outside target later private))) (record { object = f.top; page = omega (arith, f.shift) }) c.inside;
                 unmarked = mark_is header outside host c.region past f.mark;
-                away = here_is header outside host target index false past (subst (λ (k : ℕ). (spot header outside k target index past).here ≡ false) on c.away);
-                unasked = ap (λ (s : Spot). s.asked) (spot_is header outside host target index past) ∙ subst (λ (k : ℕ). (spot header outside k target index past).asked ≡ false) on c.unasked;
+                away = here_is header outside host target index false past (subst (λ (k : ℕ). (page_on header k target index past).here ≡ false) on c.away);
+                unasked = asked_is header outside host target index false past (subst (λ (k : ℕ). (page_on header k target index past).asked ≡ false) on c.unasked);
                 plain = plain_spot header outside host target index past later;
                 same = by_kind (is_private header outside object) refl;
               },
@@ -265,18 +280,18 @@ dropped_cause header outside host at object page past h c ours =
     let drops : L.Drops header outside host object page past = subst (λ (k : ℕ). L.Drops header outside k object page past) (number_is at.0 host ours.on_host) (c ours.covered) in
     (here_is header outside host object page true past drops.here, leaves drops.why)
   where
-    clean : (spot header outside host object page past).dirty ≡ false → (D.spot (ground header outside) object page (deeds header outside host past)).dirty ≡ false
-    clean is = ap (λ (s : Spot). s.dirty) (spot_is header outside host object page past) ∙ is
+    clean : (page_on header host object page past).dirty ≡ false → (D.spot (ground header outside) object page (deeds header outside host past)).dirty ≡ false
+    clean is = dirty_is header outside host object page false past is
 
     spared : (returns : ℕ) (b : Bool) → returns ≡ 2 → L.gives_back returns b ≡ false → b ≡ false
     spared returns b two is = grind (arith, nat_tests)
 
-    leaves : L.Leaves header outside host object page (spot header outside host object page past).dirty past → ((D.spot (ground header outside) object page (deeds header outside host past)).dirty ≡ false) ⊎ (C.Reach (ground header outside) object (deeds header outside host past) → ⊥)
+    leaves : L.Leaves header outside host object page (page_on header host object page past).dirty past → ((D.spot (ground header outside) object page (deeds header outside host past)).dirty ≡ false) ⊎ (C.Reach (ground header outside) object (deeds header outside host past) → ⊥)
     leaves (L.Clean is) = inl (clean is)
     leaves (L.Unreached above gone) = inr (λ reached. gone (reach header outside host object past reached))
     leaves (L.Flushed f) =
         let two : f.returns ≡ 2 = h.locks.taken (record { host = host; object = object; page = f.first; count = f.count; returns = f.returns; flush = true }) ours.covered f.taken in
-        inl (clean (spared f.returns (spot header outside host object page past).dirty two f.spared))
+        inl (clean (spared f.returns (page_on header host object page past).dirty two f.spared))
 
 may : (header : Header) (outside : Outside) (host o p : ℕ) (past : List Event) (P : Spot → Type 0) → P (spot header outside host o p past) → P (D.spot (ground header outside) o p (deeds header outside host past))
 may header outside host o p past P is = subst P (sym (spot_is header outside host o p past)) is
@@ -285,13 +300,17 @@ control_here : (header : Header) (outside : Outside) (host o p n : ℕ) (past : 
 control_here header outside host o p n past is = control_is (ground header outside) o p (deeds header outside host past) ∙ control_tie header outside host o past ∙ is
 
 -- what is here belongs to an object that was made
-born : (header : Header) (outside : Outside) (host o p : ℕ) (past : List Event) → Holds header outside past → is_private header outside o ≡ true → (spot header outside host o p past).here ≡ true → o < D.objects (ground header outside) (deeds header outside host past)
+born : (header : Header) (outside : Outside) (host o p : ℕ) (past : List Event) → Holds header outside past → is_private header outside o ≡ true → (page_on header host o p past).here ≡ true → o < D.objects (ground header outside) (deeds header outside host past)
 born header outside host o p past h ours here = ⊎_elim (λ less. less)
     (λ le. absurd (clash (D.spot (ground header outside) o p (deeds header outside host past)).here (((h.worlds host).places o p ours).blank le).0 (here_is header outside host o p true past here)))
     (cases_lt o (D.objects (ground header outside) (deeds header outside host past)))
 
+both_hold : (a b : Bool) → (a && b) ≡ true → (a ≡ true) × (b ≡ true)
+both_hold true b is = (refl, is)
+both_hold false b is = absurd (cc)
+
 up_cause : (header : Header) (outside : Outside) (host : ℕ) (at : HostId) (object : ℕ) (m : Message) (past : List Event) → Holds header outside past → (is_private header outside object ≡ true → MaySendUp header outside at.0 object m past)
-    → Cause (ground header outside) (up_deed (at.0 == host) object m) (deeds header outside host past)
+    → Cause (ground header outside) (up_deed (at.0 == host) (live_control host object past) object m) (deeds header outside host past)
 up_cause header outside host at object (message.Init number size) past h c = λ ours.
     let may_send : MaySendUp header outside host object (message.Init number size) past = subst (λ (k : ℕ). MaySendUp header outside k object (message.Init number size) past) (number_is at.0 host ours.on_host) (c ours.covered) in
     (omega (arith, may_send.declared, h.numbered.later_objects, objects_is header outside host past), control_tie header outside host object past ∙ may_send.none)
@@ -300,26 +319,27 @@ up_cause header outside host at object (message.Create number size) past h c = �
     (born header outside host object may_send.3 past h ours.covered may_send.4, control_tie header outside host object past ∙ may_send.2)
 up_cause header outside host at object (message.Request number page access) past h c = λ ours.
     let asks : L.Asks header outside host number object page.0 past = subst (λ (k : ℕ). L.Asks header outside k number object page.0 past) (number_is at.0 host ours.on_host) (c ours.covered) in (
-      control_here header outside host object page.0 1 past asks.live,
+      control_here header outside host object page.0 1 past (has_control header host object number past asks.live),
       here_is header outside host object page.0 false past asks.away,
-      ap (λ (s : Spot). s.asked) (spot_is header outside host object page.0 past) ∙ asks.unasked,
-      ap (λ (s : Spot). s.absent) (spot_is header outside host object page.0 past) ∙ asks.known,
+      asked_is header outside host object page.0 false past asks.unasked,
+      ap (λ (s : Spot). s.absent) (spot_is header outside host object page.0 past) ∙ known_absent header outside past host object page.0 ours.covered ∙ asks.known,
+      control_counts host object number past asks.live,
     )
 up_cause header outside host at object (message.Return number page dirty keep bytes) past h c = λ ours.
     let back : L.GivesBack header outside host number object page.0 dirty bytes past = subst (λ (k : ℕ). L.GivesBack header outside k number object page.0 dirty bytes past) (number_is at.0 host ours.on_host) (c ours.covered) in (
-      control_here header outside host object page.0 1 past back.live,
+      control_here header outside host object page.0 1 past (has_control header host object number past back.live),
       here_is header outside host object page.0 true past back.here,
-      ap (λ (s : Spot). s.dirty) (spot_is header outside host object page.0 past) ∙ back.dirty,
-      back.same ∙ sym (ap (λ (s : Spot). s.bytes) (spot_is header outside host object page.0 past)),
+      dirty_is header outside host object page.0 true past back.dirty,
+      back.same ∙ sym (bytes_are header outside host object page.0 past),
     )
 up_cause header outside host at object (message.Terminate number) past h c = λ ours.
-    let ends : L.Ends header outside host number object past = subst (λ (k : ℕ). L.Ends header outside k number object past) (number_is at.0 host ours.on_host) (c ours.covered) in (
+    let ends : L.Ends header outside host number object past = subst (λ (k : ℕ). L.Ends header outside k number object past) (number_is at.0 host (both_hold (at.0 == host) (is_control number (live_control host object past)) ours.on_host).0) (c ours.covered) in (
       kind ends ours,
-      control_tie header outside host object past ∙ ends.live,
-      λ p. (here_is header outside host object p false past (ends.away p), ap (λ (s : Spot). s.asked) (spot_is header outside host object p past) ∙ ends.unasked p),
+      control_tie header outside host object past ∙ has_control header host object number past ends.live,
+      λ p. (here_is header outside host object p false past (ends.away p), asked_is header outside host object p false past (ends.unasked p)),
     )
   where
-    kind : L.Ends header outside host number object past → Ours (ground header outside) (at.0 == host) object → (C.Reach (ground header outside) object (deeds header outside host past) → ⊥) ⊎ (D.is_file (ground header outside) object ≡ true)
+    kind : L.Ends header outside host number object past → Ours (ground header outside) (at.0 == host && is_control number (live_control host object past)) object → (C.Reach (ground header outside) object (deeds header outside host past) → ⊥) ⊎ (D.is_file (ground header outside) object ≡ true)
     kind ends ours = by (D.is_file (ground header outside) object) refl
       where
         by : (b : Bool) → D.is_file (ground header outside) object ≡ b → (C.Reach (ground header outside) object (deeds header outside host past) → ⊥) ⊎ (b ≡ true)
@@ -330,13 +350,9 @@ up_cause header outside host at object (message.Terminate number) past h c = λ 
             above header outside o isnt private = grind (arith, nat_tests)
 up_cause header outside host at object m past h c = tt
 
-both_hold : (a b : Bool) → (a && b) ≡ true → (a ≡ true) × (b ≡ true)
-both_hold true b is = (refl, is)
-both_hold false b is = absurd (cc)
-
 -- a file is mapped on one host alone, and its region is its own
 tells_cause : (header : Header) (outside : Outside) (host : ℕ) (at : HostId) (object n page : ℕ) (past : List Event) → Holds header outside past → is_file header object ≡ true → L.Answers header outside at.0 object n page past
-    → (Ours (ground header outside) (at.0 == host && n == control_number host object past) object × C.OwnRegion (ground header outside) object (deeds header outside host past)) ⊎ C.Foreign (ground header outside) (at.0 == host && n == control_number host object past) object object (deeds header outside host past)
+    → (Ours (ground header outside) (at.0 == host && n == last_control host object past) object × C.OwnRegion (ground header outside) object (deeds header outside host past)) ⊎ C.Foreign (ground header outside) (at.0 == host && n == last_control host object past) object object (deeds header outside host past)
 tells_cause header outside host at object n page past h file a = by (at.0 == host) refl
   where
     private : is_private header outside object ≡ true
@@ -351,14 +367,14 @@ tells_cause header outside host at object n page past h file a = by (at.0 == hos
     live : control header at.0 object past ≡ 1
     live = sym (spot_control header outside at.0 object page past) ∙ live_sound (zeros header) (spot header outside at.0 object page past) (sound_of header outside at.0 object page past h.worlds private) a.unanswered
 
-    newest : n ≡ control_number at.0 object past
+    newest : n ≡ last_control at.0 object past
     newest = h.asked at.0 object n page private a.taken a.unanswered
 
     row_top : (r : ℕ) → D.Row
     row_top r = as_row (in_use header outside host r past) (region_of header r past)
 
     by : (b : Bool) → (at.0 == host) ≡ b
-        → (Ours (ground header outside) (b && n == control_number host object past) object × C.OwnRegion (ground header outside) object (deeds header outside host past)) ⊎ C.Foreign (ground header outside) (b && n == control_number host object past) object object (deeds header outside host past)
+        → (Ours (ground header outside) (b && n == last_control host object past) object × C.OwnRegion (ground header outside) object (deeds header outside host past)) ⊎ C.Foreign (ground header outside) (b && n == last_control host object past) object object (deeds header outside host past)
     by false isnt =
         inr (record {
           unused = ap (λ (w : D.Row). w.used) (row_is header outside host object past) ∙ h.homes at.0 object below private live host (λ e. absurd (grind (arith, nat_tests)));
@@ -366,7 +382,7 @@ tells_cause header outside host at object n page past h file a = by (at.0 == hos
         })
     by true is =
         let on : at.0 ≡ host = number_is at.0 host is in
-        let here : n ≡ control_number host object past = subst (λ (k : ℕ). n ≡ control_number k object past) on newest in
+        let here : n ≡ last_control host object past = subst (λ (k : ℕ). n ≡ last_control k object past) on newest in
         inl (
           record { on_host = grind (arith, nat_tests); covered = private },
           record {
@@ -398,36 +414,36 @@ file_private header outside o file = grind (arith, nat_tests)
 
 -- the pager's answer
 answer_cause : (header : Header) (outside : Outside) (host : ℕ) (at : HostId) (object n page : ℕ) (word : DownWord) (past : List Event) (b : Bool) → is_said header outside object ≡ b → Holds header outside past
-    → (is_private header outside object ≡ true → L.Answers header outside at.0 object n page past) → (Ours (ground header outside) (at.0 == host && n == control_number host object past) object → b ≡ false → May (zeros header) (spot header outside host object page past) (Answers false word))
-    → Cause (ground header outside) (D.Answered (at.0 == host && n == control_number host object past) b object page word) (deeds header outside host past)
+    → (is_private header outside object ≡ true → L.Answers header outside at.0 object n page past) → (Ours (ground header outside) (at.0 == host && n == last_control host object past) object → b ≡ false → May (zeros header) (spot header outside host object page past) (Answers false word))
+    → Cause (ground header outside) (D.Answered (at.0 == host && n == last_control host object past) b object page word) (deeds header outside host past)
 answer_cause header outside host at object n page word past false is h answers says = (λ ours. may header outside host object page past (λ s. May (zeros header) s (Answers false word)) (says ours refl), λ e. absurd (clash false refl e))
 answer_cause header outside host at object n page word past true is h answers says =
     let file : is_file header object ≡ true = said_file (are_untold outside.files) (is_file header object) is in (
       λ ours.
-          let a : L.Answers header outside host object n page past = subst (λ (k : ℕ). L.Answers header outside k object n page past) (number_is at.0 host (both_hold (at.0 == host) (n == control_number host object past) ours.on_host).0) (answers ours.covered) in
+          let a : L.Answers header outside host object n page past = subst (λ (k : ℕ). L.Answers header outside k object n page past) (number_is at.0 host (both_hold (at.0 == host) (n == last_control host object past) ours.on_host).0) (answers ours.covered) in
           (ap (λ (s : Spot). s.step) (spot_is header outside host object page past) ∙ a.unanswered, file_is (ground header outside) object page (deeds header outside host past) ∙ file),
       λ e. tells_cause header outside host at object n page past h file (answers (file_private header outside object file)),
     )
 
 down_cause : (header : Header) (outside : Outside) (host : ℕ) (at : HostId) (object n : ℕ) (m : Message) (past : List Event) → Holds header outside past → (is_private header outside object ≡ true → MaySendDown header outside at.0 object n m past)
-    → Cause (ground header outside) (down_deed (at.0 == host && n == control_number host object past) (is_said header outside object) object m) (deeds header outside host past)
+    → Cause (ground header outside) (down_deed (at.0 == host && n == last_control host object past) (is_said header outside object) object m) (deeds header outside host past)
 down_cause header outside host at object n (message.Supply page lock precious bytes) past h c =
     answer_cause header outside host at object n page.0 (Supplying bytes) past (is_said header outside object) refl h (λ ours. (c ours).0)
     (λ ours said.
     let says : MaySendDown header outside host object n (message.Supply page lock precious bytes) past =
-    subst (λ (k : ℕ). MaySendDown header outside k object n (message.Supply page lock precious bytes) past) (number_is at.0 host (both_hold (at.0 == host) (n == control_number host object past) ours.on_host).0) (c ours.covered) in
+    subst (λ (k : ℕ). MaySendDown header outside k object n (message.Supply page lock precious bytes) past) (number_is at.0 host (both_hold (at.0 == host) (n == last_control host object past) ours.on_host).0) (c ours.covered) in
     (says.0.unanswered, says.1 said))
 down_cause header outside host at object n (message.Unavailable page) past h c =
     answer_cause header outside host at object n page.0 Unavailing past (is_said header outside object) refl h (λ ours. (c ours).0)
     (λ ours said.
     let says : MaySendDown header outside host object n (message.Unavailable page) past =
-    subst (λ (k : ℕ). MaySendDown header outside k object n (message.Unavailable page) past) (number_is at.0 host (both_hold (at.0 == host) (n == control_number host object past) ours.on_host).0) (c ours.covered) in
+    subst (λ (k : ℕ). MaySendDown header outside k object n (message.Unavailable page) past) (number_is at.0 host (both_hold (at.0 == host) (n == last_control host object past) ours.on_host).0) (c ours.covered) in
     (says.0.unanswered, says.1 said))
 down_cause header outside host at object n (message.Error page reason) past h c =
     answer_cause header outside host at object n page.0 Erring past (is_said header outside object) refl h c
     (λ ours said.
     let says : MaySendDown header outside host object n (message.Error page reason) past =
-    subst (λ (k : ℕ). MaySendDown header outside k object n (message.Error page reason) past) (number_is at.0 host (both_hold (at.0 == host) (n == control_number host object past) ours.on_host).0) (c ours.covered) in
+    subst (λ (k : ℕ). MaySendDown header outside k object n (message.Error page reason) past) (number_is at.0 host (both_hold (at.0 == host) (n == last_control host object past) ours.on_host).0) (c ours.covered) in
     says.unanswered)
 down_cause header outside host at object n m past h c = tt
 
@@ -454,18 +470,18 @@ taken_up_cause header outside host at object (message.Return number page dirty k
     (same_page page.0 (Returning bytes ∷ up_words page.0 (rest (queue (Up at object) past))) (up_words page.0 (rest (queue (Up at object) past)))))
 taken_up_cause header outside host at object m past h head = tt
 
-first_down : (header : Header) (outside : Outside) (host : ℕ) (at : HostId) (object : ObjectId) (n p : ℕ) (m : Message) (w : DownWord) (past : List Event) → Holds header outside past → is_private header outside object.0 ≡ true → (at.0 == host && n == control_number host object.0 past) ≡ true
+first_down : (header : Header) (outside : Outside) (host : ℕ) (at : HostId) (object : ObjectId) (n p : ℕ) (m : Message) (w : DownWord) (past : List Event) → Holds header outside past → is_private header outside object.0 ≡ true → (at.0 == host && n == last_control host object.0 past) ≡ true
     → first (queue (Down at object n) past) ≡ Some m → down_words p (m ∷ rest (queue (Down at object n) past)) ≡ w ∷ down_words p (rest (queue (Down at object n) past))
     → first (spot header outside host object.0 p past).down ≡ Some w
 first_down header outside host at object n p m w past h ours own head word =
-    let on : at.0 ≡ host = number_is at.0 host (both_hold (at.0 == host) (n == control_number host object.0 past) own).0 in
-    let newest : (n == control_number at.0 object.0 past) ≡ true = subst (λ (k : ℕ). (n == control_number k object.0 past) ≡ true) (sym on) (both_hold (at.0 == host) (n == control_number host object.0 past) own).1 in
+    let on : at.0 ≡ host = number_is at.0 host (both_hold (at.0 == host) (n == last_control host object.0 past) own).0 in
+    let newest : (n == last_control at.0 object.0 past) ≡ true = subst (λ (k : ℕ). (n == last_control k object.0 past) ≡ true) (sym on) (both_hold (at.0 == host) (n == last_control host object.0 past) own).1 in
     let all : down_words p (queue (Down at object n) past) ≡ (spot header outside at.0 object.0 p past).down = h.downs at.0 object.0 ours n p ∙ ap (λ b. down_of b (spot header outside at.0 object.0 p past)) newest in
     subst (λ (k : ℕ). first (spot header outside k object.0 p past).down ≡ Some w) on
     (ap (λ q. first q) (sym all ∙ ap (λ q. down_words p q) (first_rest (queue (Down at object n) past) m head) ∙ word))
 
 taken_down_cause : (header : Header) (outside : Outside) (host : ℕ) (at : HostId) (object : ObjectId) (n : ℕ) (m : Message) (past : List Event) → Holds header outside past → first (queue (Down at object n) past) ≡ Some m
-    → Cause (ground header outside) (taken_down_deed (at.0 == host && n == control_number host object.0 past) object.0 m) (deeds header outside host past)
+    → Cause (ground header outside) (taken_down_deed (at.0 == host && n == last_control host object.0 past) object.0 m) (deeds header outside host past)
 taken_down_cause header outside host at object n (message.Supply page lock precious bytes) past h head = λ ours.
     may header outside host object.0 page.0 past (λ s. May (zeros header) s (Takes (Supplying bytes)))
     (first_down header outside host at object n page.0 (message.Supply page lock precious bytes) (Supplying bytes) past h ours.covered ours.on_host head

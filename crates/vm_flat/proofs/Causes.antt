@@ -109,7 +109,7 @@ Cause z (Copied own source index object page region i upper upper_page) past =
     (Ours z own upper × CopiesThere z source index object page region i upper upper_page past) ⊎ Foreign z own region upper past
 Cause z (Dropped own object page) past = Ours z own object → ((spot z object page past).here ≡ true) × (((spot z object page past).dirty ≡ false) ⊎ (Reach z object past → ⊥))
 Cause z (Created own object) past = Ours z own object → (object < objects z past) × (control z object past ≡ 0)
-Cause z (Asked own object page) past = Ours z own object → May z.zeros (spot z object page past) Requests
+Cause z (Asked own lives object page) past = Ours z own object → May z.zeros (spot z object page past) (Requests lives)
 Cause z (Returned own object page keep bytes) past = Ours z own object → May z.zeros (spot z object page past) (Returns keep bytes)
 Cause z (TookRequest own object page) past = Ours z own object → May z.zeros (spot z object page past) TakesRequest
 Cause z (TookReturn own object page bytes) past = Ours z own object → May z.zeros (spot z object page past) (TakesReturn bytes)

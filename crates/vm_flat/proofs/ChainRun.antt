@@ -173,7 +173,7 @@ licensed_6 : AllLicensed header outside past_6
 licensed_6 = (tt, licensed_5)
 
 licensed_7 : AllLicensed header outside past_7
-licensed_7 = (λ ours. inr (record { task = 0; access = Storing 0 1 1; waits = record { waits = refl; at = record { host = 0; entry = parent; lives = refl; found = refl } }; on_host = refl; temporary = omega arith; unmarked = λ store. refl; is_top = record { object = refl; page = refl }; steps = 0; sinks = (record { away = refl; unasked = refl; without = λ e. absurd (omega (arith, e)) }, refl) }), licensed_6)
+licensed_7 = (λ ours. inr (record { task = 0; access = Storing 0 1 1; waits = record { waits = refl; at = record { host = 0; entry = parent; lives = refl; found = refl } }; on_host = refl; temporary = omega arith; unmarked = λ store. refl; is_top = record { object = refl; page = refl }; steps = 0; sinks = (record { away = refl; unasked = refl; without = refl }, refl) }), licensed_6)
 
 licensed_8 : AllLicensed header outside past_8
 licensed_8 = (record { address = 0; waits = record { waits = refl; at = record { host = 0; entry = parent; lives = refl; found = refl } }; is_top = record { object = refl; page = refl }; unmarked = refl; here = refl; place = refl }, licensed_7)
@@ -185,7 +185,7 @@ licensed_10 : AllLicensed header outside past_10
 licensed_10 = (tt, licensed_9)
 
 licensed_11 : AllLicensed header outside past_11
-licensed_11 = (λ ours. inr (record { task = 0; access = Storing 18 2 777; waits = record { waits = refl; at = record { host = 0; entry = parent; lives = refl; found = refl } }; on_host = refl; temporary = omega arith; unmarked = λ store. refl; is_top = record { object = refl; page = refl }; steps = 0; sinks = (record { away = refl; unasked = refl; without = λ e. absurd (omega (arith, e)) }, refl) }), licensed_10)
+licensed_11 = (λ ours. inr (record { task = 0; access = Storing 18 2 777; waits = record { waits = refl; at = record { host = 0; entry = parent; lives = refl; found = refl } }; on_host = refl; temporary = omega arith; unmarked = λ store. refl; is_top = record { object = refl; page = refl }; steps = 0; sinks = (record { away = refl; unasked = refl; without = refl }, refl) }), licensed_10)
 
 licensed_12 : AllLicensed header outside past_12
 licensed_12 = (record { address = 18; waits = record { waits = refl; at = record { host = 0; entry = parent; lives = refl; found = refl } }; is_top = record { object = refl; page = refl }; unmarked = refl; here = refl; place = refl }, licensed_11)
@@ -212,7 +212,7 @@ licensed_19 : AllLicensed header outside past_19
 licensed_19 = (record { next = refl; is_top = refl; marked = refl; task = 1; address = 0; bytes = 1; value = 2; waits = record { waits = refl; at = record { host = 0; entry = child; lives = refl; found = refl } }; region_is = refl }, licensed_18)
 
 licensed_20 : AllLicensed header outside past_20
-licensed_20 = (record { task = 1; address = 0; bytes = 1; value = 2; waits = record { waits = refl; at = record { host = 0; entry = child; lives = refl; found = refl } }; on_host = refl; unmarked = refl; is_top = record { object = refl; page = refl }; steps = 0; walks = (record { away = refl; unasked = refl; without = λ e. absurd (omega (arith, e)) }, refl, (refl, refl)); here = refl }, licensed_19)
+licensed_20 = (record { task = 1; address = 0; bytes = 1; value = 2; waits = record { waits = refl; at = record { host = 0; entry = child; lives = refl; found = refl } }; on_host = refl; unmarked = refl; is_top = record { object = refl; page = refl }; steps = 0; walks = (record { away = refl; unasked = refl; without = refl }, refl, (refl, refl)); here = refl }, licensed_19)
 
 licensed_21 : AllLicensed header outside past_21
 licensed_21 = (record { address = 0; waits = record { waits = refl; at = record { host = 0; entry = child; lives = refl; found = refl } }; is_top = record { object = refl; page = refl }; unmarked = refl; here = refl; place = refl }, licensed_20)
@@ -239,7 +239,7 @@ licensed_28 : AllLicensed header outside past_28
 licensed_28 = (record { next = refl; is_top = refl; marked = refl; task = 2; address = 1; bytes = 1; value = 3; waits = record { waits = refl; at = record { host = 0; entry = grandchild; lives = refl; found = refl } }; region_is = refl }, licensed_27)
 
 licensed_29 : AllLicensed header outside past_29
-licensed_29 = (record { task = 2; address = 1; bytes = 1; value = 3; waits = record { waits = refl; at = record { host = 0; entry = grandchild; lives = refl; found = refl } }; on_host = refl; unmarked = refl; is_top = record { object = refl; page = refl }; steps = 0; walks = (record { away = refl; unasked = refl; without = λ e. absurd (omega (arith, e)) }, refl, (refl, refl)); here = refl }, licensed_28)
+licensed_29 = (record { task = 2; address = 1; bytes = 1; value = 3; waits = record { waits = refl; at = record { host = 0; entry = grandchild; lives = refl; found = refl } }; on_host = refl; unmarked = refl; is_top = record { object = refl; page = refl }; steps = 0; walks = (record { away = refl; unasked = refl; without = refl }, refl, (refl, refl)); here = refl }, licensed_28)
 
 licensed_30 : AllLicensed header outside past_30
 licensed_30 = (record { address = 1; waits = record { waits = refl; at = record { host = 0; entry = grandchild; lives = refl; found = refl } }; is_top = record { object = refl; page = refl }; unmarked = refl; here = refl; place = refl }, licensed_29)
@@ -251,7 +251,7 @@ licensed_32 : AllLicensed header outside past_32
 licensed_32 = (tt, licensed_31)
 
 licensed_33 : AllLicensed header outside past_33
-licensed_33 = (record { address = 18; bytes = 2; waits = record { waits = refl; at = record { host = 0; entry = grandchild; lives = refl; found = refl } }; comes = record { top = 2; top_page = 1; steps = 2; is_top = record { object = refl; page = refl }; walks = (record { away = refl; unasked = refl; without = λ e. absurd (omega (arith, e)) }, refl, (record { away = refl; unasked = refl; without = λ e. absurd (omega (arith, e)) }, refl, (refl, refl))) }; here = refl; number = refl }, licensed_32)
+licensed_33 = (record { address = 18; bytes = 2; waits = record { waits = refl; at = record { host = 0; entry = grandchild; lives = refl; found = refl } }; comes = record { top = 2; top_page = 1; steps = 2; is_top = record { object = refl; page = refl }; walks = (record { away = refl; unasked = refl; without = refl }, refl, (record { away = refl; unasked = refl; without = refl }, refl, (refl, refl))) }; here = refl; number = refl }, licensed_32)
 
 licensed_34 : AllLicensed header outside past_34
 licensed_34 = (tt, licensed_33)

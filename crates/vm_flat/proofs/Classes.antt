@@ -12,7 +12,7 @@ use Rattle.vm_model.specs.Named.{named, declared, declared_pages}
 use Rattle.vm_flat.specs.Declared.{is_file_kept, zeros, is_said, start_page}
 use Rattle.vm_flat.specs.Tasks.{lives_on}
 use Rattle.vm_flat.specs.Regions.{is_kept, made_here}
-use Rattle.vm_flat.specs.Places.{control_number}
+use Rattle.vm_model.specs.Controls.{is_control, last_control, live_control}
 use Rattle.vm_flat.specs.Flat.{Change, change_of, made_over}
 use Rattle.vm_flat.specs.Words.{DownWord, Supplying, Unavailing, Erring}
 use Rattle.vm_flat.specs.Declared.{Outside}
@@ -21,13 +21,13 @@ use Rattle.vm_flat.proofs.Deeds.{Ground, Deed, Line, Region, Cow, Kept, Shadowed
 abbrev pub ground : Header → Outside → Ground
 ground header outside = record { zeros = zeros header; named = named header; file = λ o. is_file_kept (declared header o); paging = outside.paging; start = λ o p. start_page header outside o p; length = λ o. declared_pages header o }
 
-abbrev pub up_deed : Bool → ℕ → Message → Deed
-up_deed own object (message.Init control size) = Created own object
-up_deed own object (message.Create control size) = Created own object
-up_deed own object (message.Request control page access) = Asked own object page.0
-up_deed own object (message.Return control page dirty keep bytes) = Returned own object page.0 keep bytes
-up_deed own object (message.Terminate control) = Terminated own object
-up_deed own object other = Elsewhere
+abbrev pub up_deed : Bool → Option ℕ → ℕ → Message → Deed
+up_deed own live object (message.Init control size) = Created own object
+up_deed own live object (message.Create control size) = Created own object
+up_deed own live object (message.Request control page access) = Asked own (is_control control live) object page.0
+up_deed own live object (message.Return control page dirty keep bytes) = Returned own object page.0 keep bytes
+up_deed own live object (message.Terminate control) = Terminated (own && is_control control live) object
+up_deed own live object other = Elsewhere
 
 abbrev pub taken_up_deed : Bool → ℕ → Message → Deed
 taken_up_deed own object (message.Request control page access) = TookRequest own object page.0
@@ -74,10 +74,10 @@ deed header outside host (event.Stored task object page at size value) past =
 deed header outside host (event.CopiedPage task page object object_page target) past =
     Copied (lives_on host task.0 past) object.0 object_page.0 object.0 object_page.0 (number_or_zero (made_over target.0 past)) page.0 target.0 page.0
 deed header outside host (event.Dropped at object page) past = Dropped (at.0 == host) object.0 page.0
-deed header outside host (event.Sent (Up at object) m) past = up_deed (at.0 == host) object.0 m
-deed header outside host (event.Sent (Down at object control) m) past = down_deed (at.0 == host && control == control_number host object.0 past) (is_said header outside object.0) object.0 m
+deed header outside host (event.Sent (Up at object) m) past = up_deed (at.0 == host) (live_control host object.0 past) object.0 m
+deed header outside host (event.Sent (Down at object control) m) past = down_deed (at.0 == host && control == last_control host object.0 past) (is_said header outside object.0) object.0 m
 deed header outside host (event.Taken (Up at object) m) past = taken_up_deed (at.0 == host) object.0 m
-deed header outside host (event.Taken (Down at object control) m) past = taken_down_deed (at.0 == host && control == control_number host object.0 past) object.0 m
+deed header outside host (event.Taken (Down at object control) m) past = taken_down_deed (at.0 == host && control == last_control host object.0 past) object.0 m
 deed header outside host other past = Elsewhere
 
 abbrev pub deeds : Header → Outside → ℕ → List Event → List Deed
@@ -86,14 +86,14 @@ deeds header outside host (e ∷ past) = deed header outside host e past ∷ dee
 
 -- by cases on the message
 
-pub up_case : (P : Deed → Type 0) → ((own : Bool) (o : ℕ) → P (Created own o)) → ((own : Bool) (o p : ℕ) → P (Asked own o p)) → ((own : Bool) (o p : ℕ) (keep : Bool) (bytes : List ℕ) → P (Returned own o p keep bytes)) → ((own : Bool) (o : ℕ) → P (Terminated own o)) → P Elsewhere
-    → (own : Bool) (object : ℕ) (m : Message) → P (up_deed own object m)
-up_case P a b c d e own object (message.Init control size) = a own object
-up_case P a b c d e own object (message.Create control size) = a own object
-up_case P a b c d e own object (message.Request control page access) = b own object page.0
-up_case P a b c d e own object (message.Return control page dirty keep bytes) = c own object page.0 keep bytes
-up_case P a b c d e own object (message.Terminate control) = d own object
-up_case P a b c d e own object other = e
+pub up_case : (P : Deed → Type 0) → ((own : Bool) (o : ℕ) → P (Created own o)) → ((own lives : Bool) (o p : ℕ) → P (Asked own lives o p)) → ((own : Bool) (o p : ℕ) (keep : Bool) (bytes : List ℕ) → P (Returned own o p keep bytes)) → ((own : Bool) (o : ℕ) → P (Terminated own o)) → P Elsewhere
+    → (own : Bool) (live : Option ℕ) (object : ℕ) (m : Message) → P (up_deed own live object m)
+up_case P a b c d e own live object (message.Init control size) = a own object
+up_case P a b c d e own live object (message.Create control size) = a own object
+up_case P a b c d e own live object (message.Request control page access) = b own (is_control control live) object page.0
+up_case P a b c d e own live object (message.Return control page dirty keep bytes) = c own object page.0 keep bytes
+up_case P a b c d e own live object (message.Terminate control) = d (own && is_control control live) object
+up_case P a b c d e own live object other = e
 
 pub taken_up_case : (P : Deed → Type 0) → ((own : Bool) (o p : ℕ) → P (TookRequest own o p)) → ((own : Bool) (o p : ℕ) (bytes : List ℕ) → P (TookReturn own o p bytes)) → P Line
     → (own : Bool) (object : ℕ) (m : Message) → P (taken_up_deed own object m)

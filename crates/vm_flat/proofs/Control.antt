@@ -9,7 +9,7 @@ use Rattle.vm_flat.proofs.World.{each_place}
 use Rattle.vm_flat.proofs.File.{file_is}
 
 same : (z : Ground) (o p : ℕ) (own : Bool) (k q : ℕ) (mine other : Effect) (past : List Deed) → (move z.zeros (spot z k q past) mine).control ≡ control z k past → ((o p : ℕ) → (move z.zeros (spot z o p past) other).control ≡ control z o past)
-    → (move z.zeros (spot z o p past) (if own && (o == k && p == q) then mine else other)).control ≡ control z o past
+    → (move z.zeros (spot z o p past) (if own && (k == o && q == p) then mine else other)).control ≡ control z o past
 same z o p own k q mine other past at rest = each_place (λ o p e. (move z.zeros (spot z o p past) e).control ≡ control z o past) k q own mine other (λ is. at) rest o p
 
 object_is : (z : Ground) (o p n : ℕ) (mine : Effect) (past : List Deed) (b : Bool) → (spot z o p past).control ≡ control z o past → (move z.zeros (spot z o p past) mine).control ≡ n
@@ -30,11 +30,11 @@ control_is z o p (Zeroed own k q ∷ past) = same z o p own k q Zeroes Nothing p
 control_is z o p (Raised own l lp k q ∷ past) = same z o p own k q (Raises (spot z l lp past).bytes) Nothing past (control_is z k q past) (λ o p. control_is z o p past)
 control_is z o p (Stored own r i k q at bytes ∷ past) = same z o p own k q (Stores at bytes) Nothing past (control_is z k q past) (λ o p. control_is z o p past)
 control_is z o p (Dropped own k q ∷ past) = same z o p own k q Drops Nothing past (control_is z k q past) (λ o p. control_is z o p past)
-control_is z o p (Asked own k q ∷ past) = same z o p own k q Requests Nothing past (control_is z k q past) (λ o p. control_is z o p past)
+control_is z o p (Asked own lives k q ∷ past) = same z o p own k q (Requests lives) Nothing past (control_is z k q past) (λ o p. control_is z o p past)
 control_is z o p (Returned own k q keep bytes ∷ past) = same z o p own k q (Returns keep bytes) Nothing past (control_is z k q past) (λ o p. control_is z o p past)
 control_is z o p (TookRequest own k q ∷ past) = same z o p own k q TakesRequest StepEnds past (control_is z k q past) (λ o p. control_is z o p past)
 control_is z o p (TookReturn own k q bytes ∷ past) = same z o p own k q (TakesReturn bytes) StepEnds past (control_is z k q past) (λ o p. control_is z o p past)
 control_is z o p (Answered own tells k q word ∷ past) = same z o p own k q (Answers tells word) Nothing past (control_is z k q past) (λ o p. control_is z o p past)
 control_is z o p (Took own k q word ∷ past) = same z o p own k q (Takes word) StepEnds past (takes_control z.zeros (spot z k q past) word ∙ control_is z k q past) (λ o p. control_is z o p past)
-control_is z o p (Created own k ∷ past) = object_is z o p 1 Creates past (own && o == k) (control_is z o p past) refl
-control_is z o p (Terminated own k ∷ past) = object_is z o p (if is_file z o then 0 else 2) Ends past (own && o == k) (control_is z o p past) (ap (λ (b : Bool). if b then 0 else 2) (file_is z o p past))
+control_is z o p (Created own k ∷ past) = object_is z o p 1 Creates past (own && k == o) (control_is z o p past) refl
+control_is z o p (Terminated own k ∷ past) = object_is z o p (if is_file z o then 0 else 2) Ends past (own && k == o) (control_is z o p past) (ap (λ (b : Bool). if b then 0 else 2) (file_is z o p past))

@@ -40,7 +40,7 @@ pub data Deed : Type 0 where
   Copied : (own : Bool) → (source : ℕ) → (index : ℕ) → (object : ℕ) → (page : ℕ) → (region : ℕ) → (i : ℕ) → (upper : ℕ) → (upper_page : ℕ) → Deed
   Dropped : (own : Bool) → (object : ℕ) → (page : ℕ) → Deed
   Created : (own : Bool) → (object : ℕ) → Deed
-  Asked : (own : Bool) → (object : ℕ) → (page : ℕ) → Deed
+  Asked : (own : Bool) → (lives : Bool) → (object : ℕ) → (page : ℕ) → Deed
   Returned : (own : Bool) → (object : ℕ) → (page : ℕ) → (keep : Bool) → (bytes : List ℕ) → Deed
   TookRequest : (own : Bool) → (object : ℕ) → (page : ℕ) → Deed
   TookReturn : (own : Bool) → (object : ℕ) → (page : ℕ) → (bytes : List ℕ) → Deed
@@ -143,7 +143,7 @@ pages z o (e ∷ past) = pages z o past
 -- places
 
 abbrev pub at_place : ℕ → ℕ → Bool → ℕ → ℕ → Effect → Effect → Effect
-at_place o p own object page mine other = if own && (o == object && p == page) then mine else other
+at_place o p own object page mine other = if own && (object == o && page == p) then mine else other
 
 abbrev pub effect : ℕ → ℕ → Deed → (ℕ → ℕ → Spot) → Effect
 effect o p Line spots = StepEnds
@@ -152,14 +152,14 @@ effect o p (Raised own lower lower_page upper upper_page) spots = at_place o p o
 effect o p (Stored own region index object page at bytes) spots = at_place o p own object page (Stores at bytes) Nothing
 effect o p (Copied own source index object page region i upper upper_page) spots = at_place o p own upper upper_page (Raises (spots object page).bytes) Nothing
 effect o p (Dropped own object page) spots = at_place o p own object page Drops Nothing
-effect o p (Created own object) spots = if own && o == object then Creates else Nothing
-effect o p (Asked own object page) spots = at_place o p own object page Requests Nothing
+effect o p (Created own object) spots = if own && object == o then Creates else Nothing
+effect o p (Asked own lives object page) spots = at_place o p own object page (Requests lives) Nothing
 effect o p (Returned own object page keep bytes) spots = at_place o p own object page (Returns keep bytes) Nothing
 effect o p (TookRequest own object page) spots = at_place o p own object page TakesRequest StepEnds
 effect o p (TookReturn own object page bytes) spots = at_place o p own object page (TakesReturn bytes) StepEnds
 effect o p (Answered own tells object page word) spots = at_place o p own object page (Answers tells word) Nothing
 effect o p (Took own object page word) spots = at_place o p own object page (Takes word) StepEnds
-effect o p (Terminated own object) spots = if own && o == object then Ends else Nothing
+effect o p (Terminated own object) spots = if own && object == o then Ends else Nothing
 effect o p e spots = Nothing
 
 abbrev pub spot : Ground → ℕ → ℕ → List Deed → Spot
@@ -169,8 +169,8 @@ spot z o p (e ∷ past) = move z.zeros (spot z o p past) (effect o p e (λ k q. 
 -- an object's control: 0 none, 1 live, 2 ended for ever
 abbrev pub control : Ground → ℕ → List Deed → ℕ
 control z o [] = 0
-control z o (Created own object ∷ past) = if own && o == object then 1 else control z o past
-control z o (Terminated own object ∷ past) = if own && o == object then (if is_file z o then 0 else 2) else control z o past
+control z o (Created own object ∷ past) = if own && object == o then 1 else control z o past
+control z o (Terminated own object ∷ past) = if own && object == o then (if is_file z o then 0 else 2) else control z o past
 control z o (e ∷ past) = control z o past
 
 -- the page that an answer gives

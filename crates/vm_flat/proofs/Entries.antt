@@ -17,7 +17,8 @@ use Rattle.vm_model.specs.declared.event.Event.TheVariants as event
 use Rattle.vm_model.specs.declared.script.Header.{Header}
 use Rattle.vm_model.specs.Tasks.{host_of, entries_of, has_entry}
 use Rattle.vm_flat.specs.Declared.{Outside, is_private}
-use Rattle.vm_flat.specs.Tasks.{is_host, lives_on}
+use Rattle.vm_model.specs.Local.{is_on}
+use Rattle.vm_flat.specs.Tasks.{lives_on}
 use Rattle.vm_model.specs.Regions.{next_region, region_of}
 use Rattle.vm_flat.specs.Regions.{made_here, in_use, is_kept}
 use Rattle.vm_flat.specs.Licences.{Enters}
@@ -54,14 +55,14 @@ clash b isnt is = cc
 some_is : (a b : ℕ) → ◌≡◌ {A = Option ℕ} (Some a) (Some b) → a ≡ b
 some_is a b e = cc
 
-is_some_host : (h g : ℕ) (o : Option ℕ) → o ≡ Some g → is_host h o ≡ (g == h)
-is_some_host h g o e = ap (is_host h) e
+is_some_host : (h g : ℕ) (o : Option ℕ) → o ≡ Some g → is_on h o ≡ (g == h)
+is_some_host h g o e = ap (is_on h) e
 
 lives_here : (task h : ℕ) (past : List Event) → host_of task past ≡ Some h → lives_on h task past ≡ true
-lives_here task h past lives = let e : is_host h (host_of task past) ≡ (h == h) = is_some_host h h (host_of task past) lives in grind (arith, nat_tests)
+lives_here task h past lives = let e : is_on h (host_of task past) ≡ (h == h) = is_some_host h h (host_of task past) lives in grind (arith, nat_tests)
 
 lives_else : (task h g : ℕ) (past : List Event) → host_of task past ≡ Some g → h ≢ g → lives_on h task past ≡ false
-lives_else task h g past lives apart = let e : is_host h (host_of task past) ≡ (g == h) = is_some_host h g (host_of task past) lives in grind (arith, nat_tests)
+lives_else task h g past lives apart = let e : is_on h (host_of task past) ≡ (g == h) = is_some_host h g (host_of task past) lives in grind (arith, nat_tests)
 
 -- parts of entries, and entries with another protection or inheritance
 

@@ -12,7 +12,7 @@ takes_file z s Erring = refl
 move_file : (z : List ℕ) (s : Spot) (e : Effect) → (move z s e).file ≡ s.file
 move_file z s (Takes word) = takes_file z s word
 move_file z s Creates = refl
-move_file z s Requests = refl
+move_file z s (Requests lives) = refl
 move_file z s (Returns keep bytes) = refl
 move_file z s TakesRequest = refl
 move_file z s (TakesReturn bytes) = refl

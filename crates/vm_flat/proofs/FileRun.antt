@@ -209,7 +209,7 @@ licensed_9 : AllLicensed header outside past_9
 licensed_9 = (refl, licensed_8)
 
 licensed_10 : AllLicensed header outside past_10
-licensed_10 = (λ ours. record { task = 0; access = Loading 64 2; waits = record { waits = refl; at = record { host = 0; entry = mapped; lives = refl; found = refl } }; on_host = refl; unmarked = λ store. refl; comes = record { top = 0; top_page = 0; steps = 0; is_top = record { object = refl; page = refl }; walks = (refl, refl) }; live = refl; number = refl; away = refl; unasked = refl; known = refl }, licensed_9)
+licensed_10 = (λ ours. record { task = 0; access = Loading 64 2; waits = record { waits = refl; at = record { host = 0; entry = mapped; lives = refl; found = refl } }; on_host = refl; unmarked = λ store. refl; comes = record { top = 0; top_page = 0; steps = 0; is_top = record { object = refl; page = refl }; walks = (refl, refl) }; live = refl; away = refl; unasked = refl; known = refl }, licensed_9)
 
 licensed_11 : AllLicensed header outside past_11
 licensed_11 = (refl, licensed_10)
@@ -248,7 +248,7 @@ licensed_22 : AllLicensed header outside past_22
 licensed_22 = (tt, licensed_21)
 
 licensed_23 : AllLicensed header outside past_23
-licensed_23 = (λ ours. inr (record { task = 0; access = Storing 0 1 7; waits = record { waits = refl; at = record { host = 0; entry = own; lives = refl; found = refl } }; on_host = refl; temporary = omega arith; unmarked = λ store. refl; is_top = record { object = refl; page = refl }; steps = 0; sinks = (record { away = refl; unasked = refl; without = λ e. absurd (omega (arith, e)) }, refl) }), licensed_22)
+licensed_23 = (λ ours. inr (record { task = 0; access = Storing 0 1 7; waits = record { waits = refl; at = record { host = 0; entry = own; lives = refl; found = refl } }; on_host = refl; temporary = omega arith; unmarked = λ store. refl; is_top = record { object = refl; page = refl }; steps = 0; sinks = (record { away = refl; unasked = refl; without = refl }, refl) }), licensed_22)
 
 licensed_24 : AllLicensed header outside past_24
 licensed_24 = (record { address = 0; waits = record { waits = refl; at = record { host = 0; entry = own; lives = refl; found = refl } }; is_top = record { object = refl; page = refl }; unmarked = refl; here = refl; place = refl }, licensed_23)
@@ -257,13 +257,13 @@ licensed_25 : AllLicensed header outside past_25
 licensed_25 = (tt, licensed_24)
 
 licensed_26 : AllLicensed header outside past_26
-licensed_26 = (λ ours. record { live = refl; number = refl; here = refl; dirty = refl; same = refl; flag = refl }, licensed_25)
+licensed_26 = (λ ours. record { live = refl; here = refl; dirty = refl; same = refl; flag = refl }, licensed_25)
 
 licensed_27 : AllLicensed header outside past_27
 licensed_27 = (λ ours. (refl, omega arith, refl, 0, refl), licensed_26)
 
 licensed_28 : AllLicensed header outside past_28
-licensed_28 = (λ ours. record { live = refl; number = refl; here = refl; dirty = refl; same = refl; flag = refl }, licensed_27)
+licensed_28 = (λ ours. record { live = refl; here = refl; dirty = refl; same = refl; flag = refl }, licensed_27)
 
 licensed_29 : AllLicensed header outside past_29
 licensed_29 = (refl, licensed_28)
@@ -290,7 +290,7 @@ licensed_36 : AllLicensed header outside past_36
 licensed_36 = (tt, licensed_35)
 
 licensed_37 : AllLicensed header outside past_37
-licensed_37 = (λ ours. record { task = 0; access = Loading 0 1; waits = record { waits = refl; at = record { host = 0; entry = own; lives = refl; found = refl } }; on_host = refl; unmarked = λ store. refl; comes = record { top = 1; top_page = 0; steps = 0; is_top = record { object = refl; page = refl }; walks = (refl, refl) }; live = refl; number = refl; away = refl; unasked = refl; known = refl }, licensed_36)
+licensed_37 = (λ ours. record { task = 0; access = Loading 0 1; waits = record { waits = refl; at = record { host = 0; entry = own; lives = refl; found = refl } }; on_host = refl; unmarked = λ store. refl; comes = record { top = 1; top_page = 0; steps = 0; is_top = record { object = refl; page = refl }; walks = (refl, refl) }; live = refl; away = refl; unasked = refl; known = refl }, licensed_36)
 
 licensed_38 : AllLicensed header outside past_38
 licensed_38 = (refl, licensed_37)
@@ -311,7 +311,7 @@ licensed_43 : AllLicensed header outside past_43
 licensed_43 = (tt, licensed_42)
 
 licensed_44 : AllLicensed header outside past_44
-licensed_44 = (λ ours. record { task = 0; access = Loading 64 2; waits = record { waits = refl; at = record { host = 0; entry = mapped; lives = refl; found = refl } }; on_host = refl; unmarked = λ store. refl; comes = record { top = 0; top_page = 0; steps = 0; is_top = record { object = refl; page = refl }; walks = (refl, refl) }; live = refl; number = refl; away = refl; unasked = refl; known = refl }, licensed_43)
+licensed_44 = (λ ours. record { task = 0; access = Loading 64 2; waits = record { waits = refl; at = record { host = 0; entry = mapped; lives = refl; found = refl } }; on_host = refl; unmarked = λ store. refl; comes = record { top = 0; top_page = 0; steps = 0; is_top = record { object = refl; page = refl }; walks = (refl, refl) }; live = refl; away = refl; unasked = refl; known = refl }, licensed_43)
 
 licensed_45 : AllLicensed header outside past_45
 licensed_45 = (refl, licensed_44)

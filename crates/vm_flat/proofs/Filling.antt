@@ -12,7 +12,8 @@ use Rattle.vm_model.specs.declared.script.Header.{Header}
 use Rattle.vm_model.specs.Tasks.{host_of, entries_of}
 use Rattle.vm_model.specs.Named.{named}
 use Rattle.vm_flat.specs.Declared.{Outside}
-use Rattle.vm_flat.specs.Tasks.{is_host, lives_on, tasks}
+use Rattle.vm_model.specs.Local.{is_on}
+use Rattle.vm_flat.specs.Tasks.{lives_on, tasks}
 use Rattle.vm_model.specs.Waiting.{Access, Loading, Storing, Copying, waiting, begins_copy, Target, copy_target, fills}
 use Rattle.vm_model.specs.Regions.{next_region, next_object, Region, region_of}
 use Rattle.vm_flat.specs.Regions.{made_here, in_use, is_kept, is_filled}
@@ -116,7 +117,7 @@ entry_apart header task address past at r none = (found_row (λ row. row.region.
 begun_here : (task host h : ℕ) (past : List Event) → begins_copy task past ≡ true → host_of task past ≡ Some host → made_here h past ≡ (host == h)
 begun_here task host h (event.BegunCopy owner address bytes to ∷ past) is lives =
     let e : owner.0 ≡ task = grind (arith, nat_tests) in
-    ap (λ k. is_host h (host_of k past)) e ∙ ap (λ o. is_host h o) lives
+    ap (λ k. is_on h (host_of k past)) e ∙ ap (λ o. is_on h o) lives
 begun_here task host h [] is lives = absurd (cc)
 begun_here task host h (e ∷ past) is lives = absurd (false_true is)
   where

@@ -64,11 +64,11 @@ good_creates z R U B v b w s g may born =
       blank = λ u. absurd (born u);
     }
 
-pub good_requests : (z : List ℕ) (R U B : Type 0) (v : List ℕ) (b : Bool) (w : List ℕ) (s : Spot) → Good z R U B v b w s → May z s Requests → Good z R U B v b w (move z s Requests)
-good_requests z R U B v b w s g may =
+pub good_requests : (z : List ℕ) (R U B : Type 0) (v : List ℕ) (b : Bool) (w : List ℕ) (s : Spot) (lives : Bool) → Good z R U B v b w s → May z s (Requests lives) → Good z R U B v b w (move z s (Requests lives))
+good_requests z R U B v b w s lives g may =
     record {
-      sound = keep_requests z s g.sound may;
-      fits = λ r. fits_same z B v b w s (move z s Requests) refl (λ none here. inl here) (g.fits r).living (g.fits r);
+      sound = keep_requests z s lives g.sound may;
+      fits = λ r. fits_same z B v b w s (move z s (Requests lives)) refl (λ none here. inl here) (g.fits r).living (g.fits r);
       blank = g.blank;
     }
 

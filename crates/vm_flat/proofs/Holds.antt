@@ -1,5 +1,6 @@
 -- What holds at every moment of a licensed history, and how its facts are those of one host's memory.
-use Rattle.std.proofs.Common.{ℕ, suc, zero, ◌≡◌, ◌+◌, ◌<◌, ◌≤◌, List, Bool, true, false, sym, ap, subst, ◌∙◌, arith, ⊎_elim}
+use Rattle.std.proofs.Common.{ℕ, suc, zero, ◌≡◌, ◌+◌, ◌<◌, ◌≤◌, List, Bool, true, false, refl, sym, ap, subst, ◌∙◌, arith, ⊎_elim, Option, Some, None, if◌then◌else◌}
+use Rattle.std.specs.Prelude.{not, nat_lt, is_some, ◌&&◌, ◌==◌}
 use Rattle.std.proofs.lemmas.Bool.{cases_lt}
 use Rattle.std.proofs.lemmas.Bool.Decides.{nat_tests}
 use Rattle.vm_model.specs.declared.event.Event.{Event}
@@ -10,7 +11,9 @@ use Rattle.vm_model.specs.Regions.{next_region, region_of, backing_of}
 use Rattle.vm_flat.specs.Regions.{in_use}
 use Rattle.vm_flat.specs.Spot.{Spot}
 use Rattle.vm_flat.proofs.Allowed.{Passed}
-use Rattle.vm_flat.specs.Places.{spot, control}
+use Rattle.vm_model.specs.Controls.{last_control, live_control}
+use Rattle.vm_flat.specs.Locals.{SpotIsLocal}
+use Rattle.vm_flat.specs.Places.{page_on, sight, spot, control}
 use Rattle.vm_model.specs.Chains as M
 use Rattle.vm_flat.specs.Walks as W
 use Rattle.vm_flat.specs.Walks.{IsTop, Passes}
@@ -24,6 +27,7 @@ use Rattle.vm_flat.proofs.Ties.{as_row, as_link, row_is, link_is, spot_is}
 use Rattle.vm_model.specs.Rows.{FoundRow, found_row}
 use Rattle.vm_flat.proofs.Entries.{Entries, OwnedAt, PrivateUsed}
 use Rattle.vm_flat.proofs.Filling.{Filling}
+use Rattle.vm_flat.proofs.Locals.{spot_is_local}
 use Rattle.vm_flat.proofs.Numbers.{NumberedAt, later_alike}
 use Rattle.vm_flat.proofs.Ports.{Worlds, Ups, UpNumbers, AskedBy, Downs, Locks}
 
@@ -91,17 +95,29 @@ plain_spot header outside host o p past above = file_is (ground header outside) 
 
 -- walks
 
-passed : (header : Header) (outside : Outside) (host o p : ℕ) (past : List Event) → named header ≤ o → Passes (spot header outside host o p past) → Passed (D.spot (ground header outside) o p (deeds header outside host past))
+-- a pager that has a live control and may not have the page is known not to have it
+absent_of : (live : Option ℕ) (number : ℕ) (below absent : Bool) → live ≡ Some number → (is_some live && not (not below && absent)) ≡ false → absent ≡ true
+absent_of live number below absent lives is = by below absent (subst (λ (l : Option ℕ). (is_some l && not (not below && absent)) ≡ false) lives is)
+  where
+    by : (b a : Bool) → not (not b && a) ≡ false → a ≡ true
+    by b true e = refl
+    by true false e = absurd (let bad : true ≡ false = e in cc)
+    by false false e = absurd (let bad : true ≡ false = e in cc)
+
+passed : (header : Header) (outside : Outside) (host o p : ℕ) (past : List Event) → named header ≤ o → Passes (sight header host o p past) → Passed (D.spot (ground header outside) o p (deeds header outside host past))
 passed header outside host o p past above passes =
     let same : D.spot (ground header outside) o p (deeds header outside host past) ≡ spot header outside host o p past = spot_is header outside host o p past in
+    let i : SpotIsLocal (is_file header o) (last_control host o past) (live_control host o past) (spot header outside host o p past) (page_on header host o p past) = spot_is_local header outside past host o p in
     record {
-      away = ap (λ (s : Spot). s.here) same ∙ passes.away;
+      away = ap (λ (s : Spot). s.here) same ∙ i.here ∙ passes.away;
       plain = plain_spot header outside host o p past above;
-      unasked = ap (λ (s : Spot). s.asked) same ∙ passes.unasked;
-      without = λ live. ap (λ (s : Spot). s.absent) same ∙ passes.without (sym (ap (λ (s : Spot). s.control) same) ∙ live);
+      unasked = ap (λ (s : Spot). s.asked) same ∙ i.asked ∙ passes.unasked;
+      without = λ lives.
+          let live : live_control host o past ≡ Some (last_control host o past) = sym i.control ∙ ap (λ (n : ℕ). if n == 1 then Some (last_control host o past) else None) (sym (ap (λ (s : Spot). s.control) same) ∙ lives) in
+          ap (λ (s : Spot). s.absent) same ∙ i.absent ∙ ap (λ (b : Bool). not b && (page_on header host o p past).absent) (not_file header o above) ∙ absent_of (live_control host o past) (last_control host o past) (nat_lt o (named header)) (page_on header host o p past).absent live passes.without;
     }
 
-pub walks : (header : Header) (outside : Outside) (host : ℕ) (past : List Event) → NumberedAt header past → (n o p l lp : ℕ) → W.Walks (λ k q. spot header outside host k q past) (λ k. backing_of header k past) n o p l lp
+pub walks : (header : Header) (outside : Outside) (host : ℕ) (past : List Event) → NumberedAt header past → (n o p l lp : ℕ) → W.Walks (λ k q. sight header host k q past) (λ k. backing_of header k past) n o p l lp
     → C.Walks (ground header outside) n o p l lp (deeds header outside host past)
 walks header outside host past num zero o p l lp walk = walk
 walks header outside host past num (suc n) o p l lp walk =
@@ -111,7 +127,7 @@ walks header outside host past num (suc n) o p l lp walk =
       subst (λ (x : D.Link). C.Walks (ground header outside) n x.under (x.shift + p) l lp (deeds header outside host past)) (sym same) (walks header outside host past num n (backing_of header o past).under ((backing_of header o past).shift + p) l lp walk.2),
     )
 
-pub sinks : (header : Header) (outside : Outside) (host : ℕ) (past : List Event) → NumberedAt header past → (n o p : ℕ) → named header ≤ o → W.Sinks (λ k q. spot header outside host k q past) (λ k. backing_of header k past) n o p
+pub sinks : (header : Header) (outside : Outside) (host : ℕ) (past : List Event) → NumberedAt header past → (n o p : ℕ) → named header ≤ o → W.Sinks (λ k q. sight header host k q past) (λ k. backing_of header k past) n o p
     → C.Sinks (ground header outside) n o p (deeds header outside host past)
 sinks header outside host past num zero o p above walk = (passed header outside host o p past above walk.0, ap (λ (x : D.Link). x.backed) (link_is header outside host o past) ∙ walk.1)
 sinks header outside host past num (suc n) o p above walk =

@@ -17,8 +17,8 @@ use Rattle.vm_model.specs.Bytes.{number_in}
 use Rattle.vm_flat.specs.Declared.{Outside, is_private, is_file, is_said}
 use Rattle.vm_flat.specs.Tasks.{lives_on}
 use Rattle.vm_flat.specs.Regions.{is_kept, made_here, in_use}
-use Rattle.vm_flat.specs.Spot.{Spot}
-use Rattle.vm_flat.specs.Places.{spot, control, control_number}
+use Rattle.vm_model.specs.Controls.{is_control, last_control, live_control}
+use Rattle.vm_flat.specs.Places.{page_on, control}
 use Rattle.vm_flat.specs.Flat.{Change, change_of, changed, made_over, is_number, answered, flat_page}
 use Rattle.vm_flat.specs.Licences as L
 use Rattle.vm_flat.specs.Licences.{Licensed, AllLicensed}
@@ -29,13 +29,12 @@ use Rattle.vm_flat.proofs.Regions.{if_no}
 use Rattle.vm_flat.proofs.World.{load}
 use Rattle.vm_flat.proofs.Worlds.{after, start}
 use Rattle.vm_flat.proofs.Classes.{ground, deed, deeds, down_deed, region_in, page_in, number_or_zero, up_case, taken_up_case, taken_down_case}
-use Rattle.vm_flat.proofs.Ties.{spot_is}
 use Rattle.vm_flat.proofs.Entries.{Entries, PrivateUsed, entries_task_made, entries_task_ended, entries_failed, entries_removed, entries_protected, entries_inherited, entries_region_made, entries_region_copied, entries_entered}
 use Rattle.vm_flat.proofs.Filling.{Filling, filling_next}
 use Rattle.vm_flat.proofs.Numbers.{NumberedAt, numbered_start, numbered_region_made, numbered_region_copied, numbered_shadowed, later_alike, told_private}
 use Rattle.vm_flat.proofs.Ports.{ups_start, ups_next, numbers_next, asked_next, downs_start, downs_next, locks_start, locks_next, private_there}
 use Rattle.vm_flat.proofs.Holds.{Holds, Homes, Flats, led, tops, walks}
-use Rattle.vm_flat.proofs.Caused.{cause, change_is, source_made, shadowed_made}
+use Rattle.vm_flat.proofs.Caused.{here_is, bytes_are, cause, change_is, source_made, shadowed_made}
 
 -- the flat map is that of the deeds
 
@@ -78,14 +77,14 @@ flats_next header outside (event.RegionCopied region source offset pages) past f
 flats_next header outside (event.Stored task object page at size value) past filling flats c host r i = flat_stored header outside host r i (lives_on host task.0 past) task.0 object.0 page.0 at size value past flats c
 flats_next header outside (event.CopiedPage task page object object_page target) past filling flats c host r i = flat_copied header outside host r i (lives_on host task.0 past) c.region page.0 object.0 object_page.0 target.0 past flats (filling task.0 c.waits.at.host c.address c.bytes c.to (record { region = c.region; object = target.0 }) c.waits.at.lives c.waits.waits c.filled).is_over
 flats_next header outside (event.Sent (Up at object) m) past filling flats c host r i =
-    up_case (λ d. D.flat (ground header outside) r i (d ∷ deeds header outside host past) ≡ D.flat (ground header outside) r i (deeds header outside host past)) (λ own o. refl) (λ own o p. refl) (λ own o p keep bytes. refl) (λ own o. refl) refl (at.0 == host) object.0 m
+    up_case (λ d. D.flat (ground header outside) r i (d ∷ deeds header outside host past) ≡ D.flat (ground header outside) r i (deeds header outside host past)) (λ own o. refl) (λ own lives o p. refl) (λ own o p keep bytes. refl) (λ own o. refl) refl (at.0 == host) (live_control host object.0 past) object.0 m
     ∙ flats host r i
-flats_next header outside (event.Sent (Down at object n) m) past filling flats c host r i = said_same header outside host r i (at.0 == host && n == control_number host object.0 past) (is_said header outside object.0) object.0 m past flats
+flats_next header outside (event.Sent (Down at object n) m) past filling flats c host r i = said_same header outside host r i (at.0 == host && n == last_control host object.0 past) (is_said header outside object.0) object.0 m past flats
 flats_next header outside (event.Taken (Up at object) m) past filling flats c host r i =
     taken_up_case (λ d. D.flat (ground header outside) r i (d ∷ deeds header outside host past) ≡ D.flat (ground header outside) r i (deeds header outside host past)) (λ own o p. refl) (λ own o p bytes. refl) refl (at.0 == host) object.0 m
     ∙ flats host r i
 flats_next header outside (event.Taken (Down at object n) m) past filling flats c host r i =
-    taken_down_case (λ d. D.flat (ground header outside) r i (d ∷ deeds header outside host past) ≡ D.flat (ground header outside) r i (deeds header outside host past)) (λ own o p word. refl) refl (at.0 == host && n == control_number host object.0 past) object.0 m
+    taken_down_case (λ d. D.flat (ground header outside) r i (d ∷ deeds header outside host past) ≡ D.flat (ground header outside) r i (deeds header outside host past)) (λ own o p word. refl) refl (at.0 == host && n == last_control host object.0 past) object.0 m
     ∙ flats host r i
 flats_next header outside e past filling flats c host r i = flats host r i
 
@@ -139,7 +138,7 @@ zero_one : (f : Bool) → ◌≡◌ {A = ℕ} (if f then 0 else 2) 1 → ⊥
 zero_one true e = omega (arith, e)
 zero_one false e = omega (arith, e)
 
-opened_home : (header : Header) (outside : Outside) (at object g o h : ℕ) (past : List Event) → Holds header outside past → (at == g && o == object) ≡ true → L.Opens header at object past → (h ≡ g → ⊥) → in_use header outside h o past ≡ false
+opened_home : (header : Header) (outside : Outside) (at object g o h : ℕ) (past : List Event) → Holds header outside past → (at == g && object == o) ≡ true → L.Opens header at object past → (h ≡ g → ⊥) → in_use header outside h o past ≡ false
 opened_home header outside at object g o h past w is c apart =
     let row = led header outside c.task c.address past w.entries c.at in
     let host_is : at ≡ g = grind (arith, nat_tests) in
@@ -148,17 +147,17 @@ opened_home header outside at object g o h past w is c apart =
     subst (λ (k : ℕ). in_use header outside h k past ≡ false) (c.region ∙ sym object_is) off
 
 homes_sent : (header : Header) (outside : Outside) (at : HostId) (object : ObjectId) (m : Message) (past : List Event) → Holds header outside past → (is_private header outside object.0 ≡ true → L.MaySendUp header outside at.0 object.0 m past) → Homes header outside (event.Sent (Up at object) m ∷ past)
-homes_sent header outside at object (message.Init number size) past w c g o less ours live h apart = by (at.0 == g && o == object.0) refl live
+homes_sent header outside at object (message.Init number size) past w c g o less ours live h apart = by (at.0 == g && object.0 == o) refl live
   where
-    by : (b : Bool) → (at.0 == g && o == object.0) ≡ b → (if b then 1 else control header g o past) ≡ 1 → in_use header outside h o past ≡ false
+    by : (b : Bool) → (at.0 == g && object.0 == o) ≡ b → (if b then 1 else control header g o past) ≡ 1 → in_use header outside h o past ≡ false
     by true is e = opened_home header outside at.0 object.0 g o h past w is (c (private_there header outside at.0 object.0 g o is ours)) apart
     by false is e = w.homes g o less ours e h apart
-homes_sent header outside at object (message.Create number size) past w c g o less ours live h apart = by (at.0 == g && o == object.0) refl live
+homes_sent header outside at object (message.Create number size) past w c g o less ours live h apart = by (at.0 == g && object.0 == o) refl live
   where
-    by : (b : Bool) → (at.0 == g && o == object.0) ≡ b → (if b then 1 else control header g o past) ≡ 1 → in_use header outside h o past ≡ false
+    by : (b : Bool) → (at.0 == g && object.0 == o) ≡ b → (if b then 1 else control header g o past) ≡ 1 → in_use header outside h o past ≡ false
     by true is e = let above = (c (private_there header outside at.0 object.0 g o is ours)).1 in let same : o ≡ object.0 = grind (arith, nat_tests) in absurd (omega (arith, above, same, less))
     by false is e = w.homes g o less ours e h apart
-homes_sent header outside at object (message.Terminate number) past w c g o less ours live h apart = by (at.0 == g && o == object.0) live
+homes_sent header outside at object (message.Terminate number) past w c g o less ours live h apart = by ((at.0 == g && is_control number (live_control g object.0 past)) && object.0 == o) live
   where
     by : (b : Bool) → (if b then (if is_file header o then 0 else 2) else control header g o past) ≡ 1 → in_use header outside h o past ≡ false
     by true e = absurd (zero_one (is_file header o) e)
@@ -224,15 +223,15 @@ loaded : (header : Header) (outside : Outside) (e : Event) (past : List Event) �
 loaded header outside (event.Loaded task object page value) past h c =
     record { address = c.address; bytes = c.bytes; waits = c.waits; number = λ ours. c.number ∙ ap (λ x. number_in x header.size c.address c.bytes) (same ours) }
   where
-    same : is_private header outside c.waits.at.entry.region.0 ≡ true → (spot header outside c.waits.at.host object.0 page.0 past).bytes ≡ flat_page header outside c.waits.at.entry.region.0 (page_at header.size c.address c.waits.at.entry) past
+    same : is_private header outside c.waits.at.entry.region.0 ≡ true → (page_on header c.waits.at.host object.0 page.0 past).bytes ≡ flat_page header outside c.waits.at.entry.region.0 (page_at header.size c.address c.waits.at.entry) past
     same ours =
         let row = led header outside task.0 c.address past h.entries c.waits.at in
         let at : C.Tops (ground header outside) c.waits.at.entry.region.0 (page_at header.size c.address c.waits.at.entry) c.comes.top c.comes.top_page (deeds header outside c.waits.at.host past) =
         tops header outside c.waits.at.host c.waits.at.entry.region.0 (page_at header.size c.address c.waits.at.entry) c.comes.top c.comes.top_page past (row.is.used_here ours) c.comes.is_top (row.is.inside.each c.address row.from row.below) in
         let got = load (ground header outside) c.waits.at.entry.region.0 (page_at header.size c.address c.waits.at.entry) c.comes.steps c.comes.top c.comes.top_page object.0 page.0 (deeds header outside c.waits.at.host past) (h.worlds c.waits.at.host) at
         (walks header outside c.waits.at.host past h.numbered c.comes.steps c.comes.top c.comes.top_page object.0 page.0 c.comes.walks)
-        (ap (λ (s : Spot). s.here) (spot_is header outside c.waits.at.host object.0 page.0 past) ∙ c.here) in
-        sym (ap (λ (s : Spot). s.bytes) (spot_is header outside c.waits.at.host object.0 page.0 past)) ∙ got ∙ h.flats c.waits.at.host c.waits.at.entry.region.0 (page_at header.size c.address c.waits.at.entry)
+        (here_is header outside c.waits.at.host object.0 page.0 true past c.here) in
+        sym (bytes_are header outside c.waits.at.host object.0 page.0 past) ∙ got ∙ h.flats c.waits.at.host c.waits.at.entry.region.0 (page_at header.size c.address c.waits.at.entry)
 loaded header outside e past h c = tt
 
 pub law : (header : Header) (outside : Outside) (history : List Event) → AllLicensed header outside history → EachEvent (CopiesCurrent header outside) history → EachEvent (FlatBytes header outside) history

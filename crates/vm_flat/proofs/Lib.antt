@@ -16,11 +16,12 @@ pub mod Held
 pub mod Holds
 pub mod Law
 pub mod Letters
+pub mod Lives
+pub mod Locals
 pub mod Numbers
 pub mod Ports
 pub mod Queues
 pub mod Regions
-pub mod SameChannels
 pub mod Slow
 pub mod SlowRun
 pub mod Sound

@@ -15,11 +15,15 @@ use Rattle.vm_model.specs.declared.message.Message.TheVariants as message
 use Rattle.vm_model.specs.declared.script.Header.{Header}
 use Rattle.vm_flat.specs.Declared.{Outside, is_private, is_said, zeros}
 use Rattle.vm_flat.specs.Tasks.{lives_on}
-use Rattle.vm_flat.specs.Channels.{queue}
+use Rattle.vm_model.specs.Channels.{queue, up_port, down_port}
 use Rattle.vm_flat.specs.Words.{UpWord, Requesting, Returning, DownWord, Supplying, Unavailing, Erring, Effect, Creates, Requests, Returns, Answers, Zeroes, Raises, Stores, Drops, Ends, Nothing}
-use Rattle.vm_flat.specs.Spot.{Spot, move, rest, first}
-use Rattle.vm_flat.specs.Places.{at_place, sent_up, sent_down, spot, control, control_number}
+use Rattle.vm_model.specs.Side.{rest}
+use Rattle.vm_model.specs.Server.{first}
+use Rattle.vm_flat.specs.Spot.{Spot, move}
+use Rattle.vm_model.specs.Controls.{is_control, last_control, live_control}
+use Rattle.vm_flat.specs.Places.{at_place, sent_up, sent_down, spot, control}
 use Rattle.vm_flat.specs.Licences.{Licensed, Request, request_taken, LockRequest, lock_taken, MaySendUp, MaySendDown}
+use Rattle.vm_flat.proofs.Lives.{is_newest}
 use Rattle.vm_flat.proofs.Queues.{requests}
 use Rattle.vm_flat.proofs.Sound.{Sound, count}
 use Rattle.vm_flat.proofs.Control.{control_is}
@@ -27,12 +31,6 @@ use Rattle.vm_flat.proofs.World.{World}
 use Rattle.vm_flat.proofs.Classes.{ground, deeds}
 use Rattle.vm_flat.proofs.Ties.{spot_is, control_tie}
 use Rattle.vm_flat.proofs.Letters.{up_words, down_words, first_rest, up_place, down_place, up_sent, up_taken, up_sent_down, up_taken_down, down_of, answers, down_sent, down_taken, down_sent_up, down_taken_up}
-
-abbrev pub up_port : ℕ → ℕ → Channel
-up_port h o = Up (record { 0 = h }) (record { 0 = o })
-
-abbrev pub down_port : ℕ → ℕ → ℕ → Channel
-down_port h o k = Down (record { 0 = h }) (record { 0 = o }) k
 
 abbrev pub Worlds : Header → Outside → List Event → Type 0
 Worlds header outside past = (host : ℕ) → World (ground header outside) (deeds header outside host past)
@@ -73,10 +71,10 @@ port_is at object h o e f = ap (λ k. up_port k object.0) e ∙ ap (λ k. up_por
 down_port_is : (at : HostId) (object : ObjectId) (n h o k : ℕ) → at.0 ≡ h → object.0 ≡ o → n ≡ k → Down at object n ≡ down_port h o k
 down_port_is at object n h o k e f g = ap (λ x. down_port x object.0 n) e ∙ ap (λ x. down_port h x n) f ∙ ap (λ x. down_port h o x) g
 
-head_up : (at : HostId) (object : ObjectId) (m : Message) (past : List Event) (h o : ℕ) → first (queue (Up at object) past) ≡ Some m → (at.0 == h && o == object.0) ≡ true → first (queue (up_port h o) past) ≡ Some m
+head_up : (at : HostId) (object : ObjectId) (m : Message) (past : List Event) (h o : ℕ) → first (queue (Up at object) past) ≡ Some m → (at.0 == h && object.0 == o) ≡ true → first (queue (up_port h o) past) ≡ Some m
 head_up at object m past h o head is = subst (λ (c : Channel). first (queue c past) ≡ Some m) (port_is at object h o (grind (arith, nat_tests)) (grind (arith, nat_tests))) head
 
-head_down : (at : HostId) (object : ObjectId) (n : ℕ) (m : Message) (past : List Event) (h o k : ℕ) → first (queue (Down at object n) past) ≡ Some m → ((at.0 == h && o == object.0) && k == n) ≡ true → first (queue (down_port h o k) past) ≡ Some m
+head_down : (at : HostId) (object : ObjectId) (n : ℕ) (m : Message) (past : List Event) (h o k : ℕ) → first (queue (Down at object n) past) ≡ Some m → (at.0 == h && (object.0 == o && n == k)) ≡ true → first (queue (down_port h o k) past) ≡ Some m
 head_down at object n m past h o k head is = subst (λ (c : Channel). first (queue c past) ≡ Some m) (down_port_is at object n h o k (grind (arith, nat_tests)) (grind (arith, nat_tests)) (grind (arith, nat_tests))) head
 
 pub ups_start : (header : Header) (outside : Outside) → Ups header outside []
@@ -88,10 +86,10 @@ ups_next header outside (event.Raised at lower lower_page upper upper_page) past
 ups_next header outside (event.Stored task object page at size value) past ups c h o p = up_place (zeros header) (spot header outside h o p past) o p (lives_on h task.0 past) object.0 page.0 (Stores at (little_endian_bytes size value)) Nothing refl refl ∙ ups h o p
 ups_next header outside (event.CopiedPage task page object object_page target) past ups c h o p = up_place (zeros header) (spot header outside h o p past) o p (lives_on h task.0 past) target.0 page.0 (Raises (spot header outside h object.0 object_page.0 past).bytes) Nothing refl refl ∙ ups h o p
 ups_next header outside (event.Dropped at object page) past ups c h o p = up_place (zeros header) (spot header outside h o p past) o p (at.0 == h) object.0 page.0 Drops Nothing refl refl ∙ ups h o p
-ups_next header outside (event.Sent (Up at object) m) past ups c h o p = up_sent (zeros header) (spot header outside h o p past) (queue (up_port h o) past) o p (at.0 == h) object.0 m (ups h o p)
-ups_next header outside (event.Sent (Down at object n) m) past ups c h o p = up_sent_down (zeros header) (spot header outside h o p past) o p (at.0 == h && n == control_number h object.0 past) (is_said header outside object.0) object.0 m ∙ ups h o p
+ups_next header outside (event.Sent (Up at object) m) past ups c h o p = up_sent (zeros header) (spot header outside h o p past) (queue (up_port h o) past) o p (at.0 == h) (live_control h object.0 past) object.0 m (ups h o p)
+ups_next header outside (event.Sent (Down at object n) m) past ups c h o p = up_sent_down (zeros header) (spot header outside h o p past) o p (at.0 == h && n == last_control h object.0 past) (is_said header outside object.0) object.0 m ∙ ups h o p
 ups_next header outside (event.Taken (Up at object) m) past ups c h o p = up_taken (zeros header) (spot header outside h o p past) (queue (up_port h o) past) o p (at.0 == h) object.0 m (head_up at object m past h o c) (ups h o p)
-ups_next header outside (event.Taken (Down at object n) m) past ups c h o p = up_taken_down (zeros header) (spot header outside h o p past) o p (at.0 == h && n == control_number h object.0 past) object.0 m ∙ ups h o p
+ups_next header outside (event.Taken (Down at object n) m) past ups c h o p = up_taken_down (zeros header) (spot header outside h o p past) o p (at.0 == h && n == last_control h object.0 past) object.0 m ∙ ups h o p
 ups_next header outside e past ups c h o p = ups h o p
 
 -- every request on the way up is of the newest control
@@ -117,7 +115,7 @@ from_none n (message.Request number page access ∷ q) none = absurd (some page.
   where
     some : (p : ℕ) (w : List UpWord) → requests (if p == p then Requesting ∷ w else w) ≡ 0 → ⊥
     some p w e = let same : (p == p) ≡ true = grind (arith, nat_tests) in let e' : requests (if true then Requesting ∷ w else w) ≡ 0 = subst (λ (b : Bool). requests (if b then Requesting ∷ w else w) ≡ 0) same e in omega (arith, e')
-from_none n (message.Return number page dirty keep bytes ∷ q) none = from_none n q (λ p. fewer (p == page.0) bytes (up_words p q) (none p))
+from_none n (message.Return number page dirty keep bytes ∷ q) none = from_none n q (λ p. fewer (page.0 == p) bytes (up_words p q) (none p))
   where
     fewer : (b : Bool) (bytes : List ℕ) (w : List UpWord) → requests (if b then Returning bytes ∷ w else w) ≡ 0 → requests w ≡ 0
     fewer true bytes w e = e
@@ -125,7 +123,7 @@ from_none n (message.Return number page dirty keep bytes ∷ q) none = from_none
 from_none n (other ∷ q) none = from_none n q none
 
 abbrev pub UpNumbers : Header → Outside → List Event → Type 0
-UpNumbers header outside past = (h o : ℕ) → is_private header outside o ≡ true → FromControl (control_number h o past) (queue (up_port h o) past)
+UpNumbers header outside past = (h o : ℕ) → is_private header outside o ≡ true → FromControl (last_control h o past) (queue (up_port h o) past)
 
 from_if : (b : Bool) (n : ℕ) (q : List Message) (m : Message) → FromControl n q → (b ≡ true → FromControl n (m ∷ [])) → FromControl n (if b then q ++ m ∷ [] else q)
 from_if true n q m all last = from_end n q m all (last refl)
@@ -140,47 +138,47 @@ from_new : (b : Bool) (new n : ℕ) (q : List Message) (m : Message) → FromCon
 from_new true new n q m one none all = from_end new q m (from_none new q (none refl)) one
 from_new false new n q m one none all = all
 
-same_host : (a h o b : ℕ) → (a == h && o == b) ≡ true → a ≡ h
+same_host : (a h o b : ℕ) → (a == h && b == o) ≡ true → a ≡ h
 same_host a h o b is = grind (arith, nat_tests)
 
-same_object : (a h o b : ℕ) → (a == h && o == b) ≡ true → o ≡ b
+same_object : (a h o b : ℕ) → (a == h && b == o) ≡ true → o ≡ b
 same_object a h o b is = grind (arith, nat_tests)
 
 none_up : (header : Header) (outside : Outside) (past : List Event) → Worlds header outside past → Ups header outside past → (h o : ℕ) → is_private header outside o ≡ true → control header h o past ≡ 0 → (p : ℕ) → requests (up_words p (queue (up_port h o) past)) ≡ 0
 none_up header outside past w ups h o ours none p = ap (λ x. requests x) (sym (ups h o p)) ∙ (calm header outside h o p past w ours none).up
 
-control_there : (header : Header) (past : List Event) (a b h o : ℕ) → (a == h && o == b) ≡ true → control header a b past ≡ 0 → control header h o past ≡ 0
+control_there : (header : Header) (past : List Event) (a b h o : ℕ) → (a == h && b == o) ≡ true → control header a b past ≡ 0 → control header h o past ≡ 0
 control_there header past a b h o is none = subst (λ (k : ℕ). control header k o past ≡ 0) (same_host a h o b is) (subst (λ (k : ℕ). control header a k past ≡ 0) (sym (same_object a h o b is)) none)
 
-pub private_there : (header : Header) (outside : Outside) (a b h o : ℕ) → (a == h && o == b) ≡ true → is_private header outside o ≡ true → is_private header outside b ≡ true
+pub private_there : (header : Header) (outside : Outside) (a b h o : ℕ) → (a == h && b == o) ≡ true → is_private header outside o ≡ true → is_private header outside b ≡ true
 private_there header outside a b h o is ours = subst (λ (k : ℕ). is_private header outside k ≡ true) (same_object a h o b is) ours
 
-number_there : (past : List Event) (a b h o n : ℕ) → (a == h && o == b) ≡ true → control_number a b past ≡ n → control_number h o past ≡ n
-number_there past a b h o n is e = subst (λ (k : ℕ). control_number k o past ≡ n) (same_host a h o b is) (subst (λ (k : ℕ). control_number a k past ≡ n) (sym (same_object a h o b is)) e)
+number_there : (past : List Event) (a b h o n : ℕ) → (a == h && b == o) ≡ true → last_control a b past ≡ n → last_control h o past ≡ n
+number_there past a b h o n is e = subst (λ (k : ℕ). last_control k o past ≡ n) (same_host a h o b is) (subst (λ (k : ℕ). last_control a k past ≡ n) (sym (same_object a h o b is)) e)
 
 numbers_sent : (header : Header) (outside : Outside) (at : HostId) (object : ObjectId) (m : Message) (past : List Event) → Worlds header outside past → Ups header outside past → UpNumbers header outside past → (is_private header outside object.0 ≡ true → MaySendUp header outside at.0 object.0 m past) → UpNumbers header outside (event.Sent (Up at object) m ∷ past)
 numbers_sent header outside at object (message.Init number size) past w ups all c h o ours =
-    from_new (at.0 == h && o == object.0) number (control_number h o past) (queue (up_port h o) past) (message.Init number size) tt
+    from_new (at.0 == h && object.0 == o) number (last_control h o past) (queue (up_port h o) past) (message.Init number size) tt
     (λ is. none_up header outside past w ups h o ours (control_there header past at.0 object.0 h o is (c (private_there header outside at.0 object.0 h o is ours)).none)) (all h o ours)
 numbers_sent header outside at object (message.Create number size) past w ups all c h o ours =
-    from_new (at.0 == h && o == object.0) number (control_number h o past) (queue (up_port h o) past) (message.Create number size) tt
+    from_new (at.0 == h && object.0 == o) number (last_control h o past) (queue (up_port h o) past) (message.Create number size) tt
     (λ is. none_up header outside past w ups h o ours (control_there header past at.0 object.0 h o is (c (private_there header outside at.0 object.0 h o is ours)).2)) (all h o ours)
 numbers_sent header outside at object (message.Request number page access) past w ups all c h o ours =
-    from_if (at.0 == h && o == object.0) (control_number h o past) (queue (up_port h o) past) (message.Request number page access) (all h o ours)
-    (λ is. (sym (number_there past at.0 object.0 h o number is (c (private_there header outside at.0 object.0 h o is ours)).number), tt))
-numbers_sent header outside at object m past w ups all c h o ours = from_if (at.0 == h && o == object.0) (control_number h o past) (queue (up_port h o) past) m (all h o ours) (λ is. tt)
+    from_if (at.0 == h && object.0 == o) (last_control h o past) (queue (up_port h o) past) (message.Request number page access) (all h o ours)
+    (λ is. (sym (number_there past at.0 object.0 h o number is (is_newest header at.0 object.0 number past (c (private_there header outside at.0 object.0 h o is ours)).live)), tt))
+numbers_sent header outside at object m past w ups all c h o ours = from_if (at.0 == h && object.0 == o) (last_control h o past) (queue (up_port h o) past) m (all h o ours) (λ is. tt)
 
 pub numbers_next : (header : Header) (outside : Outside) (e : Event) (past : List Event) → Worlds header outside past → Ups header outside past → UpNumbers header outside past → Licensed header outside e past → UpNumbers header outside (e ∷ past)
 numbers_next header outside (event.Sent (Up at object) m) past w ups all c h o ours = numbers_sent header outside at object m past w ups all c h o ours
 numbers_next header outside (event.Sent (Down at object n) m) past w ups all c h o ours = all h o ours
-numbers_next header outside (event.Taken (Up at object) m) past w ups all c h o ours = from_rest_if (at.0 == h && o == object.0) (control_number h o past) (queue (up_port h o) past) (all h o ours)
+numbers_next header outside (event.Taken (Up at object) m) past w ups all c h o ours = from_rest_if (at.0 == h && object.0 == o) (last_control h o past) (queue (up_port h o) past) (all h o ours)
 numbers_next header outside (event.Taken (Down at object n) m) past w ups all c h o ours = all h o ours
 numbers_next header outside e past w ups all c h o ours = all h o ours
 
 -- a request that the step took is of the newest control
 
 abbrev pub AskedBy : Header → Outside → List Event → Type 0
-AskedBy header outside past = (h o n p : ℕ) → is_private header outside o ≡ true → request_taken past ≡ Some (record { host = h; object = o; control_of = n; page = p }) → (spot header outside h o p past).step ≡ true → n ≡ control_number h o past
+AskedBy header outside past = (h o n p : ℕ) → is_private header outside o ≡ true → request_taken past ≡ Some (record { host = h; object = o; control_of = n; page = p }) → (spot header outside h o p past).step ≡ true → n ≡ last_control h o past
 
 none_request : (r : Request) → ◌≡◌ {A = Option Request} None (Some r) → ⊥
 none_request r e = cc
@@ -193,15 +191,15 @@ step_if z s true E F e f is = e is
 step_if z s false E F e f is = f is
 
 step_place : (z : List ℕ) (s : Spot) (o p : ℕ) (own : Bool) (object page : ℕ) (E F : Effect) → ((move z s E).step ≡ true → s.step ≡ true) → ((move z s F).step ≡ true → s.step ≡ true) → (move z s (at_place o p own object page E F)).step ≡ true → s.step ≡ true
-step_place z s o p own object page E F e f is = step_if z s (own && (o == object && p == page)) E F e f is
+step_place z s o p own object page E F e f is = step_if z s (own && (object == o && page == p)) E F e f is
 
-step_sent_up : (z : List ℕ) (s : Spot) (o p : ℕ) (own : Bool) (object : ℕ) (m : Message) → (move z s (sent_up o p own object m)).step ≡ true → s.step ≡ true
-step_sent_up z s o p own object (message.Request control page access) is = step_place z s o p own object page.0 Requests Nothing (λ e. e) (λ e. e) is
-step_sent_up z s o p own object (message.Return control page dirty keep bytes) is = step_place z s o p own object page.0 (Returns keep bytes) Nothing (λ e. e) (λ e. e) is
-step_sent_up z s o p own object (message.Init control size) is = step_if z s (own && o == object) Creates Nothing (λ e. e) (λ e. e) is
-step_sent_up z s o p own object (message.Create control size) is = step_if z s (own && o == object) Creates Nothing (λ e. e) (λ e. e) is
-step_sent_up z s o p own object (message.Terminate control) is = step_if z s (own && o == object) Ends Nothing (λ e. e) (λ e. e) is
-step_sent_up z s o p own object m is = is
+step_sent_up : (z : List ℕ) (s : Spot) (o p : ℕ) (own : Bool) (live : Option ℕ) (object : ℕ) (m : Message) → (move z s (sent_up o p own live object m)).step ≡ true → s.step ≡ true
+step_sent_up z s o p own live object (message.Request control page access) is = step_place z s o p own object page.0 (Requests (is_control control live)) Nothing (λ e. e) (λ e. e) is
+step_sent_up z s o p own live object (message.Return control page dirty keep bytes) is = step_place z s o p own object page.0 (Returns keep bytes) Nothing (λ e. e) (λ e. e) is
+step_sent_up z s o p own live object (message.Init control size) is = step_if z s (own && object == o) Creates Nothing (λ e. e) (λ e. e) is
+step_sent_up z s o p own live object (message.Create control size) is = step_if z s (own && object == o) Creates Nothing (λ e. e) (λ e. e) is
+step_sent_up z s o p own live object (message.Terminate control) is = step_if z s ((own && is_control control live) && object == o) Ends Nothing (λ e. e) (λ e. e) is
+step_sent_up z s o p own live object m is = is
 
 false_true : false ≡ true → ⊥
 false_true e = cc
@@ -218,28 +216,28 @@ number_if false new n k never is = is
 
 asked_sent : (header : Header) (outside : Outside) (at : HostId) (object : ObjectId) (m : Message) (past : List Event) → Worlds header outside past → AskedBy header outside past → (is_private header outside object.0 ≡ true → MaySendUp header outside at.0 object.0 m past) → AskedBy header outside (event.Sent (Up at object) m ∷ past)
 asked_sent header outside at object (message.Init number size) past w all c h o n p ours taken step =
-    number_if (at.0 == h && o == object.0) number (control_number h o past) n
+    number_if (at.0 == h && object.0 == o) number (last_control h o past) n
     (λ is. clash (spot header outside h o p past).step (calm header outside h o p past w ours (control_there header past at.0 object.0 h o is (c (private_there header outside at.0 object.0 h o is ours)).none)).step was)
     (all h o n p ours taken was)
   where
     was : (spot header outside h o p past).step ≡ true
-    was = step_if (zeros header) (spot header outside h o p past) (at.0 == h && o == object.0) Creates Nothing (λ e. e) (λ e. e) step
+    was = step_if (zeros header) (spot header outside h o p past) (at.0 == h && object.0 == o) Creates Nothing (λ e. e) (λ e. e) step
 
     clash : (b : Bool) → b ≡ false → b ≡ true → ⊥
     clash b isnt is = cc
 asked_sent header outside at object (message.Create number size) past w all c h o n p ours taken step =
-    number_if (at.0 == h && o == object.0) number (control_number h o past) n
+    number_if (at.0 == h && object.0 == o) number (last_control h o past) n
     (λ is. clash (spot header outside h o p past).step (calm header outside h o p past w ours (control_there header past at.0 object.0 h o is (c (private_there header outside at.0 object.0 h o is ours)).2)).step was)
     (all h o n p ours taken was)
   where
     was : (spot header outside h o p past).step ≡ true
-    was = step_if (zeros header) (spot header outside h o p past) (at.0 == h && o == object.0) Creates Nothing (λ e. e) (λ e. e) step
+    was = step_if (zeros header) (spot header outside h o p past) (at.0 == h && object.0 == o) Creates Nothing (λ e. e) (λ e. e) step
 
     clash : (b : Bool) → b ≡ false → b ≡ true → ⊥
     clash b isnt is = cc
-asked_sent header outside at object (message.Request number page access) past w all c h o n p ours taken step = all h o n p ours taken (step_sent_up (zeros header) (spot header outside h o p past) o p (at.0 == h) object.0 (message.Request number page access) step)
-asked_sent header outside at object (message.Return number page dirty keep bytes) past w all c h o n p ours taken step = all h o n p ours taken (step_sent_up (zeros header) (spot header outside h o p past) o p (at.0 == h) object.0 (message.Return number page dirty keep bytes) step)
-asked_sent header outside at object (message.Terminate number) past w all c h o n p ours taken step = all h o n p ours taken (step_sent_up (zeros header) (spot header outside h o p past) o p (at.0 == h) object.0 (message.Terminate number) step)
+asked_sent header outside at object (message.Request number page access) past w all c h o n p ours taken step = all h o n p ours taken (step_sent_up (zeros header) (spot header outside h o p past) o p (at.0 == h) (live_control h object.0 past) object.0 (message.Request number page access) step)
+asked_sent header outside at object (message.Return number page dirty keep bytes) past w all c h o n p ours taken step = all h o n p ours taken (step_sent_up (zeros header) (spot header outside h o p past) o p (at.0 == h) (live_control h object.0 past) object.0 (message.Return number page dirty keep bytes) step)
+asked_sent header outside at object (message.Terminate number) past w all c h o n p ours taken step = all h o n p ours taken (step_sent_up (zeros header) (spot header outside h o p past) o p (at.0 == h) (live_control h object.0 past) object.0 (message.Terminate number) step)
 asked_sent header outside at object m past w all c h o n p ours taken step = all h o n p ours taken step
 
 from_first : (n k : ℕ) (page : PageNo) (access : ℕ) (q : List Message) → FromControl n q → first q ≡ Some (message.Request k page access) → k ≡ n
@@ -251,7 +249,7 @@ asked_taken header outside at object (message.Request k page access) past number
     let host_is : at.0 ≡ h = ap (λ (r : Request). r.host) same in
     let object_is : object.0 ≡ o = ap (λ (r : Request). r.object) same in
     let control_is : k ≡ n = ap (λ (r : Request). r.control_of) same in
-    sym control_is ∙ from_first (control_number h o past) k page access (queue (up_port h o) past) (numbers h o ours)
+    sym control_is ∙ from_first (last_control h o past) k page access (queue (up_port h o) past) (numbers h o ours)
     (subst (λ (c : Channel). first (queue c past) ≡ Some (message.Request k page access)) (port_is at object h o host_is object_is) head)
 asked_taken header outside at object m past numbers head h o n p ours taken step = absurd (none_request _ taken)
 
@@ -263,7 +261,7 @@ asked_next header outside (event.Stored task object page at size value) past w n
 asked_next header outside (event.CopiedPage task page object object_page target) past w numbers all c h o n p ours taken step = all h o n p ours taken (step_place (zeros header) (spot header outside h o p past) o p (lives_on h task.0 past) target.0 page.0 (Raises (spot header outside h object.0 object_page.0 past).bytes) Nothing (λ e. e) (λ e. e) step)
 asked_next header outside (event.Dropped at object page) past w numbers all c h o n p ours taken step = all h o n p ours taken (step_place (zeros header) (spot header outside h o p past) o p (at.0 == h) object.0 page.0 Drops Nothing (λ e. e) (λ e. e) step)
 asked_next header outside (event.Sent (Up at object) m) past w numbers all c h o n p ours taken step = asked_sent header outside at object m past w all c h o n p ours taken step
-asked_next header outside (event.Sent (Down at object k) m) past w numbers all c h o n p ours taken step = all h o n p ours taken (step_sent_down (zeros header) (spot header outside h o p past) o p (at.0 == h && k == control_number h object.0 past) (is_said header outside object.0) object.0 m step)
+asked_next header outside (event.Sent (Down at object k) m) past w numbers all c h o n p ours taken step = all h o n p ours taken (step_sent_down (zeros header) (spot header outside h o p past) o p (at.0 == h && k == last_control h object.0 past) (is_said header outside object.0) object.0 m step)
 asked_next header outside (event.Taken (Up at object) m) past w numbers all c h o n p ours taken step = asked_taken header outside at object m past numbers c h o n p ours taken step
 asked_next header outside (event.Taken (Down at object k) m) past w numbers all c h o n p ours taken step = absurd (none_request _ taken)
 asked_next header outside e past w numbers all c h o n p ours taken step = all h o n p ours taken step
@@ -271,7 +269,7 @@ asked_next header outside e past w numbers all c h o n p ours taken step = all h
 -- downwards: only the newest control has words on their way
 
 abbrev pub Downs : Header → Outside → List Event → Type 0
-Downs header outside past = (h o : ℕ) → is_private header outside o ≡ true → (k p : ℕ) → down_words p (queue (down_port h o k) past) ≡ down_of (k == control_number h o past) (spot header outside h o p past)
+Downs header outside past = (h o : ℕ) → is_private header outside o ≡ true → (k p : ℕ) → down_words p (queue (down_port h o k) past) ≡ down_of (k == last_control h o past) (spot header outside h o p past)
 
 pub downs_start : (header : Header) (outside : Outside) → Downs header outside []
 downs_start header outside h o ours k p = by_test (k == 0)
@@ -294,74 +292,74 @@ new_down true new n k s t words same none is = is ∙ nothing (k == n) s (none r
 
 downs_sent_up : (header : Header) (outside : Outside) (at : HostId) (object : ObjectId) (m : Message) (past : List Event) → Worlds header outside past → Downs header outside past → (is_private header outside object.0 ≡ true → MaySendUp header outside at.0 object.0 m past) → Downs header outside (event.Sent (Up at object) m ∷ past)
 downs_sent_up header outside at object (message.Init number size) past w downs c h o ours k p =
-    new_down (at.0 == h && o == object.0) number (control_number h o past) k (spot header outside h o p past) (spot header outside h o p (event.Sent (Up at object) (message.Init number size) ∷ past)) (down_words p (queue (down_port h o k) past))
-    (down_sent_up (zeros header) (spot header outside h o p past) o p (at.0 == h) object.0 (message.Init number size))
+    new_down (at.0 == h && object.0 == o) number (last_control h o past) k (spot header outside h o p past) (spot header outside h o p (event.Sent (Up at object) (message.Init number size) ∷ past)) (down_words p (queue (down_port h o k) past))
+    (down_sent_up (zeros header) (spot header outside h o p past) o p (at.0 == h) (live_control h object.0 past) object.0 (message.Init number size))
     (λ is. (calm header outside h o p past w ours (control_there header past at.0 object.0 h o is (c (private_there header outside at.0 object.0 h o is ours)).none)).down) (downs h o ours k p)
 downs_sent_up header outside at object (message.Create number size) past w downs c h o ours k p =
-    new_down (at.0 == h && o == object.0) number (control_number h o past) k (spot header outside h o p past) (spot header outside h o p (event.Sent (Up at object) (message.Create number size) ∷ past)) (down_words p (queue (down_port h o k) past))
-    (down_sent_up (zeros header) (spot header outside h o p past) o p (at.0 == h) object.0 (message.Create number size))
+    new_down (at.0 == h && object.0 == o) number (last_control h o past) k (spot header outside h o p past) (spot header outside h o p (event.Sent (Up at object) (message.Create number size) ∷ past)) (down_words p (queue (down_port h o k) past))
+    (down_sent_up (zeros header) (spot header outside h o p past) o p (at.0 == h) (live_control h object.0 past) object.0 (message.Create number size))
     (λ is. (calm header outside h o p past w ours (control_there header past at.0 object.0 h o is (c (private_there header outside at.0 object.0 h o is ours)).2)).down) (downs h o ours k p)
 downs_sent_up header outside at object (message.Request number page access) past w downs c h o ours k p =
-    downs h o ours k p ∙ move_down_of (k == control_number h o past) (spot header outside h o p past) (spot header outside h o p (event.Sent (Up at object) (message.Request number page access) ∷ past)) (down_sent_up (zeros header) (spot header outside h o p past) o p (at.0 == h) object.0 (message.Request number page access))
+    downs h o ours k p ∙ move_down_of (k == last_control h o past) (spot header outside h o p past) (spot header outside h o p (event.Sent (Up at object) (message.Request number page access) ∷ past)) (down_sent_up (zeros header) (spot header outside h o p past) o p (at.0 == h) (live_control h object.0 past) object.0 (message.Request number page access))
 downs_sent_up header outside at object (message.Return number page dirty keep bytes) past w downs c h o ours k p =
-    downs h o ours k p ∙ move_down_of (k == control_number h o past) (spot header outside h o p past) (spot header outside h o p (event.Sent (Up at object) (message.Return number page dirty keep bytes) ∷ past)) (down_sent_up (zeros header) (spot header outside h o p past) o p (at.0 == h) object.0 (message.Return number page dirty keep bytes))
+    downs h o ours k p ∙ move_down_of (k == last_control h o past) (spot header outside h o p past) (spot header outside h o p (event.Sent (Up at object) (message.Return number page dirty keep bytes) ∷ past)) (down_sent_up (zeros header) (spot header outside h o p past) o p (at.0 == h) (live_control h object.0 past) object.0 (message.Return number page dirty keep bytes))
 downs_sent_up header outside at object (message.Terminate number) past w downs c h o ours k p =
-    downs h o ours k p ∙ move_down_of (k == control_number h o past) (spot header outside h o p past) (spot header outside h o p (event.Sent (Up at object) (message.Terminate number) ∷ past)) (down_sent_up (zeros header) (spot header outside h o p past) o p (at.0 == h) object.0 (message.Terminate number))
+    downs h o ours k p ∙ move_down_of (k == last_control h o past) (spot header outside h o p past) (spot header outside h o p (event.Sent (Up at object) (message.Terminate number) ∷ past)) (down_sent_up (zeros header) (spot header outside h o p past) o p (at.0 == h) (live_control h object.0 past) object.0 (message.Terminate number))
 downs_sent_up header outside at object m past w downs c h o ours k p = downs h o ours k p
 
 -- an answer goes to the newest control
-answers_newest : (header : Header) (outside : Outside) (host object n p : ℕ) (m : Message) (past : List Event) → AskedBy header outside past → is_private header outside object ≡ true → MaySendDown header outside host object n m past → answers p m ≡ true → n ≡ control_number host object past
+answers_newest : (header : Header) (outside : Outside) (host object n p : ℕ) (m : Message) (past : List Event) → AskedBy header outside past → is_private header outside object ≡ true → MaySendDown header outside host object n m past → answers p m ≡ true → n ≡ last_control host object past
 answers_newest header outside host object n p (message.Supply page lock precious bytes) past asked ours c is = asked host object n page.0 ours c.0.taken c.0.unanswered
 answers_newest header outside host object n p (message.Unavailable page) past asked ours c is = asked host object n page.0 ours c.0.taken c.0.unanswered
 answers_newest header outside host object n p (message.Error page reason) past asked ours c is = asked host object n page.0 ours c.taken c.unanswered
 answers_newest header outside host object n p m past asked ours c is = absurd (false_true is)
 
-number_same : (past : List Event) (h o b : ℕ) → o ≡ b → control_number h o past ≡ control_number h b past
-number_same past h o b e = ap (λ k. control_number h k past) e
+number_same : (past : List Event) (h o b : ℕ) → o ≡ b → last_control h o past ≡ last_control h b past
+number_same past h o b e = ap (λ k. last_control h k past) e
 
 -- the channel of control k, and the newest control: what two tests say of a third
-test_same : (k n number : ℕ) → (k == n) ≡ true → (k == number) ≡ (n == number)
+test_same : (k n number : ℕ) → (n == k) ≡ true → (k == number) ≡ (n == number)
 test_same k n number is = let e : k ≡ n = grind (arith, nat_tests) in ap (λ x. x == number) e
 
-test_only : (k n number : ℕ) → (k == number) ≡ true → (n == number) ≡ true → (k == n) ≡ true
+test_only : (k n number : ℕ) → (k == number) ≡ true → (n == number) ≡ true → (n == k) ≡ true
 test_only k n number one two = grind (arith, nat_tests)
 
 pub downs_next : (header : Header) (outside : Outside) (e : Event) (past : List Event) → Worlds header outside past → AskedBy header outside past → Downs header outside past → Licensed header outside e past → Downs header outside (e ∷ past)
 downs_next header outside (event.Zeroed at object page) past w asked downs c h o ours k p =
-    downs h o ours k p ∙ move_down_of (k == control_number h o past) (spot header outside h o p past) (spot header outside h o p (event.Zeroed at object page ∷ past)) (down_place (zeros header) (spot header outside h o p past) o p (at.0 == h) object.0 page.0 Zeroes Nothing refl refl)
+    downs h o ours k p ∙ move_down_of (k == last_control h o past) (spot header outside h o p past) (spot header outside h o p (event.Zeroed at object page ∷ past)) (down_place (zeros header) (spot header outside h o p past) o p (at.0 == h) object.0 page.0 Zeroes Nothing refl refl)
 downs_next header outside (event.Raised at lower lower_page upper upper_page) past w asked downs c h o ours k p =
-    downs h o ours k p ∙ move_down_of (k == control_number h o past) (spot header outside h o p past) (spot header outside h o p (event.Raised at lower lower_page upper upper_page ∷ past))
+    downs h o ours k p ∙ move_down_of (k == last_control h o past) (spot header outside h o p past) (spot header outside h o p (event.Raised at lower lower_page upper upper_page ∷ past))
     (down_place (zeros header) (spot header outside h o p past) o p (at.0 == h) upper.0 upper_page.0 (Raises (spot header outside h lower.0 lower_page.0 past).bytes) Nothing refl refl)
 downs_next header outside (event.Stored task object page at size value) past w asked downs c h o ours k p =
-    downs h o ours k p ∙ move_down_of (k == control_number h o past) (spot header outside h o p past) (spot header outside h o p (event.Stored task object page at size value ∷ past))
+    downs h o ours k p ∙ move_down_of (k == last_control h o past) (spot header outside h o p past) (spot header outside h o p (event.Stored task object page at size value ∷ past))
     (down_place (zeros header) (spot header outside h o p past) o p (lives_on h task.0 past) object.0 page.0 (Stores at (little_endian_bytes size value)) Nothing refl refl)
 downs_next header outside (event.CopiedPage task page object object_page target) past w asked downs c h o ours k p =
-    downs h o ours k p ∙ move_down_of (k == control_number h o past) (spot header outside h o p past) (spot header outside h o p (event.CopiedPage task page object object_page target ∷ past))
+    downs h o ours k p ∙ move_down_of (k == last_control h o past) (spot header outside h o p past) (spot header outside h o p (event.CopiedPage task page object object_page target ∷ past))
     (down_place (zeros header) (spot header outside h o p past) o p (lives_on h task.0 past) target.0 page.0 (Raises (spot header outside h object.0 object_page.0 past).bytes) Nothing refl refl)
 downs_next header outside (event.Dropped at object page) past w asked downs c h o ours k p =
-    downs h o ours k p ∙ move_down_of (k == control_number h o past) (spot header outside h o p past) (spot header outside h o p (event.Dropped at object page ∷ past)) (down_place (zeros header) (spot header outside h o p past) o p (at.0 == h) object.0 page.0 Drops Nothing refl refl)
+    downs h o ours k p ∙ move_down_of (k == last_control h o past) (spot header outside h o p past) (spot header outside h o p (event.Dropped at object page ∷ past)) (down_place (zeros header) (spot header outside h o p past) o p (at.0 == h) object.0 page.0 Drops Nothing refl refl)
 downs_next header outside (event.Line line) past w asked downs c h o ours k p =
-    downs h o ours k p ∙ move_down_of (k == control_number h o past) (spot header outside h o p past) (spot header outside h o p (event.Line line ∷ past)) refl
+    downs h o ours k p ∙ move_down_of (k == last_control h o past) (spot header outside h o p past) (spot header outside h o p (event.Line line ∷ past)) refl
 downs_next header outside (event.Sent (Up at object) m) past w asked downs c h o ours k p = downs_sent_up header outside at object m past w downs c h o ours k p
 downs_next header outside (event.Taken (Up at object) m) past w asked downs c h o ours k p =
-    downs h o ours k p ∙ move_down_of (k == control_number h o past) (spot header outside h o p past) (spot header outside h o p (event.Taken (Up at object) m ∷ past)) (down_taken_up (zeros header) (spot header outside h o p past) o p (at.0 == h) object.0 m)
+    downs h o ours k p ∙ move_down_of (k == last_control h o past) (spot header outside h o p past) (spot header outside h o p (event.Taken (Up at object) m ∷ past)) (down_taken_up (zeros header) (spot header outside h o p past) o p (at.0 == h) object.0 m)
 downs_next header outside (event.Sent (Down at object n) m) past w asked downs c h o ours k p =
-    down_sent (zeros header) (spot header outside h o p past) (is_said header outside object.0) (queue (down_port h o k) past) o p (at.0 == h) object.0 m (k == control_number h o past) (k == n) (n == control_number h object.0 past)
+    down_sent (zeros header) (spot header outside h o p past) (is_said header outside object.0) (queue (down_port h o k) past) o p (at.0 == h) object.0 m (k == last_control h o past) (n == k) (n == last_control h object.0 past)
     (λ is to. newest is to)
-    (λ is e. test_same k n (control_number h o past) e ∙ ap (λ x. n == x) (number_same past h o object.0 (same_object at.0 h o object.0 is)))
-    (λ is one two. test_only k n (control_number h o past) one (ap (λ x. n == x) (number_same past h o object.0 (same_object at.0 h o object.0 is)) ∙ two))
+    (λ is e. test_same k n (last_control h o past) e ∙ ap (λ x. n == x) (number_same past h o object.0 (same_object at.0 h o object.0 is)))
+    (λ is one two. test_only k n (last_control h o past) one (ap (λ x. n == x) (number_same past h o object.0 (same_object at.0 h o object.0 is)) ∙ two))
     (downs h o ours k p)
   where
-    newest : (at.0 == h && o == object.0) ≡ true → answers p m ≡ true → (n == control_number h object.0 past) ≡ true
+    newest : (at.0 == h && object.0 == o) ≡ true → answers p m ≡ true → (n == last_control h object.0 past) ≡ true
     newest is to =
-        let e : n ≡ control_number at.0 object.0 past = answers_newest header outside at.0 object.0 n p m past asked (private_there header outside at.0 object.0 h o is ours) (c (private_there header outside at.0 object.0 h o is ours)) to in
-        let there : n ≡ control_number h object.0 past = subst (λ (x : ℕ). n ≡ control_number x object.0 past) (same_host at.0 h o object.0 is) e in
+        let e : n ≡ last_control at.0 object.0 past = answers_newest header outside at.0 object.0 n p m past asked (private_there header outside at.0 object.0 h o is ours) (c (private_there header outside at.0 object.0 h o is ours)) to in
+        let there : n ≡ last_control h object.0 past = subst (λ (x : ℕ). n ≡ last_control x object.0 past) (same_host at.0 h o object.0 is) e in
         grind (arith, nat_tests)
 downs_next header outside (event.Taken (Down at object n) m) past w asked downs c h o ours k p =
-    down_taken (zeros header) (spot header outside h o p past) (queue (down_port h o k) past) o p (at.0 == h) object.0 m (k == control_number h o past) (k == n) (n == control_number h object.0 past)
+    down_taken (zeros header) (spot header outside h o p past) (queue (down_port h o k) past) o p (at.0 == h) object.0 m (k == last_control h o past) (n == k) (n == last_control h object.0 past)
     (λ is. head_down at object n m past h o k c is)
-    (λ is e. test_same k n (control_number h o past) e ∙ ap (λ x. n == x) (number_same past h o object.0 (same_object at.0 h o object.0 is)))
-    (λ is one two. test_only k n (control_number h o past) one (ap (λ x. n == x) (number_same past h o object.0 (same_object at.0 h o object.0 is)) ∙ two))
+    (λ is e. test_same k n (last_control h o past) e ∙ ap (λ x. n == x) (number_same past h o object.0 (same_object at.0 h o object.0 is)))
+    (λ is one two. test_only k n (last_control h o past) one (ap (λ x. n == x) (number_same past h o object.0 (same_object at.0 h o object.0 is)) ∙ two))
     (downs h o ours k p)
 downs_next header outside e past w asked downs c h o ours k p = downs h o ours k p
 
@@ -407,7 +405,7 @@ one_back : (header : Header) (outside : Outside) (host object n : ℕ) (m : Mess
 one_back header outside host object n (message.Lock page count returns flush lock reply) past c = (c, tt)
 one_back header outside host object n m past c = tt
 
-down_there : (a h o b k n : ℕ) → ((a == h && o == b) && k == n) ≡ true → (a == h && o == b) ≡ true
+down_there : (a h o b k n : ℕ) → (a == h && (b == o && n == k)) ≡ true → (a == h && b == o) ≡ true
 down_there a h o b k n is = grind arith
 
 taken_lock : (header : Header) (outside : Outside) (at : HostId) (object : ObjectId) (n : ℕ) (m : Message) (past : List Event) → Locks header outside past → first (queue (Down at object n) past) ≡ Some m → (l : LockRequest) → is_private header outside l.object ≡ true → lock_taken (event.Taken (Down at object n) m ∷ past) ≡ Some l → l.returns ≡ 2
@@ -423,14 +421,14 @@ locks_next header outside (event.Line line) past locks c = record { queued = loc
 locks_next header outside (event.Sent (Up at object) m) past locks c = record { queued = locks.queued; taken = locks.taken }
 locks_next header outside (event.Sent (Down at object n) m) past locks c =
     record {
-      queued = λ h o k ours. back_if ((at.0 == h && o == object.0) && k == n) (queue (down_port h o k) past) m (locks.queued h o k ours)
+      queued = λ h o k ours. back_if (at.0 == h && (object.0 == o && n == k)) (queue (down_port h o k) past) m (locks.queued h o k ours)
           (λ is. one_back header outside at.0 object.0 n m past (c (private_there header outside at.0 object.0 h o (down_there at.0 h o object.0 k n is) ours)));
       taken = locks.taken;
     }
 locks_next header outside (event.Taken (Up at object) m) past locks c = record { queued = locks.queued; taken = λ l ours e. absurd (none_lock l e) }
 locks_next header outside (event.Taken (Down at object n) m) past locks c =
     record {
-      queued = λ h o k ours. back_rest_if ((at.0 == h && o == object.0) && k == n) (queue (down_port h o k) past) (locks.queued h o k ours);
+      queued = λ h o k ours. back_rest_if (at.0 == h && (object.0 == o && n == k)) (queue (down_port h o k) past) (locks.queued h o k ours);
       taken = λ l ours e. taken_lock header outside at object n m past locks c l ours e;
     }
 locks_next header outside e past locks c = record { queued = locks.queued; taken = locks.taken }

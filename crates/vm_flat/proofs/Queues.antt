@@ -1,7 +1,8 @@
 -- What the two queues of a place hold.
 use Rattle.std.proofs.Common.{◌≡◌, ℕ, suc, ◌+◌, List, [], ◌∷◌, ◌++◌, arith, Option, Some, refl, length, subst}
 use Rattle.vm_flat.specs.Words.{UpWord, Requesting, Returning, DownWord, Supplying, Unavailing, Erring}
-use Rattle.vm_flat.specs.Spot.{rest, first}
+use Rattle.vm_model.specs.Side.{rest}
+use Rattle.vm_model.specs.Server.{first}
 
 abbrev pub requests : List UpWord → ℕ
 requests [] = 0

@@ -10,7 +10,7 @@ use Rattle.vm_flat.proofs.Deeds.{is_file, covered, Ground, Deed, Copied, row, ob
 use Rattle.vm_flat.proofs.Causes.{Reach, Cause, CopiesThere, Foreign}
 use Rattle.vm_flat.proofs.Good.{Good, good_puts, good_again}
 use Rattle.vm_flat.proofs.World.{ReachAt, World, view, tops_below, GoodAt, path_covered, under_view, Barren}
-use Rattle.vm_flat.proofs.Stored.{and_no, and_yes, path_other, kind, top_covered, no_if, not_ours}
+use Rattle.vm_flat.proofs.Stored.{and_no, and_yes, page_no, page_yes, path_other, kind, top_covered, no_if, not_ours}
 use Rattle.vm_flat.proofs.File.{file_is}
 
 view_other : (z : Ground) (x y l lp r i k q : ℕ) (o p : ℕ) (past : List Deed) → (o ≡ k → p ≡ q → ⊥) → view z o p (Copied true x y l lp r i k q ∷ past) ≡ view z o p past
@@ -21,7 +21,7 @@ slow_other : (z : Ground) (x y l lp r i k q : ℕ) (past : List Deed) → World 
     → (g j : ℕ) → (row z g past).used ≡ true → j < (row z g past).pages → (g ≡ r → j ≡ i → ⊥) → flat z g j (Copied true x y l lp r i k q ∷ past) ≡ view z (row z g past).top ((row z g past).shift + j) (Copied true x y l lp r i k q ∷ past)
 slow_other z x y l lp r i k q past w c g j used inside apart =
     let was : flat z g j past ≡ view z (row z g past).top ((row z g past).shift + j) past = w.regional g j used inside in
-    let left : flat z g j (Copied true x y l lp r i k q ∷ past) ≡ flat z g j past = and_no g j r i (flat z x y past) (flat z g j past) apart in
+    let left : flat z g j (Copied true x y l lp r i k q ∷ past) ≡ flat z g j past = page_no g j r i (flat z x y past) (flat z g j past) apart in
     let right : view z (row z g past).top ((row z g past).shift + j) (Copied true x y l lp r i k q ∷ past) ≡ view z (row z g past).top ((row z g past).shift + j) past =
     view_other z x y l lp r i k q (row z g past).top ((row z g past).shift + j) past elsewhere in
     left ∙ was ∙ sym right
@@ -35,7 +35,7 @@ slow_other z x y l lp r i k q past w c g j used inside apart =
 slow_own : (z : Ground) (x y l lp r i k q : ℕ) (past : List Deed) → World z past → CopiesThere z x y l lp r i k q past
     → flat z r i (Copied true x y l lp r i k q ∷ past) ≡ view z (row z r past).top ((row z r past).shift + i) (Copied true x y l lp r i k q ∷ past)
 slow_own z x y l lp r i k q past w c =
-    and_yes r i r i (flat z x y past) (flat z r i past) refl refl
+    page_yes r i r i (flat z x y past) (flat z r i past) refl refl
     ∙ sym (and_yes (row z r past).top ((row z r past).shift + i) k q (flat z x y past) (view z (row z r past).top ((row z r past).shift + i) past) c.tops.object c.tops.page)
 
 slow_after : (z : Ground) (x y l lp r i k q : ℕ) (past : List Deed) → World z past → CopiesThere z x y l lp r i k q past
@@ -81,7 +81,7 @@ after_own z x y l lp r i k q past w c =
     record {
       shape = w.shape;
       regional = slow_after z x y l lp r i k q past w c;
-      places = λ o p ours. places_if o p ours (o == k && p == q) refl;
+      places = λ o p ours. places_if o p ours (k == o && q == p) refl;
     }
   where
     page : List ℕ
@@ -103,7 +103,7 @@ after_own z x y l lp r i k q past w c =
         good_again z.zeros (ReachAt z o p past) (ReachAt z o p past) (objects z past ≤ o) (objects z past ≤ o) (Barren z o p past) (Barren z o p (Copied true x y l lp r i k q ∷ past)) (view z o p past) (view z o p past) (link z o past).backed (under_view z o p past) (under_view z o p (Copied true x y l lp r i k q ∷ past)) (spot z o p past)
         (w.places o p ours) (λ x. x) (λ x. x) (λ x. refl) (λ reach. under_other z x y l lp r i k q past w c o p reach.0) (λ reach. barren_other z x y l lp r i k q past w c o p apart reach.0)
 
-    places_if : (o p : ℕ) → covered z o ≡ true → (b : Bool) → (o == k && p == q) ≡ b
+    places_if : (o p : ℕ) → covered z o ≡ true → (b : Bool) → (k == o && q == p) ≡ b
         → Good z.zeros (ReachAt z o p past) (objects z past ≤ o) (Barren z o p (Copied true x y l lp r i k q ∷ past)) (if b then flat z x y past else view z o p past) (link z o past).backed (under_view z o p (Copied true x y l lp r i k q ∷ past))
         (move z.zeros (spot z o p past) (if b then Raises (spot z l lp past).bytes else Nothing))
     places_if o p ours true is = own o p ours (grind (arith, nat_tests)) (grind (arith, nat_tests))
@@ -122,7 +122,7 @@ after_foreign z own x y l lp r i k q past w f =
 
     regional : (g j : ℕ) → (row z g past).used ≡ true → j < (row z g past).pages → flat z g j (Copied own x y l lp r i k q ∷ past) ≡ view z (row z g past).top ((row z g past).shift + j) (Copied own x y l lp r i k q ∷ past)
     regional g j used inside =
-        and_no g j r i (flat z x y past) (flat z g j past) (λ e e'. clash (row z g past).used (ap (λ h. (row z h past).used) e ∙ f.unused) used)
+        page_no g j r i (flat z x y past) (flat z g j past) (λ e e'. clash (row z g past).used (ap (λ h. (row z h past).used) e ∙ f.unused) used)
         ∙ w.regional g j used inside
         ∙ sym (view_is (row z g past).top ((row z g past).shift + j) (w.shape.covers_tops g used))
 

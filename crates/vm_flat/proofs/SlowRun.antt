@@ -209,7 +209,7 @@ licensed_9 : AllLicensed header outside past_9
 licensed_9 = (refl, licensed_8)
 
 licensed_10 : AllLicensed header outside past_10
-licensed_10 = (λ ours. record { task = 0; access = Loading 64 2; waits = record { waits = refl; at = record { host = 0; entry = mapped; lives = refl; found = refl } }; on_host = refl; unmarked = λ store. refl; comes = record { top = 0; top_page = 0; steps = 0; is_top = record { object = refl; page = refl }; walks = (refl, refl) }; live = refl; number = refl; away = refl; unasked = refl; known = refl }, licensed_9)
+licensed_10 = (λ ours. record { task = 0; access = Loading 64 2; waits = record { waits = refl; at = record { host = 0; entry = mapped; lives = refl; found = refl } }; on_host = refl; unmarked = λ store. refl; comes = record { top = 0; top_page = 0; steps = 0; is_top = record { object = refl; page = refl }; walks = (refl, refl) }; live = refl; away = refl; unasked = refl; known = refl }, licensed_9)
 
 licensed_11 : AllLicensed header outside past_11
 licensed_11 = (refl, licensed_10)
@@ -278,7 +278,7 @@ licensed_32 : AllLicensed header outside past_32
 licensed_32 = (refl, licensed_31)
 
 licensed_33 : AllLicensed header outside past_33
-licensed_33 = (λ ours. record { live = refl; number = refl; here = refl; dirty = refl; same = refl; flag = refl }, licensed_32)
+licensed_33 = (λ ours. record { live = refl; here = refl; dirty = refl; same = refl; flag = refl }, licensed_32)
 
 licensed_34 : AllLicensed header outside past_34
 licensed_34 = (λ ours. tt, licensed_33)
@@ -296,7 +296,7 @@ licensed_38 : AllLicensed header outside past_38
 licensed_38 = (tt, licensed_37)
 
 licensed_39 : AllLicensed header outside past_39
-licensed_39 = (λ ours. record { task = 0; access = Loading 64 2; waits = record { waits = refl; at = record { host = 0; entry = mapped; lives = refl; found = refl } }; on_host = refl; unmarked = λ store. refl; comes = record { top = 0; top_page = 0; steps = 0; is_top = record { object = refl; page = refl }; walks = (refl, refl) }; live = refl; number = refl; away = refl; unasked = refl; known = refl }, licensed_38)
+licensed_39 = (λ ours. record { task = 0; access = Loading 64 2; waits = record { waits = refl; at = record { host = 0; entry = mapped; lives = refl; found = refl } }; on_host = refl; unmarked = λ store. refl; comes = record { top = 0; top_page = 0; steps = 0; is_top = record { object = refl; page = refl }; walks = (refl, refl) }; live = refl; away = refl; unasked = refl; known = refl }, licensed_38)
 
 licensed_40 : AllLicensed header outside past_40
 licensed_40 = (refl, licensed_39)

@@ -3,7 +3,8 @@ use Rattle.std.proofs.Common.{◌≡◌, ℕ, ◌+◌, ◌≤◌, List, [], ◌�
 use Rattle.std.proofs.lemmas.Bool.Decides.{nat_tests}
 use Rattle.std.specs.Prelude.{◌⊎◌}
 use Rattle.vm_flat.specs.Words.{DownWord, Supplying, Unavailing, Erring, Effect, Creates, Requests, Returns, TakesRequest, TakesReturn, Answers, Takes, Zeroes, Raises, Stores, Drops, Ends, StepEnds, Nothing}
-use Rattle.vm_flat.specs.Spot.{Spot, first_spot, rest, move}
+use Rattle.vm_model.specs.Side.{rest}
+use Rattle.vm_flat.specs.Spot.{Spot, first_spot, move}
 use Rattle.vm_flat.proofs.Allowed.{Passed, MayAnswer, May, content}
 use Rattle.vm_flat.proofs.Queues.{requests, returns, behind, latest, requests_ask, requests_return, returns_ask, behind_ask, behind_return, latest_ask, latest_return, latest_none, Says, Carry, carry_end, carry_rest, carry_none, carry_first, length_end}
 
@@ -43,8 +44,8 @@ pub record Sound (z : List ℕ) (s : Spot) : Type 0 where
 pub keep_creates : (z : List ℕ) (s : Spot) → Sound z s → May z s Creates → Sound z (move z s Creates)
 keep_creates z s ok may = grind (arith, nat_tests)
 
-pub keep_requests : (z : List ℕ) (s : Spot) → Sound z s → May z s Requests → Sound z (move z s Requests)
-keep_requests z s ok may = grind (arith, nat_tests, requests_ask, returns_ask, behind_ask, latest_ask)
+pub keep_requests : (z : List ℕ) (s : Spot) (lives : Bool) → Sound z s → May z s (Requests lives) → Sound z (move z s (Requests lives))
+keep_requests z s lives ok may = grind (arith, nat_tests, requests_ask, returns_ask, behind_ask, latest_ask)
 
 pub keep_returns : (z : List ℕ) (s : Spot) (keep : Bool) (bytes : List ℕ) → Sound z s → May z s (Returns keep bytes) → Sound z (move z s (Returns keep bytes))
 keep_returns z s keep bytes ok may =
@@ -152,7 +153,7 @@ takes_saves z s Erring ok may = refl
 
 pub content_saved : (z : List ℕ) (s : Spot) (e : Effect) → Sound z s → May z s e → Saves s e → content (move z s e) ≡ content s
 content_saved z s Creates ok may saves = refl
-content_saved z s Requests ok may saves = refl
+content_saved z s (Requests lives) ok may saves = refl
 content_saved z s (Returns keep bytes) ok may saves = grind arith
 content_saved z s TakesRequest ok may saves = refl
 content_saved z s (TakesReturn bytes) ok may saves = refl

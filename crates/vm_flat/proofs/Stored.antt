@@ -13,19 +13,26 @@ use Rattle.vm_flat.proofs.Good.{Good, good_stores, good_again}
 use Rattle.vm_flat.proofs.World.{ReachAt, ShapeOf, World, view, GoodAt, path_covered, under_view, Barren, barren_top, reach_next}
 
 -- two tests, one of which fails
-pub and_no : {A : Type 0} (o p k q : ℕ) (x y : A) → (o ≡ k → p ≡ q → ⊥) → (if o == k && p == q then x else y) ≡ y
-and_no o p k q x y apart = and_no_if (o == k && p == q) refl
+pub and_no : {A : Type 0} (o p k q : ℕ) (x y : A) → (o ≡ k → p ≡ q → ⊥) → (if k == o && q == p then x else y) ≡ y
+and_no o p k q x y apart = and_no_if (k == o && q == p) refl
   where
-    and_no_if : (b : Bool) → (o == k && p == q) ≡ b → (if b then x else y) ≡ y
+    and_no_if : (b : Bool) → (k == o && q == p) ≡ b → (if b then x else y) ≡ y
     and_no_if false is = refl
     and_no_if true is = absurd (apart (grind (arith, nat_tests)) (grind (arith, nat_tests)))
 
-pub and_yes : {A : Type 0} (o p k q : ℕ) (x y : A) → o ≡ k → p ≡ q → (if o == k && p == q then x else y) ≡ x
-and_yes o p k q x y e f = and_yes_if (o == k && p == q) refl
+pub and_yes : {A : Type 0} (o p k q : ℕ) (x y : A) → o ≡ k → p ≡ q → (if k == o && q == p then x else y) ≡ x
+and_yes o p k q x y e f = and_yes_if (k == o && q == p) refl
   where
-    and_yes_if : (b : Bool) → (o == k && p == q) ≡ b → (if b then x else y) ≡ x
+    and_yes_if : (b : Bool) → (k == o && q == p) ≡ b → (if b then x else y) ≡ x
     and_yes_if true is = refl
     and_yes_if false is = absurd (grind (arith, nat_tests))
+
+-- the same for a region's page
+pub page_no : {A : Type 0} (o p k q : ℕ) (x y : A) → (o ≡ k → p ≡ q → ⊥) → (if o == k && p == q then x else y) ≡ y
+page_no o p k q x y apart = and_no k q o p x y (λ e f. apart (sym e) (sym f))
+
+pub page_yes : {A : Type 0} (o p k q : ℕ) (x y : A) → o ≡ k → p ≡ q → (if o == k && p == q then x else y) ≡ x
+page_yes o p k q x y e f = and_yes k q o p x y (sym e) (sym f)
 
 -- a file, or a temporary object
 pub kind : (z : Ground) (k : ℕ) → covered z k ≡ true → (is_file z k ≡ true) ⊎ (z.named ≤ k)
@@ -53,7 +60,7 @@ regional_other : (z : Ground) (r i k q at : ℕ) (bytes : List ℕ) (past : List
     → (g j : ℕ) → (row z g past).used ≡ true → j < (row z g past).pages → (g ≡ r → j ≡ i → ⊥) → flat z g j (Stored true r i k q at bytes ∷ past) ≡ view z (row z g past).top ((row z g past).shift + j) (Stored true r i k q at bytes ∷ past)
 regional_other z r i k q at bytes past w c g j used inside apart =
     let was : flat z g j past ≡ view z (row z g past).top ((row z g past).shift + j) past = w.regional g j used inside in
-    let left : flat z g j (Stored true r i k q at bytes ∷ past) ≡ flat z g j past = and_no g j r i (with_bytes at bytes (flat z g j past)) (flat z g j past) apart in
+    let left : flat z g j (Stored true r i k q at bytes ∷ past) ≡ flat z g j past = page_no g j r i (with_bytes at bytes (flat z g j past)) (flat z g j past) apart in
     let right : view z (row z g past).top ((row z g past).shift + j) (Stored true r i k q at bytes ∷ past) ≡ view z (row z g past).top ((row z g past).shift + j) past =
     view_other z r i k q at bytes (row z g past).top ((row z g past).shift + j) past elsewhere in
     left ∙ was ∙ sym right
@@ -67,7 +74,7 @@ regional_other z r i k q at bytes past w c g j used inside apart =
 regional_own : (z : Ground) (r i k q at : ℕ) (bytes : List ℕ) (past : List Deed) → World z past → StoresThere z r i k q past
     → flat z r i (Stored true r i k q at bytes ∷ past) ≡ view z (row z r past).top ((row z r past).shift + i) (Stored true r i k q at bytes ∷ past)
 regional_own z r i k q at bytes past w c =
-    and_yes r i r i (with_bytes at bytes (flat z r i past)) (flat z r i past) refl refl
+    page_yes r i r i (with_bytes at bytes (flat z r i past)) (flat z r i past) refl refl
     ∙ ap (with_bytes at bytes) (w.regional r i c.tops.used c.tops.inside)
     ∙ sym (and_yes (row z r past).top ((row z r past).shift + i) k q (with_bytes at bytes (view z (row z r past).top ((row z r past).shift + i) past)) (view z (row z r past).top ((row z r past).shift + i) past) c.tops.object c.tops.page)
 
@@ -111,7 +118,7 @@ after_own z r i k q at bytes past w c =
     record {
       shape = w.shape;
       regional = regional_after z r i k q at bytes past w c;
-      places = λ o p ours. places_if o p ours (o == k && p == q) refl;
+      places = λ o p ours. places_if o p ours (k == o && q == p) refl;
     }
   where
     own : (o p : ℕ) → covered z o ≡ true → o ≡ k → p ≡ q → Good z.zeros (ReachAt z o p past) (objects z past ≤ o) (Barren z o p (Stored true r i k q at bytes ∷ past)) (with_bytes at bytes (view z o p past)) (link z o past).backed (under_view z o p (Stored true r i k q at bytes ∷ past)) (move z.zeros (spot z o p past) (Stores at bytes))
@@ -124,17 +131,17 @@ after_own z r i k q at bytes past w c =
         good_again z.zeros (ReachAt z o p past) (ReachAt z o p past) (objects z past ≤ o) (objects z past ≤ o) (Barren z o p past) (Barren z o p (Stored true r i k q at bytes ∷ past)) (view z o p past) (view z o p past) (link z o past).backed (under_view z o p past) (under_view z o p (Stored true r i k q at bytes ∷ past)) (spot z o p past)
         (w.places o p ours) (λ x. x) (λ x. x) (λ x. refl) (λ reach. under_other z r i k q at bytes past w c o p reach.0) (λ reach. barren_other z r i k q at bytes past w c o p apart reach.0)
 
-    places_if : (o p : ℕ) → covered z o ≡ true → (b : Bool) → (o == k && p == q) ≡ b
+    places_if : (o p : ℕ) → covered z o ≡ true → (b : Bool) → (k == o && q == p) ≡ b
         → Good z.zeros (ReachAt z o p past) (objects z past ≤ o) (Barren z o p (Stored true r i k q at bytes ∷ past)) (if b then with_bytes at bytes (view z o p past) else view z o p past) (link z o past).backed (under_view z o p (Stored true r i k q at bytes ∷ past))
         (move z.zeros (spot z o p past) (if b then Stores at bytes else Nothing))
     places_if o p ours true is = own o p ours (grind (arith, nat_tests)) (grind (arith, nat_tests))
     places_if o p ours false is = other o p ours (λ e f. absurd (grind (arith, nat_tests)))
 
 -- a test that fails
-pub no_if : {A : Type 0} (own : Bool) (o p k q : ℕ) (x y : A) → (own ≡ true → o ≡ k → ⊥) → (if own && (o == k && p == q) then x else y) ≡ y
-no_if own o p k q x y apart = no_if_so (own && (o == k && p == q)) refl
+pub no_if : {A : Type 0} (own : Bool) (o p k q : ℕ) (x y : A) → (own ≡ true → o ≡ k → ⊥) → (if own && (k == o && q == p) then x else y) ≡ y
+no_if own o p k q x y apart = no_if_so (own && (k == o && q == p)) refl
   where
-    no_if_so : (b : Bool) → (own && (o == k && p == q)) ≡ b → (if b then x else y) ≡ y
+    no_if_so : (b : Bool) → (own && (k == o && q == p)) ≡ b → (if b then x else y) ≡ y
     no_if_so false is = refl
     no_if_so true is = absurd (apart (grind arith) (grind (arith, nat_tests)))
 
@@ -159,7 +166,7 @@ after_foreign z own r i k q at bytes past w f =
 
     regional : (g j : ℕ) → (row z g past).used ≡ true → j < (row z g past).pages → flat z g j (Stored own r i k q at bytes ∷ past) ≡ view z (row z g past).top ((row z g past).shift + j) (Stored own r i k q at bytes ∷ past)
     regional g j used inside =
-        and_no g j r i (with_bytes at bytes (flat z g j past)) (flat z g j past) (λ e e'. clash (row z g past).used (ap (λ h. (row z h past).used) e ∙ f.unused) used)
+        page_no g j r i (with_bytes at bytes (flat z g j past)) (flat z g j past) (λ e e'. clash (row z g past).used (ap (λ h. (row z h past).used) e ∙ f.unused) used)
         ∙ w.regional g j used inside
         ∙ sym (view_is (row z g past).top ((row z g past).shift + j) (w.shape.covers_tops g used))
 

@@ -1,5 +1,5 @@
 -- What the events leave is what their deeds leave.
-use Rattle.std.proofs.Common.{◌≡◌, ℕ, List, [], ◌∷◌, Bool, true, refl, arith, if◌then◌else◌, ◌∙◌, ap}
+use Rattle.std.proofs.Common.{◌≡◌, ℕ, List, [], ◌∷◌, Bool, true, refl, arith, if◌then◌else◌, ◌∙◌, ap, Option}
 use Rattle.std.specs.Prelude.{◌==◌, ◌&&◌}
 use Rattle.vm_model.specs.declared.event.Event.{Event}
 use Rattle.vm_model.specs.declared.event.Event.TheVariants as event
@@ -13,7 +13,8 @@ use Rattle.vm_model.specs.Regions.{next_region, next_object, Region, region_of, 
 use Rattle.vm_flat.specs.Regions.{made_here, in_use}
 use Rattle.vm_flat.specs.Words.{Effect, Raises, Nothing}
 use Rattle.vm_flat.specs.Spot.{Spot, move}
-use Rattle.vm_flat.specs.Places.{sent_up, taken_up, sent_down, taken_down, effect_of, at_place, spot, control, control_number}
+use Rattle.vm_model.specs.Controls.{is_control, last_control, live_control}
+use Rattle.vm_flat.specs.Places.{sent_up, taken_up, sent_down, taken_down, effect_of, at_place, spot, control}
 use Rattle.vm_flat.specs.Declared.{Outside}
 use Rattle.vm_flat.proofs.Deeds as D
 use Rattle.vm_flat.proofs.Classes.{ground, up_deed, taken_up_deed, down_deed, taken_down_deed, deed, deeds, up_case, taken_up_case, down_case, taken_down_case}
@@ -36,16 +37,16 @@ row_is header outside host r (event.TaskEnded task ∷ past) = ap (λ w. D.row_m
 row_is header outside host r (event.Failed task object page ∷ past) = ap (λ w. D.row_move r (deed header outside host (event.Failed task object page) past) (λ k. w)) (row_is header outside host r past)
 row_is header outside host r (event.Shadowed region new old ∷ past) = ap (λ w. D.shadow_row (r == region.0) new.0 w) (row_is header outside host r past)
 row_is header outside host r (event.Sent (Up at object) m ∷ past) =
-    up_case (λ d. D.row (ground header outside) r (d ∷ deeds header outside host past) ≡ D.row (ground header outside) r (deeds header outside host past)) (λ own o. refl) (λ own o p. refl) (λ own o p keep bytes. refl) (λ own o. refl) refl (at.0 == host) object.0 m
+    up_case (λ d. D.row (ground header outside) r (d ∷ deeds header outside host past) ≡ D.row (ground header outside) r (deeds header outside host past)) (λ own o. refl) (λ own lives o p. refl) (λ own o p keep bytes. refl) (λ own o. refl) refl (at.0 == host) (live_control host object.0 past) object.0 m
     ∙ row_is header outside host r past
 row_is header outside host r (event.Sent (Down at object number) m ∷ past) =
-    down_case (λ d. D.row (ground header outside) r (d ∷ deeds header outside host past) ≡ D.row (ground header outside) r (deeds header outside host past)) (at.0 == host && number == control_number host object.0 past) (is_said header outside object.0) (λ o p word. refl) refl object.0 m
+    down_case (λ d. D.row (ground header outside) r (d ∷ deeds header outside host past) ≡ D.row (ground header outside) r (deeds header outside host past)) (at.0 == host && number == last_control host object.0 past) (is_said header outside object.0) (λ o p word. refl) refl object.0 m
     ∙ row_is header outside host r past
 row_is header outside host r (event.Taken (Up at object) m ∷ past) =
     taken_up_case (λ d. D.row (ground header outside) r (d ∷ deeds header outside host past) ≡ D.row (ground header outside) r (deeds header outside host past)) (λ own o p. refl) (λ own o p bytes. refl) refl (at.0 == host) object.0 m
     ∙ row_is header outside host r past
 row_is header outside host r (event.Taken (Down at object number) m ∷ past) =
-    taken_down_case (λ d. D.row (ground header outside) r (d ∷ deeds header outside host past) ≡ D.row (ground header outside) r (deeds header outside host past)) (λ own o p word. refl) refl (at.0 == host && number == control_number host object.0 past) object.0 m
+    taken_down_case (λ d. D.row (ground header outside) r (d ∷ deeds header outside host past) ≡ D.row (ground header outside) r (deeds header outside host past)) (λ own o p word. refl) refl (at.0 == host && number == last_control host object.0 past) object.0 m
     ∙ row_is header outside host r past
 row_is header outside host r (e ∷ past) = row_is header outside host r past
 
@@ -54,16 +55,16 @@ regions_is header outside host [] = refl
 regions_is header outside host (event.RegionMade region object pages ∷ past) = omega (arith, regions_is header outside host past)
 regions_is header outside host (event.RegionCopied region source offset pages ∷ past) = omega (arith, regions_is header outside host past)
 regions_is header outside host (event.Sent (Up at object) m ∷ past) =
-    up_case (λ d. D.regions (ground header outside) (d ∷ deeds header outside host past) ≡ D.regions (ground header outside) (deeds header outside host past)) (λ own o. refl) (λ own o p. refl) (λ own o p keep bytes. refl) (λ own o. refl) refl (at.0 == host) object.0 m
+    up_case (λ d. D.regions (ground header outside) (d ∷ deeds header outside host past) ≡ D.regions (ground header outside) (deeds header outside host past)) (λ own o. refl) (λ own lives o p. refl) (λ own o p keep bytes. refl) (λ own o. refl) refl (at.0 == host) (live_control host object.0 past) object.0 m
     ∙ regions_is header outside host past
 regions_is header outside host (event.Sent (Down at object number) m ∷ past) =
-    down_case (λ d. D.regions (ground header outside) (d ∷ deeds header outside host past) ≡ D.regions (ground header outside) (deeds header outside host past)) (at.0 == host && number == control_number host object.0 past) (is_said header outside object.0) (λ o p word. refl) refl object.0 m
+    down_case (λ d. D.regions (ground header outside) (d ∷ deeds header outside host past) ≡ D.regions (ground header outside) (deeds header outside host past)) (at.0 == host && number == last_control host object.0 past) (is_said header outside object.0) (λ o p word. refl) refl object.0 m
     ∙ regions_is header outside host past
 regions_is header outside host (event.Taken (Up at object) m ∷ past) =
     taken_up_case (λ d. D.regions (ground header outside) (d ∷ deeds header outside host past) ≡ D.regions (ground header outside) (deeds header outside host past)) (λ own o p. refl) (λ own o p bytes. refl) refl (at.0 == host) object.0 m
     ∙ regions_is header outside host past
 regions_is header outside host (event.Taken (Down at object number) m ∷ past) =
-    taken_down_case (λ d. D.regions (ground header outside) (d ∷ deeds header outside host past) ≡ D.regions (ground header outside) (deeds header outside host past)) (λ own o p word. refl) refl (at.0 == host && number == control_number host object.0 past) object.0 m
+    taken_down_case (λ d. D.regions (ground header outside) (d ∷ deeds header outside host past) ≡ D.regions (ground header outside) (deeds header outside host past)) (λ own o p word. refl) refl (at.0 == host && number == last_control host object.0 past) object.0 m
     ∙ regions_is header outside host past
 regions_is header outside host (e ∷ past) = regions_is header outside host past
 
@@ -72,16 +73,16 @@ objects_is header outside host [] = refl
 objects_is header outside host (event.RegionMade region object pages ∷ past) = omega (arith, objects_is header outside host past)
 objects_is header outside host (event.Shadowed region new old ∷ past) = omega (arith, objects_is header outside host past)
 objects_is header outside host (event.Sent (Up at object) m ∷ past) =
-    up_case (λ d. D.objects (ground header outside) (d ∷ deeds header outside host past) ≡ D.objects (ground header outside) (deeds header outside host past)) (λ own o. refl) (λ own o p. refl) (λ own o p keep bytes. refl) (λ own o. refl) refl (at.0 == host) object.0 m
+    up_case (λ d. D.objects (ground header outside) (d ∷ deeds header outside host past) ≡ D.objects (ground header outside) (deeds header outside host past)) (λ own o. refl) (λ own lives o p. refl) (λ own o p keep bytes. refl) (λ own o. refl) refl (at.0 == host) (live_control host object.0 past) object.0 m
     ∙ objects_is header outside host past
 objects_is header outside host (event.Sent (Down at object number) m ∷ past) =
-    down_case (λ d. D.objects (ground header outside) (d ∷ deeds header outside host past) ≡ D.objects (ground header outside) (deeds header outside host past)) (at.0 == host && number == control_number host object.0 past) (is_said header outside object.0) (λ o p word. refl) refl object.0 m
+    down_case (λ d. D.objects (ground header outside) (d ∷ deeds header outside host past) ≡ D.objects (ground header outside) (deeds header outside host past)) (at.0 == host && number == last_control host object.0 past) (is_said header outside object.0) (λ o p word. refl) refl object.0 m
     ∙ objects_is header outside host past
 objects_is header outside host (event.Taken (Up at object) m ∷ past) =
     taken_up_case (λ d. D.objects (ground header outside) (d ∷ deeds header outside host past) ≡ D.objects (ground header outside) (deeds header outside host past)) (λ own o p. refl) (λ own o p bytes. refl) refl (at.0 == host) object.0 m
     ∙ objects_is header outside host past
 objects_is header outside host (event.Taken (Down at object number) m ∷ past) =
-    taken_down_case (λ d. D.objects (ground header outside) (d ∷ deeds header outside host past) ≡ D.objects (ground header outside) (deeds header outside host past)) (λ own o p word. refl) refl (at.0 == host && number == control_number host object.0 past) object.0 m
+    taken_down_case (λ d. D.objects (ground header outside) (d ∷ deeds header outside host past) ≡ D.objects (ground header outside) (deeds header outside host past)) (λ own o p word. refl) refl (at.0 == host && number == last_control host object.0 past) object.0 m
     ∙ objects_is header outside host past
 objects_is header outside host (e ∷ past) = objects_is header outside host past
 
@@ -94,28 +95,28 @@ link_is header outside host o (event.Shadowed region new old ∷ past) =
     ap (λ (w : D.Row). over (o == new.0) w (D.link (ground header outside) o (deeds header outside host past))) (row_is header outside host region.0 past)
     ∙ ap (λ (l : D.Link). over (o == new.0) (as_row (in_use header outside host region.0 past) (region_of header region.0 past)) l) (link_is header outside host o past)
 link_is header outside host o (event.Sent (Up at object) m ∷ past) =
-    up_case (λ d. D.link (ground header outside) o (d ∷ deeds header outside host past) ≡ D.link (ground header outside) o (deeds header outside host past)) (λ own o. refl) (λ own o p. refl) (λ own o p keep bytes. refl) (λ own o. refl) refl (at.0 == host) object.0 m
+    up_case (λ d. D.link (ground header outside) o (d ∷ deeds header outside host past) ≡ D.link (ground header outside) o (deeds header outside host past)) (λ own o. refl) (λ own lives o p. refl) (λ own o p keep bytes. refl) (λ own o. refl) refl (at.0 == host) (live_control host object.0 past) object.0 m
     ∙ link_is header outside host o past
 link_is header outside host o (event.Sent (Down at object number) m ∷ past) =
-    down_case (λ d. D.link (ground header outside) o (d ∷ deeds header outside host past) ≡ D.link (ground header outside) o (deeds header outside host past)) (at.0 == host && number == control_number host object.0 past) (is_said header outside object.0) (λ o p word. refl) refl object.0 m
+    down_case (λ d. D.link (ground header outside) o (d ∷ deeds header outside host past) ≡ D.link (ground header outside) o (deeds header outside host past)) (at.0 == host && number == last_control host object.0 past) (is_said header outside object.0) (λ o p word. refl) refl object.0 m
     ∙ link_is header outside host o past
 link_is header outside host o (event.Taken (Up at object) m ∷ past) =
     taken_up_case (λ d. D.link (ground header outside) o (d ∷ deeds header outside host past) ≡ D.link (ground header outside) o (deeds header outside host past)) (λ own o p. refl) (λ own o p bytes. refl) refl (at.0 == host) object.0 m
     ∙ link_is header outside host o past
 link_is header outside host o (event.Taken (Down at object number) m ∷ past) =
-    taken_down_case (λ d. D.link (ground header outside) o (d ∷ deeds header outside host past) ≡ D.link (ground header outside) o (deeds header outside host past)) (λ own o p word. refl) refl (at.0 == host && number == control_number host object.0 past) object.0 m
+    taken_down_case (λ d. D.link (ground header outside) o (d ∷ deeds header outside host past) ≡ D.link (ground header outside) o (deeds header outside host past)) (λ own o p word. refl) refl (at.0 == host && number == last_control host object.0 past) object.0 m
     ∙ link_is header outside host o past
 link_is header outside host o (e ∷ past) = link_is header outside host o past
 
 -- places
 
-up_effect : (o p : ℕ) (own : Bool) (object : ℕ) (m : Message) (spots : ℕ → ℕ → Spot) → D.effect o p (up_deed own object m) spots ≡ sent_up o p own object m
-up_effect o p own object (message.Init control size) spots = refl
-up_effect o p own object (message.Create control size) spots = refl
-up_effect o p own object (message.Request control page access) spots = refl
-up_effect o p own object (message.Return control page dirty keep bytes) spots = refl
-up_effect o p own object (message.Terminate control) spots = refl
-up_effect o p own object other spots = refl
+up_effect : (o p : ℕ) (own : Bool) (live : Option ℕ) (object : ℕ) (m : Message) (spots : ℕ → ℕ → Spot) → D.effect o p (up_deed own live object m) spots ≡ sent_up o p own live object m
+up_effect o p own live object (message.Init control size) spots = refl
+up_effect o p own live object (message.Create control size) spots = refl
+up_effect o p own live object (message.Request control page access) spots = refl
+up_effect o p own live object (message.Return control page dirty keep bytes) spots = refl
+up_effect o p own live object (message.Terminate control) spots = refl
+up_effect o p own live object other spots = refl
 
 taken_up_effect : (o p : ℕ) (own : Bool) (object : ℕ) (m : Message) (spots : ℕ → ℕ → Spot) → D.effect o p (taken_up_deed own object m) spots ≡ taken_up o p own object m
 taken_up_effect o p own object (message.Request control page access) spots = refl
@@ -143,27 +144,27 @@ spot_is header outside host o p (event.Raised at lower lower_page upper upper_pa
     moves header _ _ _ _ (spot_is header outside host o p past) (ap (λ (s : Spot). at_place o p (at.0 == host) upper.0 upper_page.0 (Raises s.bytes) Nothing) (spot_is header outside host lower.0 lower_page.0 past))
 spot_is header outside host o p (event.CopiedPage task page object object_page target ∷ past) =
     moves header _ _ _ _ (spot_is header outside host o p past) (ap (λ (s : Spot). at_place o p (lives_on host task.0 past) target.0 page.0 (Raises s.bytes) Nothing) (spot_is header outside host object.0 object_page.0 past))
-spot_is header outside host o p (event.Sent (Up at object) m ∷ past) = moves header _ _ _ _ (spot_is header outside host o p past) (up_effect o p (at.0 == host) object.0 m (λ k q. D.spot (ground header outside) k q (deeds header outside host past)))
+spot_is header outside host o p (event.Sent (Up at object) m ∷ past) = moves header _ _ _ _ (spot_is header outside host o p past) (up_effect o p (at.0 == host) (live_control host object.0 past) object.0 m (λ k q. D.spot (ground header outside) k q (deeds header outside host past)))
 spot_is header outside host o p (event.Sent (Down at object number) m ∷ past) =
-    moves header _ _ _ _ (spot_is header outside host o p past) (down_effect o p (at.0 == host && number == control_number host object.0 past) (is_said header outside object.0) object.0 m (λ k q. D.spot (ground header outside) k q (deeds header outside host past)))
+    moves header _ _ _ _ (spot_is header outside host o p past) (down_effect o p (at.0 == host && number == last_control host object.0 past) (is_said header outside object.0) object.0 m (λ k q. D.spot (ground header outside) k q (deeds header outside host past)))
 spot_is header outside host o p (event.Taken (Up at object) m ∷ past) = moves header _ _ _ _ (spot_is header outside host o p past) (taken_up_effect o p (at.0 == host) object.0 m (λ k q. D.spot (ground header outside) k q (deeds header outside host past)))
 spot_is header outside host o p (event.Taken (Down at object number) m ∷ past) =
-    moves header _ _ _ _ (spot_is header outside host o p past) (taken_down_effect o p (at.0 == host && number == control_number host object.0 past) object.0 m (λ k q. D.spot (ground header outside) k q (deeds header outside host past)))
+    moves header _ _ _ _ (spot_is header outside host o p past) (taken_down_effect o p (at.0 == host && number == last_control host object.0 past) object.0 m (λ k q. D.spot (ground header outside) k q (deeds header outside host past)))
 spot_is header outside host o p (e ∷ past) = ap (λ s. move (zeros header) s (effect_of (λ k. is_said header outside k) host o p e past (λ k q. spot header outside host k q past))) (spot_is header outside host o p past)
 
 pub control_tie : (header : Header) (outside : Outside) (host o : ℕ) (past : List Event) → D.control (ground header outside) o (deeds header outside host past) ≡ control header host o past
 control_tie header outside host o [] = refl
-control_tie header outside host o (event.Sent (Up at object) (message.Init number size) ∷ past) = ap (λ n. if at.0 == host && o == object.0 then 1 else n) (control_tie header outside host o past)
-control_tie header outside host o (event.Sent (Up at object) (message.Create number size) ∷ past) = ap (λ n. if at.0 == host && o == object.0 then 1 else n) (control_tie header outside host o past)
-control_tie header outside host o (event.Sent (Up at object) (message.Terminate number) ∷ past) = ap (λ n. if at.0 == host && o == object.0 then (if D.is_file (ground header outside) o then 0 else 2) else n) (control_tie header outside host o past)
+control_tie header outside host o (event.Sent (Up at object) (message.Init number size) ∷ past) = ap (λ n. if at.0 == host && object.0 == o then 1 else n) (control_tie header outside host o past)
+control_tie header outside host o (event.Sent (Up at object) (message.Create number size) ∷ past) = ap (λ n. if at.0 == host && object.0 == o then 1 else n) (control_tie header outside host o past)
+control_tie header outside host o (event.Sent (Up at object) (message.Terminate number) ∷ past) = ap (λ n. if (at.0 == host && is_control number (live_control host object.0 past)) && object.0 == o then (if D.is_file (ground header outside) o then 0 else 2) else n) (control_tie header outside host o past)
 control_tie header outside host o (event.Sent (Up at object) m ∷ past) = control_tie header outside host o past
 control_tie header outside host o (event.Sent (Down at object number) m ∷ past) =
-    down_case (λ d. D.control (ground header outside) o (d ∷ deeds header outside host past) ≡ D.control (ground header outside) o (deeds header outside host past)) (at.0 == host && number == control_number host object.0 past) (is_said header outside object.0) (λ o p word. refl) refl object.0 m
+    down_case (λ d. D.control (ground header outside) o (d ∷ deeds header outside host past) ≡ D.control (ground header outside) o (deeds header outside host past)) (at.0 == host && number == last_control host object.0 past) (is_said header outside object.0) (λ o p word. refl) refl object.0 m
     ∙ control_tie header outside host o past
 control_tie header outside host o (event.Taken (Up at object) m ∷ past) =
     taken_up_case (λ d. D.control (ground header outside) o (d ∷ deeds header outside host past) ≡ D.control (ground header outside) o (deeds header outside host past)) (λ own o p. refl) (λ own o p bytes. refl) refl (at.0 == host) object.0 m
     ∙ control_tie header outside host o past
 control_tie header outside host o (event.Taken (Down at object number) m ∷ past) =
-    taken_down_case (λ d. D.control (ground header outside) o (d ∷ deeds header outside host past) ≡ D.control (ground header outside) o (deeds header outside host past)) (λ own o p word. refl) refl (at.0 == host && number == control_number host object.0 past) object.0 m
+    taken_down_case (λ d. D.control (ground header outside) o (d ∷ deeds header outside host past) ≡ D.control (ground header outside) o (deeds header outside host past)) (λ own o p word. refl) refl (at.0 == host && number == last_control host object.0 past) object.0 m
     ∙ control_tie header outside host o past
 control_tie header outside host o (e ∷ past) = control_tie header outside host o past

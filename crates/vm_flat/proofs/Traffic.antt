@@ -40,13 +40,13 @@ after_dropped z own o p past w c =
           (rest_nothing z past w);
     }
 
-pub after_asked : (z : Ground) (own : Bool) (o p : ℕ) (past : List Deed) → World z past → Cause z (Asked own o p) past → World z (Asked own o p ∷ past)
-after_asked z own o p past w c =
+pub after_asked : (z : Ground) (own lives : Bool) (o p : ℕ) (past : List Deed) → World z past → Cause z (Asked own lives o p) past → World z (Asked own lives o p ∷ past)
+after_asked z own lives o p past w c =
     record {
       shape = w.shape;
       regional = w.regional;
-      places = each_place (After z past) o p own Requests Nothing
-          (λ is ours. good_requests z.zeros (ReachAt z o p past) (objects z past ≤ o) (Barren z o p past) (view z o p past) (link z o past).backed (under_view z o p past) (spot z o p past) (w.places o p ours) (c (record { on_host = is; covered = ours })))
+      places = each_place (After z past) o p own (Requests lives) Nothing
+          (λ is ours. good_requests z.zeros (ReachAt z o p past) (objects z past ≤ o) (Barren z o p past) (view z o p past) (link z o past).backed (under_view z o p past) (spot z o p past) lives (w.places o p ours) (c (record { on_host = is; covered = ours })))
           (rest_nothing z past w);
     }
 

@@ -17,9 +17,9 @@ abbrev pub view : Ground → ℕ → ℕ → List Deed → List ℕ
 view z o p [] = if is_file z o then z.start o p else z.zeros
 view z o p (Region own region object count ∷ past) = if o == object then z.zeros else view z o p past
 view z o p (Shadowed region new ∷ past) = if o == new then view z (row z region past).top ((row z region past).shift + p) past else view z o p past
-view z o p (Copied own source index object page region i upper upper_page ∷ past) = if own && (o == upper && p == upper_page) then flat z source index past else view z o p past
-view z o p (Stored own region index object page at bytes ∷ past) = if own && (o == object && p == page) then with_bytes at bytes (view z o p past) else view z o p past
-view z o p (Answered own tells object page word ∷ past) = if (tells && own) && (o == object && p == page) then said z.zeros word (view z o p past) else view z o p past
+view z o p (Copied own source index object page region i upper upper_page ∷ past) = if own && (upper == o && upper_page == p) then flat z source index past else view z o p past
+view z o p (Stored own region index object page at bytes ∷ past) = if own && (object == o && page == p) then with_bytes at bytes (view z o p past) else view z o p past
+view z o p (Answered own tells object page word ∷ past) = if (tells && own) && (object == o && page == p) then said z.zeros word (view z o p past) else view z o p past
 view z o p (e ∷ past) = view z o p past
 
 -- the numbers of regions and objects, and which objects stand on which
@@ -159,7 +159,7 @@ load z r i n o p l lp past w tops walks here =
     sym (top ∙ found z n o p l lp past w (reach_top z r i o p past w.shape tops) walks here)
 
 -- a place is the deed's own or another
-place_if : (P : ℕ → ℕ → Effect → Type 0) (o p object page : ℕ) (own : Bool) (mine other : Effect) (b : Bool) → (own && (o == object && p == page)) ≡ b → (own ≡ true → P object page mine) → ((k q : ℕ) → P k q other) → P o p (if b then mine else other)
+place_if : (P : ℕ → ℕ → Effect → Type 0) (o p object page : ℕ) (own : Bool) (mine other : Effect) (b : Bool) → (own && (object == o && page == p)) ≡ b → (own ≡ true → P object page mine) → ((k q : ℕ) → P k q other) → P o p (if b then mine else other)
 place_if P o p object page own mine other true is at rest =
     let t : own ≡ true = grind arith in
     let e : o ≡ object = grind (arith, nat_tests) in
@@ -168,14 +168,14 @@ place_if P o p object page own mine other true is at rest =
 place_if P o p object page own mine other false is at rest = rest o p
 
 pub each_place : (P : ℕ → ℕ → Effect → Type 0) (object page : ℕ) (own : Bool) (mine other : Effect) → (own ≡ true → P object page mine) → ((k q : ℕ) → P k q other) → (o p : ℕ) → P o p (at_place o p own object page mine other)
-each_place P object page own mine other at rest o p = place_if P o p object page own mine other (own && (o == object && p == page)) refl at rest
+each_place P object page own mine other at rest o p = place_if P o p object page own mine other (own && (object == o && page == p)) refl at rest
 
-object_if : (P : ℕ → ℕ → Effect → Type 0) (o p object : ℕ) (own : Bool) (mine other : Effect) (b : Bool) → (own && o == object) ≡ b → (own ≡ true → (q : ℕ) → P object q mine) → ((k q : ℕ) → P k q other) → P o p (if b then mine else other)
+object_if : (P : ℕ → ℕ → Effect → Type 0) (o p object : ℕ) (own : Bool) (mine other : Effect) (b : Bool) → (own && object == o) ≡ b → (own ≡ true → (q : ℕ) → P object q mine) → ((k q : ℕ) → P k q other) → P o p (if b then mine else other)
 object_if P o p object own mine other true is at rest =
     let t : own ≡ true = grind arith in
     let e : o ≡ object = grind (arith, nat_tests) in
     subst (λ (k : ℕ). P k p mine) (sym e) (at t p)
 object_if P o p object own mine other false is at rest = rest o p
 
-pub each_object : (P : ℕ → ℕ → Effect → Type 0) (object : ℕ) (own : Bool) (mine other : Effect) → (own ≡ true → (q : ℕ) → P object q mine) → ((k q : ℕ) → P k q other) → (o p : ℕ) → P o p (if own && o == object then mine else other)
-each_object P object own mine other at rest o p = object_if P o p object own mine other (own && o == object) refl at rest
+pub each_object : (P : ℕ → ℕ → Effect → Type 0) (object : ℕ) (own : Bool) (mine other : Effect) → (own ≡ true → (q : ℕ) → P object q mine) → ((k q : ℕ) → P k q other) → (o p : ℕ) → P o p (if own && object == o then mine else other)
+each_object P object own mine other at rest o p = object_if P o p object own mine other (own && object == o) refl at rest

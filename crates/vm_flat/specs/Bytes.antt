@@ -8,7 +8,7 @@ use Rattle.vm_model.specs.Bytes.{number_in}
 use Rattle.vm_flat.specs.Declared.{Outside, is_private}
 use Rattle.vm_model.specs.Waiting.{Loading}
 use Rattle.vm_flat.specs.Flat.{flat_page}
-use Rattle.vm_flat.specs.Places.{spot}
+use Rattle.vm_flat.specs.Places.{page_on}
 use Rattle.vm_flat.specs.Tasks.{lives_on}
 use Rattle.vm_flat.specs.Licences.{Waits}
 
@@ -27,5 +27,5 @@ FlatBytes header outside other past = Unit {0}
 -- a slow copy of another object's page takes the flat map's bytes: this is for the laws of those objects to say
 abbrev pub CopiesCurrent : Header → Outside → Event → List Event → Type 0
 CopiesCurrent header outside (event.CopiedPage task page object object_page target) past =
-    is_private header outside object.0 ≡ false → (host : ℕ) → lives_on host task.0 past ≡ true → (spot header outside host object.0 object_page.0 past).bytes ≡ flat_page header outside object.0 object_page.0 past
+    is_private header outside object.0 ≡ false → (host : ℕ) → lives_on host task.0 past ≡ true → (page_on header host object.0 object_page.0 past).bytes ≡ flat_page header outside object.0 object_page.0 past
 CopiesCurrent header outside other past = Unit {0}

@@ -1,8 +1,8 @@
 pub mod Bytes
-pub mod Channels
 pub mod Declared
 pub mod Flat
 pub mod Licences
+pub mod Locals
 pub mod Places
 pub mod Regions
 pub mod Spot

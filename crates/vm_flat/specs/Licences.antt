@@ -16,9 +16,12 @@ use Rattle.vm_flat.specs.Tasks.{tasks}
 use Rattle.vm_model.specs.Waiting.{Access, Loading, Storing, Copying, waiting, next_page, copy_target, address_of, is_store}
 use Rattle.vm_model.specs.Regions.{next_region, next_object, region_of, backing_of}
 use Rattle.vm_flat.specs.Regions.{is_filled, in_use}
-use Rattle.vm_flat.specs.Channels.{queue}
-use Rattle.vm_flat.specs.Spot.{Spot, first}
-use Rattle.vm_flat.specs.Places.{spot, control, control_number}
+use Rattle.vm_model.specs.Channels.{queue}
+use Rattle.vm_model.specs.Server.{first}
+use Rattle.vm_flat.specs.Spot.{Spot}
+use Rattle.vm_model.specs.Controls.{live_control}
+use Rattle.vm_model.specs.Local.{Local, is_known_absent}
+use Rattle.vm_flat.specs.Places.{page_on, sight, spot, control}
 use Rattle.vm_flat.specs.Walks.{Reaches, Walks, Sinks, IsTop}
 
 -- where an address of a living task leads
@@ -43,7 +46,7 @@ pub record Comes (header : Header) (outside : Outside) (host region page object 
   pub top_page : ℕ
   pub steps : ℕ
   pub is_top : IsTop (region_of header region past) page top top_page
-  pub walks : Walks (λ k q. spot header outside host k q past) (λ k. backing_of header k past) steps top top_page object object_page
+  pub walks : Walks (λ k q. sight header host k q past) (λ k. backing_of header k past) steps top top_page object object_page
 
 -- a load ends with the page where its walk found it, and the number that stands there
 pub record Loads (header : Header) (outside : Outside) (task object page value : ℕ) (past : List Event) : Type 0 where
@@ -51,8 +54,8 @@ pub record Loads (header : Header) (outside : Outside) (task object page value :
   pub bytes : ℕ
   pub waits : Waits header task (Loading address bytes) past
   pub comes : Comes header outside waits.at.host waits.at.entry.region.0 (page_at header.size address waits.at.entry) object page past
-  pub here : (spot header outside waits.at.host object page past).here ≡ true
-  pub number : value ≡ number_in (spot header outside waits.at.host object page past).bytes header.size address bytes
+  pub here : (page_on header waits.at.host object page past).here ≡ true
+  pub number : value ≡ number_in (page_on header waits.at.host object page past).bytes header.size address bytes
 
 -- a store ends in the top place of its page, which is here, and its region has no copy mark
 pub record Stores (header : Header) (outside : Outside) (task object page at bytes value : ℕ) (past : List Event) : Type 0 where
@@ -60,7 +63,7 @@ pub record Stores (header : Header) (outside : Outside) (task object page at byt
   pub waits : Waits header task (Storing address bytes value) past
   pub is_top : IsTop (region_of header waits.at.entry.region.0 past) (page_at header.size address waits.at.entry) object page
   pub unmarked : (region_of header waits.at.entry.region.0 past).mark ≡ false
-  pub here : (spot header outside waits.at.host object page past).here ≡ true
+  pub here : (page_on header waits.at.host object page past).here ≡ true
   pub place : at ≡ address % header.size
 
 -- a page is copied up to the top place of a waiting store that found it below
@@ -74,8 +77,8 @@ pub record Raises (header : Header) (outside : Outside) (host lower lower_page u
   pub unmarked : (region_of header waits.at.entry.region.0 past).mark ≡ false
   pub is_top : IsTop (region_of header waits.at.entry.region.0 past) (page_at header.size address waits.at.entry) upper upper_page
   pub steps : ℕ
-  pub walks : Walks (λ k q. spot header outside host k q past) (λ k. backing_of header k past) (suc steps) upper upper_page lower lower_page
-  pub here : (spot header outside host lower lower_page past).here ≡ true
+  pub walks : Walks (λ k q. sight header host k q past) (λ k. backing_of header k past) (suc steps) upper upper_page lower lower_page
+  pub here : (page_on header host lower lower_page past).here ≡ true
 
 -- zeros come to the top place of a waiting access that finds its page nowhere
 pub record Bottoms (header : Header) (outside : Outside) (host object page : ℕ) (past : List Event) : Type 0 where
@@ -87,13 +90,13 @@ pub record Bottoms (header : Header) (outside : Outside) (host object page : ℕ
   pub unmarked : is_store access ≡ true → (region_of header waits.at.entry.region.0 past).mark ≡ false
   pub is_top : IsTop (region_of header waits.at.entry.region.0 past) (page_at header.size (address_of header.size (next_page task past) access) waits.at.entry) object page
   pub steps : ℕ
-  pub sinks : Sinks (λ k q. spot header outside host k q past) (λ k. backing_of header k past) steps object page
+  pub sinks : Sinks (λ k q. sight header host k q past) (λ k. backing_of header k past) steps object page
 
 -- the step took the pager's word that there is no such page, and the page was asked
-pub record Fills (s : Spot) : Type 0 where
+pub record Fills (s : Spot) (page : Local) : Type 0 where
   pub void : s.void ≡ true
-  pub away : s.here ≡ false
-  pub unasked : s.asked ≡ false
+  pub away : page.here ≡ false
+  pub unasked : page.asked ≡ false
 
 -- a slow copy makes its next page, of a declared object's page that is here, a page of the region that it fills
 pub record CopiesPage (header : Header) (outside : Outside) (task index object page target : ℕ) (past : List Event) : Type 0 where
@@ -104,12 +107,12 @@ pub record CopiesPage (header : Header) (outside : Outside) (task index object p
   pub next : index ≡ next_page task past
   pub declared : waits.at.entry.region.0 < named header
   pub is_top : IsTop (region_of header waits.at.entry.region.0 past) (page_at header.size (address + next_page task past * header.size) waits.at.entry) object page
-  pub here : (spot header outside waits.at.host object page past).here ≡ true
+  pub here : (page_on header waits.at.host object page past).here ≡ true
   pub region : ℕ
   pub filled : copy_target task past ≡ Some (record { region = region; object = target })
   pub inside : index < (region_of header region past).pages
-  pub away : (spot header outside waits.at.host target index past).here ≡ false
-  pub unasked : (spot header outside waits.at.host target index past).asked ≡ false
+  pub away : (page_on header waits.at.host target index past).here ≡ false
+  pub unasked : (page_on header waits.at.host target index past).asked ≡ false
 
 -- the walk of a waiting access stops at a page that its pager may have, and nobody asked
 pub record Asks (header : Header) (outside : Outside) (host control_of object page : ℕ) (past : List Event) : Type 0 where
@@ -119,28 +122,25 @@ pub record Asks (header : Header) (outside : Outside) (host control_of object pa
   pub on_host : waits.at.host ≡ host
   pub unmarked : is_store access ≡ true → (region_of header waits.at.entry.region.0 past).mark ≡ false
   pub comes : Comes header outside host waits.at.entry.region.0 (page_at header.size (address_of header.size (next_page task past) access) waits.at.entry) object page past
-  pub live : control header host object past ≡ 1
-  pub number : control_number host object past ≡ control_of
-  pub away : (spot header outside host object page past).here ≡ false
-  pub unasked : (spot header outside host object page past).asked ≡ false
-  pub known : (spot header outside host object page past).absent ≡ false
+  pub live : live_control host object past ≡ Some control_of
+  pub away : (page_on header host object page past).here ≡ false
+  pub unasked : (page_on header host object page past).asked ≡ false
+  pub known : is_known_absent header (record { object = object; page = page }) (page_on header host object page past) ≡ false
 
 -- a dirty page goes back to its pager, as it is
 pub record GivesBack (header : Header) (outside : Outside) (host control_of object page : ℕ) (changed : Bool) (bytes : List ℕ) (past : List Event) : Type 0 where
-  pub live : control header host object past ≡ 1
-  pub number : control_number host object past ≡ control_of
-  pub here : (spot header outside host object page past).here ≡ true
-  pub dirty : (spot header outside host object page past).dirty ≡ true
-  pub same : bytes ≡ (spot header outside host object page past).bytes
-  pub flag : changed ≡ (spot header outside host object page past).dirty
+  pub live : live_control host object past ≡ Some control_of
+  pub here : (page_on header host object page past).here ≡ true
+  pub dirty : (page_on header host object page past).dirty ≡ true
+  pub same : bytes ≡ (page_on header host object page past).bytes
+  pub flag : changed ≡ (page_on header host object page past).dirty
 
 -- an object ends on a host: it is a declared one, or no region leads to it, and nothing of it is here or asked
 pub record Ends (header : Header) (outside : Outside) (host control_of object : ℕ) (past : List Event) : Type 0 where
-  pub live : control header host object past ≡ 1
-  pub number : control_number host object past ≡ control_of
+  pub live : live_control host object past ≡ Some control_of
   pub unreached : named header ≤ object → Reach header outside host object past → ⊥
-  pub away : (page : ℕ) → (spot header outside host object page past).here ≡ false
-  pub unasked : (page : ℕ) → (spot header outside host object page past).asked ≡ false
+  pub away : (page : ℕ) → (page_on header host object page past).here ≡ false
+  pub unasked : (page : ℕ) → (page_on header host object page past).asked ≡ false
 
 -- a declared object is mapped on a host that has no live control of it
 pub record Opens (header : Header) (host object : ℕ) (past : List Event) : Type 0 where
@@ -184,7 +184,7 @@ pub record Answers (header : Header) (outside : Outside) (host object control_of
 abbrev pub MaySendUp : Header → Outside → ℕ → ℕ → Message → List Event → Type 0
 MaySendUp header outside host object (message.Init number size) past = Opens header host object past
 MaySendUp header outside host object (message.Create number size) past =
-    (number ≡ 1) × (named header ≤ object) × (control header host object past ≡ 0) × (page : ℕ) × ((spot header outside host object page past).here ≡ true)
+    (number ≡ 1) × (named header ≤ object) × (control header host object past ≡ 0) × (page : ℕ) × ((page_on header host object page past).here ≡ true)
 MaySendUp header outside host object (message.Request number page access) past = Asks header outside host number object page.0 past
 MaySendUp header outside host object (message.Return number page dirty keep bytes) past = GivesBack header outside host number object page.0 dirty bytes past
 MaySendUp header outside host object (message.Terminate number) past = Ends header outside host number object past
@@ -274,8 +274,8 @@ pub data Leaves (header : Header) (outside : Outside) (host object page : ℕ) (
   Flushed : Flushes host object page dirty past → Leaves header outside host object page dirty past
 
 pub record Drops (header : Header) (outside : Outside) (host object page : ℕ) (past : List Event) : Type 0 where
-  pub here : (spot header outside host object page past).here ≡ true
-  pub why : Leaves header outside host object page (spot header outside host object page past).dirty past
+  pub here : (page_on header host object page past).here ≡ true
+  pub why : Leaves header outside host object page (page_on header host object page past).dirty past
 
 abbrev pub Licensed : Header → Outside → Event → List Event → Type 0
 Licensed header outside (event.RegionMade region object pages) past = (region.0 ≡ next_region header past) × (object.0 ≡ next_object header past)
@@ -286,7 +286,7 @@ Licensed header outside (event.Loaded task object page value) past = Loads heade
 Licensed header outside (event.Stored task object page at bytes value) past = Stores header outside task.0 object.0 page.0 at bytes value past
 Licensed header outside (event.CopiedPage task page object object_page target) past = CopiesPage header outside task.0 page.0 object.0 object_page.0 target.0 past
 Licensed header outside (event.Zeroed host object page) past =
-    is_private header outside object.0 ≡ true → ((object.0 < named header) × Fills (spot header outside host.0 object.0 page.0 past)) ⊎ Bottoms header outside host.0 object.0 page.0 past
+    is_private header outside object.0 ≡ true → ((object.0 < named header) × Fills (spot header outside host.0 object.0 page.0 past) (page_on header host.0 object.0 page.0 past)) ⊎ Bottoms header outside host.0 object.0 page.0 past
 Licensed header outside (event.Raised host lower lower_page upper upper_page) past = Raises header outside host.0 lower.0 lower_page.0 upper.0 upper_page.0 past
 Licensed header outside (event.Dropped host object page) past = is_private header outside object.0 ≡ true → Drops header outside host.0 object.0 page.0 past
 Licensed header outside (event.Sent (Up host object) m) past = is_private header outside object.0 ≡ true → MaySendUp header outside host.0 object.0 m past

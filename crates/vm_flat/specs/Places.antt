@@ -1,6 +1,6 @@
 -- What a host has of a page of an object, what is on the way about it, and what the host's pager has:
 -- each event is classified once, and moves one record.
-use Rattle.std.specs.Prelude.{ℕ, List, [], ◌∷◌, if◌then◌else◌, ◌==◌, ◌&&◌, Bool}
+use Rattle.std.specs.Prelude.{ℕ, List, [], ◌∷◌, if◌then◌else◌, ◌==◌, ◌&&◌, Bool, not, Option, is_some}
 use Rattle.vm_base.specs.Pages.{little_endian_bytes}
 use Rattle.vm_model.specs.declared.event.Event.{Event}
 use Rattle.vm_model.specs.declared.event.Event.TheVariants as event
@@ -8,29 +8,26 @@ use Rattle.vm_model.specs.declared.message.Channel.TheVariants.{Up, Down}
 use Rattle.vm_model.specs.declared.message.Message.{Message}
 use Rattle.vm_model.specs.declared.message.Message.TheVariants as message
 use Rattle.vm_model.specs.declared.script.Header.{Header}
+use Rattle.vm_model.specs.Controls.{is_control, last_control, live_control}
+use Rattle.vm_model.specs.Local.{Local, is_known_absent, local}
 use Rattle.vm_flat.specs.Declared.{Outside, is_file, is_said, start_page, zeros}
 use Rattle.vm_flat.specs.Tasks.{lives_on}
 use Rattle.vm_flat.specs.Words.{Supplying, Unavailing, Erring, Effect, Creates, Requests, Returns, TakesRequest, TakesReturn, Answers, Takes, Zeroes, Raises, Stores, Drops, Ends, StepEnds, Nothing}
 use Rattle.vm_flat.specs.Spot.{Spot, first_spot, move}
-
--- the number of the host's newest control of an object
-abbrev pub control_number : ℕ → ℕ → List Event → ℕ
-control_number host object [] = 0
-control_number host object (event.Sent (Up at to) (message.Init control size) ∷ past) = if at.0 == host && object == to.0 then control else control_number host object past
-control_number host object (event.Sent (Up at to) (message.Create control size) ∷ past) = if at.0 == host && object == to.0 then control else control_number host object past
-control_number host object (e ∷ past) = control_number host object past
+use Rattle.vm_flat.specs.Walks.{Sight}
 
 -- the effect of what is about page `page` of `object`, on page p of o; on all others that of `other`
 abbrev pub at_place : ℕ → ℕ → Bool → ℕ → ℕ → Effect → Effect → Effect
-at_place o p own object page mine other = if own && (o == object && p == page) then mine else other
+at_place o p own object page mine other = if own && (object == o && page == p) then mine else other
 
-abbrev pub sent_up : ℕ → ℕ → Bool → ℕ → Message → Effect
-sent_up o p own object (message.Init control size) = if own && o == object then Creates else Nothing
-sent_up o p own object (message.Create control size) = if own && o == object then Creates else Nothing
-sent_up o p own object (message.Request control page access) = at_place o p own object page.0 Requests Nothing
-sent_up o p own object (message.Return control page dirty keep bytes) = at_place o p own object page.0 (Returns keep bytes) Nothing
-sent_up o p own object (message.Terminate control) = if own && o == object then Ends else Nothing
-sent_up o p own object other = Nothing
+-- the host's live control of the object comes in
+abbrev pub sent_up : ℕ → ℕ → Bool → Option ℕ → ℕ → Message → Effect
+sent_up o p own live object (message.Init control size) = if own && object == o then Creates else Nothing
+sent_up o p own live object (message.Create control size) = if own && object == o then Creates else Nothing
+sent_up o p own live object (message.Request control page access) = at_place o p own object page.0 (Requests (is_control control live)) Nothing
+sent_up o p own live object (message.Return control page dirty keep bytes) = at_place o p own object page.0 (Returns keep bytes) Nothing
+sent_up o p own live object (message.Terminate control) = if (own && is_control control live) && object == o then Ends else Nothing
+sent_up o p own live object other = Nothing
 
 abbrev pub taken_up : ℕ → ℕ → Bool → ℕ → Message → Effect
 taken_up o p own object (message.Request control page access) = at_place o p own object page.0 TakesRequest StepEnds
@@ -58,21 +55,30 @@ effect_of says host o p (event.Raised at lower lower_page upper upper_page) past
 effect_of says host o p (event.Stored task object page at size value) past spots = at_place o p (lives_on host task.0 past) object.0 page.0 (Stores at (little_endian_bytes size value)) Nothing
 effect_of says host o p (event.CopiedPage task page object object_page target) past spots = at_place o p (lives_on host task.0 past) target.0 page.0 (Raises (spots object.0 object_page.0).bytes) Nothing
 effect_of says host o p (event.Dropped at object page) past spots = at_place o p (at.0 == host) object.0 page.0 Drops Nothing
-effect_of says host o p (event.Sent (Up at object) m) past spots = sent_up o p (at.0 == host) object.0 m
-effect_of says host o p (event.Sent (Down at object control) m) past spots = sent_down o p (at.0 == host && control == control_number host object.0 past) (says object.0) object.0 m
+effect_of says host o p (event.Sent (Up at object) m) past spots = sent_up o p (at.0 == host) (live_control host object.0 past) object.0 m
+effect_of says host o p (event.Sent (Down at object control) m) past spots = sent_down o p (at.0 == host && control == last_control host object.0 past) (says object.0) object.0 m
 effect_of says host o p (event.Taken (Up at object) m) past spots = taken_up o p (at.0 == host) object.0 m
-effect_of says host o p (event.Taken (Down at object control) m) past spots = taken_down o p (at.0 == host && control == control_number host object.0 past) object.0 m
+effect_of says host o p (event.Taken (Down at object control) m) past spots = taken_down o p (at.0 == host && control == last_control host object.0 past) object.0 m
 effect_of says host o p e past spots = Nothing
 
 abbrev pub spot : Header → Outside → ℕ → ℕ → ℕ → List Event → Spot
 spot header outside host o p [] = first_spot (is_file header o) (start_page header outside o p)
 spot header outside host o p (e ∷ past) = move (zeros header) (spot header outside host o p past) (effect_of (λ k. is_said header outside k) host o p e past (λ k q. spot header outside host k q past))
 
+-- what the host has of the page: the place says the same of it
+abbrev pub page_on : Header → ℕ → ℕ → ℕ → List Event → Local
+page_on header host o p past = local header.size host (record { object = o; page = p }) past
+
+-- what a walk sees of it: a pager may have a page that is not known absent, where the host has a live control
+abbrev pub sight : Header → ℕ → ℕ → ℕ → List Event → Sight
+sight header host o p past =
+    record { page = page_on header host o p past; may_have = is_some (live_control host o past) && not (is_known_absent header (record { object = o; page = p }) (page_on header host o p past)) }
+
 -- the host's control of an object: 0 none, 1 live, 2 ended for ever
 abbrev pub control : Header → ℕ → ℕ → List Event → ℕ
 control header host object [] = 0
-control header host object (event.Sent (Up at to) (message.Init number size) ∷ past) = if at.0 == host && object == to.0 then 1 else control header host object past
-control header host object (event.Sent (Up at to) (message.Create number size) ∷ past) = if at.0 == host && object == to.0 then 1 else control header host object past
+control header host object (event.Sent (Up at to) (message.Init number size) ∷ past) = if at.0 == host && to.0 == object then 1 else control header host object past
+control header host object (event.Sent (Up at to) (message.Create number size) ∷ past) = if at.0 == host && to.0 == object then 1 else control header host object past
 control header host object (event.Sent (Up at to) (message.Terminate number) ∷ past) =
-    if at.0 == host && object == to.0 then (if is_file header object then 0 else 2) else control header host object past
+    if (at.0 == host && is_control number (live_control host to.0 past)) && to.0 == object then (if is_file header object then 0 else 2) else control header host object past
 control header host object (e ∷ past) = control header host object past

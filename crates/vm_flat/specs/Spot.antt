@@ -1,6 +1,7 @@
 -- One place: the page on the host, what is on the way, and what the pager has.
 use Rattle.std.specs.Prelude.{not, ℕ, ◌==◌, List, [], ◌∷◌, ◌++◌, Bool, true, false, if◌then◌else◌, ◌&&◌, Option, Some, None}
 use Rattle.vm_base.specs.Pages.{with_bytes}
+use Rattle.vm_model.specs.Side.{rest}
 use Rattle.vm_flat.specs.Words.{UpWord, Requesting, Returning, DownWord, Supplying, Unavailing, Erring, Effect, Creates, Requests, Returns, TakesRequest, TakesReturn, Answers, Takes, Zeroes, Raises, Stores, Drops, Ends, StepEnds, Nothing}
 
 pub record Spot : Type 0 where
@@ -42,14 +43,6 @@ first_spot file bytes =
       void = false;
     }
 
-abbrev pub rest : {A : Type 0} → List A → List A
-rest [] = []
-rest (x ∷ xs) = xs
-
-abbrev pub first : {A : Type 0} → List A → Option A
-first [] = None
-first (x ∷ xs) = Some x
-
 -- what an answer says that the pager has
 abbrev pub told : List ℕ → DownWord → Option (List ℕ) → Option (List ℕ)
 told z (Supplying bytes) was = Some bytes
@@ -75,9 +68,9 @@ taken s Unavailing b = record s { down = rest s.down; absent = if b && not s.fil
 taken s Erring b = record s { down = rest s.down; asked = if b then false else s.asked; step = false; void = false }
 
 abbrev pub move : List ℕ → Spot → Effect → Spot
-move z s Creates = record s { control = 1 }
-move z s Requests = record s { up = s.up ++ Requesting ∷ []; asked = true }
-move z s (Returns keep bytes) = record s { up = s.up ++ Returning bytes ∷ []; here = keep; dirty = false; absent = false; returned = Some bytes }
+move z s Creates = record s { control = 1; asked = false }
+move z s (Requests lives) = record s { up = s.up ++ Requesting ∷ []; asked = if lives then true else s.asked }
+move z s (Returns keep bytes) = record s { up = s.up ++ Returning bytes ∷ []; here = keep && s.here; bytes = if keep then s.bytes else []; dirty = false; absent = false; returned = Some bytes }
 move z s TakesRequest = record s { up = rest s.up; step = true; void = false }
 move z s (TakesReturn bytes) = record s { up = rest s.up; kept = Some bytes; step = false; void = false }
 move z s (Answers tells word) =
@@ -92,7 +85,7 @@ move z s (Takes word) = taken s word (hears s)
 move z s Zeroes = record s { here = true; bytes = z; dirty = false; void = false }
 move z s (Raises bytes) = record s { here = true; bytes = bytes; dirty = true }
 move z s (Stores at bytes) = record s { bytes = with_bytes at bytes s.bytes; dirty = true }
-move z s Drops = record s { here = false; dirty = false }
-move z s Ends = record s { control = if s.file then 0 else 2 }
+move z s Drops = record s { here = false; bytes = []; dirty = false }
+move z s Ends = record s { control = if s.file then 0 else 2; asked = false }
 move z s StepEnds = record s { step = false; void = false }
 move z s Nothing = s

@@ -15,7 +15,8 @@ pub data DownWord : Type 0 where
 -- what an event does to one place
 pub data Effect : Type 0 where
   Creates : Effect
-  Requests : Effect
+  -- it counts where its control lives
+  Requests : (lives : Bool) → Effect
   Returns : (keep : Bool) → (bytes : List ℕ) → Effect
   TakesRequest : Effect
   TakesReturn : (bytes : List ℕ) → Effect

@@ -1,13 +1,18 @@
 //! What loads of temporary and file memory answer: a law of event lists.
 #![tactic(auto)]
 
-ghost use Rattle.std.specs.Prelude.{List};
+ghost use Rattle.std.specs.Prelude.{ℕ, ◌≡◌, true, List};
+ghost use Rattle.vm_model.specs.Controls.{last_control, live_control};
+ghost use Rattle.vm_model.specs.Founded.{IsFounded};
+ghost use Rattle.vm_model.specs.Local.{is_known_absent, local};
 ghost use Rattle.vm_model.specs.Moments.{EachEvent};
 ghost use Rattle.vm_model.specs.declared.event.Event.{Event};
 ghost use Rattle.vm_model.specs.declared.script.Header.{Header};
 ghost use Rattle.vm_flat.specs.Bytes.{CopiesCurrent, FlatBytes};
-ghost use Rattle.vm_flat.specs.Declared.{Outside};
+ghost use Rattle.vm_flat.specs.Declared.{Outside, is_file, is_private};
 ghost use Rattle.vm_flat.specs.Licences.{AllLicensed};
+ghost use Rattle.vm_flat.specs.Locals.{OthersFounded, SpotIsLocal};
+ghost use Rattle.vm_flat.specs.Places.{spot};
 
 /// Each load of temporary or file memory answers the flat map's bytes, whatever was shadowed,
 /// raised, paged out, supplied, lost or dropped before it: of every history whose events have their
@@ -20,4 +25,15 @@ ghost use Rattle.vm_flat.specs.Licences.{AllLicensed};
 #[tactic(auto, using(crate::proofs::Law::law))]
 pub fn loads_answer()
     ensures { (header : Header) (outside : Outside) (history : List Event) → AllLicensed header outside history → EachEvent (CopiesCurrent header outside) history → EachEvent (FlatBytes header outside) history }
+{}
+
+/// A place is what its host has of the page, at every moment of every history: there is one notion of
+/// a host's page. Locks, and whether a page is precious, are no matter of temporary and file memory.
+///
+/// Each event of a licensed history is founded, as far as what is asked and ended of other objects is.
+#[tactic(auto, using(crate::proofs::Locals::spot_is_local, crate::proofs::Locals::each_founded, crate::proofs::Locals::known_absent))]
+pub fn places_are_local()
+    ensures page { (header : Header) (outside : Outside) (history : List Event) (host o p : ℕ) → SpotIsLocal (is_file header o) (last_control host o history) (live_control host o history) (spot header outside host o p history) (local header.size host (record { object = o; page = p }) history) }
+    ensures known_absent { (header : Header) (outside : Outside) (history : List Event) (host o p : ℕ) → is_private header outside o ≡ true → (spot header outside host o p history).absent ≡ is_known_absent header (record { object = o; page = p }) (local header.size host (record { object = o; page = p }) history) }
+    ensures founded { (header : Header) (outside : Outside) (history : List Event) → AllLicensed header outside history → EachEvent (OthersFounded header outside) history → EachEvent (IsFounded header.size) history }
 {}
