@@ -11,7 +11,7 @@ use Rattle.vm_model.specs.Side.{Side, rest, sent_up, taken_up, move, side}
 use Rattle.vm_model.specs.Server.{first, line}
 use Rattle.vm_model.specs.TaskPlace.{task_host, means_page}
 use Rattle.vm_model.specs.PagePart.{page_part}
-use Rattle.vm_model.specs.Channels.{up_after, up_queue, TakesFirst, UpInOrder, with_word, up_words}
+use Rattle.vm_model.specs.Channels.{up_port, queue_after, up_queue, TakesFirst, UpInOrder, with_word, up_words}
 use Rattle.vm_coherence.proofs.Still.{still}
 
 pub words_end : (p : ℕ) (q : List Message) (m : Message) → up_words p (q ++ m ∷ []) ≡ up_words p q ++ with_word (up_word p m) []
@@ -88,7 +88,7 @@ down_taken host object control word h o s = by_cases (host == h) (object == o) w
   by_cases false true = refl
   by_cases false false = refl
 
-up_step : (e : Event) (size o p : ℕ) (host_of : ℕ → ℕ) (means : ℕ → ℕ → Bool) (held : ℕ → ℕ → ℕ → List ℕ) (h : ℕ) (s : Side) (q : List Message) → s.up ≡ up_words p q → HeadOf h o e q → (move s (effect_on h (act_of size o p host_of means held e))).up ≡ up_words p (up_after h o e q)
+up_step : (e : Event) (size o p : ℕ) (host_of : ℕ → ℕ) (means : ℕ → ℕ → Bool) (held : ℕ → ℕ → ℕ → List ℕ) (h : ℕ) (s : Side) (q : List Message) → s.up ≡ up_words p q → HeadOf h o e q → (move s (effect_on h (act_of size o p host_of means held e))).up ≡ up_words p (queue_after (up_port h o) e q)
 up_step (event.Sent (Up host object) m) size o p host_of means held h s q is head = sent_step host.0 object.0 m h o p s q is
 up_step (event.Taken (Up host object) m) size o p host_of means held h s q is head = taken_step host.0 object.0 m h o p s q is head
 up_step (event.Sent (Down host object control) m) size o p host_of means held h s q is head = silent_event size o p host_of means held h s host.0 (object.0 == o) (SentDown control (down_word p m)) tt ∙ is

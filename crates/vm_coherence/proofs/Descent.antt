@@ -12,7 +12,8 @@ use Rattle.vm_model.specs.Side.{Side, rest, opened, sent_up, sent_down, move, si
 use Rattle.vm_model.specs.Server.{first, line}
 use Rattle.vm_model.specs.TaskPlace.{task_host, means_page}
 use Rattle.vm_model.specs.PagePart.{page_part}
-use Rattle.vm_model.specs.Channels.{control_after, last_control, down_after, down_queue, DownFirst, DownInOrder, with_down, down_words}
+use Rattle.vm_model.specs.Controls.{control_after, last_control}
+use Rattle.vm_model.specs.Channels.{down_port, queue_after, down_queue, DownFirst, DownInOrder, with_down, down_words}
 use Rattle.vm_coherence.proofs.Law.{keep}
 use Rattle.vm_coherence.proofs.Still.{still}
 
@@ -219,7 +220,7 @@ in_order_at : (e : Event) (past : List Event) (p h o : ℕ) → DownFirst e past
 in_order_at e past p h o is = grind arith
 
 down_step : (e : Event) (size o p last : ℕ) (host_of : ℕ → ℕ) (means : ℕ → ℕ → Bool) (held : ℕ → ℕ → ℕ → List ℕ) (h : ℕ) (s : Side) (queue : ℕ → List Message) → Descends p s last queue → InOrderAt p h o last queue e
-    → Descends p (move s (effect_on h (act_of size o p host_of means held e))) (control_after h o e last) (λ k. down_after h o k e (queue k))
+    → Descends p (move s (effect_on h (act_of size o p host_of means held e))) (control_after h o e last) (λ k. queue_after (down_port h o k) e (queue k))
 down_step (event.Sent (Up host object) m) size o p last host_of means held h s queue d is = sends_act p last h o host.0 object.0 m s queue d is
 down_step (event.Taken (Up host object) m) size o p last host_of means held h s queue d is = taken_up_act p last h o host.0 object.0 m s queue d
 down_step (event.Sent (Down host object control) m) size o p last host_of means held h s queue d is = sent_act p last h o host.0 object.0 control m s queue d is

@@ -5,15 +5,26 @@
 //! channels, and the server of the page answers by its rows.
 #![tactic(auto)]
 
-ghost use Rattle.std.specs.Prelude.{ℕ, List, ◌≡◌, ◌<◌, Some, true};
+ghost use Rattle.std.specs.Prelude.{ℕ, List, ◌∷◌, ◌≡◌, ◌≢◌, ◌<◌, Some, true};
+ghost use Rattle.vm_base.specs.declared.ids.HostId.{HostId};
+ghost use Rattle.vm_base.specs.declared.ids.ObjectId.{ObjectId};
+ghost use Rattle.vm_base.specs.declared.ids.PageNo.{PageNo};
+ghost use Rattle.vm_model.specs.declared.message.Channel.TheVariants.{Up};
+ghost use Rattle.vm_model.specs.declared.message.Message.TheVariants.{Request, Terminate};
+ghost use Rattle.vm_model.specs.declared.event.Event.TheVariants.{Sent};
 ghost use Rattle.vm_model.specs.Words.{Act, Asking, Unlocking, Doing, Ending};
 ghost use Rattle.vm_model.specs.declared.event.Event.{Event};
-ghost use Rattle.vm_model.specs.Channels.{UpInOrder, up_queue, up_words, DownInOrder, down_queue, down_words, last_control};
+ghost use Rattle.vm_model.specs.Channels.{UpInOrder, up_queue, up_words, DownInOrder, down_queue, down_words};
+ghost use Rattle.vm_model.specs.Controls.{last_control, live_control};
+ghost use Rattle.vm_model.specs.Founded.{IsFounded};
+ghost use Rattle.vm_model.specs.Local.{CanRead, CanWrite, local};
+ghost use Rattle.vm_model.specs.Moments.{EachEvent};
 ghost use Rattle.vm_model.specs.Side.{side};
-ghost use Rattle.vm_model.specs.Server.{first, line, NoRequest, NoUpgrade};
+ghost use Rattle.vm_model.specs.Server.{current, first, line, NoRequest, NoUpgrade};
 ghost use Rattle.vm_model.specs.PageLicences.{Licensed};
 ghost use Rattle.vm_model.specs.PagePart.{page_part, world_part};
 ghost use Rattle.vm_coherence.specs.Crossing.{crossing};
+ghost use Rattle.vm_coherence.specs.Locals.{SideIsLocal};
 ghost use Rattle.vm_coherence.specs.Remapping.{remapping};
 ghost use Rattle.vm_model.specs.Coherence.{Throughout, OneWriter, SameBytes, EachLoadReads, PageLegal, StepsDone, Served, Prompt, Quiet, Answered, NobodyWaits};
 
@@ -80,4 +91,19 @@ pub fn channel_law()
     ensures up { (size : ℕ) (history : List Event) (h o p : ℕ) → UpInOrder history → (side h (page_part size o p history)).up ≡ up_words p (up_queue h o history) }
     ensures down { (size : ℕ) (history : List Event) (h o p : ℕ) → DownInOrder history → (side h (page_part size o p history)).live ≡ true → (side h (page_part size o p history)).down ≡ down_words p (down_queue h o (side h (page_part size o p history)).control history) }
     ensures control { (size : ℕ) (history : List Event) (h o p : ℕ) → DownInOrder history → (side h (page_part size o p history)).control ≡ last_control h o history }
+{}
+
+/// What a page's part says of a host is what the host has of the page, at every moment of a history
+/// in which each event is founded: so there is one notion of a host's page, and the law of one shared
+/// page speaks of it: one writer, and bytes that are those of the stores on every host. Where the page
+/// isn't here the part's bytes, lock and marks mean nothing.
+///
+/// That a request and the end of a control are the live control's follows from their causes.
+#[tactic(auto, using(crate::proofs::Locals::side_is_local, crate::proofs::Locals::one_writer, crate::proofs::Locals::local_bytes, crate::proofs::Locals::asked_live, crate::proofs::Locals::ended_live))]
+pub fn local_law()
+    ensures page { (size : ℕ) (history : List Event) (h o p : ℕ) → EachEvent (IsFounded size) history → SideIsLocal (live_control h o history) (side h (page_part size o p history)) (local size h (record { object = o; page = p }) history) }
+    ensures one_writer { (size : ℕ) (history : List Event) (g h o p : ℕ) → EachEvent (IsFounded size) history → Licensed size (page_part size o p history) → g ≢ h → CanWrite (local size h (record { object = o; page = p }) history) → CanRead (local size g (record { object = o; page = p }) history) → ⊥ }
+    ensures same_bytes { (size : ℕ) (history : List Event) (h o p : ℕ) → EachEvent (IsFounded size) history → Licensed size (page_part size o p history) → (local size h (record { object = o; page = p }) history).here ≡ true → (local size h (record { object = o; page = p }) history).bytes ≡ current size (page_part size o p history) }
+    ensures asked { (size : ℕ) (past : List Event) (host : HostId) (object : ObjectId) (control access : ℕ) (page : PageNo) → EachEvent (IsFounded size) past → Licensed size (page_part size object.0 page.0 (Sent (Up host object) (Request control page access) ∷ past)) → IsFounded size (Sent (Up host object) (Request control page access)) past }
+    ensures ended { (size : ℕ) (past : List Event) (host : HostId) (object : ObjectId) (control p : ℕ) → EachEvent (IsFounded size) past → Licensed size (page_part size object.0 p (Sent (Up host object) (Terminate control) ∷ past)) → IsFounded size (Sent (Up host object) (Terminate control)) past }
 {}

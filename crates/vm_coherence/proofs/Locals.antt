@@ -1,0 +1,505 @@
+-- A page's part at a host says what the host has of the page.
+use Rattle.std.proofs.Common.{◌≡◌, ℕ, zero, suc, ◌==◌, ◌&&◌, ◌%◌, ◌∙◌, List, [], ◌∷◌, arith, Bool, true, false, Option, Some, None, if◌then◌else◌, refl, ap, sym, subst, replicate}
+use Rattle.std.specs.Prelude.{◌||◌, ◌≢◌, ◌<◌}
+use Rattle.std.proofs.lemmas.Bool.Decides.{nat_tests}
+use Rattle.vm_base.specs.Pages.{little_endian_bytes, with_bytes}
+use Rattle.vm_base.specs.declared.ids.HostId.{HostId}
+use Rattle.vm_base.specs.declared.ids.ObjectId.{ObjectId}
+use Rattle.vm_base.specs.declared.ids.PageNo.{PageNo}
+use Rattle.vm_model.specs.declared.message.Channel.TheVariants.{Up, Down}
+use Rattle.vm_model.specs.declared.message.Message.{Message}
+use Rattle.vm_model.specs.declared.message.Message.TheVariants as message
+use Rattle.vm_model.specs.declared.event.Event.{Event}
+use Rattle.vm_model.specs.declared.event.Event.TheVariants as event
+use Rattle.vm_model.specs.Controls.{is_control, without_control, live_after, live_control}
+use Rattle.vm_model.specs.Founded.{IsFounded}
+use Rattle.vm_model.specs.Local as L
+use Rattle.vm_model.specs.Local.{Local, Elsewhere, is_on, local, moved, taken_effect, CanRead, CanWrite}
+use Rattle.vm_model.specs.Moments.{EachEvent}
+use Rattle.vm_model.specs.PagePart.{page_part}
+use Rattle.vm_model.specs.Server.{current}
+use Rattle.vm_model.specs.Side.{Side, side, move, reaches, hears, locked, right_of, can_read, can_write}
+use Rattle.vm_model.specs.TaskPlace.{task_host, means_page}
+use Rattle.vm_model.specs.Tasks.{host_of}
+use Rattle.vm_model.specs.PageLicences.{Cause, Licensed}
+use Rattle.vm_model.specs.Words.{Asking, Unlocking, Returning, Doing, Ending, OtherUp, Supplying, Locking, Lacking, Failing, Readying, OtherDown, Effect, Opens, SendsUp, TakenUp, SentDown, TakesDown, Puts, Drops, Begins, Loads, Stores, Fails, StepBegins, Nothing, Act, in_range, up_word, down_word, sent_effect, act_if, to_others, effect_on}
+use Rattle.vm_coherence.specs.Locals.{SideIsLocal}
+use Rattle.vm_coherence.proofs.Law.{writer}
+use Rattle.vm_coherence.proofs.Whole.{same_bytes}
+
+-- what the tie reads of a side
+pub record Alike (s t : Side) : Type 0 where
+  pub right : t.right ≡ s.right
+  pub lock : t.lock ≡ s.lock
+  pub bytes : t.bytes ≡ s.bytes
+  pub dirty : t.dirty ≡ s.dirty
+  pub precious : t.precious ≡ s.precious
+  pub unlocking : t.unlocking ≡ s.unlocking
+  pub asked : t.asked ≡ s.asked
+  pub absent : t.absent ≡ s.absent
+  pub control : (if t.live then Some t.control else None) ≡ (if s.live then Some s.control else None)
+
+alike : (live : Option ℕ) (s t : Side) (page : Local) → Alike s t → SideIsLocal live s page → SideIsLocal live t page
+alike live s t page a i =
+    record {
+      right = a.right ∙ i.right;
+      lock = λ here. a.lock ∙ i.lock here;
+      bytes = λ here. a.bytes ∙ i.bytes here;
+      dirty = λ here. a.dirty ∙ i.dirty here;
+      precious = λ here. a.precious ∙ i.precious here;
+      unlocking = λ here. a.unlocking ∙ i.unlocking here;
+      asked = a.asked ∙ i.asked;
+      absent = a.absent ∙ i.absent;
+      control = a.control ∙ i.control;
+    }
+
+-- what neither sends for the page nor puts, drops, stores or takes any of it
+abbrev pub IsIdle : Effect → Type 0
+IsIdle (Opens control ready) = ⊥
+IsIdle (SendsUp control word) = ⊥
+IsIdle (TakesDown control word) = ⊥
+IsIdle (Puts bytes dirty) = ⊥
+IsIdle Drops = ⊥
+IsIdle (Stores task at size value) = ⊥
+IsIdle e = Unit {0}
+
+same : (s t : Side) → t.right ≡ s.right → t.lock ≡ s.lock → t.bytes ≡ s.bytes → t.dirty ≡ s.dirty → t.precious ≡ s.precious → t.unlocking ≡ s.unlocking → t.asked ≡ s.asked → t.absent ≡ s.absent → t.live ≡ s.live → t.control ≡ s.control → Alike s t
+same s t right lock bytes dirty precious unlocking asked absent live control =
+    record { right = right; lock = lock; bytes = bytes; dirty = dirty; precious = precious; unlocking = unlocking; asked = asked; absent = absent; control = ap (λ (b : Bool). if b then Some t.control else None) live ∙ ap (λ (n : ℕ). if s.live then Some n else None) control }
+
+idle : (e : Effect) (s : Side) → IsIdle e → Alike s (move s e)
+idle (TakenUp (Asking asker access)) s is = same s _ refl refl refl refl refl refl refl refl refl refl
+idle (TakenUp (Unlocking access)) s is = same s _ refl refl refl refl refl refl refl refl refl refl
+idle (TakenUp (Returning dirty keep bytes)) s is = same s _ refl refl refl refl refl refl refl refl refl refl
+idle (TakenUp (Doing control count)) s is = same s _ refl refl refl refl refl refl refl refl refl refl
+idle (TakenUp (Ending control)) s is = same s _ refl refl refl refl refl refl refl refl refl refl
+idle (TakenUp OtherUp) s is = same s _ refl refl refl refl refl refl refl refl refl refl
+idle (SentDown control (Supplying lock precious bytes)) s is = same s _ refl refl refl refl refl refl refl refl refl refl
+idle (SentDown control (Locking count returns flush lock reply)) s is = same s _ refl refl refl refl refl refl refl refl refl refl
+idle (SentDown control Lacking) s is = same s _ refl refl refl refl refl refl refl refl refl refl
+idle (SentDown control Failing) s is = same s _ refl refl refl refl refl refl refl refl refl refl
+idle (SentDown control Readying) s is = same s _ refl refl refl refl refl refl refl refl refl refl
+idle (SentDown control OtherDown) s is = same s _ refl refl refl refl refl refl refl refl refl refl
+idle (Begins task store at size value) s is = same s _ refl refl refl refl refl refl refl refl refl refl
+idle (Loads task value) s is = same s _ refl refl refl refl refl refl refl refl refl refl
+idle (Fails task) s is = same s _ refl refl refl refl refl refl refl refl refl refl
+idle StepBegins s is = same s _ refl refl refl refl refl refl refl refl refl refl
+idle Nothing s is = same s _ refl refl refl refl refl refl refl refl refl refl
+idle (Opens control ready) s is = absurd is
+idle (SendsUp control word) s is = absurd is
+idle (TakesDown control word) s is = absurd is
+idle (Puts bytes dirty) s is = absurd is
+idle Drops s is = absurd is
+idle (Stores task at size value) s is = absurd is
+
+others_idle : (e : Effect) → IsIdle (to_others e)
+others_idle (Opens control ready) = tt
+others_idle (SendsUp control word) = tt
+others_idle (TakenUp word) = tt
+others_idle (SentDown control word) = tt
+others_idle (TakesDown control word) = tt
+others_idle (Puts bytes dirty) = tt
+others_idle Drops = tt
+others_idle (Begins task store at size value) = tt
+others_idle (Loads task value) = tt
+others_idle (Stores task at size value) = tt
+others_idle (Fails task) = tt
+others_idle StepBegins = tt
+others_idle Nothing = tt
+
+others : (live : Option ℕ) (e : Effect) (s : Side) (page : Local) → SideIsLocal live s page → SideIsLocal live (move s (to_others e)) page
+others live e s page i = alike live s (move s (to_others e)) page (idle (to_others e) s (others_idle e)) i
+
+-- each effect moves both alike
+
+puts : (size : ℕ) (live : Option ℕ) (s : Side) (page : Local) (bytes : List ℕ) (dirty : Bool) (e : L.Effect) → moved size e page ≡ L.came bytes 0 dirty false page → SideIsLocal live s page → SideIsLocal live (move s (Puts bytes dirty)) (moved size e page)
+puts size live s page bytes dirty e is i =
+    subst (λ (p : Local). SideIsLocal live (move s (Puts bytes dirty)) p) (sym is)
+    (record { right = refl; lock = λ here. refl; bytes = λ here. refl; dirty = λ here. refl; precious = λ here. refl; unlocking = λ here. refl; asked = i.asked; absent = i.absent; control = i.control })
+
+-- nothing is said of a page that isn't here
+never : {A : Type 0} → false ≡ true → A
+never e = absurd (let bad : false ≡ true = e in cc)
+
+drops : (size : ℕ) (live : Option ℕ) (s : Side) (page : Local) → SideIsLocal live s page → SideIsLocal live (move s Drops) (moved size L.Drops page)
+drops size live s page i =
+    record { right = refl; lock = λ here. never here; bytes = λ here. never here; dirty = λ here. never here; precious = λ here. never here; unlocking = λ here. never here; asked = i.asked; absent = i.absent; control = i.control }
+
+stores : (size : ℕ) (live : Option ℕ) (s : Side) (page : Local) (task at n value : ℕ) → SideIsLocal live s page → SideIsLocal live (move s (Stores task at n value)) (moved size (L.Stores at (little_endian_bytes n value)) page)
+stores size live s page task at n value i =
+    record { right = i.right; lock = i.lock; bytes = λ here. ap (with_bytes at (little_endian_bytes n value)) (i.bytes here); dirty = λ here. refl; precious = i.precious; unlocking = i.unlocking; asked = i.asked; absent = i.absent; control = i.control }
+
+-- the host sends
+
+opens : (size : ℕ) (live : Option ℕ) (s : Side) (page : Local) (control : ℕ) (ready : Bool) → SideIsLocal live s page → SideIsLocal (Some control) (move s (Opens control ready)) (moved size L.Begins page)
+opens size live s page control ready i =
+    record { right = i.right; lock = i.lock; bytes = i.bytes; dirty = i.dirty; precious = i.precious; unlocking = i.unlocking; asked = refl; absent = i.absent; control = refl }
+
+ends : (size : ℕ) (live : Option ℕ) (s : Side) (page : Local) (control told : ℕ) → SideIsLocal live s page → SideIsLocal None (move s (SendsUp control (Ending told))) (moved size L.Ends page)
+ends size live s page control told i =
+    record { right = i.right; lock = i.lock; bytes = i.bytes; dirty = i.dirty; precious = i.precious; unlocking = i.unlocking; asked = refl; absent = i.absent; control = refl }
+
+asks : (size : ℕ) (live : Option ℕ) (s : Side) (page : Local) (control asker access : ℕ) → SideIsLocal live s page → SideIsLocal live (move s (SendsUp control (Asking asker access))) (moved size L.Asks page)
+asks size live s page control asker access i =
+    record { right = i.right; lock = i.lock; bytes = i.bytes; dirty = i.dirty; precious = i.precious; unlocking = i.unlocking; asked = refl; absent = i.absent; control = i.control }
+
+unlocks : (size : ℕ) (live : Option ℕ) (s : Side) (page : Local) (control access : ℕ) → SideIsLocal live s page → SideIsLocal live (move s (SendsUp control (Unlocking access))) (moved size L.Unlocks page)
+unlocks size live s page control access i =
+    record { right = i.right; lock = i.lock; bytes = i.bytes; dirty = i.dirty; precious = i.precious; unlocking = λ here. sym here; asked = i.asked; absent = i.absent; control = i.control }
+
+returns : (size : ℕ) (live : Option ℕ) (s : Side) (page : Local) (control : ℕ) (dirty keep : Bool) (bytes : List ℕ) → SideIsLocal live s page → SideIsLocal live (move s (SendsUp control (Returning dirty keep bytes))) (moved size (L.Returns keep) page)
+returns size live s page control dirty true bytes i =
+    record { right = i.right; lock = i.lock; bytes = i.bytes; dirty = λ here. refl; precious = λ here. refl; unlocking = i.unlocking; asked = i.asked; absent = refl; control = i.control }
+returns size live s page control dirty false bytes i =
+    record { right = refl; lock = λ here. never here; bytes = λ here. never here; dirty = λ here. never here; precious = λ here. never here; unlocking = λ here. never here; asked = i.asked; absent = refl; control = i.control }
+
+done : (size : ℕ) (live : Option ℕ) (s : Side) (page : Local) (control told count : ℕ) → SideIsLocal live s page → SideIsLocal live (move s (SendsUp control (Doing told count))) page
+done size live s page control told count i =
+    record { right = i.right; lock = i.lock; bytes = i.bytes; dirty = i.dirty; precious = i.precious; unlocking = i.unlocking; asked = i.asked; absent = i.absent; control = i.control }
+
+-- the live control takes
+
+supplied : (size : ℕ) (live : Option ℕ) (s : Side) (page : Local) (lock : ℕ) (precious : Bool) (bytes : List ℕ) (a b : Bool) → s.asked ≡ a → page.asked ≡ b → SideIsLocal live s page → SideIsLocal live (hears s (Supplying lock precious bytes)) (moved size (L.TakesPage lock precious bytes) page)
+supplied size live s page lock precious bytes true true e f i = rw (e, f) (record { right = refl; lock = λ here. refl; bytes = λ here. refl; dirty = λ here. refl; precious = λ here. refl; unlocking = λ here. refl; asked = refl; absent = i.absent; control = i.control })
+supplied size live s page lock precious bytes false false e f i = rw (e, f) (record { right = i.right; lock = i.lock; bytes = i.bytes; dirty = i.dirty; precious = i.precious; unlocking = i.unlocking; asked = refl; absent = i.absent; control = i.control })
+supplied size live s page lock precious bytes true false e f i = never (sym f ∙ sym i.asked ∙ e)
+supplied size live s page lock precious bytes false true e f i = never (sym e ∙ i.asked ∙ f)
+
+lacks : (size : ℕ) (live : Option ℕ) (s : Side) (page : Local) (a b : Bool) → s.asked ≡ a → page.asked ≡ b → SideIsLocal live s page → SideIsLocal live (hears s Lacking) (moved size L.TakesNothing page)
+lacks size live s page true true e f i = rw (e, f) (record { right = i.right; lock = i.lock; bytes = i.bytes; dirty = i.dirty; precious = i.precious; unlocking = i.unlocking; asked = refl; absent = refl; control = i.control })
+lacks size live s page false false e f i = rw (e, f) (record { right = i.right; lock = i.lock; bytes = i.bytes; dirty = i.dirty; precious = i.precious; unlocking = i.unlocking; asked = refl; absent = i.absent; control = i.control })
+lacks size live s page true false e f i = never (sym f ∙ sym i.asked ∙ e)
+lacks size live s page false true e f i = never (sym e ∙ i.asked ∙ f)
+
+fails : (size : ℕ) (live : Option ℕ) (s : Side) (page : Local) → SideIsLocal live s page → SideIsLocal live (hears s Failing) (moved size L.TakesError page)
+fails size live s page i =
+    record { right = i.right; lock = i.lock; bytes = i.bytes; dirty = i.dirty; precious = i.precious; unlocking = i.unlocking; asked = refl; absent = i.absent; control = i.control }
+
+locked_right : (flush : Bool) (old lock : ℕ) → locked (right_of old) flush lock ≡ right_of (if flush || lock == 8 then old else lock)
+locked_right true old lock = refl
+locked_right false zero lock = by_eight (lock == 8)
+  where
+    by_eight : (b : Bool) → (if b then 2 else right_of lock) ≡ right_of (if b then 0 else lock)
+    by_eight true = refl
+    by_eight false = refl
+locked_right false (suc old) lock = by_eight (lock == 8)
+  where
+    by_eight : (b : Bool) → (if b then 1 else right_of lock) ≡ right_of (if b then suc old else lock)
+    by_eight true = refl
+    by_eight false = refl
+
+locked_none : (flush : Bool) (lock : ℕ) → locked 0 flush lock ≡ 0
+locked_none true lock = refl
+locked_none false lock = refl
+
+locks : (size : ℕ) (live : Option ℕ) (s : Side) (page : Local) (count returns : ℕ) (flush : Bool) (lock : ℕ) (reply b : Bool) → page.here ≡ b → SideIsLocal live s page → SideIsLocal live (hears s (Locking count returns flush lock reply)) (moved size (L.TakesLock lock flush) page)
+locks size live s page count returns flush lock reply true e i =
+    let right : s.right ≡ right_of page.lock = i.right ∙ ap (λ (b : Bool). if b then right_of page.lock else 0) e in
+    subst (λ (p : Local). SideIsLocal live (hears s (Locking count returns flush lock reply)) p) (sym (ap (λ (b : Bool). if b then record page { lock = if flush || lock == 8 then page.lock else lock; unlocking = false } else page) e))
+    (record {
+      right = ap (λ n. locked n flush lock) right ∙ locked_right flush page.lock lock ∙ sym (ap (λ (b : Bool). if b then right_of (if flush || lock == 8 then page.lock else lock) else 0) e);
+      lock = λ here. ap (λ n. if flush || lock == 8 then n else lock) (i.lock here);
+      bytes = i.bytes;
+      dirty = i.dirty;
+      precious = i.precious;
+      unlocking = λ here. refl;
+      asked = i.asked;
+      absent = i.absent;
+      control = i.control;
+    })
+locks size live s page count returns flush lock reply false e i =
+    let right : s.right ≡ 0 = i.right ∙ ap (λ (b : Bool). if b then right_of page.lock else 0) e in
+    subst (λ (p : Local). SideIsLocal live (hears s (Locking count returns flush lock reply)) p) (sym (ap (λ (b : Bool). if b then record page { lock = if flush || lock == 8 then page.lock else lock; unlocking = false } else page) e))
+    (record {
+      right = ap (λ n. locked n flush lock) right ∙ locked_none flush lock ∙ sym (ap (λ (b : Bool). if b then right_of page.lock else 0) e);
+      lock = λ here. never (sym e ∙ here);
+      bytes = i.bytes;
+      dirty = i.dirty;
+      precious = i.precious;
+      unlocking = λ here. never (sym e ∙ here);
+      asked = i.asked;
+      absent = i.absent;
+      control = i.control;
+    })
+
+-- what the live control takes of a message
+takes : (size p : ℕ) (live : Option ℕ) (s : Side) (page : Local) (m : Message) → SideIsLocal live s page → SideIsLocal live (hears s (down_word p m)) (moved size (taken_effect p m) page)
+takes size p live s page (message.Supply at lock precious bytes) i = by_page (at.0 == p)
+  where
+    by_page : (b : Bool) → SideIsLocal live (hears s (if b then Supplying lock precious bytes else OtherDown)) (moved size (if b then L.TakesPage lock precious bytes else Elsewhere) page)
+    by_page true = supplied size live s page lock precious bytes s.asked page.asked refl refl i
+    by_page false = alike live s _ page (same s _ refl refl refl refl refl refl refl refl refl refl) i
+takes size p live s page (message.Lock at count returns flush lock reply) i = by_page (in_range p at.0 count)
+  where
+    by_page : (b : Bool) → SideIsLocal live (hears s (if b then Locking count returns flush lock reply else OtherDown)) (moved size (if b then L.TakesLock lock flush else Elsewhere) page)
+    by_page true = locks size live s page count returns flush lock reply page.here refl i
+    by_page false = alike live s _ page (same s _ refl refl refl refl refl refl refl refl refl refl) i
+takes size p live s page (message.Unavailable at) i = by_page (at.0 == p)
+  where
+    by_page : (b : Bool) → SideIsLocal live (hears s (if b then Lacking else OtherDown)) (moved size (if b then L.TakesNothing else Elsewhere) page)
+    by_page true = lacks size live s page s.asked page.asked refl refl i
+    by_page false = alike live s _ page (same s _ refl refl refl refl refl refl refl refl refl refl) i
+takes size p live s page (message.Error at reason) i = by_page (at.0 == p)
+  where
+    by_page : (b : Bool) → SideIsLocal live (hears s (if b then Failing else OtherDown)) (moved size (if b then L.TakesError else Elsewhere) page)
+    by_page true = fails size live s page i
+    by_page false = alike live s _ page (same s _ refl refl refl refl refl refl refl refl refl refl) i
+takes size p live s page (message.Ready cache strategy) i = alike live s _ page (same s _ refl refl refl refl refl refl refl refl refl refl) i
+takes size p live s page m i = alike live s _ page (same s _ refl refl refl refl refl refl refl refl refl refl) i
+
+-- an event of one host and the page
+
+acted : (size : ℕ) (live : Option ℕ) (s : Side) (page : Local) (c b : Bool) (e : Effect) (f : L.Effect) → (c ≡ true → b ≡ true → SideIsLocal live (move s e) (moved size f page)) → SideIsLocal live s page
+    → SideIsLocal live (move s (if c then (if b then e else Nothing) else to_others (if b then e else Nothing))) (moved size (if c && b then f else Elsewhere) page)
+acted size live s page true true e f at i = at refl refl
+acted size live s page true false e f at i = i
+acted size live s page false true e f at i = others live e s page i
+acted size live s page false false e f at i = i
+
+-- the host is that of a task, told in two ways
+acted_by : (size : ℕ) (live : Option ℕ) (s : Side) (page : Local) (c d b : Bool) (e : Effect) (f : L.Effect) → d ≡ c → (c ≡ true → b ≡ true → SideIsLocal live (move s e) (moved size f page)) → SideIsLocal live s page
+    → SideIsLocal live (move s (if c then (if b then e else Nothing) else to_others (if b then e else Nothing))) (moved size (if d && b then f else Elsewhere) page)
+acted_by size live s page c d b e f is at i =
+    subst (λ (x : Bool). SideIsLocal live (move s (if c then (if b then e else Nothing) else to_others (if b then e else Nothing))) (moved size (if x && b then f else Elsewhere) page)) (sym is) (acted size live s page c b e f at i)
+
+idle_act : (live : Option ℕ) (s : Side) (page : Local) (c : Bool) (e : Effect) → IsIdle e → SideIsLocal live s page → SideIsLocal live (move s (if c then e else to_others e)) page
+idle_act live s page true e is i = alike live s (move s e) page (idle e s is) i
+idle_act live s page false e is i = others live e s page i
+
+idle_if : (b : Bool) (e f : Effect) → IsIdle e → IsIdle f → IsIdle (if b then e else f)
+idle_if true e f one two = one
+idle_if false e f one two = two
+
+number_is : (a b : ℕ) → (a == b) ≡ true → a ≡ b
+number_is a b is = grind (arith, nat_tests)
+
+itself : (n : ℕ) → (n == n) ≡ true
+itself n = grind (arith, nat_tests)
+
+made_lives : (host g : ℕ) (was : Option ℕ) (on : ℕ) (b : Bool) → (was ≡ Some g → on ≡ g) → (if b then Some host else was) ≡ Some g → (if b then host else on) ≡ g
+made_lives host g was on true rest lives = cc
+made_lives host g was on false rest lives = rest lives
+
+ended_lives : {A : Type 0} (g : ℕ) (was : Option ℕ) (b : Bool) → (was ≡ Some g → A) → (if b then None else was) ≡ Some g → A
+ended_lives g was true rest lives = absurd (let bad : ◌≡◌ {A = Option ℕ} None (Some g) = lives in cc)
+ended_lives g was false rest lives = rest lives
+
+-- a task that lives is on the host where it began last
+host_lives : (task g : ℕ) (past : List Event) → host_of task past ≡ Some g → task_host task past ≡ g
+host_lives task g [] lives = absurd (cc)
+host_lives task g (event.TaskMade made host ∷ past) lives = made_lives host.0 g (host_of task past) (task_host task past) (made.0 == task) (host_lives task g past) lives
+host_lives task g (event.TaskEnded ended ∷ past) lives = ended_lives g (host_of task past) (ended.0 == task) (host_lives task g past) lives
+host_lives task g (e ∷ past) lives = host_lives task g past lives
+
+on_host : (h task g : ℕ) (past : List Event) → host_of task past ≡ Some g → is_on h (host_of task past) ≡ (task_host task past == h)
+on_host h task g past lives = ap (is_on h) lives ∙ sym (ap (λ (n : ℕ). n == h) (host_lives task g past lives))
+
+raises : (size : ℕ) (live : Option ℕ) (s : Side) (page : Local) (b c : List ℕ) → b ≡ c → SideIsLocal live s page → SideIsLocal live (move s (Puts b true)) (moved size (L.Raises c) page)
+raises size live s page b c is i =
+    record { right = refl; lock = λ here. refl; bytes = λ here. is; dirty = λ here. refl; precious = λ here. refl; unlocking = λ here. refl; asked = i.asked; absent = i.absent; control = i.control }
+
+-- what a host sends
+
+begins : (size : ℕ) (live : Option ℕ) (s : Side) (page : Local) (control : ℕ) (c b : Bool) → SideIsLocal live s page
+    → SideIsLocal (if c && b then Some control else live) (move s (if c then (if b then Opens control false else Nothing) else to_others (if b then Opens control false else Nothing))) (moved size (if c && b then L.Begins else Elsewhere) page)
+begins size live s page control true true i = opens size live s page control false i
+begins size live s page control true false i = i
+begins size live s page control false true i = i
+begins size live s page control false false i = i
+
+terminates : (size : ℕ) (live : Option ℕ) (s : Side) (page : Local) (control : ℕ) (c b : Bool) → (c ≡ true → b ≡ true → live ≡ Some control) → SideIsLocal live s page
+    → SideIsLocal (if c && b then without_control control live else live) (move s (if c then (if b then SendsUp control (Ending control) else Nothing) else to_others (if b then SendsUp control (Ending control) else Nothing)))
+    (moved size (if c && b then (if is_control control live then L.Ends else Elsewhere) else Elsewhere) page)
+terminates size live s page control true true founded i =
+    let is : live ≡ Some control = founded refl refl in
+    let gone : without_control control live ≡ None = ap (without_control control) is ∙ ap (λ (b : Bool). if b then None else Some control) (itself control) in
+    let mine : is_control control live ≡ true = ap (is_control control) is ∙ itself control in
+    rw (gone, mine) (ends size live s page control control i)
+terminates size live s page control true false founded i = i
+terminates size live s page control false true founded i = i
+terminates size live s page control false false founded i = i
+
+request : (size : ℕ) (live : Option ℕ) (s : Side) (page : Local) (control access : ℕ) (d k : Bool) → k ≡ true → SideIsLocal live s page → SideIsLocal live (move s (SendsUp control (if d then Asking control access else OtherUp))) (moved size (if d && k then L.Asks else Elsewhere) page)
+request size live s page control access true true mine i = asks size live s page control control access i
+request size live s page control access true false mine i = never mine
+request size live s page control access false k mine i = i
+
+unlock : (size : ℕ) (live : Option ℕ) (s : Side) (page : Local) (control access : ℕ) (d : Bool) → SideIsLocal live s page → SideIsLocal live (move s (SendsUp control (if d then Unlocking access else OtherUp))) (moved size (if d then L.Unlocks else Elsewhere) page)
+unlock size live s page control access true i = unlocks size live s page control access i
+unlock size live s page control access false i = i
+
+back : (size : ℕ) (live : Option ℕ) (s : Side) (page : Local) (control : ℕ) (dirty keep : Bool) (bytes : List ℕ) (d : Bool) → SideIsLocal live s page → SideIsLocal live (move s (SendsUp control (if d then Returning dirty keep bytes else OtherUp))) (moved size (if d then L.Returns keep else Elsewhere) page)
+back size live s page control dirty keep bytes true i = returns size live s page control dirty keep bytes i
+back size live s page control dirty keep bytes false i = i
+
+completed : (size : ℕ) (live : Option ℕ) (s : Side) (page : Local) (control count : ℕ) (d : Bool) → SideIsLocal live s page → SideIsLocal live (move s (SendsUp control (if d then Doing control count else OtherUp))) page
+completed size live s page control count true i = done size live s page control control count i
+completed size live s page control count false i = i
+
+-- what it takes for granted of the page's live control
+abbrev Granted : Message → Option ℕ → Type 0
+Granted (message.Request control page access) live = live ≡ Some control
+Granted (message.Terminate control) live = live ≡ Some control
+Granted m live = Unit {0}
+
+sent : (size h o p : ℕ) (live : Option ℕ) (s : Side) (page : Local) (host : HostId) (object : ObjectId) (m : Message) → ((host.0 == h) ≡ true → (object.0 == o) ≡ true → Granted m live) → SideIsLocal live s page
+    → SideIsLocal (live_after h o (event.Sent (Up host object) m) live) (move s (effect_on h (act_if (object.0 == o) host.0 (sent_effect p m)))) (moved size (if host.0 == h && object.0 == o then L.sent_effect p live m else Elsewhere) page)
+sent size h o p live s page host object (message.Init control bytes) founded i = begins size live s page control (host.0 == h) (object.0 == o) i
+sent size h o p live s page host object (message.Create control bytes) founded i = begins size live s page control (host.0 == h) (object.0 == o) i
+sent size h o p live s page host object (message.Terminate control) founded i = terminates size live s page control (host.0 == h) (object.0 == o) founded i
+sent size h o p live s page host object (message.Request control at access) founded i =
+    acted size live s page (host.0 == h) (object.0 == o) (SendsUp control (if at.0 == p then Asking control access else OtherUp)) (if at.0 == p && is_control control live then L.Asks else Elsewhere)
+    (λ mine its. request size live s page control access (at.0 == p) (is_control control live) (ap (is_control control) (founded mine its) ∙ itself control) i) i
+sent size h o p live s page host object (message.Unlock control at access) founded i =
+    acted size live s page (host.0 == h) (object.0 == o) (SendsUp control (if at.0 == p then Unlocking access else OtherUp)) (if at.0 == p then L.Unlocks else Elsewhere)
+    (λ mine its. unlock size live s page control access (at.0 == p) i) i
+sent size h o p live s page host object (message.Return control at dirty keep bytes) founded i =
+    acted size live s page (host.0 == h) (object.0 == o) (SendsUp control (if at.0 == p then Returning dirty keep bytes else OtherUp)) (if at.0 == p then L.Returns keep else Elsewhere)
+    (λ mine its. back size live s page control dirty keep bytes (at.0 == p) i) i
+sent size h o p live s page host object (message.Completed control at count) founded i =
+    acted size live s page (host.0 == h) (object.0 == o) (SendsUp control (if in_range p at.0 count then Doing control count else OtherUp)) Elsewhere
+    (λ mine its. completed size live s page control count (in_range p at.0 count) i) i
+sent size h o p live s page host object m founded i = acted size live s page (host.0 == h) (object.0 == o) (SendsUp 0 OtherUp) Elsewhere (λ mine its. i) i
+
+-- what a host takes
+
+reaches_is : (live : Option ℕ) (s : Side) (control : ℕ) → (if s.live then Some s.control else None) ≡ live → reaches s control ≡ is_control control live
+reaches_is live s control is = by_live s.live s.control ∙ ap (is_control control) is
+  where
+    by_live : (b : Bool) (n : ℕ) → (b && n == control) ≡ is_control control (if b then Some n else None)
+    by_live true n = refl
+    by_live false n = refl
+
+took_if : (size p : ℕ) (live : Option ℕ) (s : Side) (page : Local) (m : Message) (a b : Bool) → a ≡ b → SideIsLocal live s page → SideIsLocal live (if a then hears s (down_word p m) else record s { step = 0 }) (moved size (if b then taken_effect p m else Elsewhere) page)
+took_if size p live s page m true true is i = takes size p live s page m i
+took_if size p live s page m false false is i = alike live s _ page (same s _ refl refl refl refl refl refl refl refl refl refl) i
+took_if size p live s page m true false is i = never (sym is)
+took_if size p live s page m false true is i = never is
+
+took : (size p control : ℕ) (live : Option ℕ) (s : Side) (page : Local) (m : Message) (c b : Bool) → SideIsLocal live s page
+    → SideIsLocal live (move s (if c then (if b then TakesDown control (down_word p m) else StepBegins) else to_others (if b then TakesDown control (down_word p m) else StepBegins)))
+    (moved size (if c && (b && is_control control live) then taken_effect p m else Elsewhere) page)
+took size p control live s page m true true i = took_if size p live s page m (reaches s control) (is_control control live) (reaches_is live s control i.control) i
+took size p control live s page m true false i = alike live s _ page (idle StepBegins s tt) i
+took size p control live s page m false true i = alike live s _ page (idle StepBegins s tt) i
+took size p control live s page m false false i = alike live s _ page (idle StepBegins s tt) i
+
+granted : (at : HostId) (object : ObjectId) (h o size : ℕ) (m : Message) (past : List Event) → IsFounded size (event.Sent (Up at object) m) past → (at.0 == h) ≡ true → (object.0 == o) ≡ true → Granted m (live_control h o past)
+granted at object h o size (message.Request control page access) past is mine its =
+    subst (λ (n : ℕ). live_control n o past ≡ Some control) (number_is at.0 h mine) (subst (λ (n : ℕ). live_control at.0 n past ≡ Some control) (number_is object.0 o its) is)
+granted at object h o size (message.Terminate control) past is mine its =
+    subst (λ (n : ℕ). live_control n o past ≡ Some control) (number_is at.0 h mine) (subst (λ (n : ℕ). live_control at.0 n past ≡ Some control) (number_is object.0 o its) is)
+granted at object h o size m past is mine its = tt
+
+-- a side's page is what its host has of it, at every moment
+pub side_is_local : (size : ℕ) (past : List Event) (h o p : ℕ) → EachEvent (IsFounded size) past → SideIsLocal (live_control h o past) (side h (page_part size o p past)) (local size h (record { object = o; page = p }) past)
+side_is_local size [] h o p founded =
+    record { right = refl; lock = λ here. refl; bytes = λ here. refl; dirty = λ here. refl; precious = λ here. refl; unlocking = λ here. refl; asked = refl; absent = refl; control = refl }
+side_is_local size (event.Sent (Up host object) m ∷ past) h o p founded =
+    sent size h o p (live_control h o past) (side h (page_part size o p past)) (local size h (record { object = o; page = p }) past) host object m (λ mine its. granted host object h o size m past founded.0 mine its) (side_is_local size past h o p founded.1)
+side_is_local size (event.Sent (Down host object control) m ∷ past) h o p founded =
+    idle_act (live_control h o past) (side h (page_part size o p past)) (local size h (record { object = o; page = p }) past) (host.0 == h) (if object.0 == o then SentDown control (down_word p m) else Nothing)
+    (idle_if (object.0 == o) (SentDown control (down_word p m)) Nothing tt tt) (side_is_local size past h o p founded.1)
+side_is_local size (event.Taken (Up host object) m ∷ past) h o p founded =
+    idle_act (live_control h o past) (side h (page_part size o p past)) (local size h (record { object = o; page = p }) past) (host.0 == h) (if object.0 == o then TakenUp (up_word p m) else StepBegins)
+    (idle_if (object.0 == o) (TakenUp (up_word p m)) StepBegins tt tt) (side_is_local size past h o p founded.1)
+side_is_local size (event.Taken (Down host object control) m ∷ past) h o p founded =
+    took size p control (live_control h o past) (side h (page_part size o p past)) (local size h (record { object = o; page = p }) past) m (host.0 == h) (object.0 == o) (side_is_local size past h o p founded.1)
+side_is_local size (event.Dropped host object page ∷ past) h o p founded =
+    let i : SideIsLocal (live_control h o past) (side h (page_part size o p past)) (local size h (record { object = o; page = p }) past) = side_is_local size past h o p founded.1 in
+    acted size (live_control h o past) _ _ (host.0 == h) (object.0 == o && page.0 == p) Drops L.Drops (λ mine its. drops size (live_control h o past) _ _ i) i
+side_is_local size (event.Zeroed host object page ∷ past) h o p founded =
+    let i : SideIsLocal (live_control h o past) (side h (page_part size o p past)) (local size h (record { object = o; page = p }) past) = side_is_local size past h o p founded.1 in
+    acted size (live_control h o past) _ _ (host.0 == h) (object.0 == o && page.0 == p) (Puts (replicate size 0) false) L.Zeroes (λ mine its. puts size (live_control h o past) _ _ (replicate size 0) false L.Zeroes refl i) i
+side_is_local size (event.Raised host lower lower_page upper upper_page ∷ past) h o p founded =
+    let i : SideIsLocal (live_control h o past) (side h (page_part size o p past)) (local size h (record { object = o; page = p }) past) = side_is_local size past h o p founded.1 in
+    let source : (side host.0 (page_part size lower.0 lower_page.0 past)).bytes ≡ (local size host.0 (record { object = lower.0; page = lower_page.0 }) past).bytes = (side_is_local size past host.0 lower.0 lower_page.0 founded.1).bytes founded.0 in
+    acted size (live_control h o past) _ _ (host.0 == h) (upper.0 == o && upper_page.0 == p) (Puts (side host.0 (page_part size lower.0 lower_page.0 past)).bytes true) (L.Raises (local size h (record { object = lower.0; page = lower_page.0 }) past).bytes)
+    (λ mine its. raises size (live_control h o past) _ _ _ _ (source ∙ ap (λ (g : ℕ). (local size g (record { object = lower.0; page = lower_page.0 }) past).bytes) (number_is host.0 h mine)) i) i
+side_is_local size (event.CopiedPage task page object object_page target ∷ past) h o p founded =
+    let i : SideIsLocal (live_control h o past) (side h (page_part size o p past)) (local size h (record { object = o; page = p }) past) = side_is_local size past h o p founded.1 in
+    let g : ℕ = founded.0.0 in
+    let on : task_host task.0 past ≡ g = host_lives task.0 g past founded.0.1 in
+    let source : (side g (page_part size object.0 object_page.0 past)).bytes ≡ (local size g (record { object = object.0; page = object_page.0 }) past).bytes = (side_is_local size past g object.0 object_page.0 founded.1).bytes founded.0.2 in
+    acted_by size (live_control h o past) _ _ (task_host task.0 past == h) (is_on h (host_of task.0 past)) (target.0 == o && page.0 == p) (Puts (side (task_host task.0 past) (page_part size object.0 object_page.0 past)).bytes true)
+    (L.Raises (local size h (record { object = object.0; page = object_page.0 }) past).bytes) (on_host h task.0 g past founded.0.1)
+    (λ mine its. raises size (live_control h o past) _ _ _ _
+    (ap (λ (k : ℕ). (side k (page_part size object.0 object_page.0 past)).bytes) on ∙ source ∙ ap (λ (k : ℕ). (local size k (record { object = object.0; page = object_page.0 }) past).bytes) (sym on ∙ number_is (task_host task.0 past) h mine)) i) i
+side_is_local size (event.Stored task object page at bytes value ∷ past) h o p founded =
+    let i : SideIsLocal (live_control h o past) (side h (page_part size o p past)) (local size h (record { object = o; page = p }) past) = side_is_local size past h o p founded.1 in
+    acted_by size (live_control h o past) _ _ (task_host task.0 past == h) (is_on h (host_of task.0 past)) (object.0 == o && page.0 == p) (Stores task.0 at bytes value) (L.Stores at (little_endian_bytes bytes value)) (on_host h task.0 founded.0.0 past founded.0.1)
+    (λ mine its. stores size (live_control h o past) _ _ task.0 at bytes value i) i
+side_is_local size (event.BegunLoad task address bytes ∷ past) h o p founded =
+    idle_act (live_control h o past) _ _ (task_host task.0 past == h) (if means_page size o p task.0 address past then Begins task.0 false (address % size) bytes 0 else Nothing) (idle_if (means_page size o p task.0 address past) _ _ tt tt) (side_is_local size past h o p founded.1)
+side_is_local size (event.BegunStore task address bytes value ∷ past) h o p founded =
+    idle_act (live_control h o past) _ _ (task_host task.0 past == h) (if means_page size o p task.0 address past then Begins task.0 true (address % size) bytes value else Nothing) (idle_if (means_page size o p task.0 address past) _ _ tt tt) (side_is_local size past h o p founded.1)
+side_is_local size (event.Loaded task object page value ∷ past) h o p founded =
+    idle_act (live_control h o past) _ _ (task_host task.0 past == h) (if object.0 == o && page.0 == p then Loads task.0 value else Nothing) (idle_if (object.0 == o && page.0 == p) _ _ tt tt) (side_is_local size past h o p founded.1)
+side_is_local size (event.Failed task object page ∷ past) h o p founded =
+    idle_act (live_control h o past) _ _ (task_host task.0 past == h) (if object.0 == o && page.0 == p then Fails task.0 else Nothing) (idle_if (object.0 == o && page.0 == p) _ _ tt tt) (side_is_local size past h o p founded.1)
+side_is_local size (event.Line line ∷ past) h o p founded = idle_act (live_control h o past) _ _ (0 == h) StepBegins tt (side_is_local size past h o p founded.1)
+side_is_local size (e ∷ past) h o p founded = idle_act (live_control h o past) _ _ (0 == h) Nothing tt (side_is_local size past h o p founded.1)
+
+-- who can read and write
+
+pub reads : (live : Option ℕ) (s : Side) (page : Local) → SideIsLocal live s page → can_read s ≡ true → CanRead page
+reads live s page i can = record { here = grind (arith, nat_tests); unlocked = grind (arith, nat_tests) }
+
+pub writes : (live : Option ℕ) (s : Side) (page : Local) → SideIsLocal live s page → can_write s ≡ true → CanWrite page
+writes live s page i can = record { here = grind (arith, nat_tests); unlocked = grind (arith, nat_tests) }
+
+pub can_read_is : (live : Option ℕ) (s : Side) (page : Local) → SideIsLocal live s page → CanRead page → can_read s ≡ true
+can_read_is live s page i can = grind (arith, nat_tests)
+
+pub can_write_is : (live : Option ℕ) (s : Side) (page : Local) → SideIsLocal live s page → CanWrite page → can_write s ≡ true
+can_write_is live s page i can = grind (arith, nat_tests)
+
+-- while a host can write the page, no other can read it
+pub one_writer : (size : ℕ) (past : List Event) (g h o p : ℕ) → EachEvent (IsFounded size) past → Licensed size (page_part size o p past) → g ≢ h
+    → CanWrite (local size h (record { object = o; page = p }) past) → CanRead (local size g (record { object = o; page = p }) past) → ⊥
+one_writer size past g h o p founded licensed apart write read =
+    let writing : can_write (side h (page_part size o p past)) ≡ true = can_write_is _ _ _ (side_is_local size past h o p founded) write in
+    let reading : can_read (side g (page_part size o p past)) ≡ true = can_read_is _ _ _ (side_is_local size past g o p founded) read in
+    never (sym (writer size (page_part size o p past) licensed g h apart writing) ∙ reading)
+
+above : (lock : ℕ) → 0 < right_of lock
+above zero = omega arith
+above (suc lock) = omega arith
+
+-- a page that is here has what the stores left
+pub local_bytes : (size : ℕ) (past : List Event) (h o p : ℕ) → EachEvent (IsFounded size) past → Licensed size (page_part size o p past) → (local size h (record { object = o; page = p }) past).here ≡ true
+    → (local size h (record { object = o; page = p }) past).bytes ≡ current size (page_part size o p past)
+local_bytes size past h o p founded licensed here =
+    let page : Local = local size h (record { object = o; page = p }) past in
+    let i : SideIsLocal (live_control h o past) (side h (page_part size o p past)) page = side_is_local size past h o p founded in
+    let right : (side h (page_part size o p past)).right ≡ right_of page.lock = i.right ∙ ap (λ (b : Bool). if b then right_of page.lock else 0) here in
+    let some : 0 < (side h (page_part size o p past)).right = omega (arith, above page.lock) in
+    sym (i.bytes here) ∙ (same_bytes size (page_part size o p past) licensed h).here some
+
+-- what is asked or ended with a cause is the live control's
+
+lives : (live : Option ℕ) (s : Side) (page : Local) (control : ℕ) → SideIsLocal live s page → s.live ≡ true → s.control ≡ control → live ≡ Some control
+lives live s page control i on is = sym i.control ∙ ap (λ (b : Bool). if b then Some s.control else None) on ∙ ap (λ (n : ℕ). Some n) is
+
+sends_live : (size h control access : ℕ) (past : List Act) (b d : Bool) → b ≡ true → d ≡ true → Cause size h (if b then SendsUp control (if d then Asking control access else OtherUp) else Nothing) past → ((side h past).live ≡ true) × ((side h past).control ≡ control)
+sends_live size h control access past true true one two may = (may.0, may.1)
+sends_live size h control access past false d one two may = never one
+sends_live size h control access past true false one two may = never two
+
+ends_live : (size h control : ℕ) (past : List Act) (b : Bool) → b ≡ true → Cause size h (if b then SendsUp control (Ending control) else Nothing) past → ((side h past).live ≡ true) × ((side h past).control ≡ control)
+ends_live size h control past true one may = (may.0, may.1)
+ends_live size h control past false one may = never one
+
+pub asked_live : (size : ℕ) (past : List Event) (host : HostId) (object : ObjectId) (control access : ℕ) (page : PageNo) → EachEvent (IsFounded size) past
+    → Licensed size (page_part size object.0 page.0 (event.Sent (Up host object) (message.Request control page access) ∷ past)) → IsFounded size (event.Sent (Up host object) (message.Request control page access)) past
+asked_live size past host object control access page founded licensed =
+    let s : ((side host.0 (page_part size object.0 page.0 past)).live ≡ true) × ((side host.0 (page_part size object.0 page.0 past)).control ≡ control) =
+    sends_live size host.0 control access (page_part size object.0 page.0 past) (object.0 == object.0) (page.0 == page.0) (itself object.0) (itself page.0) licensed.0 in
+    lives _ _ _ control (side_is_local size past host.0 object.0 page.0 founded) s.0 s.1
+
+pub ended_live : (size : ℕ) (past : List Event) (host : HostId) (object : ObjectId) (control p : ℕ) → EachEvent (IsFounded size) past
+    → Licensed size (page_part size object.0 p (event.Sent (Up host object) (message.Terminate control) ∷ past)) → IsFounded size (event.Sent (Up host object) (message.Terminate control)) past
+ended_live size past host object control p founded licensed =
+    let s : ((side host.0 (page_part size object.0 p past)).live ≡ true) × ((side host.0 (page_part size object.0 p past)).control ≡ control) =
+    ends_live size host.0 control (page_part size object.0 p past) (object.0 == object.0) (itself object.0) licensed.0 in
+    lives _ _ _ control (side_is_local size past host.0 object.0 p founded) s.0 s.1
