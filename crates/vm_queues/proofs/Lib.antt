@@ -1,0 +1,4 @@
+mod Apart
+mod Balance
+mod Moves
+mod Queued

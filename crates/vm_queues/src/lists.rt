@@ -1,0 +1,143 @@
+// The two lists and the marks, and the moves between the lists.
+ghost use Rattle.std.specs.Prelude.{◌≡◌, ◌<◌, ◌≤◌, ◌++◌, ◌∷◌, ℕ, [], Bool, List, true, false, IfOk, get_or, length, replicate};
+ghost use Rattle.vm_queues.specs.Queues.{balanced, chosen, first_unskipped, is_skipped, moved, needs_none, one_spared, removed, spared};
+ghost use Rattle.vm_queues.specs.Kept.{AreKept, front_referenced, pages, seen, without_frame};
+ghost use Rattle.std.specs.VecDeque.{deque_capacity};
+
+use std::alloc::Global;
+use std::collections::VecDeque;
+use vm_base::{FrameNo, NoMemory};
+
+#[derive(Drop)]
+pub struct Lists {
+    pub active: VecDeque<FrameNo>,
+    pub inactive: VecDeque<FrameNo>,
+    // By frame; it means something for the frames on a list alone.
+    pub marks: Vec<bool>,
+}
+
+pub fn empty(alloc: Global, frames: u32) -> Result<Lists, NoMemory>
+    ensures kept { IfOk result (λ lists. AreKept lists) }
+    ensures seen { IfOk result (λ lists. seen lists ≡ record { active = []; inactive = []; frames = frames }) }
+{
+    let active = VecDeque::with_capacity(alloc, frames as usize)?;
+    let inactive = VecDeque::with_capacity(alloc, frames as usize)?;
+    let marks = vec![in alloc; false; frames as usize]?;
+    Ok(Lists {
+        active,
+        inactive,
+        marks,
+    })
+}
+
+// Moves the active front to the inactive back, and clears its mark.
+fn age(lists: &mut Lists)
+    requires kept { AreKept lists.old }
+    requires some { 0 < length lists.old.active.items }
+    ensures kept { AreKept lists.new }
+    ensures moved { seen lists.new ≡ moved 1 (seen lists.old) }
+{
+    if let Some(frame) = lists.active.pop_front() {
+        lists.marks[frame.0 as usize] = false;
+        let _ = lists.inactive.push_back(frame);
+    }
+}
+
+// Moves the inactive front to the active back, and clears its mark.
+fn spare_front(lists: &mut Lists)
+    requires kept { AreKept lists.old }
+    requires some { 0 < length lists.old.inactive.items }
+    ensures kept { AreKept lists.new }
+    ensures spared { seen lists.new ≡ one_spared (seen lists.old) }
+{
+    if let Some(frame) = lists.inactive.pop_front() {
+        lists.marks[frame.0 as usize] = false;
+        let _ = lists.active.push_back(frame);
+    }
+}
+
+pub fn balance(lists: &mut Lists)
+    requires { AreKept lists.old }
+    ensures kept { AreKept lists.new }
+    ensures balanced { seen lists.new ≡ balanced (seen lists.old) }
+    ensures done { needs_none (seen lists.new) }
+{
+    'balance: while 3 * lists.inactive.len() < lists.active.len() + lists.inactive.len() {
+        age(lists);
+    }
+}
+
+// Whether the inactive front is referenced.
+fn is_front_referenced(lists: &Lists) -> bool
+    requires { AreKept lists.now }
+    ensures { result ≡ front_referenced (seen lists.now) }
+{
+    match lists.inactive.front() {
+        Some(frame) => lists.marks[frame.0 as usize],
+        None => false,
+    }
+}
+
+// Moves referenced inactive fronts to the active back, and balances again behind each.
+pub fn spare(lists: &mut Lists)
+    requires kept { AreKept lists.old }
+    requires balanced { needs_none (seen lists.old) }
+    ensures kept { AreKept lists.new }
+    ensures spared { seen lists.new ≡ spared (seen lists.old) }
+{
+    'spare: while is_front_referenced(lists) {
+        spare_front(lists);
+        balance(lists);
+    }
+}
+
+fn take_off(frames: &mut VecDeque<FrameNo>, f: FrameNo)
+    ensures items { frames.new.items ≡ without_frame f.0 frames.old.items }
+    ensures capacity { deque_capacity frames.new ≡ deque_capacity frames.old }
+{
+    frames.retain(|frame| frame.0 != f.0);
+}
+
+// Takes a frame off both lists.
+pub fn drop_frame(lists: &mut Lists, f: FrameNo)
+    requires { AreKept lists.old }
+    ensures kept { AreKept lists.new }
+    ensures removed { seen lists.new ≡ removed f.0 (seen lists.old) }
+{
+    take_off(&mut lists.active, f);
+    take_off(&mut lists.inactive, f);
+}
+
+fn is_skipped(skip: &[FrameNo], f: FrameNo) -> bool
+    ensures { result ≡ is_skipped skip.now f.0 }
+{
+    'all: for other in skip {
+        if other.0 == f.0 {
+            return true;
+        }
+    }
+    false
+}
+
+// The first frame of a list that isn't skipped.
+fn first_unskipped(frames: &VecDeque<FrameNo>, skip: &[FrameNo]) -> Option<FrameNo>
+    ensures { (marks : List Bool) → result ≡ first_unskipped skip.now (pages marks frames.now.items) }
+{
+    'all: for i in 0..frames.len() {
+        let frame = frames[i];
+        if !is_skipped(skip, frame) {
+            return Some(frame);
+        }
+    }
+    None
+}
+
+// The first frame that isn't skipped, inactive ones first.
+pub fn choose(lists: &Lists, skip: &[FrameNo]) -> Option<FrameNo>
+    ensures { result ≡ chosen skip.now (seen lists.now) }
+{
+    match first_unskipped(&lists.inactive, skip) {
+        Some(frame) => Some(frame),
+        None => first_unskipped(&lists.active, skip),
+    }
+}

@@ -1,0 +1,92 @@
+// The queues of the pages that are here.
+ghost use Rattle.std.specs.Prelude.{◌≡◌, ◌<◌, ℕ, [], true, false, IfOk, MatchOption, if◌then◌else◌};
+ghost use Rattle.vm_queues.specs.Queues.{AllSkipped, GainsPage, IsEmpty, KeepsPages, LosesPage, Queues, added, balanced, chosen, is_queued, is_skipped, removed, spared, touched};
+
+use crate::lists::{Lists, balance, choose, drop_frame, empty, spare};
+use std::alloc::Global;
+use std::marker::Model;
+use vm_base::{FrameNo, NoMemory};
+
+/// The active and the inactive pages of a host, each by its frame, and which of them are marked as
+/// referenced. The inactive list is kept at a third of all pages, and a victim comes from its front.
+///
+/// No call but `new` takes memory.
+#[derive(Drop)]
+pub struct PageQueues {
+    lists: Lists,
+}
+
+impl Model for PageQueues {
+    ghost use Rattle.vm_queues.specs.Queues.{Queues};
+    ghost use Rattle.vm_queues.specs.Kept.{AreKept, seen};
+
+    ghost Value = { Queues };
+
+    ghost view = { λ s. seen s.lists };
+
+    ghost invariant = { λ s. AreKept s.lists };
+}
+
+impl PageQueues {
+    /// Two empty lists for pages in so many frames; it fails for want of memory alone.
+    pub fn new(alloc: Global, frames: u32) -> Result<PageQueues, NoMemory>
+        ensures queues { IfOk result (λ queues. queues ≡ record { active = []; inactive = []; frames = frames }) }
+        ensures pages { IfOk result (λ queues. IsEmpty queues) }
+    {
+        let lists = empty(alloc, frames)?;
+        Ok(PageQueues { lists })
+    }
+
+    /// Puts a page at the active back, not referenced.
+    pub fn add(&mut self, f: FrameNo)
+        requires inside { f.0 < self.old.frames }
+        requires absent { is_queued self.old f.0 ≡ false }
+        ensures queues { self.new ≡ added f.0 self.old }
+        ensures pages { GainsPage f.0 self.old self.new }
+    {
+        self.lists.marks[f.0 as usize] = false;
+        let _ = self.lists.active.push_back(f);
+    }
+
+    /// Marks a page as referenced.
+    pub fn touch(&mut self, f: FrameNo)
+        requires { is_queued self.old f.0 ≡ true }
+        ensures queues { self.new ≡ touched f.0 self.old }
+        ensures pages { KeepsPages self.old self.new }
+    {
+        self.lists.marks[f.0 as usize] = true;
+    }
+
+    /// Takes a page off its list.
+    pub fn remove(&mut self, f: FrameNo)
+        requires { is_queued self.old f.0 ≡ true }
+        ensures queues { self.new ≡ removed f.0 self.old }
+        ensures pages { LosesPage f.0 self.old self.new }
+    {
+        drop_frame(&mut self.lists, f);
+    }
+
+    /// Moves active fronts to the inactive back, as long as fewer than a third of the pages are
+    /// inactive.
+    pub fn balance(&mut self)
+        ensures queues { self.new ≡ balanced self.old }
+        ensures pages { KeepsPages self.old self.new }
+    {
+        balance(&mut self.lists);
+    }
+
+    /// The page to be reclaimed next, which stays on its list; None exactly where all are skipped.
+    ///
+    /// Referenced pages at the inactive front first get a second chance at the active back.
+    pub fn victim(&mut self, skip: &[FrameNo]) -> Option<FrameNo>
+        ensures queues { self.new ≡ spared (balanced self.old) }
+        ensures pages { KeepsPages self.old self.new }
+        ensures victim { result ≡ chosen skip.now self.new }
+        ensures none { MatchOption result (AllSkipped skip.now self.old)
+            (λ f. (is_queued self.old f.0 ≡ true) × (is_skipped skip.now f.0 ≡ false)) }
+    {
+        balance(&mut self.lists);
+        spare(&mut self.lists);
+        choose(&self.lists, skip)
+    }
+}
