@@ -1,0 +1,4 @@
+mod Edits
+mod Owners
+mod Places
+mod Tables
