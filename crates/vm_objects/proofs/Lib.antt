@@ -1,0 +1,5 @@
+mod Made
+mod Marks
+mod Places
+mod Ranges
+mod Stands

@@ -1,0 +1,259 @@
+// The memory objects of a host.
+ghost use Rattle.std.specs.Prelude.{ℕ, ◌≡◌, ◌+◌, ◌-◌, ◌<◌, ◌≤◌, ◌^◌, [], Some, None, true, false, IfSome, IsOk, IsSome, OnErr, OnOk};
+ghost use Rattle.vm_objects.specs.Objects.{PutsAbsent, PutsObject, SameMarks, SameObjects, SameOrRoomier, SameRooms, absent_at, object_at};
+ghost use Rattle.vm_objects.specs.declared.row.PagerState.TheVariants as state;
+
+use crate::slot::{Slot, find};
+use crate::{ObjectRow, PagerState};
+use std::alloc::Global;
+use std::marker::Model;
+use vm_base::{NoMemory, ObjectId, ObjectKind, PageKey};
+
+/// What a host knows of its memory objects.
+///
+/// Contracts see a row for each object, which of its pages are known to be absent, and the room: how
+/// many further objects, of how many pages together, can be made without memory. Only `new`,
+/// `reserve` and `make` take memory.
+#[derive(Drop)]
+pub struct Objects {
+    // By rising number.
+    slots: Vec<Slot>,
+    // The marks of all objects, each object's side by side; true where the page is known absent.
+    marks: Vec<bool>,
+}
+
+impl Model for Objects {
+    ghost use Rattle.std.specs.Prelude.{◌-◌, length, vec_capacity};
+    ghost use Rattle.vm_objects.specs.Objects.{ObjectTable};
+
+    ghost Value = { ObjectTable };
+
+    ghost use Rattle.vm_objects.specs.Slots.{AreKept, entries_of};
+
+    ghost view = { λ s. record {
+      entries = entries_of s.marks.items s.slots.items;
+      rows = vec_capacity s.slots - length s.slots.items;
+      pages = vec_capacity s.marks - length s.marks.items;
+    } };
+
+    ghost invariant = { λ s. AreKept (length s.marks.items) s.slots.items };
+}
+
+impl Objects {
+    /// No objects, and no memory taken.
+    pub fn new(alloc: Global) -> Objects
+        ensures { result.entries ≡ [] }
+    {
+        Objects {
+            slots: Vec::new(alloc),
+            marks: Vec::new(alloc),
+        }
+    }
+
+    /// Makes room for so many further objects, of so many pages together; it fails for want of
+    /// memory alone.
+    pub fn reserve(&mut self, rows: u32, pages: u32) -> Result<(), NoMemory>
+        ensures same { SameOrRoomier self.old self.new }
+        ensures rows { OnOk result (rows ≤ self.new.rows) }
+        ensures pages { OnOk result (pages ≤ self.new.pages) }
+        ensures succeeds { rows ≤ self.old.rows → pages ≤ self.old.pages → IsOk result }
+    {
+        self.slots.reserve(rows as usize)?;
+        self.marks.reserve(pages as usize)?;
+        Ok(())
+    }
+
+    /// Makes an object without a pager, to which nothing refers yet, and of which no page is known
+    /// to be absent; it fails for want of memory alone.
+    pub fn make(&mut self, id: ObjectId, kind: ObjectKind, pages: u32) -> Result<(), NoMemory>
+        requires { object_at self.old id.0 ≡ None }
+        ensures ok { OnOk result (PutsObject id.0 (Some record {
+          kind = kind;
+          pages = pages;
+          state = state.Without;
+          control = 0;
+          live = false;
+          references = 0;
+        }) self.old self.new) }
+        ensures present { (p : ℕ) → absent_at self.new id.0 p ≡ false }
+        ensures marks { SameMarks self.old self.new }
+        ensures err { OnErr result (SameOrRoomier self.old self.new) }
+        ensures succeeds { 0 < self.old.rows → pages ≤ self.old.pages → IsOk result }
+        ensures rows { self.old.rows ≤ self.new.rows + 1 }
+        ensures pages { self.old.pages ≤ self.new.pages + pages }
+    {
+        self.reserve(1, pages)?;
+        let start = self.marks.len();
+        self.marks.resize(start + pages as usize, false)?;
+        let row = ObjectRow {
+            kind,
+            pages,
+            state: PagerState::Without,
+            control: 0,
+            live: false,
+            references: 0,
+        };
+        let i = find(&self.slots, id);
+        self.slots.insert(i, Slot { id, row, start })?;
+        Ok(())
+    }
+
+    /// What is known of an object, None where it isn't there.
+    pub fn find(&self, id: ObjectId) -> Option<ObjectRow>
+        ensures { result ≡ object_at self.now id.0 }
+    {
+        let i = find(&self.slots, id);
+        let slot = self.slots.get(i)?;
+        if slot.id.0 == id.0 {
+            Some(slot.row)
+        } else {
+            None
+        }
+    }
+
+    /// Counts one more reference to an object.
+    pub fn refer(&mut self, id: ObjectId)
+        requires there { IsSome (object_at self.old id.0) }
+        requires few { IfSome (object_at self.old id.0) (λ row. row.references < 2 ^ 32 - 1) }
+        ensures object { IfSome (object_at self.old id.0) (λ row. PutsObject id.0
+            (Some (record row { references = row.references + 1 })) self.old self.new) }
+        ensures marks { SameMarks self.old self.new }
+        ensures rooms { SameRooms self.old self.new }
+    {
+        let mut row = self.row(id);
+        row.references += 1;
+        self.put(id, row);
+    }
+
+    /// Counts one reference less to an object, and gives how many are left.
+    pub fn unrefer(&mut self, id: ObjectId) -> u32
+        requires there { IsSome (object_at self.old id.0) }
+        requires some { IfSome (object_at self.old id.0) (λ row. 0 < row.references) }
+        ensures left { IfSome (object_at self.old id.0) (λ row. result + 1 ≡ row.references) }
+        ensures object { IfSome (object_at self.old id.0) (λ row. PutsObject id.0
+            (Some (record row { references = result })) self.old self.new) }
+        ensures marks { SameMarks self.old self.new }
+        ensures rooms { SameRooms self.old self.new }
+    {
+        let mut row = self.row(id);
+        row.references -= 1;
+        let left = row.references;
+        self.put(id, row);
+        left
+    }
+
+    /// Begins the next control of an object, of which its pager is being told, and gives its number.
+    pub fn begin_control(&mut self, id: ObjectId) -> u32
+        requires there { IsSome (object_at self.old id.0) }
+        requires few { IfSome (object_at self.old id.0) (λ row. row.control < 2 ^ 32 - 1) }
+        ensures number { IfSome (object_at self.old id.0) (λ row. result ≡ row.control + 1) }
+        ensures object { IfSome (object_at self.old id.0) (λ row. PutsObject id.0
+            (Some (record row { control = result; live = true; state = state.Sent }))
+            self.old self.new) }
+        ensures marks { SameMarks self.old self.new }
+        ensures rooms { SameRooms self.old self.new }
+    {
+        let mut row = self.row(id);
+        row.control += 1;
+        row.live = true;
+        row.state = PagerState::Sent;
+        self.put(id, row);
+        row.control
+    }
+
+    /// The pager of an object is ready.
+    pub fn set_ready(&mut self, id: ObjectId)
+        requires { IsSome (object_at self.old id.0) }
+        ensures object { IfSome (object_at self.old id.0) (λ row. PutsObject id.0
+            (Some (record row { state = state.Ready })) self.old self.new) }
+        ensures marks { SameMarks self.old self.new }
+        ensures rooms { SameRooms self.old self.new }
+    {
+        let mut row = self.row(id);
+        row.state = PagerState::Ready;
+        self.put(id, row);
+    }
+
+    /// Ends the control of an object, which has no pager then. Its number stays, so that the next
+    /// control has the next one.
+    pub fn end_control(&mut self, id: ObjectId)
+        requires { IsSome (object_at self.old id.0) }
+        ensures object { IfSome (object_at self.old id.0) (λ row. PutsObject id.0
+            (Some (record row { live = false; state = state.Without })) self.old self.new) }
+        ensures marks { SameMarks self.old self.new }
+        ensures rooms { SameRooms self.old self.new }
+    {
+        let mut row = self.row(id);
+        row.live = false;
+        row.state = PagerState::Without;
+        self.put(id, row);
+    }
+
+    /// The pager is known not to have a page from now on.
+    pub fn note_absent(&mut self, key: PageKey)
+        requires there { IsSome (object_at self.old key.object.0) }
+        requires inside { IfSome (object_at self.old key.object.0) (λ row. key.page.0 < row.pages) }
+        ensures mark { PutsAbsent key.object.0 key.page.0 true self.old self.new }
+        ensures objects { SameObjects self.old self.new }
+        ensures rooms { SameRooms self.old self.new }
+    {
+        self.mark(key, true);
+    }
+
+    /// The pager isn't known to lack a page any more.
+    pub fn clear_absent(&mut self, key: PageKey)
+        requires there { IsSome (object_at self.old key.object.0) }
+        requires inside { IfSome (object_at self.old key.object.0) (λ row. key.page.0 < row.pages) }
+        ensures mark { PutsAbsent key.object.0 key.page.0 false self.old self.new }
+        ensures objects { SameObjects self.old self.new }
+        ensures rooms { SameRooms self.old self.new }
+    {
+        self.mark(key, false);
+    }
+
+    /// Whether the pager is known not to have a page.
+    pub fn known_absent(&self, key: PageKey) -> bool
+        requires { IsSome (object_at self.now key.object.0) }
+        ensures mark { result ≡ absent_at self.now key.object.0 key.page.0 }
+        ensures past { IfSome (object_at self.now key.object.0) (λ row.
+            row.pages ≤ key.page.0 → result ≡ false) }
+    {
+        let i = find(&self.slots, key.object);
+        let slot = self.slots[i];
+        key.page.0 < slot.row.pages && self.marks[slot.start + key.page.0 as usize]
+    }
+
+    // The row of an object that is there.
+    fn row(&self, id: ObjectId) -> ObjectRow
+        requires { IsSome (object_at self.now id.0) }
+        ensures { object_at self.now id.0 ≡ Some result }
+    {
+        let i = find(&self.slots, id);
+        self.slots[i].row
+    }
+
+    // Puts another row of as many pages in the place of an object's.
+    fn put(&mut self, id: ObjectId, row: ObjectRow)
+        requires there { IsSome (object_at self.old id.0) }
+        requires pages { IfSome (object_at self.old id.0) (λ was. was.pages ≡ row.pages) }
+        ensures object { PutsObject id.0 (Some row) self.old self.new }
+        ensures marks { SameMarks self.old self.new }
+        ensures rooms { SameRooms self.old self.new }
+    {
+        let i = find(&self.slots, id);
+        self.slots[i].row = row;
+    }
+
+    // Notes whether a page is known to be absent.
+    fn mark(&mut self, key: PageKey, absent: bool)
+        requires there { IsSome (object_at self.old key.object.0) }
+        requires inside { IfSome (object_at self.old key.object.0) (λ row. key.page.0 < row.pages) }
+        ensures mark { PutsAbsent key.object.0 key.page.0 absent self.old self.new }
+        ensures objects { SameObjects self.old self.new }
+        ensures rooms { SameRooms self.old self.new }
+    {
+        let i = find(&self.slots, key.object);
+        let at = self.slots[i].start + key.page.0 as usize;
+        self.marks[at] = absent;
+    }
+}
