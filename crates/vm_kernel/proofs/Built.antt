@@ -1,0 +1,40 @@
+-- A command that is built is one of those that a kernel knows.
+use Rattle.std.proofs.Common.{◌≡◌, ℕ, true, false, refl}
+use Rattle.std.specs.Prelude.{◌≢◌}
+use Rattle.vm_base.specs.declared.ids.HostId.{HostId}
+use Rattle.vm_base.specs.declared.ids.Inherit.{Inherit}
+use Rattle.vm_base.specs.declared.ids.Prot.{Prot}
+use Rattle.vm_base.specs.declared.ids.TaskId.{TaskId}
+use Rattle.vm_model.specs.declared.command.Command.{Command}
+use Rattle.vm_model.specs.declared.command.Command.TheVariants as command
+use Rattle.vm_kernel.specs.Built.{is_built}
+
+-- the command is none of those that are built
+pub record IsUnknown (c : Command) : Type 0 where
+  pub task : (task : TaskId) (host : HostId) → c ≢ command.Task task host
+  pub fork : (task child : TaskId) → c ≢ command.Fork task child
+  pub exit : (task : TaskId) → c ≢ command.Exit task
+  pub allocate : (task : TaskId) (address bytes : ℕ) → c ≢ command.Allocate task address bytes
+  pub deallocate : (task : TaskId) (address bytes : ℕ) → c ≢ command.Deallocate task address bytes
+  pub protect : (task : TaskId) (address bytes : ℕ) (prot : Prot) → c ≢ command.Protect task address bytes prot
+  pub inherit : (task : TaskId) (address bytes : ℕ) (inherit : Inherit) → c ≢ command.Inherit task address bytes inherit
+  pub load : (task : TaskId) (address size : ℕ) → c ≢ command.Load task address size
+  pub store : (task : TaskId) (address size value : ℕ) → c ≢ command.Store task address size value
+  pub pageout : (host : HostId) (count : ℕ) → c ≢ command.Pageout host count
+  pub wire : (host : HostId) (count : ℕ) → c ≢ command.Wire host count
+  pub unwire : (host : HostId) (count : ℕ) → c ≢ command.Unwire host count
+
+pub none_unknown : (c : Command) → is_built c ≡ true → IsUnknown c → ⊥
+none_unknown (command.Task task host) built unknown = unknown.task task host refl
+none_unknown (command.Fork task child) built unknown = unknown.fork task child refl
+none_unknown (command.Exit task) built unknown = unknown.exit task refl
+none_unknown (command.Allocate task address bytes) built unknown = unknown.allocate task address bytes refl
+none_unknown (command.Deallocate task address bytes) built unknown = unknown.deallocate task address bytes refl
+none_unknown (command.Protect task address bytes prot) built unknown = unknown.protect task address bytes prot refl
+none_unknown (command.Inherit task address bytes inherit) built unknown = unknown.inherit task address bytes inherit refl
+none_unknown (command.Load task address size) built unknown = unknown.load task address size refl
+none_unknown (command.Store task address size value) built unknown = unknown.store task address size value refl
+none_unknown (command.Pageout host count) built unknown = unknown.pageout host count refl
+none_unknown (command.Wire host count) built unknown = unknown.wire host count refl
+none_unknown (command.Unwire host count) built unknown = unknown.unwire host count refl
+none_unknown other built unknown = let bad : false ≡ true = built in cc

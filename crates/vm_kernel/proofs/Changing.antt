@@ -1,0 +1,273 @@
+-- Commands that change a task's entries, from their beginning to their end.
+use Rattle.std.proofs.Common.{◌≡◌, ℕ, zero, suc, ◌+◌, ◌-◌, ◌*◌, ◌<◌, ◌≤◌, true, List, [], ◌∷◌, length, refl, ap, sym, ◌∙◌, subst, arith, Some, None, Option, inl, inr}
+use Rattle.std.proofs.lemmas.Bool.Decides.{eqb_tells}
+use Rattle.std.specs.Prelude.{unwrap_or}
+use Rattle.vm_base.specs.declared.entry.Entry.{Entry}
+use Rattle.vm_base.specs.declared.ids.Inherit.{Inherit}
+use Rattle.vm_base.specs.declared.ids.Prot.{Prot}
+use Rattle.vm_base.specs.declared.ids.TaskId.{TaskId}
+use Rattle.vm_base.specs.Entries.{inherited, most_entries, protected, rewritten}
+use Rattle.vm_model.specs.declared.event.Event.{Event}
+use Rattle.vm_model.specs.declared.event.Event.TheVariants as event
+use Rattle.vm_model.specs.declared.command.Command.TheVariants as command
+use Rattle.vm_model.specs.declared.script.Header.{Header}
+use Rattle.vm_model.specs.Flat.{flat_page}
+use Rattle.vm_model.specs.Local.{local}
+use Rattle.vm_model.specs.Regions.{backing_of, next_object, next_region, region_of}
+use Rattle.vm_model.specs.Rows.{AllRows, Parts, inside_part, rows_known, rows_map, rows_rewritten}
+use Rattle.vm_model.specs.Tasks.{entries_of, has_entry, host_of}
+use Rattle.vm_model.specs.Waiting.{waiting}
+use Rattle.vm_maps.specs.declared.change.MapChange.{MapChange}
+use Rattle.vm_maps.specs.Maps.{ChangesOnly, Mapped, entries_in, rows_in}
+use Rattle.vm_shadow.specs.Chains.{ChainTable, region_at}
+use Rattle.vm_shadow.specs.declared.ids.Ids.{Ids}
+use Rattle.vm_shadow.specs.declared.region_row.RegionRow.{RegionRow}
+use Rattle.vm_kernel.specs.Begun.{Began, Starts}
+use Rattle.vm_kernel.specs.Changes.{inheritance, protection}
+use Rattle.vm_kernel.specs.Counts.{count_by, count_on, most_tasks}
+use Rattle.vm_kernel.specs.Matches.{AllInside, AllUsed, HasEntries, HasFlat, HasPages, HasRegions, IsInside, Rests}
+use Rattle.vm_kernel.specs.Places.{entries_in_row, has_region, place_of, region_entries, region_pages}
+use Rattle.vm_kernel.specs.Sweeping.{Lowered, Raised}
+use Rattle.vm_kernel.specs.declared.parts.Parts.{Parts as KernelParts}
+use Rattle.vm_kernel.proofs.Counts.{by_few, most_is}
+use Rattle.vm_kernel.proofs.Growing.{suffices}
+use Rattle.vm_kernel.proofs.Heads.{grows_one}
+use Rattle.vm_kernel.proofs.Prompting.{prompt_of, region_row}
+use Rattle.vm_kernel.proofs.Recounts.{Recounts, entries_are, entries_most, lowered_recounts, raised_recounts, recounts_as, recounts_twice}
+use Rattle.vm_kernel.proofs.Rewrites.{IsSpan, entries_changed, lives_below, on_among, on_kept, recount_flat, recount_known, recount_pages, recount_regions, recount_used, tasks_changed}
+
+-- how many entries lead to a region
+
+by_most : (n r task : ℕ) (maps : Mapped) → task < n → count_on r (rows_in task maps) ≤ count_by n r maps
+by_most zero r task maps less = absurd (omega arith)
+by_most (suc n) r task maps less = elim (eqb_tells n task) [
+  | inl same ↦ subst (λ (z : ℕ). count_on r (rows_in z maps) ≤ count_by (suc n) r maps) same.1 (omega arith)
+  | inr apart ↦ let later = by_most n r task maps (let other = apart.1 in grind arith) in omega arith
+]
+
+pub counted : (size task : ℕ) (maps : Mapped) (cs : ChainTable) (lost : List Entry) → HasEntries size maps cs lost → entries_in task maps ≡ Some (rows_in task maps) → (r : ℕ) → has_region cs r ≡ true → count_on r (rows_in task maps) ≤ region_entries cs r
+counted size task maps cs lost has lives r there =
+    let row = region_row cs r there in
+    let counts = has.counts r row.0 row.1 in
+    let is = ap entries_in_row row.1 in
+    let most = by_most most_tasks r task maps (lives_below size task maps cs lost has lives) in
+    omega arith
+
+pub entries_few : (size : ℕ) (maps : Mapped) (cs : ChainTable) → HasEntries size maps cs [] → (r : ℕ) → region_entries cs r ≤ 262144
+entries_few size maps cs has r = go (region_at cs r) refl
+  where
+    go : (x : Option RegionRow) → region_at cs r ≡ x → entries_in_row x ≤ 262144
+    go None is = omega arith
+    go (Some row) is =
+        let counts = has.counts r row is in
+        let few : count_by most_tasks r maps ≤ 1024 * 256 = subst (λ (z : ℕ). count_by most_tasks r maps ≤ z * 256) most_is (by_few most_tasks r most_entries maps has.few) in
+        omega arith
+
+pub lives_as : (task : ℕ) (maps : Mapped) (rows : List Entry) → entries_in task maps ≡ Some rows → (rows_in task maps ≡ rows) × (entries_in task maps ≡ Some (rows_in task maps))
+lives_as task maps rows is = let same : rows_in task maps ≡ rows = ap (λ z. unwrap_or z []) is in (same, is ∙ ap Some (sym same))
+
+-- what is made of a task's entries, and what is lost of them
+pub record Cuts (size : ℕ) (chains : ChainTable) (rows made lost : List Entry) : Type 0 where
+  pub inside : AllInside size chains made
+  pub own : AllRows (λ row. has_entry row.region.0 rows ≡ true) made
+  pub known : AllRows (λ row. has_region chains row.region.0 ≡ true) lost
+  pub gone : AllRows (λ row. has_entry row.region.0 rows ≡ true) lost
+  pub few : length made ≤ most_entries
+  pub kept : (r : ℕ) → count_on r rows ≤ count_on r made + count_on r lost
+
+-- an entry of the rows, within its region
+abbrev pub IsOwn : ℕ → ChainTable → List Entry → Entry → Type 0
+IsOwn size chains rows row = IsInside size chains row × (has_entry row.region.0 rows ≡ true)
+
+pub own_parts : (size : ℕ) (chains : ChainTable) (rows : List Entry) → Parts size (IsOwn size chains rows)
+own_parts size chains rows row start end is low less high = (
+  record {
+    region = is.0.region;
+    some = omega arith;
+    below = let below = is.0.below in omega arith;
+    inside = inside_part size (region_pages chains row.region.0) row start end is.0.inside low less high;
+  },
+  is.1,
+)
+
+pub spans : (size : ℕ) (chains : ChainTable) (rows : List Entry) → AllInside size chains rows → AllRows IsSpan rows
+spans size chains rows all = rows_map (IsInside size chains) IsSpan (λ row is. record { some = is.some; below = is.below }) rows all
+
+pub cuts_kept : (size address bytes : ℕ) (chains : ChainTable) (becomes : Entry → List Entry) (rows made : List Entry) → ((r : ℕ) (row : Entry) → count_on r (becomes row) ≡ count_on r (row ∷ []))
+    → ((row : Entry) → IsOwn size chains rows row → AllRows (IsOwn size chains rows) (becomes row)) → AllInside size chains rows → made ≡ rewritten becomes size address bytes rows → length made ≤ most_entries → Cuts size chains rows made []
+cuts_kept size address bytes chains becomes rows made same each all is few =
+    let both : AllRows (IsOwn size chains rows) made = subst (AllRows (IsOwn size chains rows)) (sym is)
+    (rows_rewritten size (IsOwn size chains rows) becomes (own_parts size chains rows) each address bytes rows (rows_known (IsInside size chains) rows all)) in
+    record {
+      inside = rows_map (IsOwn size chains rows) (IsInside size chains) (λ row is. is.0) made both;
+      own = rows_map (IsOwn size chains rows) (λ row. has_entry row.region.0 rows ≡ true) (λ row is. is.1) made both;
+      known = tt;
+      gone = tt;
+      few = few;
+      kept = λ r. let kept = on_kept r size address bytes becomes rows (same r) (spans size chains rows all) in let e = ap (count_on r) is in omega arith;
+    }
+
+with_prot : (size : ℕ) (chains : ChainTable) (rows : List Entry) (prot : Prot) (row : Entry) → IsOwn size chains rows row → AllRows (IsOwn size chains rows) (record row { prot = prot } ∷ [])
+with_prot size chains rows prot row is = ((record { region = is.0.region; some = is.0.some; below = is.0.below; inside = record { whole = is.0.inside.whole; each = is.0.inside.each } }, is.1), tt)
+
+with_inherit : (size : ℕ) (chains : ChainTable) (rows : List Entry) (inherit : Inherit) (row : Entry) → IsOwn size chains rows row → AllRows (IsOwn size chains rows) (record row { inherit = inherit } ∷ [])
+with_inherit size chains rows inherit row is = ((record { region = is.0.region; some = is.0.some; below = is.0.below; inside = record { whole = is.0.inside.whole; each = is.0.inside.each } }, is.1), tt)
+
+-- regions count what was made, and what was lost, in place of what there was
+
+pub record Changed (header : Header) (past : List Event) (k : KernelParts) (ids : Ids) (maps : Mapped) (chains : ChainTable) (lost : List Entry) : Type 0 where
+  pub regions : HasRegions chains k.objects ids (λ r. region_of header r past) (λ o. backing_of header o past) (next_region header past) (next_object header past)
+  pub entries : HasEntries header.size maps chains lost
+  pub pages : HasPages k.frames k.resident k.objects chains (λ o p. local header.size 0 (place_of o p) past)
+  pub flat : HasFlat header.size k.frames k.resident chains (λ r p. flat_page header.size r p past)
+  pub used : AllUsed chains
+
+pub changed_by : (header : Header) (past : List Event) (k : KernelParts) (ids : Ids) (maps : Mapped) (chains : ChainTable) (task : ℕ) (rows : Option (List Entry)) (lost : List Entry) (count : ℕ → ℕ) → Rests header k ids past
+    → ChangesOnly k.maps maps task rows → entries_in task k.maps ≡ Some (rows_in task k.maps) → Cuts header.size k.chains (rows_in task k.maps) (unwrap_or rows []) lost → Recounts count k.chains chains
+    → ((r : ℕ) → has_region k.chains r ≡ true → count r + count_on r (rows_in task k.maps) ≡ region_entries k.chains r + (count_on r (unwrap_or rows []) + count_on r lost)) → Changed header past k ids maps chains lost
+changed_by header past k ids maps chains task rows lost count rests changes lives cuts is sums =
+    let m = rests.matches in
+    let old = rows_in task k.maps in
+    let made = unwrap_or rows [] in
+    record {
+      regions = recount_regions count k.chains chains k.objects ids (λ r. region_of header r past) (λ o. backing_of header o past) (next_region header past) (next_object header past) is m.regions;
+      entries = entries_changed header.size task k.maps maps k.chains chains count rows lost m.entries changes lives is sums cuts.inside cuts.known cuts.few;
+      pages = recount_pages count k.frames k.resident k.objects k.chains chains (λ o p. local header.size 0 (place_of o p) past) is m.pages;
+      flat = recount_flat count header.size k.frames k.resident k.chains chains (λ r p. flat_page header.size r p past) is (λ r there some. had r there (count_on r made) refl (count_on r lost) refl some) m.flat;
+      used = recount_used count k.chains chains is (λ r there some. let sum = sums r there in let kept = cuts.kept r in omega arith) rests.used;
+    }
+  where
+    had : (r : ℕ) → has_region k.chains r ≡ true → (n : ℕ) → count_on r (unwrap_or rows []) ≡ n → (l : ℕ) → count_on r lost ≡ l → 0 < count r → 0 < region_entries k.chains r
+    had r there zero one zero two some = let sum = sums r there in omega arith
+    had r there (suc n) one l two some =
+        let own = on_among r (rows_in task k.maps) (unwrap_or rows []) cuts.own (omega arith) in
+        let most = counted header.size task k.maps k.chains [] rests.matches.entries lives r there in
+        omega arith
+    had r there zero one (suc l) two some =
+        let own = on_among r (rows_in task k.maps) lost cuts.gone (omega arith) in
+        let most = counted header.size task k.maps k.chains [] rests.matches.entries lives r there in
+        omega arith
+
+-- counts that go down, and up again
+pub recounted : (rows made : List Entry) (old mid new : ChainTable) → Lowered rows old mid → Raised made mid new → Recounts (λ r. region_entries old r - count_on r rows + count_on r made) old new
+recounted rows made old mid new down up =
+    let one = lowered_recounts rows old mid down in
+    let two = raised_recounts made mid new up in
+    recounts_as (λ r. region_entries mid r + count_on r made) (λ r. region_entries old r - count_on r rows + count_on r made) old new
+    (recounts_twice (λ r. region_entries old r - count_on r rows) (λ r. region_entries mid r + count_on r made) old mid new one two)
+    (λ r there. ap (λ z. z + count_on r made) (entries_are (λ r. region_entries old r - count_on r rows) old mid one r there))
+
+pub lowered_few : (rows : List Entry) (old mid : ChainTable) → Lowered rows old mid → ((r : ℕ) → region_entries old r ≤ 262144) → (r : ℕ) → region_entries mid r ≤ 262144
+lowered_few rows old mid down few r =
+    let most = entries_most (λ r. region_entries old r - count_on r rows) old mid (lowered_recounts rows old mid down) r in
+    let all = few r in
+    omega arith
+
+-- entries get a protection, or an inheritance
+
+pub protect_cuts : (size address bytes task : ℕ) (prot : Prot) (maps new : Mapped) (chains : ChainTable) (change : MapChange) (two : List Entry) → HasEntries size maps chains [] → maps.size ≡ size → change ≡ protection address bytes prot
+    → ChangesOnly maps new task (Some (protected maps.size change.address change.bytes change.prot (rows_in task maps))) → entries_in task new ≡ Some two → length two ≤ most_entries → Cuts size chains (rows_in task maps) two []
+protect_cuts size address bytes task prot maps new chains change two has sized is changes value few =
+    let rows = rows_in task maps in
+    let made : two ≡ protected size address bytes prot rows =
+    ap (λ z. unwrap_or z []) (sym value ∙ changes.changed) ∙ (ap (λ z. protected maps.size z.address z.bytes z.prot rows) is ∙ ap (λ z. protected z address bytes prot rows) sized) in
+    cuts_kept size address bytes chains (λ row. record row { prot = prot } ∷ []) rows two (λ r row. refl) (with_prot size chains rows prot) (has.inside task) made few
+
+pub inherit_cuts : (size address bytes task : ℕ) (inherit : Inherit) (maps new : Mapped) (chains : ChainTable) (change : MapChange) (two : List Entry) → HasEntries size maps chains [] → maps.size ≡ size → change ≡ inheritance address bytes inherit
+    → ChangesOnly maps new task (Some (inherited maps.size change.address change.bytes change.inherit (rows_in task maps))) → entries_in task new ≡ Some two → length two ≤ most_entries → Cuts size chains (rows_in task maps) two []
+inherit_cuts size address bytes task inherit maps new chains change two has sized is changes value few =
+    let rows = rows_in task maps in
+    let made : two ≡ inherited size address bytes inherit rows =
+    ap (λ z. unwrap_or z []) (sym value ∙ changes.changed) ∙ (ap (λ z. inherited maps.size z.address z.bytes z.inherit rows) is ∙ ap (λ z. inherited z address bytes inherit rows) sized) in
+    cuts_kept size address bytes chains (λ row. record row { inherit = inherit } ∷ []) rows two (λ r row. refl) (with_inherit size chains rows inherit) (has.inside task) made few
+
+-- what was made can be counted
+pub raise_there : (size : ℕ) (old mid : ChainTable) (rows made lost : List Entry) → Cuts size old rows made lost → Lowered rows old mid → AllRows (λ row. has_region mid row.region.0 ≡ true) made
+raise_there size old mid rows made lost cuts down =
+    recount_known (λ r. region_entries old r - count_on r rows) old mid (lowered_recounts rows old mid down) made (rows_map (IsInside size old) (λ row. has_region old row.region.0 ≡ true) (λ row is. is.region) made cuts.inside)
+
+-- counts, once the rows were taken off and what was made of them was put on
+pub changed_counts : (header : Header) (past : List Event) (k : KernelParts) (ids : Ids) (maps : Mapped) (mid chains : ChainTable) (task : ℕ) (one two : List Entry) → Rests header k ids past
+    → ChangesOnly k.maps maps task (Some two) → entries_in task k.maps ≡ Some one → Cuts header.size k.chains (rows_in task k.maps) two [] → Lowered one k.chains mid → Raised two mid chains → Changed header past k ids maps chains []
+changed_counts header past k ids maps mid chains task one two rests changes value cuts down up =
+    let live = lives_as task k.maps one value in
+    let rows = rows_in task k.maps in
+    let down2 = subst (λ (z : List Entry). Lowered z k.chains mid) (sym live.0) down in
+    changed_by header past k ids maps chains task (Some two) [] (λ r. region_entries k.chains r - count_on r rows + count_on r two) rests changes live.1 cuts (recounted rows two k.chains mid chains down2 up)
+    (λ r there. let most = counted header.size task k.maps k.chains [] rests.matches.entries live.1 r there in omega arith)
+
+pub began_protect : (header : Header) (task : TaskId) (address bytes : ℕ) (prot : Prot) (past events : List Event) (k : KernelParts) (ids : Ids) (maps : Mapped) (mid chains : ChainTable) (change : MapChange) (one two : List Entry)
+    → Starts header (command.Protect task address bytes prot) past k ids events → change ≡ protection address bytes prot
+    → ChangesOnly k.maps maps task.0 (Some (protected k.maps.size change.address change.bytes change.prot (rows_in task.0 k.maps)))
+    → entries_in task.0 k.maps ≡ Some one → entries_in task.0 maps ≡ Some two → length two ≤ most_entries → Lowered one k.chains mid → Raised two mid chains
+    → Began header (command.Protect task address bytes prot) past (record k { maps = maps; chains = chains }) ids (event.Protected task address bytes prot ∷ [])
+began_protect header task address bytes prot past events k ids maps mid chains change one two s is changes value now few down up =
+    let m = s.rests.matches in
+    let live = lives_as task.0 k.maps one value in
+    let rows = rows_in task.0 k.maps in
+    let cuts = protect_cuts header.size address bytes task.0 prot k.maps maps k.chains change two m.entries m.tasks.sized is changes now few in
+    let c = changed_counts header past k ids maps mid chains task.0 one two s.rests (record { size = changes.size; changed = now; others = changes.others }) value cuts down up in
+    let same : ChangesOnly k.maps maps task.0 (Some (protected header.size address bytes prot rows)) =
+    record { size = changes.size; changed = changes.changed ∙ ap Some (ap (λ z. protected k.maps.size z.address z.bytes z.prot rows) is ∙ ap (λ z. protected z address bytes prot rows) m.tasks.sized); others = changes.others } in
+    let rests : Rests header (record k { maps = maps; chains = chains }) ids (event.Protected task address bytes prot ∷ past) =
+    record {
+      matches =
+          record {
+            plain = m.plain;
+            size = m.size;
+            host = m.host;
+            fits = m.fits;
+            tasks = tasks_changed header.size task.0 k.maps maps (λ t. host_of t past) (λ t. entries_of header.size t past) (λ t. waiting t past) (protected header.size address bytes prot) m.tasks same live.1;
+            regions = c.regions;
+            entries = c.entries;
+            pages = c.pages;
+            flat = c.flat;
+            stores = m.stores;
+            frames = m.frames;
+          };
+      used = c.used;
+    } in
+    record {
+      rests = rests;
+      grows = grows_one header (command.Protect task address bytes prot) past (event.Protected task address bytes prot) refl tt tt (suffices header k.frames (event.Protected task address bytes prot ∷ past) m.frames) tt;
+      done = tt;
+      prompt = prompt_of header (record k { maps = maps; chains = chains }) ids (event.Protected task address bytes prot ∷ past) rests;
+    }
+
+pub began_inherit : (header : Header) (task : TaskId) (address bytes : ℕ) (inherit : Inherit) (past events : List Event) (k : KernelParts) (ids : Ids) (maps : Mapped) (mid chains : ChainTable) (change : MapChange) (one two : List Entry)
+    → Starts header (command.Inherit task address bytes inherit) past k ids events → change ≡ inheritance address bytes inherit
+    → ChangesOnly k.maps maps task.0 (Some (inherited k.maps.size change.address change.bytes change.inherit (rows_in task.0 k.maps)))
+    → entries_in task.0 k.maps ≡ Some one → entries_in task.0 maps ≡ Some two → length two ≤ most_entries → Lowered one k.chains mid → Raised two mid chains
+    → Began header (command.Inherit task address bytes inherit) past (record k { maps = maps; chains = chains }) ids (event.Inherited task address bytes inherit ∷ [])
+began_inherit header task address bytes inherit past events k ids maps mid chains change one two s is changes value now few down up =
+    let m = s.rests.matches in
+    let live = lives_as task.0 k.maps one value in
+    let rows = rows_in task.0 k.maps in
+    let cuts = inherit_cuts header.size address bytes task.0 inherit k.maps maps k.chains change two m.entries m.tasks.sized is changes now few in
+    let c = changed_counts header past k ids maps mid chains task.0 one two s.rests (record { size = changes.size; changed = now; others = changes.others }) value cuts down up in
+    let same : ChangesOnly k.maps maps task.0 (Some (inherited header.size address bytes inherit rows)) =
+    record { size = changes.size; changed = changes.changed ∙ ap Some (ap (λ z. inherited k.maps.size z.address z.bytes z.inherit rows) is ∙ ap (λ z. inherited z address bytes inherit rows) m.tasks.sized); others = changes.others } in
+    let rests : Rests header (record k { maps = maps; chains = chains }) ids (event.Inherited task address bytes inherit ∷ past) =
+    record {
+      matches =
+          record {
+            plain = m.plain;
+            size = m.size;
+            host = m.host;
+            fits = m.fits;
+            tasks = tasks_changed header.size task.0 k.maps maps (λ t. host_of t past) (λ t. entries_of header.size t past) (λ t. waiting t past) (inherited header.size address bytes inherit) m.tasks same live.1;
+            regions = c.regions;
+            entries = c.entries;
+            pages = c.pages;
+            flat = c.flat;
+            stores = m.stores;
+            frames = m.frames;
+          };
+      used = c.used;
+    } in
+    record {
+      rests = rests;
+      grows = grows_one header (command.Inherit task address bytes inherit) past (event.Inherited task address bytes inherit) refl tt tt (suffices header k.frames (event.Inherited task address bytes inherit ∷ past) m.frames) tt;
+      done = tt;
+      prompt = prompt_of header (record k { maps = maps; chains = chains }) ids (event.Inherited task address bytes inherit ∷ past) rests;
+    }

@@ -1,0 +1,84 @@
+-- The kernel before anything has happened.
+use Rattle.std.proofs.Common.{◌≡◌, ℕ, zero, suc, ◌<◌, true, false, [], get_or, length, replicate, refl, ap, sym, ◌∙◌, arith, Some, None, Option}
+use Rattle.std.proofs.lemmas.List.{length-replicate}
+use Rattle.std.specs.Prelude.{reverse, slice_get}
+use Rattle.vm_model.specs.declared.script.Header.{Header}
+use Rattle.vm_frames.specs.Frames.{claimed, count_claims, frame_count, is_claimed}
+use Rattle.vm_objects.specs.Objects.{absent_at, object_at}
+use Rattle.vm_queues.specs.Queues.{IsEmpty}
+use Rattle.vm_resident.specs.Resident.{IsOwned, owner_of, row_at}
+use Rattle.vm_shadow.specs.Chains.{region_at}
+use Rattle.vm_kernel.specs.Matches.{IsPlain, Rests, first_ids, the_host}
+use Rattle.vm_kernel.specs.Places.{region_entries}
+use Rattle.vm_kernel.specs.declared.parts.Parts.{Parts}
+
+none_of : {A B : Type 0} (x : Option A) (y : A) → x ≡ None → x ≡ Some y → B
+none_of x y none some = absurd (let bad : None ≡ Some y = sym none ∙ some in cc)
+
+get_same : {A : Type 0} (n i : ℕ) (x none : A) → i < n → get_or (replicate n x) i none ≡ x
+get_same zero i x none less = absurd (omega arith)
+get_same (suc n) zero x none less = refl
+get_same (suc n) (suc i) x none less = get_same n i x none (omega arith)
+
+no_claims : (n : ℕ) → count_claims (replicate n false) ≡ 0
+no_claims zero = refl
+no_claims (suc n) = no_claims n
+
+not_claimed : (n i : ℕ) → get_or (replicate n false) i false ≡ false
+not_claimed zero i = refl
+not_claimed (suc n) zero = refl
+not_claimed (suc n) (suc i) = not_claimed n i
+
+pub first_rests : (header : Header) (k : Parts) (count : ℕ) → IsPlain header → k.size ≡ header.size → k.host ≡ the_host → slice_get (reverse header.frames.items) 0 ≡ Some count
+    → k.frames ≡ record { pages = replicate count (replicate header.size 0); claims = replicate count false; wired = 0 } → k.queues.frames ≡ count → IsEmpty k.queues
+    → ((o p : ℕ) → row_at k.resident o p ≡ None) → ((f : ℕ) → owner_of k.resident f ≡ None) → IsOwned k.resident → ((o : ℕ) → object_at k.objects o ≡ None) → ((o p : ℕ) → absent_at k.objects o p ≡ false)
+    → k.maps ≡ record { size = header.size; tasks = [] } → ((r : ℕ) → region_at k.chains r ≡ None) → Rests header k first_ids []
+first_rests header k count plain size host hosts frames queues empty rows owners owned objects marks maps regions =
+    let claims : k.frames.claims ≡ replicate count false = ap (λ z. z.claims) frames in
+    let pages : k.frames.pages ≡ replicate count (replicate header.size 0) = ap (λ z. z.pages) frames in
+    let counted : frame_count k.frames ≡ count = ap length claims ∙ length-replicate count false in
+    let free : (f : ℕ) → is_claimed k.frames f ≡ false = λ f. ap (λ z. get_or z f false) claims ∙ not_claimed count f in
+    let nothing : claimed k.frames ≡ 0 = ap count_claims claims ∙ no_claims count in
+    let declared : length header.objects.items ≡ 0 = ap length plain.objects in
+    record {
+      matches =
+          record {
+            plain = plain;
+            size = size;
+            host = host;
+            fits =
+                record {
+                  owned = owned;
+                  held = λ o p row is. none_of (row_at k.resident o p) row (rows o p) is;
+                  listed = λ o p row is. none_of (row_at k.resident o p) row (rows o p) is;
+                  unlisted = λ f none. empty f;
+                  unowned = λ f none. owners f;
+                  inside = λ o p row is. none_of (row_at k.resident o p) row (rows o p) is;
+                  plain = λ o p row is. none_of (row_at k.resident o p) row (rows o p) is;
+                  sized = λ f is. absurd (let bad : false ≡ true = sym (free f) ∙ is in cc);
+                  all_sized = λ f less. ap (λ z. length (get_or z f [])) pages ∙ (ap length (get_same count f (replicate header.size 0) [] (omega arith)) ∙ (length-replicate header.size 0 ∙ sym size));
+                  count = queues ∙ sym counted;
+                  pages = ap length pages ∙ (length-replicate count (replicate header.size 0) ∙ sym counted);
+                };
+            tasks = rw maps (record { sized = refl; hosts = λ task. refl; rows = λ task. refl; none = λ task. refl });
+            regions =
+                record {
+                  region = sym declared;
+                  object = sym declared;
+                  equal = refl;
+                  marks = refl;
+                  rows = λ r row is. none_of (region_at k.chains r) row (regions r) is;
+                  tops = λ r. record { top = refl; shift = refl };
+                  unbacked = λ o. refl;
+                  unmade = λ r le. regions r;
+                  unknown = λ o le. objects o;
+                  under = λ r row is. none_of (region_at k.chains r) row (regions r) is;
+                };
+            entries = rw maps (record { inside = λ task. tt; known = tt; most = λ task le. refl; few = λ task. omega arith; counts = λ r row is. none_of (region_at k.chains r) row (regions r) is });
+            pages = record { shown = λ o p. rw (rows o p, marks o p) refl; live = λ o p row is. none_of (row_at k.resident o p) row (rows o p) is };
+            flat = record { flat = λ r p some. absurd (let none : region_entries k.chains r ≡ 0 = rw (regions r) refl in omega arith); clean = λ o p row is clean. none_of (row_at k.resident o p) row (rows o p) is };
+            stores = record { clean = λ none o p row is. none_of (row_at k.resident o p) row (rows o p) is };
+            frames = record { total = hosts ∙ ap Some (sym counted); held = sym nothing; wired = sym (ap (λ z. z.wired) frames); fits = let none = ap (λ z. z.wired) frames in omega (arith, nothing, none) };
+          };
+      used = λ r row is. none_of (region_at k.chains r) row (regions r) is;
+    }

@@ -1,0 +1,378 @@
+-- A range is allocated: a region over a new object, and an entry on the whole of it.
+use Rattle.std.proofs.Common.{◌≡◌, nat_le, nat_lt, ℕ, ◌+◌, ◌-◌, ◌/◌, ◌%◌, ◌<◌, ◌≤◌, ◌^◌, ◌==◌, ◌||◌, not, Bool, true, false, List, [], ◌∷◌, ◌++◌, length, replicate, refl, ap, sym, ◌∙◌, subst, arith, Some, None, Option, inl, inr}
+use Rattle.std.proofs.lemmas.Bool.Decides.{eqb_tells, nat_tests}
+use Rattle.std.specs.Prelude.{if◌then◌else◌, is_none, is_some, IfSome}
+use Rattle.vm_base.specs.declared.code.Code.TheVariants as code
+use Rattle.vm_base.specs.declared.entry.Entry.{Entry}
+use Rattle.vm_base.specs.declared.ids.ObjectId.{ObjectId}
+use Rattle.vm_base.specs.declared.ids.ObjectKind.TheVariants.{Temp}
+use Rattle.vm_base.specs.declared.ids.TaskId.{TaskId}
+use Rattle.vm_base.specs.Entries.{entered, is_range, meets_range, most_entries}
+use Rattle.vm_model.specs.declared.event.Event.{Event}
+use Rattle.vm_model.specs.declared.event.Event.TheVariants as event
+use Rattle.vm_model.specs.declared.command.Command.TheVariants as command
+use Rattle.vm_model.specs.declared.script.Header.{Header}
+use Rattle.vm_model.specs.Flat.{flat_page}
+use Rattle.vm_model.specs.Follows.{head}
+use Rattle.vm_model.specs.Local.{Local, local}
+use Rattle.vm_model.specs.Refusal.{where_true}
+use Rattle.vm_model.specs.Regions as R
+use Rattle.vm_model.specs.Regions.{Region, backing_of, next_object, next_region, region_of}
+use Rattle.vm_model.specs.Rows.{AllRows, page_below, rows_entered, rows_map}
+use Rattle.vm_model.specs.Tasks.{entries_of, has_entry, host_of}
+use Rattle.vm_model.specs.Waiting.{waiting}
+use Rattle.vm_frames.specs.Frames.{FrameTable}
+use Rattle.vm_maps.specs.declared.change.MapChange.{MapChange}
+use Rattle.vm_maps.specs.Maps.{ChangesOnly, Mapped, entries_in, rows_in}
+use Rattle.vm_objects.specs.Objects.{ObjectTable, PutsObject, object_at, SameMarks}
+use Rattle.vm_objects.specs.declared.row.ObjectRow.{ObjectRow}
+use Rattle.vm_objects.specs.declared.row.PagerState.TheVariants.{Without}
+use Rattle.vm_queues.specs.Queues.{Queues}
+use Rattle.vm_resident.specs.Resident.{ResidentTable, row_at}
+use Rattle.vm_resident.specs.declared.page_row.PageRow.{PageRow}
+use Rattle.vm_shadow.specs.Chains.{ChainTable, PutsRegion, region_at}
+use Rattle.vm_shadow.specs.declared.ids.Ids.{Ids}
+use Rattle.vm_shadow.specs.declared.region_row.RegionRow.{RegionRow}
+use Rattle.vm_kernel.specs.Begun.{Began, Starts}
+use Rattle.vm_kernel.specs.Changes.{MadeRange, entering, whole_entry}
+use Rattle.vm_kernel.specs.Counts.{count_by, most_tasks}
+use Rattle.vm_kernel.specs.Fits.{Fit}
+use Rattle.vm_kernel.specs.Forking.{got}
+use Rattle.vm_kernel.specs.Matches.{AllUsed, HasEntries, HasFlat, HasPages, HasRegions, IsInside, IsOwn, Rests, object_under}
+use Rattle.vm_kernel.specs.Places.{bytes_behind, entries_in_row, has_region, pages_in, pages_kept, place_of, region_pages, shown}
+use Rattle.vm_kernel.specs.declared.parts.Parts.{Parts}
+use Rattle.vm_kernel.proofs.Counts.{by_none, most_is, on_entered}
+use Rattle.vm_kernel.proofs.Growing.{suffices}
+use Rattle.vm_kernel.proofs.Heads.{began_head, passed}
+use Rattle.vm_kernel.proofs.Rows.{one_case, region_cases, some_is}
+use Rattle.vm_kernel.proofs.Tasks.{Keeps, entries_changed, inside_kept, length_entered, lives_of, tasks_entered}
+
+-- what an allocation that isn't refused has
+pub record MayRange (size : ℕ) (k : Parts) (ids : Ids) (task address bytes : ℕ) : Type 0 where
+  pub lives : entries_in task k.maps ≡ Some (rows_in task k.maps)
+  pub whole : bytes % size ≡ 0
+  pub some : 0 < bytes
+  pub below : address + bytes ≤ 2 ^ 32
+  pub few : bytes / size ≤ 4096
+  pub range : is_range size address bytes ≡ true
+  pub free : meets_range address bytes (rows_in task k.maps) ≡ false
+  pub room : length (rows_in task k.maps) < most_entries
+  pub regions : ids.next_region < 8192
+  pub objects : ids.next_object < 8192
+
+pub may_range : (header : Header) (task : TaskId) (address bytes : ℕ) (past : List Event) (k : Parts) (ids : Ids) (events : List Event) → Starts header (command.Allocate task address bytes) past k ids events → MayRange header.size k ids task.0 address bytes
+may_range header task address bytes past k ids events s =
+    let m = s.rests.matches in
+    let rows = entries_of header.size task.0 past in
+    let full = nat_lt most_entries (length rows + 1) || (nat_le 8192 (next_region header past) || nat_le 8192 (next_object header past)) in
+    let last = where_true full code.TableFull None in
+    let next = where_true (meets_range address bytes rows) code.NoSpace last in
+    let tests = not (is_range header.size address bytes) || nat_lt 4096 (bytes / header.size) in
+    let acts = passed (is_none (host_of task.0 past)) code.NoSuchName (where_true (is_some (waiting task.0 past)) code.Blocked (where_true tests code.InvalidArgument next)) s.accepted in
+    let idle = passed (is_some (waiting task.0 past)) code.Blocked (where_true tests code.InvalidArgument next) acts.1 in
+    let first = passed tests code.InvalidArgument next idle.1 in
+    let second = passed (meets_range address bytes rows) code.NoSpace last first.1 in
+    let third = passed full code.TableFull None second.1 in
+    let own : rows ≡ rows_in task.0 k.maps = m.tasks.rows task.0 in
+    let test : tests ≡ false = first.0 in
+    let range : is_range header.size address bytes ≡ true = only_true (is_range header.size address bytes) (nat_lt 4096 (bytes / header.size)) test in
+    let limits : full ≡ false = third.0 in
+    let counts : (nat_lt most_entries (length rows + 1) ≡ false) × (nat_le 8192 (next_region header past) ≡ false) × (nat_le 8192 (next_object header past) ≡ false) =
+    all_false (nat_lt most_entries (length rows + 1)) (nat_le 8192 (next_region header past)) (nat_le 8192 (next_object header past)) limits in
+    let short : nat_lt most_entries (length rows + 1) ≡ false = counts.0 in
+    let regions : nat_le 8192 (next_region header past) ≡ false = counts.1 in
+    let objects : nat_le 8192 (next_object header past) ≡ false = counts.2 in
+    let next_one = m.regions.region in
+    let next_two = m.regions.object in
+    record {
+      lives = lives_of (entries_in task.0 k.maps) (host_of task.0 past) (m.tasks.hosts task.0) acts.0;
+      whole = grind (arith, nat_tests);
+      some = grind (arith, nat_tests);
+      below = grind (arith, nat_tests);
+      few = grind (arith, nat_tests);
+      range = range;
+      free = ap (meets_range address bytes) (sym own) ∙ second.0;
+      room = subst (λ (z : List Entry). length z < most_entries) own (grind (arith, nat_tests));
+      regions = grind (arith, nat_tests);
+      objects = grind (arith, nat_tests);
+    }
+  where
+    only_true : (b c : Bool) → (not b || c) ≡ false → b ≡ true
+    only_true true c e = refl
+    only_true false c e = absurd (let bad : true ≡ false = e in cc)
+
+    all_false : (a b c : Bool) → (a || (b || c)) ≡ false → (a ≡ false) × (b ≡ false) × (c ≡ false)
+    all_false true b c e = absurd (let bad : true ≡ false = e in cc)
+    all_false false true c e = absurd (let bad : true ≡ false = e in cc)
+    all_false false false true e = absurd (let bad : true ≡ false = e in cc)
+    all_false false false false e = (refl, refl, refl)
+
+-- what is free has no number yet
+pub region_free : (header : Header) (k : Parts) (ids : Ids) (past : List Event) → Rests header k ids past → region_at k.chains ids.next_region ≡ None
+region_free header k ids past rests = let number = rests.matches.regions.region in rests.matches.regions.unmade ids.next_region (omega arith)
+
+-- a new region's row, and that of its object
+abbrev pub new_region : ObjectId → ℕ → RegionRow
+new_region object pages = record { top = object; shift = 0; pages = pages; marked = false; entries = 1 }
+
+abbrev pub new_object : ℕ → ObjectRow
+new_object pages = record { kind = Temp; pages = pages; state = Without; control = 0; live = false; references = 1 }
+
+-- a region that isn't there has no pages and no entries
+not_there : (chains : ChainTable) (n r : ℕ) → region_at chains n ≡ None → n ≡ r → has_region chains r ≡ true → ⊥
+not_there chains n r none same there = let bad : false ≡ true = sym (ap is_some none) ∙ (ap (has_region chains) same ∙ there) in cc
+
+keeps_new : (old new : ChainTable) (n : ℕ) (row : RegionRow) → region_at old n ≡ None → PutsRegion n (Some row) old new → Keeps old new
+keeps_new old new n row none put =
+    record {
+      there = λ r is. elim (region_cases n (Some row) old new put r) [
+        | inl same ↦ ap is_some same.1
+        | inr apart ↦ ap is_some apart.1 ∙ is
+      ];
+      pages = λ r is. elim (region_cases n (Some row) old new put r) [
+        | inl same ↦ absurd (not_there old n r none same.0 is)
+        | inr apart ↦ ap pages_in apart.1
+      ];
+    }
+
+-- a region that is made over the object with its number
+own_made : (b : Bool) (object pages region : ℕ) (was : Region) → (b ≡ true → object ≡ region) → IsOwn was region → IsOwn (R.made b object pages was) region
+own_made true object pages region was is own = record { top = is refl; shift = refl }
+own_made false object pages region was is own = record { top = own.top; shift = own.shift }
+
+eqb_means : (a b : ℕ) → (a == b) ≡ true → b ≡ a
+eqb_means a b same_number = elim (eqb_tells a b) [ inl same ↦ sym same.1 | inr apart ↦ absurd (let bad : false ≡ true = sym apart.0 ∙ same_number in cc) ]
+
+made_test : (r n o pages : ℕ) (was : Region) → n ≡ r → R.made (r == n) o pages was ≡ record { mark = false; top = o; shift = 0; pages = pages }
+made_test r n o pages was same = elim (eqb_tells r n) [
+  | inl is ↦ ap (λ b. R.made b o pages was) is.0
+  | inr apart ↦ absurd (apart.1 (sym same))
+]
+
+made_other : (r n o pages : ℕ) (was : Region) → (n ≡ r → ⊥) → R.made (r == n) o pages was ≡ was
+made_other r n o pages was apart = elim (eqb_tells r n) [
+  | inl is ↦ absurd (apart (sym is.1))
+  | inr other ↦ ap (λ b. R.made b o pages was) other.0
+]
+
+-- a region more, with its object
+regions_made : (chains chains2 : ChainTable) (objects objects2 : ObjectTable) (ids : Ids) (region_from : ℕ → Region) (backing_from : ℕ → R.Backing) (regions_now objects_now pages : ℕ) → HasRegions chains objects ids region_from backing_from regions_now objects_now
+    → PutsRegion ids.next_region (Some (new_region (record { 0 = ids.next_object }) pages)) chains chains2 → PutsObject ids.next_object (Some (new_object pages)) objects objects2
+    → HasRegions chains2 objects2 (record ids { next_object = ids.next_object + 1; next_region = ids.next_region + 1 }) (λ r. R.made (r == ids.next_region) ids.next_object pages (region_from r)) backing_from (regions_now + 1) (objects_now + 1)
+regions_made chains chains2 objects objects2 ids region_from backing_from regions_now objects_now pages has put object =
+    let n = ids.next_region in
+    let new : RegionRow = new_region (record { 0 = ids.next_object }) pages in
+    record {
+      region = ap (λ z. z + 1) has.region;
+      object = ap (λ z. z + 1) has.object;
+      equal = ap (λ z. z + 1) has.equal;
+      marks = has.marks;
+      rows = λ r row found. elim (region_cases n (Some new) chains chains2 put r) [
+        | inl same ↦ made_test r n ids.next_object pages (region_from r) same.0 ∙ ap (λ (z : RegionRow). record { mark = z.marked; top = z.top.0; shift = z.shift; pages = z.pages }) (some_is new row (sym same.1 ∙ found))
+        | inr apart ↦ made_other r n ids.next_object pages (region_from r) apart.0 ∙ has.rows r row (sym apart.1 ∙ found)
+      ];
+      tops = λ r. own_made (r == n) ids.next_object pages r (region_from r) (λ test. let same = eqb_means r n test in omega (arith, numbers)) (has.tops r);
+      unbacked = has.unbacked;
+      unmade = λ r more. elim (region_cases n (Some new) chains chains2 put r) [
+        | inl same ↦ absurd (let number = has.region in let is = same.0 in omega arith)
+        | inr apart ↦ apart.1 ∙ has.unmade r (omega arith)
+      ];
+      unknown = λ o more. elim (one_case ids.next_object o (Some (new_object pages)) (object_at objects o) (object_at objects2 o) (object.at o)) [
+        | inl same ↦ absurd (let number = has.object in let is = same.0 in omega arith)
+        | inr apart ↦ apart.1 ∙ has.unknown o (omega arith)
+      ];
+      under = λ r row found. elim (region_cases n (Some new) chains chains2 put r) [
+        | inl same ↦ elim (one_case ids.next_object r (Some (new_object pages)) (object_at objects r) (object_at objects2 r) (object.at r)) [
+          | inl it ↦ it.1 ∙ ap (λ (z : RegionRow). Some (object_under z)) (some_is new row (sym same.1 ∙ found))
+          | inr other ↦ absurd (other.0 (let is = same.0 in omega (arith, numbers)))
+        ]
+        | inr apart ↦ elim (one_case ids.next_object r (Some (new_object pages)) (object_at objects r) (object_at objects2 r) (object.at r)) [
+          | inl it ↦ absurd (apart.0 (let is = it.0 in omega (arith, numbers)))
+          | inr other ↦ other.1 ∙ has.under r row (sym apart.1 ∙ found)
+        ]
+      ];
+    }
+  where
+    numbers : ids.next_object ≡ ids.next_region
+    numbers = has.object ∙ (has.equal ∙ sym has.region)
+
+-- nothing leads to a region that isn't there
+none_leads : (size : ℕ) (chains : ChainTable) (n : ℕ) (rows : List Entry) → region_at chains n ≡ None → AllRows (IsInside size chains) rows → has_entry n rows ≡ false
+none_leads size chains n [] none all = refl
+none_leads size chains n (row ∷ rows) none all = elim (eqb_tells row.region.0 n) [
+  | inl same ↦ absurd (not_there chains n row.region.0 none (sym same.1) all.0.region)
+  | inr apart ↦ rw apart.0 (none_leads size chains n rows none all.1)
+]
+
+entries_range : (size : ℕ) (maps new : Mapped) (chains chains2 : ChainTable) (task n address bytes : ℕ) (object : ObjectId) → HasEntries size maps chains [] → region_at chains n ≡ None → PutsRegion n (Some (new_region object (bytes / size))) chains chains2
+    → ChangesOnly maps new task (Some (entered (whole_entry address bytes (record { 0 = n })) (rows_in task maps))) → task < 1024 → bytes % size ≡ 0 → 0 < bytes → address + bytes ≤ 2 ^ 32 → length (rows_in task maps) < most_entries
+    → HasEntries size new chains2 []
+entries_range size maps new chains chains2 task n address bytes object has none put changes below whole some end room =
+    let row : RegionRow = new_region object (bytes / size) in
+    let entry : Entry = whole_entry address bytes (record { 0 = n }) in
+    let keeps = keeps_new chains chains2 n row none put in
+    let pages : region_pages chains2 n ≡ bytes / size = ap pages_in made in
+    let one : IsInside size chains2 entry =
+    record {
+      region = ap is_some made;
+      some = some;
+      below = end;
+      inside = rw pages (record { whole = omega arith; each = λ a low high. let less = page_below size (a - address) bytes (omega arith) whole in omega (arith, less) });
+    } in
+    let all = rows_map (IsInside size chains) (IsInside size chains2) (λ row is. inside_kept size chains chains2 row keeps is) (rows_in task maps) (has.inside task) in
+    entries_changed size maps new chains chains2 task (entered entry (rows_in task maps)) has keeps changes (rw most_is below) (rows_entered (IsInside size chains2) entry (rows_in task maps) one all) (omega (arith, length_entered entry (rows_in task maps)))
+    (λ r row2 found. elim (region_cases n (Some row) chains chains2 put r) [
+      | inl same ↦
+          let is : row ≡ row2 = some_is row row2 (sym same.1 ∙ found) in
+          let count : 1 ≡ row2.entries = ap (λ z. z.entries) is in
+          let nothing : count_by most_tasks r maps ≡ 0 = by_none most_tasks r maps (λ t. subst (λ (z : ℕ). has_entry z (rows_in t maps) ≡ false) same.0 (none_leads size chains n (rows_in t maps) none (has.inside t))) in
+          let here : ◌≡◌ {A = ℕ} (if n == r then 1 else 0) 1 = yes r same.0 in
+          omega (arith, count, nothing, here, on_entered r entry (rows_in task maps))
+      | inr apart ↦
+          let here : ◌≡◌ {A = ℕ} (if n == r then 1 else 0) 0 = other r apart.0 in
+          omega (arith, has.counts r row2 (sym apart.1 ∙ found), here, on_entered r entry (rows_in task maps))
+    ])
+  where
+    made : region_at chains2 n ≡ Some (new_region object (bytes / size))
+    made = elim (region_cases n (Some (new_region object (bytes / size))) chains chains2 put n) [ inl same ↦ same.1 | inr apart ↦ absurd (apart.0 refl) ]
+
+    yes : (r : ℕ) → n ≡ r → ◌≡◌ {A = ℕ} (if n == r then 1 else 0) 1
+    yes r same = elim (eqb_tells n r) [ inl is ↦ ap (λ b. if b then 1 else 0) is.0 | inr apart ↦ absurd (apart.1 same) ]
+
+    other : (r : ℕ) → (n ≡ r → ⊥) → ◌≡◌ {A = ℕ} (if n == r then 1 else 0) 0
+    other r apart = elim (eqb_tells n r) [ inl is ↦ absurd (apart is.1) | inr isnt ↦ ap (λ b. if b then 1 else 0) isnt.0 ]
+
+pub pages_range : (fs : FrameTable) (rs : ResidentTable) (os os2 : ObjectTable) (chains chains2 : ChainTable) (local_at : ℕ → ℕ → Local) → HasPages fs rs os chains local_at → SameMarks os os2 → Keeps chains chains2 → HasPages fs rs os2 chains2 local_at
+pages_range fs rs os os2 chains chains2 local_at has marks keeps = record { shown = λ o p. has.shown o p ∙ ap (shown fs (row_at rs o p)) (sym (marks.at o p)); live = λ o p row found. keeps.there o (has.live o p row found) }
+
+-- a page of a region that isn't there isn't here
+no_page : (fs : FrameTable) (rs : ResidentTable) (os : ObjectTable) (chains : ChainTable) (local_at : ℕ → ℕ → Local) (n r p : ℕ) → HasPages fs rs os chains local_at → region_at chains n ≡ None → n ≡ r → row_at rs r p ≡ None
+no_page fs rs os chains local_at n r p has none same = go (row_at rs r p) refl
+  where
+    go : (x : Option PageRow) → row_at rs r p ≡ x → row_at rs r p ≡ None
+    go None is = is
+    go (Some row) is = absurd (not_there chains n r none same (has.live r p row is))
+
+flat_range : (size : ℕ) (fs : FrameTable) (rs : ResidentTable) (os : ObjectTable) (chains chains2 : ChainTable) (local_at : ℕ → ℕ → Local) (flat_at : ℕ → ℕ → List ℕ) (n : ℕ) (row : RegionRow) → HasFlat size fs rs chains flat_at → HasPages fs rs os chains local_at → region_at chains n ≡ None
+    → PutsRegion n (Some row) chains chains2 → HasFlat size fs rs chains2 (λ r p. if n == r then replicate size 0 else flat_at r p)
+flat_range size fs rs os chains chains2 local_at flat_at n row has pages none put =
+    record {
+      flat = λ r p used. elim (region_cases n (Some row) chains chains2 put r) [
+        | inl same ↦ yes r p same.0 ∙ sym (ap (bytes_behind size fs) (no_page fs rs os chains local_at n r p pages none same.0))
+        | inr apart ↦ others r p apart.0 ∙ has.flat r p (subst (λ (z : ℕ). 0 < z) (ap entries_in_row apart.1) used)
+      ];
+      clean = has.clean;
+    }
+  where
+    yes : (r p : ℕ) → n ≡ r → (if n == r then replicate size 0 else flat_at r p) ≡ replicate size 0
+    yes r p same = elim (eqb_tells n r) [ inl is ↦ ap (λ b. if b then replicate size 0 else flat_at r p) is.0 | inr apart ↦ absurd (apart.1 same) ]
+
+    others : (r p : ℕ) → (n ≡ r → ⊥) → (if n == r then replicate size 0 else flat_at r p) ≡ flat_at r p
+    others r p apart = elim (eqb_tells n r) [ inl is ↦ absurd (apart is.1) | inr other ↦ ap (λ b. if b then replicate size 0 else flat_at r p) other.0 ]
+
+used_range : (chains chains2 : ChainTable) (n : ℕ) (object : ObjectId) (pages : ℕ) → AllUsed chains → PutsRegion n (Some (new_region object pages)) chains chains2 → AllUsed chains2
+used_range chains chains2 n object pages used put r row found = elim (region_cases n (Some (new_region object pages)) chains chains2 put r) [
+  | inl same ↦ let count : 1 ≡ row.entries = ap (λ z. z.entries) (some_is (new_region object pages) row (sym same.1 ∙ found)) in omega arith
+  | inr apart ↦ used r row (sym apart.1 ∙ found)
+]
+
+fit_range : (size : ℕ) (fs : FrameTable) (rs : ResidentTable) (qs : Queues) (os os2 : ObjectTable) (chains : ChainTable) (local_at : ℕ → ℕ → Local) (n o : ℕ) (row : ObjectRow) → Fit size fs rs qs os → HasPages fs rs os chains local_at → region_at chains n ≡ None → o ≡ n
+    → PutsObject o (Some row) os os2 → Fit size fs rs qs os2
+fit_range size fs rs qs os os2 chains local_at n o row fit pages none is put =
+    record {
+      owned = fit.owned;
+      held = fit.held;
+      listed = fit.listed;
+      unlisted = fit.unlisted;
+      unowned = fit.unowned;
+      inside = λ o2 p r found. elim (one_case o o2 (Some row) (object_at os o2) (object_at os2 o2) (put.at o2)) [
+        | inl same ↦ absurd (not_there chains n o2 none (sym is ∙ same.0) (pages.live o2 p r found))
+        | inr apart ↦ subst (λ (z : ℕ). p < z) (sym (ap pages_kept apart.1)) (fit.inside o2 p r found)
+      ];
+      plain = fit.plain;
+      sized = fit.sized;
+      all_sized = fit.all_sized;
+      count = fit.count;
+      pages = fit.pages;
+    }
+
+-- the entry that was entered
+pub changes_entered : (old new : Mapped) (task : ℕ) (change : MapChange) (row : Entry) → change ≡ entering row → IfSome change.entry (λ other. ChangesOnly old new task (Some (entered other (rows_in task old)))) → ChangesOnly old new task (Some (entered row (rows_in task old)))
+changes_entered old new task change row is changes = subst (λ (z : MapChange). IfSome z.entry (λ other. ChangesOnly old new task (Some (entered other (rows_in task old))))) is changes
+
+-- that a range was allocated
+abbrev pub ranged : TaskId → Ids → ℕ → ℕ → ℕ → List Event
+ranged task ids address bytes pages =
+    got task (whole_entry address bytes (record { 0 = ids.next_region })) ∷ event.RegionMade (record { 0 = ids.next_region }) (record { 0 = ids.next_object }) pages ∷ []
+
+abbrev pub ids_after : Ids → Ids
+ids_after ids = record ids { next_object = ids.next_object + 1; next_region = ids.next_region + 1 }
+
+-- the kernel with a range
+abbrev with_range : Parts → Parts → Mapped → Parts
+with_range k k2 maps =
+    record {
+      alloc = k2.alloc;
+      host = k.host;
+      size = k.size;
+      frames = k.frames;
+      resident = k.resident;
+      queues = k.queues;
+      objects = k2.objects;
+      maps = maps;
+      chains = k2.chains;
+    }
+
+rests_range : (header : Header) (task : TaskId) (address bytes : ℕ) (past : List Event) (k k2 : Parts) (ids : Ids) (maps : Mapped) → Rests header k ids past → MayRange header.size k ids task.0 address bytes → task.0 < 1024
+    → MadeRange (record { 0 = ids.next_region }) (record { 0 = ids.next_object }) (bytes / header.size) k k2 → ChangesOnly k.maps maps task.0 (Some (entered (whole_entry address bytes (record { 0 = ids.next_region })) (rows_in task.0 k.maps)))
+    → Rests header (with_range k k2 maps) (ids_after ids) (ranged task ids address bytes (bytes / header.size) ++ past)
+rests_range header task address bytes past k k2 ids maps rests may below made changes =
+    let m = rests.matches in
+    let pages = bytes / header.size in
+    let n = ids.next_region in
+    let object : ObjectId = record { 0 = ids.next_object } in
+    let none = region_free header k ids past rests in
+    let keeps = keeps_new k.chains k2.chains n (new_region object pages) none made.region_row in
+    let local_at = λ (o p : ℕ). local header.size 0 (place_of o p) past in
+    let number : ids.next_object ≡ n = m.regions.object ∙ (m.regions.equal ∙ sym m.regions.region) in
+    record {
+      matches =
+          record {
+            plain = m.plain;
+            size = m.size;
+            host = m.host;
+            fits = fit_range k.size k.frames k.resident k.queues k.objects k2.objects k.chains local_at n ids.next_object (new_object pages) m.fits m.pages none number made.object_row;
+            tasks = tasks_entered header.size k.maps maps (event.RegionMade (record { 0 = n }) object pages ∷ past) task (whole_entry address bytes (record { 0 = n })) m.tasks changes may.lives;
+            regions = regions_made k.chains k2.chains k.objects k2.objects ids (λ r. region_of header r past) (λ o. backing_of header o past) (next_region header past) (next_object header past) pages m.regions made.region_row made.object_row;
+            entries = entries_range header.size k.maps maps k.chains k2.chains task.0 n address bytes object m.entries none made.region_row changes below may.whole may.some may.below may.room;
+            pages = pages_range k.frames k.resident k.objects k2.objects k.chains k2.chains local_at m.pages made.marks keeps;
+            flat = flat_range header.size k.frames k.resident k.objects k.chains k2.chains local_at (λ r p. flat_page header.size r p past) n (new_region object pages) m.flat m.pages none made.region_row;
+            stores = m.stores;
+            frames = m.frames;
+          };
+      used = used_range k.chains k2.chains n object pages rests.used made.region_row;
+    }
+
+pub began_range : (header : Header) (task : TaskId) (address bytes pages : ℕ) (past : List Event) (k k2 : Parts) (ids : Ids) (before after : List Event) (maps : Mapped) → Starts header (command.Allocate task address bytes) past k ids before → pages ≡ bytes / k.size
+    → MadeRange (record { 0 = ids.next_region }) (record { 0 = ids.next_object }) pages k k2
+    → ChangesOnly k2.maps maps task.0 (Some (entered (whole_entry address bytes (record { 0 = ids.next_region })) (rows_in task.0 k2.maps))) → after ≡ ranged task ids address bytes pages ++ before
+    → Began header (command.Allocate task address bytes) past (record k2 { maps = maps }) (ids_after ids) after
+began_range header task address bytes pages past k k2 ids before after maps s count made changes told =
+    let m = s.rests.matches in
+    let whole : pages ≡ bytes / header.size = count ∙ ap (λ z. bytes / z) m.size in
+    let events = ranged task ids address bytes (bytes / header.size) in
+    let log : after ≡ events = told ∙ (ap (λ z. ranged task ids address bytes z ++ before) whole ∙ ap (λ z. events ++ z) s.nothing) in
+    let made_whole = subst (λ (z : ℕ). MadeRange (record { 0 = ids.next_region }) (record { 0 = ids.next_object }) z k k2) whole made in
+    let changed = subst (λ (z : Mapped). ChangesOnly z maps task.0 (Some (entered (whole_entry address bytes (record { 0 = ids.next_region })) (rows_in task.0 z)))) made.maps changes in
+    let rests = rests_range header task address bytes past k k2 ids maps s.rests (may_range header task address bytes past k ids before s) s.range.task made_whole changed in
+    let first = event.RegionMade (record { 0 = ids.next_region }) (record { 0 = ids.next_object }) (bytes / header.size) ∷ got task (whole_entry address bytes (record { 0 = ids.next_region })) ∷ [] in
+    let is : head header past (command.Allocate task address bytes) ≡ Some first = rw (← m.regions.region, ← m.regions.object) refl in
+    let fine = suffices header k.frames past m.frames in
+    let began : Began header (command.Allocate task address bytes) past (with_range k k2 maps) (ids_after ids) events =
+    began_head header (command.Allocate task address bytes) past (with_range k k2 maps) (ids_after ids) events first is refl
+    (record { own_bytes = (tt, (tt, tt)); flat_bytes = (tt, (tt, tt)); frames = (fine, (fine, tt)); inner = (tt, (tt, tt)) })
+    tt rests in
+    let same : record k2 { maps = maps } ≡ with_range k k2 maps =
+    λ i. record { alloc = k2.alloc; host = made.host i; size = made.size i; frames = made.frames i; resident = made.resident i; queues = made.queues i; objects = k2.objects; maps = maps; chains = k2.chains } in
+    subst (λ (z : List Event). Began header (command.Allocate task address bytes) past (record k2 { maps = maps }) (ids_after ids) z) (sym log)
+    (subst (λ (z : Parts). Began header (command.Allocate task address bytes) past z (ids_after ids) events) (sym same) began)

@@ -1,0 +1,191 @@
+-- Regions that count other entries, and are as they were else.
+use Rattle.std.proofs.Common.{◌≡◌, ℕ, zero, suc, ◌+◌, ◌-◌, ◌<◌, ◌≤◌, ◌^◌, ◌==◌, true, false, List, [], ◌∷◌, ◌++◌, length, take, drop, slice_get, get_or, refl, ap, sym, ◌∙◌, subst, arith, Some, None, Option, inl, inr}
+use Rattle.std.proofs.lemmas.Bool.Decides.{eqb_tells}
+use Rattle.std.proofs.lemmas.List.{take_more}
+use Rattle.std.proofs.lemmas.Option.{slice_get_within, get_or_from_slice_get}
+use Rattle.std.proofs.Math.Seq.{drop-cons}
+use Rattle.std.specs.Prelude.{if◌then◌else◌, is_some}
+use Rattle.vm_base.specs.declared.entry.Entry.{Entry}
+use Rattle.vm_model.specs.Rows.{AllRows}
+use Rattle.vm_shadow.specs.Chains.{ChainTable, region_at}
+use Rattle.vm_shadow.specs.declared.region_row.RegionRow.{RegionRow}
+use Rattle.vm_kernel.specs.Counts.{count_on}
+use Rattle.vm_kernel.specs.Places.{entries_in_row, has_region, pages_in, region_entries, region_pages}
+use Rattle.vm_kernel.specs.Sweeping.{Lowered, PutsEntries, Raised, with_entries}
+use Rattle.vm_kernel.proofs.Counts.{on_append, on_few}
+use Rattle.vm_kernel.proofs.Rows.{some_is}
+
+-- each region counts so many entries now
+pub record Recounts (count : ℕ → ℕ) (old new : ChainTable) : Type 0 where
+  pub at : (r : ℕ) → region_at new r ≡ with_entries (count r) (region_at old r)
+
+-- one row with another count
+has_with : (n : ℕ) (x : Option RegionRow) → is_some (with_entries n x) ≡ is_some x
+has_with n None = refl
+has_with n (Some row) = refl
+
+pages_with : (n : ℕ) (x : Option RegionRow) → pages_in (with_entries n x) ≡ pages_in x
+pages_with n None = refl
+pages_with n (Some row) = refl
+
+entries_with : (n : ℕ) (x : Option RegionRow) → entries_in_row (with_entries n x) ≤ n
+entries_with n None = omega arith
+entries_with n (Some row) = omega arith
+
+entries_there : (n : ℕ) (x : Option RegionRow) → is_some x ≡ true → entries_in_row (with_entries n x) ≡ n
+entries_there n None there = absurd (let bad : false ≡ true = there in cc)
+entries_there n (Some row) there = refl
+
+with_own : (x : Option RegionRow) → x ≡ with_entries (entries_in_row x) x
+with_own None = refl
+with_own (Some row) = refl
+
+with_twice : (n m : ℕ) (x : Option RegionRow) → with_entries n (with_entries m x) ≡ with_entries n x
+with_twice n m None = refl
+with_twice n m (Some row) = refl
+
+pub has_same : (count : ℕ → ℕ) (old new : ChainTable) → Recounts count old new → (r : ℕ) → has_region new r ≡ has_region old r
+has_same count old new is r = ap is_some (is.at r) ∙ has_with (count r) (region_at old r)
+
+pub pages_same : (count : ℕ → ℕ) (old new : ChainTable) → Recounts count old new → (r : ℕ) → region_pages new r ≡ region_pages old r
+pages_same count old new is r = ap pages_in (is.at r) ∙ pages_with (count r) (region_at old r)
+
+pub entries_most : (count : ℕ → ℕ) (old new : ChainTable) → Recounts count old new → (r : ℕ) → region_entries new r ≤ count r
+entries_most count old new is r = let e = ap entries_in_row (is.at r) in let le = entries_with (count r) (region_at old r) in omega arith
+
+pub entries_are : (count : ℕ → ℕ) (old new : ChainTable) → Recounts count old new → (r : ℕ) → has_region old r ≡ true → region_entries new r ≡ count r
+entries_are count old new is r there = ap entries_in_row (is.at r) ∙ entries_there (count r) (region_at old r) there
+
+pub recounts_same : (chains : ChainTable) → Recounts (region_entries chains) chains chains
+recounts_same chains = record { at = λ r. with_own (region_at chains r) }
+
+pub recounts_twice : (one two : ℕ → ℕ) (old mid new : ChainTable) → Recounts one old mid → Recounts two mid new → Recounts two old new
+recounts_twice one two old mid new a b = record { at = λ r. b.at r ∙ (ap (with_entries (two r)) (a.at r) ∙ with_twice (two r) (one r) (region_at old r)) }
+
+pub recounts_as : (one two : ℕ → ℕ) (old new : ChainTable) → Recounts one old new → ((r : ℕ) → has_region old r ≡ true → one r ≡ two r) → Recounts two old new
+recounts_as one two old new a same = record { at = λ r. a.at r ∙ go (one r) (two r) (region_at old r) (same r) }
+  where
+    go : (n m : ℕ) (x : Option RegionRow) → (is_some x ≡ true → n ≡ m) → with_entries n x ≡ with_entries m x
+    go n m None e = refl
+    go n m (Some row) e = ap (λ z. Some (record row { entries = z })) (e refl)
+
+-- one region counts anew
+pub recounts_put : (region n : ℕ) (old new : ChainTable) → PutsEntries region n old new → Recounts (λ r. if region == r then n else region_entries old r) old new
+recounts_put region n old new put = record {
+  at = λ r. elim (eqb_tells region r) [
+    | inl same ↦
+        put.at r ∙ (ap (λ b. if b then with_entries n (region_at old region) else region_at old r) same.0
+        ∙ (ap (λ z. with_entries n (region_at old z)) same.1 ∙ ap (λ b. with_entries (if b then n else region_entries old r) (region_at old r)) (sym same.0)))
+    | inr apart ↦
+        put.at r ∙ (ap (λ b. if b then with_entries n (region_at old region) else region_at old r) apart.0
+        ∙ (with_own (region_at old r) ∙ ap (λ b. with_entries (if b then n else region_entries old r) (region_at old r)) (sym apart.0)))
+  ];
+}
+
+-- a region that has a row now had one, with another count
+pub record Recounted (n : ℕ) (row : RegionRow) (before : Option RegionRow) : Type 0 where
+  pub was : RegionRow
+  pub found : before ≡ Some was
+  pub is : row ≡ record was { entries = n }
+
+pub row_before : (count : ℕ → ℕ) (old new : ChainTable) → Recounts count old new → (r : ℕ) (row : RegionRow) → region_at new r ≡ Some row → Recounted (count r) row (region_at old r)
+row_before count old new is r row found = go (region_at old r) (sym (is.at r) ∙ found)
+  where
+    go : (x : Option RegionRow) → with_entries (count r) x ≡ Some row → Recounted (count r) row x
+    go None bad = absurd (let no : None ≡ Some row = bad in cc)
+    go (Some was) e = record { was = was; found = refl; is = sym (some_is (record was { entries = count r }) row e) }
+
+-- lists of entries, one after another
+
+pub next_row : (rows : List Entry) (i : ℕ) (entry : Entry) → slice_get rows i ≡ Some entry → drop i rows ≡ entry ∷ drop (i + 1) rows
+next_row rows i entry found =
+    let inside = slice_get_within rows i entry found in
+    let here : get_or rows i entry ≡ entry = get_or_from_slice_get rows i entry entry found in
+    let next : suc i ≡ i + 1 = omega arith in
+    drop-cons rows i entry inside ∙ (ap (λ z. z ∷ drop (suc i) rows) here ∙ ap (λ z. entry ∷ drop z rows) next)
+
+pub more_taken : (rows : List Entry) (i : ℕ) (entry : Entry) → slice_get rows i ≡ Some entry → take (i + 1) rows ≡ take i rows ++ entry ∷ []
+more_taken rows i entry found =
+    take_more rows i entry (slice_get_within rows i entry found) ∙ ap (λ z. take i rows ++ z ∷ []) (get_or_from_slice_get rows i entry entry found)
+
+pub row_among : (P : Entry → Type 0) (rows : List Entry) (i : ℕ) (entry : Entry) → AllRows P rows → slice_get rows i ≡ Some entry → P entry
+row_among P [] i entry all found = absurd (let bad = slice_get_within [] i entry found in omega arith)
+row_among P (row ∷ rows) zero entry all found = subst P (let same : row ≡ entry = cc in same) all.0
+row_among P (row ∷ rows) (suc i) entry all found = row_among P rows i entry all.1 found
+
+pub on_split : (r : ℕ) (rows : List Entry) (i : ℕ) → count_on r rows ≡ count_on r (take i rows) + count_on r (drop i rows)
+on_split r [] zero = refl
+on_split r [] (suc i) = refl
+on_split r (row ∷ rows) zero = omega arith
+on_split r (row ∷ rows) (suc i) = omega (arith, on_split r rows i)
+
+-- counts go up, an entry at a time
+
+pub raised_recounts : (rows : List Entry) (old new : ChainTable) → Raised rows old new → Recounts (λ r. region_entries old r + count_on r rows) old new
+raised_recounts rows old new is = record { at = is.at }
+
+pub lowered_recounts : (rows : List Entry) (old new : ChainTable) → Lowered rows old new → Recounts (λ r. region_entries old r - count_on r rows) old new
+lowered_recounts rows old new is = record { at = is.at }
+
+pub raised_more : (front : List Entry) (entry : Entry) (old mid new : ChainTable) → Raised front old mid → PutsEntries entry.region.0 (region_entries mid entry.region.0 + 1) mid new → Raised (front ++ entry ∷ []) old new
+raised_more front entry old mid new is put =
+    let one = raised_recounts front old mid is in
+    let two = recounts_put entry.region.0 (region_entries mid entry.region.0 + 1) mid new put in
+    let both = recounts_twice (λ r. region_entries old r + count_on r front) (λ r. if entry.region.0 == r then region_entries mid entry.region.0 + 1 else region_entries mid r) old mid new one two in
+    let all = recounts_as (λ r. if entry.region.0 == r then region_entries mid entry.region.0 + 1 else region_entries mid r) (λ r. region_entries old r + count_on r (front ++ entry ∷ [])) old new both
+    (λ r there. elim (eqb_tells entry.region.0 r) [
+      | inl same ↦
+          let was = entries_are (λ r. region_entries old r + count_on r front) old mid one r there in
+          let sum = on_append r front (entry ∷ []) in
+          let last : count_on r (entry ∷ []) ≡ 1 = rw same.0 refl in
+          rw same.0 (ap (λ z. region_entries mid z + 1) same.1 ∙ omega arith)
+      | inr apart ↦
+          let was = entries_are (λ r. region_entries old r + count_on r front) old mid one r there in
+          let sum = on_append r front (entry ∷ []) in
+          let last : count_on r (entry ∷ []) ≡ 0 = rw apart.0 refl in
+          rw apart.0 (omega arith)
+    ]) in
+    record { at = all.at }
+
+pub lowered_more : (front : List Entry) (entry : Entry) (old mid new : ChainTable) → Lowered front old mid → PutsEntries entry.region.0 (region_entries mid entry.region.0 - 1) mid new → Lowered (front ++ entry ∷ []) old new
+lowered_more front entry old mid new is put =
+    let one = lowered_recounts front old mid is in
+    let two = recounts_put entry.region.0 (region_entries mid entry.region.0 - 1) mid new put in
+    let both = recounts_twice (λ r. region_entries old r - count_on r front) (λ r. if entry.region.0 == r then region_entries mid entry.region.0 - 1 else region_entries mid r) old mid new one two in
+    let all = recounts_as (λ r. if entry.region.0 == r then region_entries mid entry.region.0 - 1 else region_entries mid r) (λ r. region_entries old r - count_on r (front ++ entry ∷ [])) old new both
+    (λ r there. elim (eqb_tells entry.region.0 r) [
+      | inl same ↦
+          let was = entries_are (λ r. region_entries old r - count_on r front) old mid one r there in
+          let sum = on_append r front (entry ∷ []) in
+          let last : count_on r (entry ∷ []) ≡ 1 = rw same.0 refl in
+          rw same.0 (ap (λ z. region_entries mid z - 1) same.1 ∙ omega arith)
+      | inr apart ↦
+          let was = entries_are (λ r. region_entries old r - count_on r front) old mid one r there in
+          let sum = on_append r front (entry ∷ []) in
+          let last : count_on r (entry ∷ []) ≡ 0 = rw apart.0 refl in
+          rw apart.0 (omega arith)
+    ]) in
+    record { at = all.at }
+
+-- one more fits its type
+pub raise_fits : (rows : List Entry) (i : ℕ) (entry : Entry) (old mid : ChainTable) → Raised (take i rows) old mid → slice_get rows i ≡ Some entry → region_entries old entry.region.0 + length rows < 2 ^ 32 → region_entries mid entry.region.0 + 1 < 2 ^ 32
+raise_fits rows i entry old mid is found few =
+    let r = entry.region.0 in
+    let most = entries_most (λ r. region_entries old r + count_on r (take i rows)) old mid (raised_recounts (take i rows) old mid is) r in
+    let split = on_split r rows i in
+    let next = ap (count_on r) (next_row rows i entry found) in
+    let itself : (r == r) ≡ true = elim (eqb_tells r r) [ inl same ↦ same.0 | inr apart ↦ absurd (apart.1 refl) ] in
+    let this : count_on r (entry ∷ drop (i + 1) rows) ≡ 1 + count_on r (drop (i + 1) rows) = rw itself refl in
+    let all = on_few r rows in
+    omega arith
+
+-- one less is not below none
+pub lower_fits : (rows : List Entry) (i : ℕ) (entry : Entry) (old mid : ChainTable) → Lowered (take i rows) old mid → slice_get rows i ≡ Some entry → has_region old entry.region.0 ≡ true → count_on entry.region.0 rows ≤ region_entries old entry.region.0 → 1 ≤ region_entries mid entry.region.0
+lower_fits rows i entry old mid is found there counted =
+    let r = entry.region.0 in
+    let are = entries_are (λ r. region_entries old r - count_on r (take i rows)) old mid (lowered_recounts (take i rows) old mid is) r there in
+    let split = on_split r rows i in
+    let next = ap (count_on r) (next_row rows i entry found) in
+    let itself : (r == r) ≡ true = elim (eqb_tells r r) [ inl same ↦ same.0 | inr apart ↦ absurd (apart.1 refl) ] in
+    let this : count_on r (entry ∷ drop (i + 1) rows) ≡ 1 + count_on r (drop (i + 1) rows) = rw itself refl in
+    omega arith

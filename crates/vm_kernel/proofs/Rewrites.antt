@@ -1,0 +1,254 @@
+-- A task's entries are cut, changed or taken away, and regions count what is left.
+use Rattle.std.proofs.Common.{◌≡◌, ℕ, zero, suc, ◌+◌, ◌<◌, ◌≤◌, ◌^◌, ◌==◌, Bool, true, false, List, [], ◌∷◌, ◌++◌, length, refl, ap, sym, ◌∙◌, subst, arith, Some, None, Option, inl, inr}
+use Rattle.std.proofs.lemmas.Bool.Decides.{eqb_tells, nat_tests}
+use Rattle.std.specs.List.{flat_map}
+use Rattle.std.specs.Prelude.{if◌then◌else◌, unwrap_or, is_some, nat_lt, max, min, ◌≢◌}
+use Rattle.vm_base.specs.declared.entry.Entry.{Entry}
+use Rattle.vm_base.specs.Entries.{cut, most_entries, parts_in, removed, rewritten}
+use Rattle.vm_model.specs.Local.{Local}
+use Rattle.vm_model.specs.Regions.{Backing, Region}
+use Rattle.vm_model.specs.Rows.{AllRows, Inside, part, rows_map}
+use Rattle.vm_model.specs.Tasks.{has_entry}
+use Rattle.vm_model.specs.Waiting.{Access}
+use Rattle.vm_frames.specs.Frames.{FrameTable}
+use Rattle.vm_maps.specs.Maps.{ChangesOnly, Mapped, entries_in, rows_in}
+use Rattle.vm_objects.specs.Objects.{ObjectTable}
+use Rattle.vm_resident.specs.Resident.{ResidentTable}
+use Rattle.vm_shadow.specs.Chains.{ChainTable, region_at}
+use Rattle.vm_shadow.specs.declared.ids.Ids.{Ids}
+use Rattle.vm_shadow.specs.declared.region_row.RegionRow.{RegionRow}
+use Rattle.vm_kernel.specs.Counts.{count_on, most_tasks}
+use Rattle.vm_kernel.specs.Matches.{AllInside, AllUsed, HasEntries, HasFlat, HasPages, HasRegions, HasTasks, IsInside, host_for, object_under}
+use Rattle.vm_kernel.specs.Places.{entries_in_row, has_region, region_entries}
+use Rattle.vm_kernel.specs.Sweeping.{with_entries}
+use Rattle.vm_kernel.proofs.Counts.{by_changed, on_append, on_zero}
+use Rattle.vm_kernel.proofs.Recounts.{Recounts, entries_most, has_same, pages_same, row_before}
+
+-- regions that count anew are as they were else
+
+pub recount_regions : (count : ℕ → ℕ) (cs cs2 : ChainTable) (os : ObjectTable) (ids : Ids) (region_from : ℕ → Region) (backing_from : ℕ → Backing) (regions_made objects_made : ℕ) → Recounts count cs cs2
+    → HasRegions cs os ids region_from backing_from regions_made objects_made → HasRegions cs2 os ids region_from backing_from regions_made objects_made
+recount_regions count cs cs2 os ids region_from backing_from regions_made objects_made is has =
+    record {
+      region = has.region;
+      object = has.object;
+      equal = has.equal;
+      marks = has.marks;
+      rows = λ r row found. let b = row_before count cs cs2 is r row found in subst (λ (z : RegionRow). region_from r ≡ record { mark = z.marked; top = z.top.0; shift = z.shift; pages = z.pages }) (sym b.is) (has.rows r b.was b.found);
+      tops = has.tops;
+      unbacked = has.unbacked;
+      unmade = λ r le. is.at r ∙ ap (with_entries (count r)) (has.unmade r le);
+      unknown = has.unknown;
+      under = λ r row found. let b = row_before count cs cs2 is r row found in has.under r b.was b.found ∙ ap (λ z. Some (object_under z)) (sym b.is);
+    }
+
+pub recount_pages : (count : ℕ → ℕ) (fs : FrameTable) (rs : ResidentTable) (os : ObjectTable) (cs cs2 : ChainTable) (local_at : ℕ → ℕ → Local) → Recounts count cs cs2 → HasPages fs rs os cs local_at → HasPages fs rs os cs2 local_at
+recount_pages count fs rs os cs cs2 local_at is has = record { shown = has.shown; live = λ o p row found. has_same count cs cs2 is o ∙ has.live o p row found }
+
+some_entries : (x : Option RegionRow) → 0 < entries_in_row x → is_some x ≡ true
+some_entries None some = absurd (omega arith)
+some_entries (Some row) some = refl
+
+pub recount_flat : (count : ℕ → ℕ) (size : ℕ) (fs : FrameTable) (rs : ResidentTable) (cs cs2 : ChainTable) (flat_at : ℕ → ℕ → List ℕ) → Recounts count cs cs2 → ((r : ℕ) → has_region cs r ≡ true → 0 < count r → 0 < region_entries cs r)
+    → HasFlat size fs rs cs flat_at → HasFlat size fs rs cs2 flat_at
+recount_flat count size fs rs cs cs2 flat_at is more has =
+    record {
+      flat = λ r p used.
+          let there = sym (has_same count cs cs2 is r) ∙ some_entries (region_at cs2 r) used in
+          let most = entries_most count cs cs2 is r in
+          has.flat r p (more r there (omega arith));
+      clean = has.clean;
+    }
+
+pub recount_used : (count : ℕ → ℕ) (cs cs2 : ChainTable) → Recounts count cs cs2 → ((r : ℕ) → has_region cs r ≡ true → 0 < region_entries cs r → 0 < count r) → AllUsed cs → AllUsed cs2
+recount_used count cs cs2 is more used r row found =
+    let b = row_before count cs cs2 is r row found in
+    let there : has_region cs r ≡ true = ap is_some b.found in
+    let had = used r b.was b.found in
+    let were = ap entries_in_row b.found in
+    let now = ap (λ z. z.entries) b.is in
+    let some = more r there (omega arith) in
+    omega arith
+
+pub recount_inside : (count : ℕ → ℕ) (size : ℕ) (cs cs2 : ChainTable) → Recounts count cs cs2 → (rows : List Entry) → AllInside size cs rows → AllInside size cs2 rows
+recount_inside count size cs cs2 is rows all =
+    rows_map (IsInside size cs) (IsInside size cs2)
+    (λ row has. record {
+      region = has_same count cs cs2 is row.region.0 ∙ has.region;
+      some = has.some;
+      below = has.below;
+      inside = subst (λ (z : ℕ). Inside size z row) (sym (pages_same count cs cs2 is row.region.0)) has.inside;
+    })
+    rows all
+
+pub recount_known : (count : ℕ → ℕ) (cs cs2 : ChainTable) → Recounts count cs cs2 → (rows : List Entry) → AllRows (λ row. has_region cs row.region.0 ≡ true) rows → AllRows (λ row. has_region cs2 row.region.0 ≡ true) rows
+recount_known count cs cs2 is rows all = rows_map (λ row. has_region cs row.region.0 ≡ true) (λ row. has_region cs2 row.region.0 ≡ true) (λ row there. has_same count cs cs2 is row.region.0 ∙ there) rows all
+
+-- one task's entries change
+
+pub lives_below : (size task : ℕ) (maps : Mapped) (cs : ChainTable) (lost : List Entry) → HasEntries size maps cs lost → entries_in task maps ≡ Some (rows_in task maps) → task < most_tasks
+lives_below size task maps cs lost has lives = by_test (nat_lt task most_tasks) refl
+  where
+    by_test : (b : Bool) → nat_lt task most_tasks ≡ b → task < most_tasks
+    by_test true less = grind (arith, nat_tests)
+    by_test false less =
+        let le : most_tasks ≤ task = grind (arith, nat_tests) in
+        absurd (let bad : None ≡ Some (rows_in task maps) = sym (has.most task le) ∙ lives in cc)
+
+pub entries_changed : (size task : ℕ) (maps new : Mapped) (cs cs2 : ChainTable) (count : ℕ → ℕ) (rows : Option (List Entry)) (lost : List Entry) → HasEntries size maps cs [] → ChangesOnly maps new task rows
+    → entries_in task maps ≡ Some (rows_in task maps) → Recounts count cs cs2
+    → ((r : ℕ) → has_region cs r ≡ true → count r + count_on r (rows_in task maps) ≡ region_entries cs r + (count_on r (unwrap_or rows []) + count_on r lost))
+    → AllInside size cs (unwrap_or rows []) → AllRows (λ row. has_region cs row.region.0 ≡ true) lost → length (unwrap_or rows []) ≤ most_entries → HasEntries size new cs2 lost
+entries_changed size task maps new cs cs2 count rows lost has changes lives is counted all known few =
+    record {
+      inside = λ t. elim (eqb_tells task t) [
+        | inl same ↦ subst (λ (z : ℕ). AllInside size cs2 (rows_in z new)) same.1 (subst (AllInside size cs2) (sym now) (recount_inside count size cs cs2 is (unwrap_or rows []) all))
+        | inr apart ↦ subst (AllInside size cs2) (sym (other t (λ e. apart.1 (sym e)))) (recount_inside count size cs cs2 is (rows_in t maps) (has.inside t))
+      ];
+      known = recount_known count cs cs2 is lost known;
+      most = λ t le. changes.others t (λ e. let below = lives_below size task maps cs [] has lives in omega (arith, e)) ∙ has.most t le;
+      few = λ t. elim (eqb_tells task t) [
+        | inl same ↦ subst (λ (z : ℕ). length (rows_in z new) ≤ most_entries) same.1 (subst (λ (z : List Entry). length z ≤ most_entries) (sym now) few)
+        | inr apart ↦ subst (λ (z : List Entry). length z ≤ most_entries) (sym (other t (λ e. apart.1 (sym e)))) (has.few t)
+      ];
+      counts = λ r row found.
+          let b = row_before count cs cs2 is r row found in
+          let there : has_region cs r ≡ true = ap is_some b.found in
+          let were = ap entries_in_row b.found in
+          let now = ap (λ z. z.entries) b.is in
+          let old = has.counts r b.was b.found in
+          let sum = counted r there in
+          let moved = by_changed most_tasks r task maps new rows (lives_below size task maps cs [] has lives) changes in
+          omega arith;
+    }
+  where
+    now : rows_in task new ≡ unwrap_or rows []
+    now = ap (λ z. unwrap_or z []) changes.changed
+
+    other : (t : ℕ) → t ≢ task → rows_in t new ≡ rows_in t maps
+    other t apart = ap (λ z. unwrap_or z []) (changes.others t apart)
+
+pub tasks_changed : (size task : ℕ) (maps new : Mapped) (host_at : ℕ → Option ℕ) (rows_at : ℕ → List Entry) (waiting_at : ℕ → Option Access) (f : List Entry → List Entry) → HasTasks size maps host_at rows_at waiting_at
+    → ChangesOnly maps new task (Some (f (rows_in task maps))) → entries_in task maps ≡ Some (rows_in task maps) → HasTasks size new host_at (λ t. if task == t then f (rows_at t) else rows_at t) waiting_at
+tasks_changed size task maps new host_at rows_at waiting_at f has changes lives =
+    record {
+      sized = changes.size ∙ has.sized;
+      hosts = λ t. elim (eqb_tells task t) [
+        | inl same ↦ subst (λ (z : ℕ). host_at z ≡ host_for (entries_in z new)) same.1 (has.hosts task ∙ (ap host_for lives ∙ sym (ap host_for changes.changed)))
+        | inr apart ↦ has.hosts t ∙ sym (ap host_for (changes.others t (λ e. apart.1 (sym e))))
+      ];
+      rows = λ t. elim (eqb_tells task t) [
+        | inl same ↦ ap (λ b. if b then f (rows_at t) else rows_at t) same.0 ∙ subst (λ (z : ℕ). f (rows_at z) ≡ rows_in z new) same.1 (ap f (has.rows task) ∙ sym (ap (λ z. unwrap_or z []) changes.changed))
+        | inr apart ↦ ap (λ b. if b then f (rows_at t) else rows_at t) apart.0 ∙ (has.rows t ∙ sym (ap (λ z. unwrap_or z []) (changes.others t (λ e. apart.1 (sym e)))))
+      ];
+      none = has.none;
+    }
+
+-- entries are cut
+
+on_cut : (r size from to : ℕ) (row : Entry) → count_on r (cut size from to row) ≡ (if nat_lt (max from row.address) (min to (row.address + row.bytes)) then count_on r (row ∷ []) else 0)
+on_cut r size from to row = by_test (nat_lt (max from row.address) (min to (row.address + row.bytes)))
+  where
+    by_test : (b : Bool) → count_on r (if b then part size row (max from row.address) (min to (row.address + row.bytes)) ∷ [] else []) ≡ (if b then count_on r (row ∷ []) else 0)
+    by_test true = refl
+    by_test false = refl
+
+some_of : (n : ℕ) (a b c : Bool) → (a ≡ false → b ≡ false → c ≡ false → ⊥) → n ≤ (if a then n else 0) + ((if b then n else 0) + (if c then n else 0))
+some_of n true b c some = omega arith
+some_of n false true c some = omega arith
+some_of n false false true some = omega arith
+some_of n false false false some = absurd (some refl refl refl)
+
+-- an entry isn't empty, and its addresses are below 2^32
+pub record IsSpan (row : Entry) : Type 0 where
+  pub some : 0 < row.bytes
+  pub below : row.address + row.bytes ≤ 2 ^ 32
+
+-- a part of it is left
+one_left : (r size address bytes : ℕ) (row : Entry) → IsSpan row
+    → count_on r (row ∷ []) ≤ count_on r (cut size 0 address row) + (count_on r (cut size address (address + bytes) row) + count_on r (cut size (address + bytes) (2 ^ 32) row))
+one_left r size address bytes row span =
+    let end = row.address + row.bytes in
+    let a = nat_lt (max 0 row.address) (min address end) in
+    let b = nat_lt (max address row.address) (min (address + bytes) end) in
+    let c = nat_lt (max (address + bytes) row.address) (min (2 ^ 32) end) in
+    let some = span.some in
+    let below = span.below in
+    let all = some_of (count_on r (row ∷ [])) a b c (λ no_a no_b no_c.
+    let one : min address end ≤ max 0 row.address = grind (arith, nat_tests) in
+    let two : min (address + bytes) end ≤ max address row.address = grind (arith, nat_tests) in
+    let three : min (2 ^ 32) end ≤ max (address + bytes) row.address = grind (arith, nat_tests) in
+    omega arith) in
+    omega (arith, all, on_cut r size 0 address row, on_cut r size address (address + bytes) row, on_cut r size (address + bytes) (2 ^ 32) row)
+
+on_flat : (r : ℕ) (becomes : Entry → List Entry) → ((row : Entry) → count_on r (becomes row) ≡ count_on r (row ∷ [])) → (rows : List Entry) → count_on r (flat_map becomes rows) ≡ count_on r rows
+on_flat r becomes same [] = refl
+on_flat r becomes same (row ∷ rows) = omega (arith, on_append r (becomes row) (flat_map becomes rows), same row, on_flat r becomes same rows)
+
+flat_nothing : (rows : List Entry) → ◌≡◌ {A = List Entry} (flat_map (λ (row : Entry). []) rows) []
+flat_nothing [] = refl
+flat_nothing (row ∷ rows) = flat_nothing rows
+
+pub on_kept : (r size address bytes : ℕ) (becomes : Entry → List Entry) (rows : List Entry) → ((row : Entry) → count_on r (becomes row) ≡ count_on r (row ∷ [])) → AllRows IsSpan rows → count_on r rows ≤ count_on r (rewritten becomes size address bytes rows)
+on_kept r size address bytes becomes [] same all = omega arith
+on_kept r size address bytes becomes (row ∷ rows) same all =
+    let front = cut size 0 address row in
+    let middle = flat_map becomes (cut size address (address + bytes) row) in
+    let back = cut size (address + bytes) (2 ^ 32) row in
+    let later = rewritten becomes size address bytes rows in
+    let one : count_on r (row ∷ rows) ≡ count_on r (row ∷ []) + count_on r rows = omega arith in
+    omega (
+      arith,
+      one,
+      on_append r front (middle ++ (back ++ later)),
+      on_append r middle (back ++ later),
+      on_append r back later,
+      on_flat r becomes same (cut size address (address + bytes) row),
+      one_left r size address bytes row all.0,
+      on_kept r size address bytes becomes rows same all.1,
+    )
+
+-- what is taken out, and what is left
+pub on_removed : (r size address bytes : ℕ) (rows : List Entry) → AllRows IsSpan rows → count_on r rows ≤ count_on r (removed size address bytes rows) + count_on r (parts_in size address bytes rows)
+on_removed r size address bytes [] all = omega arith
+on_removed r size address bytes (row ∷ rows) all =
+    let front = cut size 0 address row in
+    let part_here = cut size address (address + bytes) row in
+    let middle : List Entry = flat_map (λ (row : Entry). []) part_here in
+    let back = cut size (address + bytes) (2 ^ 32) row in
+    let later = removed size address bytes rows in
+    let one : count_on r (row ∷ rows) ≡ count_on r (row ∷ []) + count_on r rows = omega arith in
+    omega (
+      arith,
+      one,
+      on_append r front (middle ++ (back ++ later)),
+      on_append r middle (back ++ later),
+      on_append r back later,
+      ap (count_on r) (flat_nothing part_here),
+      on_append r part_here (parts_in size address bytes rows),
+      one_left r size address bytes row all.0,
+      on_removed r size address bytes rows all.1,
+    )
+
+pub parts_few : (size from to : ℕ) (rows : List Entry) → length (flat_map (cut size from to) rows) ≤ length rows
+parts_few size from to [] = omega arith
+parts_few size from to (row ∷ rows) = by_test (flat_map (cut size from to) rows) (parts_few size from to rows) (nat_lt (max from row.address) (min to (row.address + row.bytes)))
+  where
+    by_test : (more : List Entry) → length more ≤ length rows → (b : Bool) → length ((if b then part size row (max from row.address) (min to (row.address + row.bytes)) ∷ [] else []) ++ more) ≤ suc (length rows)
+    by_test more later true = omega arith
+    by_test more later false = omega arith
+
+-- what leads to a region led to it before
+pub on_among : (r : ℕ) (rows made : List Entry) → AllRows (λ row. has_entry row.region.0 rows ≡ true) made → 0 < count_on r made → 0 < count_on r rows
+on_among r rows made all some = by_count (count_on r rows) refl
+  where
+    none_made : (made : List Entry) → AllRows (λ row. has_entry row.region.0 rows ≡ true) made → has_entry r rows ≡ false → count_on r made ≡ 0
+    none_made [] all none = refl
+    none_made (row ∷ made) all none = elim (eqb_tells row.region.0 r) [
+      | inl same ↦ absurd (let bad : false ≡ true = sym none ∙ (ap (λ z. has_entry z rows) (sym same.1) ∙ all.0) in cc)
+      | inr apart ↦ let later = none_made made all.1 none in rw apart.0 (omega arith)
+    ]
+
+    by_count : (n : ℕ) → count_on r rows ≡ n → 0 < count_on r rows
+    by_count zero is = absurd (let none = none_made made all (on_zero r rows is) in omega arith)
+    by_count (suc n) is = omega arith

@@ -1,0 +1,286 @@
+-- A fork makes a child, and gives it what is shared, one entry after another.
+use Rattle.std.proofs.Common.{◌≡◌, nat_lt, ℕ, ◌+◌, ◌*◌, ◌<◌, ◌≤◌, ◌^◌, ◌==◌, not, Bool, true, false, List, [], ◌∷◌, ◌++◌, length, take, drop, reverse, slice_get, refl, ap, sym, ◌∙◌, subst, arith, Some, None, Option, inl, inr, length-append}
+use Rattle.std.proofs.lemmas.Bool.Decides.{eqb_tells, nat_tests}
+use Rattle.std.proofs.lemmas.List.{reverse-append}
+use Rattle.std.specs.Prelude.{if◌then◌else◌, is_none, is_some, unwrap_or, IfSome, IsSome, ◌≢◌}
+use Rattle.vm_base.specs.declared.code.Code.TheVariants as code
+use Rattle.vm_base.specs.declared.entry.Entry.{Entry}
+use Rattle.vm_base.specs.declared.ids.TaskId.{TaskId}
+use Rattle.vm_base.specs.Entries.{AreEntries, HasWholePages, entered, is_range, most_entries}
+use Rattle.vm_model.specs.declared.event.Event.{Event}
+use Rattle.vm_model.specs.declared.event.Event.TheVariants as event
+use Rattle.vm_model.specs.declared.command.Command.TheVariants as command
+use Rattle.vm_model.specs.declared.script.Header.{Header}
+use Rattle.vm_model.specs.Bytes.{FlatBytes, OwnBytes}
+use Rattle.vm_model.specs.Flat.{flat_page}
+use Rattle.vm_model.specs.Follows.{gets, head}
+use Rattle.vm_model.specs.Frames.{Suffice, frames_used}
+use Rattle.vm_model.specs.Local.{local}
+use Rattle.vm_model.specs.Refusal.{is_fork_full, where_true}
+use Rattle.vm_model.specs.Regions.{backing_of, next_object, next_region, region_of}
+use Rattle.vm_model.specs.Rows.{AllRows, rows_entered}
+use Rattle.vm_model.specs.Tasks.{copies, entries_of, host_of, is_shared, shared}
+use Rattle.vm_model.specs.Waiting.{waiting}
+use Rattle.vm_maps.specs.Maps.{ChangesOnly, Mapped, entries_in, rows_in}
+use Rattle.vm_shadow.specs.Chains.{ChainTable}
+use Rattle.vm_shadow.specs.declared.ids.Ids.{Ids}
+use Rattle.vm_kernel.specs.Begun.{Began, IsInner, Starts}
+use Rattle.vm_kernel.specs.Counts.{count_by, most_tasks}
+use Rattle.vm_kernel.specs.Forking.{CanShare, HasForked, Shares, got, with_child}
+use Rattle.vm_kernel.specs.Matches.{HasEntries, IsInside, Matches, host_for, the_host}
+use Rattle.vm_kernel.specs.Places.{entries_in_row, has_region, place_of, region_entries}
+use Rattle.vm_kernel.specs.declared.parts.Parts.{Parts}
+use Rattle.vm_kernel.proofs.Counts.{by_few, most_is, on_entered}
+use Rattle.vm_kernel.proofs.Forks.{behind, entered_behind, few_shared, free_behind, gets_more, row_among, rows_shared, shared_more, shared_one, shared_other, split_at, take_all, whole_among}
+use Rattle.vm_kernel.proofs.Growing.{suffices}
+use Rattle.vm_kernel.proofs.Heads.{Heads, began_head, passed}
+use Rattle.vm_kernel.proofs.Prompting.{region_row}
+use Rattle.vm_kernel.proofs.Recounts.{Recounts, more_taken, recounts_put}
+use Rattle.vm_kernel.proofs.Rewrites.{entries_changed, recount_flat, recount_pages, recount_regions, recount_used}
+use Rattle.vm_kernel.proofs.Tasks.{entries_made, free_task, length_entered, lives_of, tasks_entered, tasks_made}
+
+-- a task that can be forked lives, its child doesn't, and nothing is copied
+pub record MayFork (k : Parts) (task child : ℕ) : Type 0 where
+  pub lives : entries_in task k.maps ≡ Some (rows_in task k.maps)
+  pub free : entries_in child k.maps ≡ None
+  pub shares : (copies (rows_in task k.maps) == 0) ≡ true
+
+pub may_fork : (header : Header) (task child : TaskId) (past : List Event) (k : Parts) (ids : Ids) (events : List Event) → Starts header (command.Fork task child) past k ids events → MayFork k task.0 child.0
+may_fork header task child past k ids events s =
+    let m = s.rests.matches in
+    let rows = entries_of header.size task.0 past in
+    let last = where_true (is_fork_full header rows past) code.TableFull None in
+    let next = where_true (is_some (waiting task.0 past)) code.Blocked last in
+    let first = passed (is_none (host_of task.0 past)) code.NoSuchName (where_true (is_some (host_of child.0 past)) code.NameTaken next) s.accepted in
+    let second = passed (is_some (host_of child.0 past)) code.NameTaken next first.1 in
+    record {
+      lives = lives_of (entries_in task.0 k.maps) (host_of task.0 past) (m.tasks.hosts task.0) first.0;
+      free = free_task (entries_in child.0 k.maps) (host_of child.0 past) (m.tasks.hosts child.0) second.0;
+      shares = turned (copies (rows_in task.0 k.maps) == 0) (ap (λ z. not (copies z == 0)) (sym (m.tasks.rows task.0)) ∙ s.enough);
+    }
+  where
+    turned : (b : Bool) → not b ≡ false → b ≡ true
+    turned true e = refl
+    turned false e = absurd (let bad : true ≡ false = e in cc)
+
+pub lives_some : (o : Option (List Entry)) (rows : List Entry) → o ≡ Some rows → IsSome o
+lives_some None rows is = absurd (let bad : None ≡ Some rows = is in cc)
+lives_some (Some more) rows is = refl
+
+pub same_rows : (a b : List Entry) (o : Option (List Entry)) → o ≡ Some a → o ≡ Some b → a ≡ b
+same_rows a b o one two = let both : ◌≡◌ {A = Option (List Entry)} (Some a) (Some b) = sym one ∙ two in cc
+
+-- nothing has been shared yet
+pub fork_start : (header : Header) (task child : TaskId) (past : List Event) (k : Parts) (ids : Ids) (before after : List Event) (maps : Mapped) → Starts header (command.Fork task child) past k ids before
+    → ChangesOnly k.maps maps child.0 (Some []) → after ≡ event.TaskMade child k.host ∷ before → HasForked header task child (rows_in task.0 k.maps) 0 past (record k { maps = maps }) ids after
+fork_start header task child past k ids before after maps s changes told =
+    let m = s.rests.matches in
+    let may = may_fork header task child past k ids before s in
+    let apart : task.0 ≢ child.0 = λ e. (let bad : None ≡ Some (rows_in task.0 k.maps) = sym may.free ∙ (ap (λ z. entries_in z k.maps) (sym e) ∙ may.lives) in cc) in
+    let log : after ≡ event.TaskMade child the_host ∷ [] = told ∙ (ap (λ z. event.TaskMade child z ∷ before) m.host ∙ ap (λ z. event.TaskMade child the_host ∷ z) s.nothing) in
+    record {
+      apart = apart;
+      matches =
+          subst (λ (z : List Event). Matches header (record k { maps = maps }) ids [] (z ++ past)) (sym log)
+          (record {
+            plain = m.plain;
+            size = m.size;
+            host = m.host;
+            fits = m.fits;
+            tasks = tasks_made header.size k.maps maps past child m.tasks changes;
+            regions = m.regions;
+            entries = entries_made header.size k.maps maps k.chains child.0 m.entries changes may.free s.range.1;
+            pages = m.pages;
+            flat = m.flat;
+            stores = m.stores;
+            frames = m.frames;
+          });
+      used = s.rests.used;
+      others = changes.others task.0 apart ∙ may.lives;
+      own = changes.changed;
+      told = log;
+    }
+
+-- the number of a region's entries is far below its limit
+few_entries : (size : ℕ) (maps : Mapped) (chains : ChainTable) (r : ℕ) → HasEntries size maps chains [] → has_region chains r ≡ true → region_entries chains r + 1 < 2 ^ 32
+few_entries size maps chains r has there =
+    let row = region_row chains r there in
+    let same : region_entries chains r ≡ row.0.entries = ap entries_in_row row.1 in
+    let most : count_by most_tasks r maps ≤ 1024 * most_entries = subst (λ (z : ℕ). count_by most_tasks r maps ≤ z * most_entries) most_is (by_few most_tasks r most_entries maps has.few) in
+    omega (arith, same, has.counts r row.0 row.1, most)
+
+-- an entry of the task can be shared
+pub can_share : (header : Header) (task child : TaskId) (rows : List Entry) (i : ℕ) (row : Entry) (past : List Event) (k : Parts) (ids : Ids) (events : List Event) → HasForked header task child rows i past k ids events → AreEntries k.maps.size rows → slice_get rows i ≡ Some row
+    → CanShare child.0 row k
+can_share header task child rows i row past k ids events f sound found =
+    let front = take i rows in
+    let left = drop (i + 1) rows in
+    let is = split_at rows i row found in
+    let size = k.maps.size in
+    let order = subst (AreEntries size) is sound in
+    let end = behind 0 (2 ^ 32) front row left order.in_order in
+    let whole : HasWholePages size row = whole_among size front row left order.whole in
+    let all = subst (λ (z : List Entry). AllRows (IsInside header.size k.chains) z) (ap (λ z. unwrap_or z []) f.others ∙ is) (f.matches.entries.inside task.0) in
+    let inside : IsInside header.size k.chains row = row_among (IsInside header.size k.chains) front row left all in
+    let own : rows_in child.0 k.maps ≡ shared front = ap (λ z. unwrap_or z []) f.own in
+    let low = inside.below in
+    let some = inside.some in
+    let even = whole.address in
+    let pages = whole.bytes in
+    let range : is_range size row.address row.bytes ≡ true = grind (arith, nat_tests) in
+    let free = free_behind row (shared front) (rows_shared (λ other. other.address + other.bytes ≤ row.address) front end.1) in
+    let count = length-append front (row ∷ left) in
+    let fewer = few_shared front in
+    let most = order.few in
+    let fits : nat_lt most_entries (length (shared front) + 1) ≡ false = grind (arith, nat_tests) in
+    record {
+      lives = lives_some (entries_in child.0 k.maps) (shared front) f.own;
+      free = rw (own, range, free, fits) refl;
+      pages = whole.pages;
+      region = inside.region;
+      few = few_entries header.size k.maps k.chains row.region.0 f.matches.entries inside.region;
+    }
+
+-- an entry more was shared
+pub fork_shared : (header : Header) (task child : TaskId) (rows : List Entry) (i : ℕ) (row : Entry) (past : List Event) (k k2 : Parts) (ids : Ids) (events after : List Event) → HasForked header task child rows i past k ids events → AreEntries k.maps.size rows → slice_get rows i ≡ Some row
+    → is_shared row.inherit ≡ true → Shares child row k k2 events after → HasForked header task child rows (i + 1) past k2 ids after
+fork_shared header task child rows i row past k k2 ids events after f sound found is_here s =
+    let m = f.matches in
+    let front = take i rows in
+    let left = drop (i + 1) rows in
+    let is = split_at rows i row found in
+    let order = subst (AreEntries k.maps.size) is sound in
+    let end = behind 0 (2 ^ 32) front row left order.in_order in
+    let others : rows_in task.0 k.maps ≡ rows = ap (λ z. unwrap_or z []) f.others in
+    let whole = subst (AllRows (IsInside header.size k.chains)) (others ∙ is) (m.entries.inside task.0) in
+    let one = row_among (IsInside header.size k.chains) front row left whole in
+    let own : rows_in child.0 k.maps ≡ shared front = ap (λ z. unwrap_or z []) f.own in
+    let lives : entries_in child.0 k.maps ≡ Some (rows_in child.0 k.maps) = f.own ∙ ap Some (sym own) in
+    let last : entered row (shared front) ≡ shared front ++ row ∷ [] = entered_behind row (shared front) (rows_shared (λ other. other.address + other.bytes ≤ row.address) front end.1) in
+    let more : shared (take (i + 1) rows) ≡ shared front ++ row ∷ [] = ap shared (more_taken rows i row found) ∙ (shared_more front (row ∷ []) ∙ ap (λ z. shared front ++ z) (shared_one row is_here)) in
+    let r = row.region.0 in
+    let count_at = λ (q : ℕ). if r == q then region_entries k.chains r + 1 else region_entries k.chains q in
+    let recounts : Recounts count_at k.chains k2.chains = recounts_put r (region_entries k.chains r + 1) k.chains k2.chains s.counts in
+    let size = header.size in
+    let entered_all = rows_entered (IsInside size k.chains) row (rows_in child.0 k.maps) one (m.entries.inside child.0) in
+    let count = length-append front (row ∷ left) in
+    let fewer = few_shared front in
+    let most = order.few in
+    let entries : HasEntries size k2.maps k2.chains [] =
+    entries_changed size child.0 k.maps k2.maps k.chains k2.chains count_at (Some (entered row (rows_in child.0 k.maps))) [] m.entries s.maps lives recounts
+    (λ q there. omega (arith, on_entered q row (rows_in child.0 k.maps), step q)) entered_all tt (omega (arith, length_entered row (rows_in child.0 k.maps), ap length own, count, fewer, most)) in
+    let e = got child row in
+    record {
+      apart = f.apart;
+      matches =
+          subst (λ (z : List Event). Matches header k2 ids [] (z ++ past)) (sym s.told)
+          (record {
+            plain = m.plain;
+            size = s.size ∙ m.size;
+            host = s.host ∙ m.host;
+            fits = rw (s.size, s.frames, s.resident, s.queues, s.objects) m.fits;
+            tasks = tasks_entered size k.maps k2.maps (events ++ past) child row m.tasks s.maps lives;
+            regions = rw s.objects (recount_regions count_at k.chains k2.chains k.objects ids (λ q. region_of header q (events ++ past)) (λ o. backing_of header o (events ++ past)) (next_region header (events ++ past)) (next_object header (events ++ past)) recounts m.regions);
+            entries = entries;
+            pages = rw (s.frames, s.resident, s.objects) (recount_pages count_at k.frames k.resident k.objects k.chains k2.chains (λ o p. local size 0 (place_of o p) (events ++ past)) recounts m.pages);
+            flat = rw (s.frames, s.resident) (recount_flat count_at size k.frames k.resident k.chains k2.chains (λ q p. flat_page size q p (events ++ past)) recounts (λ q there some. had q there) m.flat);
+            stores = rw s.resident m.stores;
+            frames = rw s.frames m.frames;
+          });
+      used = recount_used count_at k.chains k2.chains recounts (λ q there some. omega (arith, step q)) f.used;
+      others = s.maps.others task.0 f.apart ∙ f.others;
+      own = s.maps.changed ∙ ap Some (ap (entered row) own ∙ (last ∙ sym more));
+      told = s.told ∙ (ap (λ z. e ∷ z) f.told ∙ sym (with_one (shared front) (shared (take (i + 1) rows)) more));
+    }
+  where
+    with_one : (before now : List Entry) → now ≡ before ++ row ∷ [] → with_child child now ≡ got child row ∷ with_child child before
+    with_one before now is = ap (with_child child) is
+        ∙ (ap (λ z. reverse z ++ event.TaskMade child the_host ∷ []) (gets_more child before (row ∷ []))
+        ∙ ap (λ z. z ++ event.TaskMade child the_host ∷ []) (reverse-append (gets child before) (got child row ∷ [])))
+
+    step : (q : ℕ) → (if row.region.0 == q then region_entries k.chains row.region.0 + 1 else region_entries k.chains q) ≡ (if row.region.0 == q then 1 else 0) + region_entries k.chains q
+    step q = elim (eqb_tells row.region.0 q) [
+      | inl same ↦ rw same.0 (let is = ap (region_entries k.chains) same.1 in omega arith)
+      | inr apart ↦ rw apart.0 (omega arith)
+    ]
+
+    had : (q : ℕ) → has_region k.chains q ≡ true → 0 < region_entries k.chains q
+    had q there =
+        let was = region_row k.chains q there in
+        let some = f.used q was.0 was.1 in
+        let same = ap entries_in_row was.1 in
+        omega arith
+
+-- an entry isn't shared
+pub fork_other : (header : Header) (task child : TaskId) (rows : List Entry) (i : ℕ) (row : Entry) (past : List Event) (k : Parts) (ids : Ids) (events : List Event) → HasForked header task child rows i past k ids events → slice_get rows i ≡ Some row → is_shared row.inherit ≡ false
+    → HasForked header task child rows (i + 1) past k ids events
+fork_other header task child rows i row past k ids events f found isnt =
+    let none : shared (take i rows) ++ shared (row ∷ []) ≡ shared (take i rows) = ap (λ z. shared (take i rows) ++ z) (shared_other row isnt) ∙ nothing (shared (take i rows)) in
+    let same : shared (take (i + 1) rows) ≡ shared (take i rows) = ap shared (more_taken rows i row found) ∙ (shared_more (take i rows) (row ∷ []) ∙ none) in
+    record {
+      apart = f.apart;
+      matches = f.matches;
+      used = f.used;
+      others = f.others;
+      own = f.own ∙ ap Some (sym same);
+      told = f.told ∙ ap (with_child child) (sym same);
+    }
+  where
+    nothing : (rows : List Entry) → rows ++ [] ≡ rows
+    nothing [] = refl
+    nothing (row ∷ rows) = ap (λ z. row ∷ z) (nothing rows)
+
+-- an event that carries no bytes, and takes no frame
+record Quiet (header : Header) (e : Event) : Type 0 where
+  own : (past : List Event) → OwnBytes header e past
+  flat : (past : List Event) → FlatBytes header e past
+  frames : (past : List Event) → frames_used 0 (e ∷ past) ≡ frames_used 0 past
+  inner : IsInner e
+
+abbrev AllQuiet : Header → List Event → Type 0
+AllQuiet header [] = Unit {0}
+AllQuiet header (e ∷ events) = Quiet header e × AllQuiet header events
+
+quiet_made : (header : Header) (child : TaskId) → Quiet header (event.TaskMade child the_host)
+quiet_made header child = record { own = λ past. tt; flat = λ past. tt; frames = λ past. refl; inner = tt }
+
+quiet_got : (header : Header) (child : TaskId) (row : Entry) → Quiet header (got child row)
+quiet_got header child row = record { own = λ past. tt; flat = λ past. tt; frames = λ past. refl; inner = tt }
+
+quiet_append : (header : Header) (group more : List Event) → AllQuiet header group → AllQuiet header more → AllQuiet header (group ++ more)
+quiet_append header [] more one two = two
+quiet_append header (e ∷ group) more one two = (one.0, quiet_append header group more one.1 two)
+
+quiet_gets : (header : Header) (child : TaskId) (rows : List Entry) → AllQuiet header (reverse (gets child rows))
+quiet_gets header child [] = tt
+quiet_gets header child (row ∷ rows) = subst (AllQuiet header) (sym (reverse-append (got child row ∷ []) (gets child rows)))
+    (quiet_append header (reverse (gets child rows)) (got child row ∷ []) (quiet_gets header child rows) (quiet_got header child row, tt))
+
+quiet_used : (header : Header) (events past : List Event) → AllQuiet header events → frames_used 0 (events ++ past) ≡ frames_used 0 past
+quiet_used header [] past all = refl
+quiet_used header (e ∷ events) past all = all.0.frames (events ++ past) ∙ quiet_used header events past all.1
+
+heads_quiet : (header : Header) (events past : List Event) → AllQuiet header events → Suffice header 0 past → Heads header past events
+heads_quiet header [] past all fine = record { own_bytes = tt; flat_bytes = tt; frames = tt; inner = tt }
+heads_quiet header (e ∷ events) past all fine =
+    let later = heads_quiet header events past all.1 fine in
+    record {
+      own_bytes = (all.0.own (events ++ past), later.own_bytes);
+      flat_bytes = (all.0.flat (events ++ past), later.flat_bytes);
+      frames = (subst (λ (z : ℕ). IfSome (slice_get (reverse header.frames.items) 0) (λ frames. z ≤ frames)) (sym (quiet_used header (e ∷ events) past all)) fine, later.frames);
+      inner = (all.0.inner, later.inner);
+    }
+
+-- all that is shared was given
+pub began_fork : (header : Header) (task child : TaskId) (i : ℕ) (past : List Event) (k k2 : Parts) (ids : Ids) (before events : List Event) → Starts header (command.Fork task child) past k ids before → HasForked header task child (rows_in task.0 k.maps) i past k2 ids events → length (rows_in task.0 k.maps) ≤ i
+    → Began header (command.Fork task child) past k2 ids events
+began_fork header task child i past k k2 ids before events s f end =
+    let m = s.rests.matches in
+    let may = may_fork header task child past k ids before s in
+    let rows = rows_in task.0 k.maps in
+    let first = event.TaskMade child the_host ∷ gets child (shared rows) in
+    let turned : reverse first ≡ with_child child (shared rows) = reverse-append (event.TaskMade child the_host ∷ []) (gets child (shared rows)) in
+    let whole : events ≡ reverse first = f.told ∙ (ap (λ z. with_child child (shared z)) (take_all rows i end) ∙ sym turned) in
+    let quiet : AllQuiet header events = subst (AllQuiet header) (sym (whole ∙ turned)) (quiet_append header (reverse (gets child (shared rows))) (event.TaskMade child the_host ∷ []) (quiet_gets header child (shared rows)) (quiet_made header child, tt)) in
+    let is : head header past (command.Fork task child) ≡ Some first = rw (m.tasks.hosts task.0, m.tasks.rows task.0, ap host_for may.lives, may.shares) refl in
+    began_head header (command.Fork task child) past k2 ids events first is whole (heads_quiet header events past quiet (suffices header k.frames past m.frames)) tt (record { matches = f.matches; used = f.used })

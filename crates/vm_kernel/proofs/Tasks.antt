@@ -1,0 +1,158 @@
+-- A task is made, or its entries become others.
+use Rattle.std.proofs.Common.{◌≡◌, nat_lt, ℕ, suc, ◌+◌, ◌<◌, ◌≤◌, ◌==◌, Bool, true, false, List, [], ◌∷◌, length, refl, ap, sym, ◌∙◌, subst, arith, Some, None, Option, inl, inr}
+use Rattle.std.proofs.lemmas.Bool.Decides.{eqb_tells}
+use Rattle.std.specs.Prelude.{if◌then◌else◌, is_none, is_some, unwrap_or}
+use Rattle.vm_base.specs.declared.code.Code.TheVariants as code
+use Rattle.vm_base.specs.declared.entry.Entry.{Entry}
+use Rattle.vm_base.specs.declared.ids.TaskId.{TaskId}
+use Rattle.vm_base.specs.Entries.{entered, most_entries}
+use Rattle.vm_model.specs.declared.event.Event.{Event}
+use Rattle.vm_model.specs.declared.event.Event.TheVariants as event
+use Rattle.vm_model.specs.declared.command.Command.TheVariants as command
+use Rattle.vm_model.specs.declared.script.Header.{Header}
+use Rattle.vm_model.specs.Rows.{rows_map}
+use Rattle.vm_model.specs.Tasks.{entries_of, host_of}
+use Rattle.vm_model.specs.Waiting.{Access, waiting}
+use Rattle.vm_maps.specs.Maps.{ChangesOnly, Mapped, entries_in, rows_in}
+use Rattle.vm_shadow.specs.Chains.{ChainTable, region_at}
+use Rattle.vm_shadow.specs.declared.ids.Ids.{Ids}
+use Rattle.vm_shadow.specs.declared.region_row.RegionRow.{RegionRow}
+use Rattle.vm_kernel.specs.Begun.{Began, Starts}
+use Rattle.vm_kernel.specs.Counts.{count_by, count_on, most_tasks}
+use Rattle.vm_kernel.specs.Forking.{got}
+use Rattle.vm_kernel.specs.Matches.{AllInside, HasEntries, HasTasks, IsInside, host_for, the_host}
+use Rattle.vm_kernel.specs.Places.{has_region, region_pages}
+use Rattle.vm_kernel.specs.declared.parts.Parts.{Parts}
+use Rattle.vm_kernel.proofs.Counts.{by_changed, most_is}
+use Rattle.vm_kernel.proofs.Growing.{suffices}
+use Rattle.vm_kernel.proofs.Heads.{began_head, passed}
+
+-- a task with a host has its entries
+pub lives_of : (o : Option (List Entry)) (host : Option ℕ) → host ≡ host_for o → is_none host ≡ false → o ≡ Some (unwrap_or o [])
+lives_of None host is none = absurd (let bad : true ≡ false = sym (ap is_none is) ∙ none in cc)
+lives_of (Some rows) host is none = refl
+
+-- a host that isn't told is that of no task
+pub free_task : (o : Option (List Entry)) (host : Option ℕ) → host ≡ host_for o → is_some host ≡ false → o ≡ None
+free_task None host is none = refl
+free_task (Some rows) host is none = absurd (let bad : true ≡ false = sym (ap is_some is) ∙ none in cc)
+
+none_anew : (b : Bool) (o : Option Access) → o ≡ None → (if b then None else o) ≡ None
+none_anew true o none = refl
+none_anew false o none = none
+
+-- a task has no entries yet
+pub tasks_made : (size : ℕ) (maps new : Mapped) (past : List Event) (task : TaskId) → HasTasks size maps (λ t. host_of t past) (λ t. entries_of size t past) (λ t. waiting t past) → ChangesOnly maps new task.0 (Some [])
+    → HasTasks size new (λ t. host_of t (event.TaskMade task the_host ∷ past)) (λ t. entries_of size t (event.TaskMade task the_host ∷ past)) (λ t. waiting t (event.TaskMade task the_host ∷ past))
+tasks_made size maps new past task has changes =
+    record {
+      sized = changes.size ∙ has.sized;
+      hosts = λ t. elim (eqb_tells task.0 t) [
+        | inl same ↦ rw (same.0, ← same.1, changes.changed) refl
+        | inr apart ↦ rw (apart.0, changes.others t (λ e. apart.1 (sym e))) (has.hosts t)
+      ];
+      rows = λ t. elim (eqb_tells task.0 t) [
+        | inl same ↦ rw (same.0, ← same.1, changes.changed) refl
+        | inr apart ↦ rw (apart.0, changes.others t (λ e. apart.1 (sym e))) (has.rows t)
+      ];
+      none = λ t. none_anew (task.0 == t) (waiting t past) (has.none t);
+    }
+
+-- a living task has an entry more
+pub tasks_entered : (size : ℕ) (maps new : Mapped) (past : List Event) (task : TaskId) (entry : Entry) → HasTasks size maps (λ t. host_of t past) (λ t. entries_of size t past) (λ t. waiting t past)
+    → ChangesOnly maps new task.0 (Some (entered entry (rows_in task.0 maps))) → entries_in task.0 maps ≡ Some (rows_in task.0 maps)
+    → HasTasks size new (λ t. host_of t (got task entry ∷ past)) (λ t. entries_of size t (got task entry ∷ past)) (λ t. waiting t (got task entry ∷ past))
+tasks_entered size maps new past task entry has changes lives =
+    record {
+      sized = changes.size ∙ has.sized;
+      hosts = λ t. elim (eqb_tells task.0 t) [
+        | inl same ↦ subst (λ (z : ℕ). host_of z past ≡ host_for (entries_in z new)) same.1 (rw changes.changed (has.hosts task.0 ∙ ap host_for lives))
+        | inr apart ↦ rw (changes.others t (λ e. apart.1 (sym e))) (has.hosts t)
+      ];
+      rows = λ t. elim (eqb_tells task.0 t) [
+        | inl same ↦ rw same.0 (subst (λ (z : ℕ). entered entry (entries_of size z past) ≡ rows_in z new) same.1 (rw (changes.changed, has.rows task.0) refl))
+        | inr apart ↦ rw (apart.0, changes.others t (λ e. apart.1 (sym e))) (has.rows t)
+      ];
+      none = has.none;
+    }
+
+-- the regions that are there stay, with their pages
+pub record Keeps (old new : ChainTable) : Type 0 where
+  pub there : (r : ℕ) → has_region old r ≡ true → has_region new r ≡ true
+  pub pages : (r : ℕ) → has_region old r ≡ true → region_pages new r ≡ region_pages old r
+
+pub keeps_all : (chains : ChainTable) → Keeps chains chains
+keeps_all chains = record { there = λ r is. is; pages = λ r is. refl }
+
+pub inside_kept : (size : ℕ) (old new : ChainTable) (row : Entry) → Keeps old new → IsInside size old row → IsInside size new row
+inside_kept size old new row keeps is = record { region = keeps.there row.region.0 is.region; some = is.some; below = is.below; inside = rw (keeps.pages row.region.0 is.region) is.inside }
+
+-- a task's entries are others now
+pub entries_changed : (size : ℕ) (maps new : Mapped) (old chains : ChainTable) (task : ℕ) (rows : List Entry) → HasEntries size maps old [] → Keeps old chains → ChangesOnly maps new task (Some rows) → task < most_tasks → AllInside size chains rows → length rows ≤ most_entries
+    → ((r : ℕ) (row : RegionRow) → region_at chains r ≡ Some row → row.entries + count_on r (rows_in task maps) ≡ count_by most_tasks r maps + count_on r rows) → HasEntries size new chains []
+entries_changed size maps new old chains task rows has keeps changes below all short counts =
+    record {
+      inside = λ t. elim (eqb_tells task t) [
+        | inl same ↦ subst (λ (z : ℕ). AllInside size chains (rows_in z new)) same.1 (subst (AllInside size chains) (sym own) all)
+        | inr apart ↦ subst (AllInside size chains) (sym (others t apart.1)) (rows_map (IsInside size old) (IsInside size chains) (λ row is. inside_kept size old chains row keeps is) (rows_in t maps) (has.inside t))
+      ];
+      known = tt;
+      most = λ t high. changes.others t (λ e. omega (arith, e)) ∙ has.most t high;
+      few = λ t. elim (eqb_tells task t) [
+        | inl same ↦ subst (λ (z : ℕ). length (rows_in z new) ≤ most_entries) same.1 (subst (λ (z : List Entry). length z ≤ most_entries) (sym own) short)
+        | inr apart ↦ subst (λ (z : List Entry). length z ≤ most_entries) (sym (others t apart.1)) (has.few t)
+      ];
+      counts = λ r row found. omega (arith, counts r row found, by_changed most_tasks r task maps new (Some rows) below changes);
+    }
+  where
+    own : rows_in task new ≡ rows
+    own = ap (λ z. unwrap_or z []) changes.changed
+
+    others : (t : ℕ) → (task ≡ t → ⊥) → rows_in t new ≡ rows_in t maps
+    others t apart = ap (λ z. unwrap_or z []) (changes.others t (λ e. apart (sym e)))
+
+pub length_entered : (entry : Entry) (rows : List Entry) → length (entered entry rows) ≡ length rows + 1
+length_entered entry [] = refl
+length_entered entry (first ∷ rows) = by_test (nat_lt entry.address first.address) (length_entered entry rows)
+  where
+    by_test : (b : Bool) → length (entered entry rows) ≡ length rows + 1 → length (if b then entry ∷ first ∷ rows else first ∷ entered entry rows) ≡ suc (length rows) + 1
+    by_test true later = omega arith
+    by_test false later = omega arith
+
+-- a task that can be made isn't there yet
+pub can_make : (header : Header) (task : TaskId) (past : List Event) (k : Parts) (ids : Ids) (events : List Event) → Starts header (command.Task task the_host) past k ids events → entries_in task.0 k.maps ≡ None
+can_make header task past k ids events s = free_task (entries_in task.0 k.maps) (host_of task.0 past) (s.rests.matches.tasks.hosts task.0) (passed (is_some (host_of task.0 past)) code.NameTaken None s.accepted).0
+
+-- a new task has no entries among the counts
+pub entries_made : (size : ℕ) (maps new : Mapped) (chains : ChainTable) (task : ℕ) → HasEntries size maps chains [] → ChangesOnly maps new task (Some []) → entries_in task maps ≡ None → task < 1024 → HasEntries size new chains []
+entries_made size maps new chains task has changes free below =
+    entries_changed size maps new chains chains task [] has (keeps_all chains) changes (rw most_is below) tt (omega arith)
+    (λ r row found. omega (arith, has.counts r row found, ap (λ z. count_on r (unwrap_or z [])) free))
+
+pub began_task : (header : Header) (task : TaskId) (past : List Event) (k : Parts) (ids : Ids) (before after : List Event) (maps : Mapped) → Starts header (command.Task task the_host) past k ids before
+    → ChangesOnly k.maps maps task.0 (Some []) → after ≡ event.TaskMade task k.host ∷ before → Began header (command.Task task the_host) past (record k { maps = maps }) ids after
+began_task header task past k ids before after maps s changes told =
+    let m = s.rests.matches in
+    let e : Event = event.TaskMade task the_host in
+    let log : after ≡ e ∷ [] = told ∙ (ap (λ z. event.TaskMade task z ∷ before) m.host ∙ ap (λ z. e ∷ z) s.nothing) in
+    subst (λ (z : List Event). Began header (command.Task task the_host) past (record k { maps = maps }) ids z) (sym log)
+    (began_head header (command.Task task the_host) past (record k { maps = maps }) ids (e ∷ []) (e ∷ []) refl refl
+    (record { own_bytes = (tt, tt); flat_bytes = (tt, tt); frames = (suffices header k.frames past m.frames, tt); inner = (tt, tt) })
+    tt
+    (record {
+      matches =
+          record {
+            plain = m.plain;
+            size = m.size;
+            host = m.host;
+            fits = m.fits;
+            tasks = tasks_made header.size k.maps maps past task m.tasks changes;
+            regions = m.regions;
+            entries = entries_made header.size k.maps maps k.chains task.0 m.entries changes (can_make header task past k ids before s) s.range.0;
+            pages = m.pages;
+            flat = m.flat;
+            stores = m.stores;
+            frames = m.frames;
+          };
+      used = s.rests.used;
+    }))

@@ -1,0 +1,4 @@
+use Rattle.vm_kernel.proofs.parts.Parts.exit.Given as goal
+
+abbrev pub ghost-sweep : goal.ghost-sweep
+ghost-sweep g a = g.given

@@ -1,0 +1,6 @@
+use Rattle.vm_maps.specs.Maps.{rows_in}
+use Rattle.vm_kernel.specs.Forking.{HasForked}
+use Rattle.vm_kernel.proofs.parts.Parts.fork.Given as goal
+
+abbrev pub invariant-all : goal.invariant-all
+invariant-all g l = HasForked g.given.header l.task l.child (rows_in l.task.0 l.fn.self.maps) l.i g.given.past l.self l.ids l.log.items

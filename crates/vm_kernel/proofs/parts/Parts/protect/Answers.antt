@@ -1,0 +1,47 @@
+use Rattle.std.proofs.Common.{◌≤◌, ap, sym, ◌∙◌, subst, arith, List, [], ◌∷◌}
+use Rattle.std.proofs.lemmas.List.{length-reverse}
+use Rattle.vm_base.specs.declared.entry.Entry.{Entry}
+use Rattle.vm_model.specs.declared.event.Event.{Event}
+use Rattle.vm_model.specs.declared.event.Event.TheVariants as event
+use Rattle.vm_model.specs.declared.command.Command.TheVariants as command
+use Rattle.vm_maps.specs.Maps.{rows_in}
+use Rattle.vm_kernel.specs.Begun.{Began}
+use Rattle.vm_kernel.specs.Counts.{count_on}
+use Rattle.vm_kernel.specs.Places.{region_entries}
+use Rattle.vm_kernel.specs.Sweeping.{Lowered}
+use Rattle.vm_kernel.proofs.Changing.{began_protect, counted, entries_few, lives_as, lowered_few, protect_cuts, raise_there}
+use Rattle.vm_kernel.proofs.Growing.{on_ok}
+use Rattle.vm_kernel.proofs.parts.Parts.protect.Goals as goal
+
+pub lower-requires-clause-counted : goal.lower-requires-clause-counted
+lower-requires-clause-counted g c =
+    let now = c.args.self.now in
+    let m = c.requires.rests.matches in
+    let live = lives_as c.args.task.0 now.maps _ c.entries.ensures.value in
+    λ r there. subst (λ (z : List Entry). count_on r z ≤ region_entries now.chains r) live.0 (counted g.given.header.size c.args.task.0 now.maps now.chains [] m.entries live.1 r there)
+
+pub raise-requires-clause-there : goal.raise-requires-clause-there
+raise-requires-clause-there g c =
+    let now = c.args.self.now in
+    let m = c.requires.rests.matches in
+    let live = lives_as c.args.task.0 now.maps _ c.entries.ensures.value in
+    let cuts = protect_cuts g.given.header.size c.args.address c.args.bytes c.args.task.0 c.args.prot now.maps c.protect.new.self now.chains c.protection.result _ m.entries m.tasks.sized c.protection.ensures c.in_ok-protect.ensures.changes c.entries-2.ensures.value c.entries-2.ensures.sound.few in
+    raise_there g.given.header.size now.chains c.lower.new.chains (rows_in c.args.task.0 now.maps) _ [] cuts (subst (λ (z : List Entry). Lowered z now.chains c.lower.new.chains) (sym live.0) c.lower.ensures)
+
+pub raise-requires-clause-few : goal.raise-requires-clause-few
+raise-requires-clause-few g c =
+    let now = c.args.self.now in
+    λ r.
+    let few = lowered_few _ now.chains c.lower.new.chains c.lower.ensures (entries_few g.given.header.size now.maps now.chains c.requires.rests.matches.entries) r in
+    let all = length-reverse c.entries-2.result.now.items in
+    let made = c.entries-2.ensures.sound.few in
+    omega arith
+
+pub returns : goal.returns
+returns g c =
+    on_ok c.push.result _ _
+    (λ is. subst (λ (z : List Event). Began g.given.header (command.Protect c.args.task c.args.address c.args.bytes c.args.prot) g.given.past (record c.args.self.now { maps = c.protect.new.self; chains = c.raise.new.chains }) c.args.ids.now z)
+    (sym (is ∙ ap (λ z. event.Protected c.args.task c.args.address c.args.bytes c.args.prot ∷ z) c.requires.nothing))
+    (began_protect g.given.header c.args.task c.args.address c.args.bytes c.args.prot g.given.past _ c.args.self.now c.args.ids.now c.protect.new.self c.lower.new.chains c.raise.new.chains c.protection.result _ _
+    c.requires c.protection.ensures c.in_ok-protect.ensures.changes c.entries.ensures.value c.entries-2.ensures.value c.entries-2.ensures.sound.few c.lower.ensures c.raise.ensures))
+    c.push.ensures.ok

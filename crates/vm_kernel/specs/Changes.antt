@@ -1,0 +1,139 @@
+-- What the steps of a kernel's calls do to its parts.
+use Rattle.std.specs.Prelude.{ℕ, suc, ◌≡◌, ◌+◌, ◌<◌, ◌==◌, true, false, List, ◌∷◌, replicate, Some, None, if◌then◌else◌}
+use Rattle.vm_base.specs.declared.entry.Entry.{Entry}
+use Rattle.vm_base.specs.declared.ids.Access.{Access}
+use Rattle.vm_base.specs.declared.ids.FrameNo.{FrameNo}
+use Rattle.vm_base.specs.declared.ids.Inherit.{Inherit}
+use Rattle.vm_base.specs.declared.ids.Inherit.TheVariants.{Copy, Never}
+use Rattle.vm_base.specs.declared.ids.ObjectId.{ObjectId}
+use Rattle.vm_base.specs.declared.ids.ObjectKind.TheVariants.{Temp}
+use Rattle.vm_base.specs.declared.ids.PageKey.{PageKey}
+use Rattle.vm_base.specs.declared.ids.Prot.{Prot}
+use Rattle.vm_base.specs.declared.ids.RegionId.{RegionId}
+use Rattle.vm_base.specs.Entries.{allows, entry_at}
+use Rattle.vm_model.specs.declared.event.Event.{Event}
+use Rattle.vm_model.specs.declared.event.Event.TheVariants as event
+use Rattle.vm_frames.specs.Frames.{FrameTable, claimed, frame_count, is_claimed, page_in}
+use Rattle.vm_maps.specs.Maps.{Mapped, entries_in, rows_in}
+use Rattle.vm_maps.specs.declared.change.MapChange.{MapChange}
+use Rattle.vm_maps.specs.declared.change.MapKind.TheVariants as kind
+use Rattle.vm_objects.specs.Objects.{PutsObject, SameMarks}
+use Rattle.vm_objects.specs.declared.row.PagerState.TheVariants.{Without}
+use Rattle.vm_resident.specs.Resident.{PutsRow, row_at}
+use Rattle.vm_resident.specs.declared.page_row.PageRow.{PageRow}
+use Rattle.vm_shadow.specs.Chains.{PutsRegion}
+use Rattle.vm_kernel.specs.Fits.{Fits}
+use Rattle.vm_kernel.specs.Places.{fresh_row}
+use Rattle.vm_kernel.specs.declared.parts.Parts.{Parts}
+
+-- tasks, regions and objects are as they were
+pub record SamePlan (old new : Parts) : Type 0 where
+  pub host : new.host ≡ old.host
+  pub size : new.size ≡ old.size
+  pub maps : new.maps ≡ old.maps
+  pub chains : new.chains ≡ old.chains
+  pub objects : new.objects ≡ old.objects
+
+-- one frame has these bytes now, and each other those that it had
+pub record PutsPage (f : ℕ) (bytes : List ℕ) (old new : FrameTable) : Type 0 where
+  pub at : (g : ℕ) → page_in new g ≡ (if f == g then bytes else page_in old g)
+
+-- a page of zeros has come into a frame that was free
+pub record Brought (key : PageKey) (frame : FrameNo) (old new : Parts) : Type 0 where
+  pub plan : SamePlan old new
+  pub fits : Fits new
+  pub absent : row_at old.resident key.object.0 key.page.0 ≡ None
+  pub row : PutsRow key.object.0 key.page.0 (Some (fresh_row frame)) old.resident new.resident
+  pub page : PutsPage frame.0 (replicate old.size 0) old.frames new.frames
+  pub fresh : is_claimed old.frames frame.0 ≡ false
+  pub claims : claimed new.frames ≡ suc (claimed old.frames)
+  pub wired : new.frames.wired ≡ old.frames.wired
+  pub count : frame_count new.frames ≡ frame_count old.frames
+  pub room : claimed new.frames + new.frames.wired < suc (frame_count new.frames)
+
+-- the frame of a page that is here
+pub record IsHere (key : PageKey) (frame : FrameNo) (k : Parts) : Type 0 where
+  pub row : PageRow
+  pub found : row_at k.resident key.object.0 key.page.0 ≡ Some row
+  pub is : row.frame ≡ frame
+
+abbrev pub zeroed : PageKey → Parts → Event
+zeroed key k = event.Zeroed k.host key.object key.page
+
+-- a page is here: it was, or it has come, and that was told
+pub data Faulted (key : PageKey) (frame : FrameNo) (old new : Parts) (before after : List Event) : Type 0 where
+  WasHere : IsHere key frame old → new ≡ old → after ≡ before → Faulted key frame old new before after
+  Came : Brought key frame old new → after ≡ zeroed key old ∷ before → Faulted key frame old new before after
+
+-- the number of the access stands in the page, which is changed now
+pub record Wrote (key : PageKey) (frame : FrameNo) (bytes : List ℕ) (old new : Parts) : Type 0 where
+  pub plan : SamePlan old new
+  pub fits : Fits new
+  pub row : PageRow
+  pub found : row_at old.resident key.object.0 key.page.0 ≡ Some row
+  pub is : row.frame ≡ frame
+  pub put : PutsRow key.object.0 key.page.0 (Some (record row { dirty = true })) old.resident new.resident
+  pub page : PutsPage frame.0 bytes old.frames new.frames
+  pub claims : new.frames.claims ≡ old.frames.claims
+  pub wired : new.frames.wired ≡ old.frames.wired
+
+-- a page has gone, and that was told
+pub record Lost (key : PageKey) (old new : Parts) (before after : List Event) : Type 0 where
+  pub plan : SamePlan old new
+  pub fits : Fits new
+  pub row : PageRow
+  pub found : row_at old.resident key.object.0 key.page.0 ≡ Some row
+  pub put : PutsRow key.object.0 key.page.0 None old.resident new.resident
+  pub pages : new.frames.pages ≡ old.frames.pages
+  pub claims : claimed old.frames ≡ suc (claimed new.frames)
+  pub wired : new.frames.wired ≡ old.frames.wired
+  pub count : frame_count new.frames ≡ frame_count old.frames
+  pub told : after ≡ event.Dropped old.host key.object key.page ∷ before
+
+-- some page has gone
+pub record Reclaimed (old new : Parts) (before after : List Event) : Type 0 where
+  pub key : PageKey
+  pub lost : Lost key old new before after
+
+-- a region was made with one entry, over a new object
+pub record MadeRange (region : RegionId) (object : ObjectId) (pages : ℕ) (old new : Parts) : Type 0 where
+  pub host : new.host ≡ old.host
+  pub size : new.size ≡ old.size
+  pub frames : new.frames ≡ old.frames
+  pub resident : new.resident ≡ old.resident
+  pub queues : new.queues ≡ old.queues
+  pub maps : new.maps ≡ old.maps
+  pub region_row : PutsRegion region.0 (Some (record { top = object; shift = 0; pages = pages; marked = false; entries = 1 })) old.chains new.chains
+  pub object_row : PutsObject object.0 (Some (record { kind = Temp; pages = pages; state = Without; control = 0; live = false; references = 1 })) old.objects new.objects
+  pub marks : SameMarks old.objects new.objects
+
+-- a task has an entry that holds the address, and allows the access
+pub record IsAllowed (maps : Mapped) (task address : ℕ) (need : Access) : Type 0 where
+  pub entry : Entry
+  pub lives : entries_in task maps ≡ Some (rows_in task maps)
+  pub found : entry_at address (rows_in task maps) ≡ Some entry
+  pub allowed : allows need entry.prot ≡ true
+
+-- an entry on the whole of a region: readable, writable, and copied by a fork
+abbrev pub whole_entry : ℕ → ℕ → RegionId → Entry
+whole_entry address bytes region = record { address = address; bytes = bytes; region = region; offset = 0; prot = record { read = true; write = true }; inherit = Copy }
+
+-- that an entry is entered
+abbrev pub entering : Entry → MapChange
+entering row = record { kind = kind.Enter; address = row.address; bytes = row.bytes; entry = Some row; prot = row.prot; inherit = row.inherit }
+
+-- the range gets some entry
+abbrev pub enter : ℕ → ℕ → MapChange
+enter address bytes = record { kind = kind.Enter; address = address; bytes = bytes; entry = None; prot = record { read = false; write = false }; inherit = Never }
+
+-- the range is unmapped
+abbrev pub removal : ℕ → ℕ → MapChange
+removal address bytes = record { kind = kind.Remove; address = address; bytes = bytes; entry = None; prot = record { read = false; write = false }; inherit = Never }
+
+-- the range gets a protection
+abbrev pub protection : ℕ → ℕ → Prot → MapChange
+protection address bytes prot = record { kind = kind.Protect; address = address; bytes = bytes; entry = None; prot = prot; inherit = Never }
+
+-- the range gets an inheritance
+abbrev pub inheritance : ℕ → ℕ → Inherit → MapChange
+inheritance address bytes inherit = record { kind = kind.Inherit; address = address; bytes = bytes; entry = None; prot = record { read = false; write = false }; inherit = inherit }

@@ -1,0 +1,9 @@
+pub mod Begun
+pub mod Built
+pub mod Counts
+pub mod Changes
+pub mod Fits
+pub mod Forking
+pub mod Matches
+pub mod Places
+pub mod Sweeping

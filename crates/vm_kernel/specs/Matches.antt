@@ -1,0 +1,144 @@
+-- A kernel stands for what a history says of its host: its parts are the facts of that history.
+use Rattle.std.specs.Prelude.{ℕ, ◌≡◌, ◌+◌, ◌<◌, ◌≤◌, ◌^◌, Bool, true, false, List, [], ◌∷◌, length, replicate, Option, Some, None, slice_get, reverse}
+use Rattle.vm_base.specs.declared.entry.Entry.{Entry}
+use Rattle.vm_base.specs.declared.ids.HostId.{HostId}
+use Rattle.vm_base.specs.declared.ids.ObjectKind.TheVariants.{Temp}
+use Rattle.vm_base.specs.Entries.{most_entries}
+use Rattle.vm_base.specs.Pages.{IsPageSize}
+use Rattle.vm_model.specs.declared.event.Event.{Event}
+use Rattle.vm_model.specs.declared.script.Header.{Header}
+use Rattle.vm_model.specs.Flat.{flat_page}
+use Rattle.vm_model.specs.Frames.{frames_held, frames_wired}
+use Rattle.vm_model.specs.Local.{Local, local}
+use Rattle.vm_model.specs.Regions.{Backing, Region, backing_of, next_object, next_region, region_of}
+use Rattle.vm_model.specs.Rows.{AllRows, Inside}
+use Rattle.vm_model.specs.Tasks.{entries_of, host_of}
+use Rattle.vm_model.specs.Waiting.{Access, waiting}
+use Rattle.vm_frames.specs.Frames.{FrameTable, claimed, frame_count, page_in}
+use Rattle.vm_maps.specs.Maps.{Mapped, entries_in, rows_in}
+use Rattle.vm_objects.specs.Objects.{ObjectTable, absent_at, object_at}
+use Rattle.vm_objects.specs.declared.row.ObjectRow.{ObjectRow}
+use Rattle.vm_objects.specs.declared.row.PagerState.TheVariants.{Without}
+use Rattle.vm_resident.specs.Resident.{ResidentTable, row_at}
+use Rattle.vm_resident.specs.declared.page_row.PageRow.{PageRow}
+use Rattle.vm_shadow.specs.Chains.{ChainTable, region_at}
+use Rattle.vm_shadow.specs.declared.ids.Ids.{Ids}
+use Rattle.vm_shadow.specs.declared.region_row.RegionRow.{RegionRow}
+use Rattle.vm_kernel.specs.Built.{has_stored}
+use Rattle.vm_kernel.specs.Counts.{count_by, count_on, most_tasks}
+use Rattle.vm_kernel.specs.Fits.{Fits}
+use Rattle.vm_kernel.specs.Places.{bytes_behind, has_region, place_of, region_entries, region_pages, shown}
+use Rattle.vm_kernel.specs.declared.parts.Parts.{Parts}
+
+-- all tasks live on host 0
+abbrev pub the_host : HostId
+the_host = record { 0 = 0 }
+
+-- the header of a script of temporary memory: one host, and no objects
+pub record IsPlain (header : Header) : Type 0 where
+  pub size : IsPageSize header.size
+  pub frames : ℕ
+  pub hosts : header.frames.items ≡ frames ∷ []
+  pub few : frames < 2 ^ 32
+  pub objects : header.objects.items ≡ []
+
+-- the numbers of the first region and object, where none is declared
+abbrev pub first_ids : Ids
+first_ids = record { next_object = 0; next_region = 0; marks = 0 }
+
+-- where a task with these entries lives
+abbrev pub host_for : Option (List Entry) → Option ℕ
+host_for None = None
+host_for (Some rows) = Some 0
+
+-- the tasks and their entries; none of them waits
+pub record HasTasks (size : ℕ) (maps : Mapped) (host_at : ℕ → Option ℕ) (rows_at : ℕ → List Entry) (waiting_at : ℕ → Option Access) : Type 0 where
+  pub sized : maps.size ≡ size
+  pub hosts : (task : ℕ) → host_at task ≡ host_for (entries_in task maps)
+  pub rows : (task : ℕ) → rows_at task ≡ rows_in task maps
+  pub none : (task : ℕ) → waiting_at task ≡ None
+
+-- a region is that of the object with its number, from its page 0 on
+pub record IsOwn (region : Region) (number : ℕ) : Type 0 where
+  pub top : region.top ≡ number
+  pub shift : region.shift ≡ 0
+
+-- an object of temporary memory without a pager, under one region
+abbrev pub object_under : RegionRow → ObjectRow
+object_under row = record { kind = Temp; pages = row.pages; state = Without; control = 0; live = false; references = 1 }
+
+-- the regions and objects, and the next numbers of both; each region is over an object of its own, so no object has another under it
+pub record HasRegions (chains : ChainTable) (objects : ObjectTable) (ids : Ids) (region_from : ℕ → Region) (backing_from : ℕ → Backing) (regions_made objects_made : ℕ) : Type 0 where
+  pub region : ids.next_region ≡ regions_made
+  pub object : ids.next_object ≡ objects_made
+  pub equal : objects_made ≡ regions_made
+  pub marks : ids.marks ≡ 0
+  pub rows : (r : ℕ) (row : RegionRow) → region_at chains r ≡ Some row → region_from r ≡ record { mark = row.marked; top = row.top.0; shift = row.shift; pages = row.pages }
+  pub tops : (r : ℕ) → IsOwn (region_from r) r
+  pub unbacked : (o : ℕ) → (backing_from o).backed ≡ false
+  pub unmade : (r : ℕ) → regions_made ≤ r → region_at chains r ≡ None
+  pub unknown : (o : ℕ) → objects_made ≤ o → object_at objects o ≡ None
+  pub under : (r : ℕ) (row : RegionRow) → region_at chains r ≡ Some row → object_at objects r ≡ Some (object_under row)
+
+-- an entry lies within its region
+pub record IsInside (size : ℕ) (chains : ChainTable) (row : Entry) : Type 0 where
+  pub region : has_region chains row.region.0 ≡ true
+  pub some : 0 < row.bytes
+  pub below : row.address + row.bytes ≤ 2 ^ 32
+  pub inside : Inside size (region_pages chains row.region.0) row
+
+abbrev pub AllInside : ℕ → ChainTable → List Entry → Type 0
+AllInside size chains rows = AllRows (IsInside size chains) rows
+
+-- the entries lie within their regions, and each region counts its own, and some that have just gone
+pub record HasEntries (size : ℕ) (maps : Mapped) (chains : ChainTable) (lost : List Entry) : Type 0 where
+  pub inside : (task : ℕ) → AllInside size chains (rows_in task maps)
+  pub known : AllRows (λ row. has_region chains row.region.0 ≡ true) lost
+  pub most : (task : ℕ) → most_tasks ≤ task → entries_in task maps ≡ None
+  pub few : (task : ℕ) → length (rows_in task maps) ≤ most_entries
+  pub counts : (r : ℕ) (row : RegionRow) → region_at chains r ≡ Some row → row.entries ≡ count_by most_tasks r maps + count_on r lost
+
+-- the pages that are here
+pub record HasPages (frames : FrameTable) (resident : ResidentTable) (objects : ObjectTable) (chains : ChainTable) (local_at : ℕ → ℕ → Local) : Type 0 where
+  pub shown : (o p : ℕ) → local_at o p ≡ shown frames (row_at resident o p) (absent_at objects o p)
+  pub live : (o p : ℕ) (row : PageRow) → row_at resident o p ≡ Some row → has_region chains o ≡ true
+
+-- the flat map's bytes are those of the pages that are here, and zeros elsewhere, where entries lead; a page that was not
+-- changed has zeros
+pub record HasFlat (size : ℕ) (frames : FrameTable) (resident : ResidentTable) (chains : ChainTable) (flat_at : ℕ → ℕ → List ℕ) : Type 0 where
+  pub flat : (r p : ℕ) → 0 < region_entries chains r → flat_at r p ≡ bytes_behind size frames (row_at resident r p)
+  pub clean : (o p : ℕ) (row : PageRow) → row_at resident o p ≡ Some row → row.dirty ≡ false → page_in frames row.frame.0 ≡ replicate size 0
+
+-- while no store has ended no page was changed
+pub record HasStores (resident : ResidentTable) (stored : Bool) : Type 0 where
+  pub clean : stored ≡ false → (o p : ℕ) (row : PageRow) → row_at resident o p ≡ Some row → row.dirty ≡ false
+
+-- the frames in use, and those wired
+pub record HasFrames (most : Option ℕ) (frames : FrameTable) (held_now wired_now : ℕ) : Type 0 where
+  pub total : most ≡ Some (frame_count frames)
+  pub held : held_now ≡ claimed frames
+  pub wired : wired_now ≡ frames.wired
+  pub fits : claimed frames + frames.wired ≤ frame_count frames
+
+-- the kernel of host 0 after a history, also inside a step; the counts of entries include some that have just gone
+pub record Matches (header : Header) (k : Parts) (ids : Ids) (gone : List Entry) (past : List Event) : Type 0 where
+  pub plain : IsPlain header
+  pub size : k.size ≡ header.size
+  pub host : k.host ≡ the_host
+  pub fits : Fits k
+  pub tasks : HasTasks header.size k.maps (λ task. host_of task past) (λ task. entries_of header.size task past) (λ task. waiting task past)
+  pub regions : HasRegions k.chains k.objects ids (λ r. region_of header r past) (λ o. backing_of header o past) (next_region header past) (next_object header past)
+  pub entries : HasEntries header.size k.maps k.chains gone
+  pub pages : HasPages k.frames k.resident k.objects k.chains (λ o p. local header.size 0 (place_of o p) past)
+  pub flat : HasFlat header.size k.frames k.resident k.chains (λ r p. flat_page header.size r p past)
+  pub stores : HasStores k.resident (has_stored past)
+  pub frames : HasFrames (slice_get (reverse header.frames.items) 0) k.frames (frames_held 0 past) (frames_wired 0 past)
+
+-- each region has an entry
+abbrev pub AllUsed : ChainTable → Type 0
+AllUsed chains = (r : ℕ) (row : RegionRow) → region_at chains r ≡ Some row → 0 < row.entries
+
+-- the kernel at the end of a step
+pub record Rests (header : Header) (k : Parts) (ids : Ids) (past : List Event) : Type 0 where
+  pub matches : Matches header k ids [] past
+  pub used : AllUsed k.chains

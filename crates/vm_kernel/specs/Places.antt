@@ -1,0 +1,70 @@
+-- What a host has of the pages of objects, by the rows and frames that its kernel keeps.
+use Rattle.std.specs.Prelude.{ℕ, ◌+◌, Bool, true, false, List, Option, Some, None, if◌then◌else◌, is_some, not, replicate}
+use Rattle.vm_base.specs.declared.ids.Lock.{Lock}
+use Rattle.vm_base.specs.declared.ids.FrameNo.{FrameNo}
+use Rattle.vm_model.specs.Local.{Local, Place, away}
+use Rattle.vm_frames.specs.Frames.{FrameTable, page_in}
+use Rattle.vm_objects.specs.Objects.{ObjectTable, object_at}
+use Rattle.vm_objects.specs.declared.row.ObjectRow.{ObjectRow}
+use Rattle.vm_resident.specs.declared.page_row.PageRow.{PageRow}
+use Rattle.vm_shadow.specs.Chains.{ChainTable, region_at}
+use Rattle.vm_shadow.specs.declared.region_row.RegionRow.{RegionRow}
+
+abbrev pub place_of : ℕ → ℕ → Place
+place_of object page = record { object = object; page = page }
+
+abbrev pub unlocked : Lock
+unlocked = record { read = false; write = false }
+
+abbrev pub lock_number : Lock → ℕ
+lock_number lock = (if lock.read then 1 else 0) + (if lock.write then 2 else 0)
+
+-- what the host has of a page that has this row, or none, and whether the pager is known not to have it
+abbrev pub shown : FrameTable → Option PageRow → Bool → Local
+shown frames None lacked = record away { absent = lacked }
+shown frames (Some row) lacked =
+    record {
+      here = row.here;
+      bytes = page_in frames row.frame.0;
+      lock = lock_number row.lock;
+      dirty = row.dirty;
+      precious = row.precious;
+      asked = not row.here;
+      unlocking = row.unlock_sent;
+      absent = lacked;
+    }
+
+-- the row of a page that has come as zeros
+abbrev pub fresh_row : FrameNo → PageRow
+fresh_row frame = record { frame = frame; lock = unlocked; dirty = false; precious = false; here = true; unlock_sent = false }
+
+-- the bytes that are behind a page: zeros where it isn't here
+abbrev pub bytes_behind : ℕ → FrameTable → Option PageRow → List ℕ
+bytes_behind size frames None = replicate size 0
+bytes_behind size frames (Some row) = page_in frames row.frame.0
+
+abbrev pub pages_kept : Option ObjectRow → ℕ
+pages_kept None = 0
+pages_kept (Some row) = row.pages
+
+-- the pages of an object, none where it isn't known
+abbrev pub object_pages : ObjectTable → ℕ → ℕ
+object_pages objects o = pages_kept (object_at objects o)
+
+abbrev pub has_region : ChainTable → ℕ → Bool
+has_region chains r = is_some (region_at chains r)
+
+abbrev pub pages_in : Option RegionRow → ℕ
+pages_in None = 0
+pages_in (Some row) = row.pages
+
+abbrev pub region_pages : ChainTable → ℕ → ℕ
+region_pages chains r = pages_in (region_at chains r)
+
+abbrev pub entries_in_row : Option RegionRow → ℕ
+entries_in_row None = 0
+entries_in_row (Some row) = row.entries
+
+-- how many entries lead to a region, by its row
+abbrev pub region_entries : ChainTable → ℕ → ℕ
+region_entries chains r = entries_in_row (region_at chains r)

@@ -1,0 +1,150 @@
+// Tasks and ranges are made, and frames are wired.
+ghost use Rattle.std.specs.Prelude.{◌≡◌, ◌∷◌, OnOk, None};
+ghost use Rattle.vm_model.specs.declared.command.Command.TheVariants as command;
+ghost use Rattle.vm_kernel.specs.Begun.{Began, Given, Starts};
+ghost use Rattle.vm_kernel.specs.Changes.{MadeRange, entering, whole_entry};
+ghost use Rattle.vm_kernel.specs.Forking.{got};
+ghost use Rattle.vm_model.specs.declared.event.Event.TheVariants as event;
+ghost use Rattle.vm_objects.specs.Objects.{object_at};
+ghost use Rattle.vm_shadow.specs.Chains.{region_at};
+ghost use Rattle.vm_kernel.specs.Matches.{the_host};
+
+use crate::parts::Parts;
+use vm_base::{Entry, Inherit, NoMemory, ObjectId, ObjectKind, Prot, RegionId, TaskId};
+use vm_maps::{MapChange, MapKind};
+use vm_model::{Event, Events};
+use vm_shadow::{Ids, RegionRow};
+
+// An entry on the whole of a region: readable, writable, and copied by a fork.
+fn whole_entry(address: u64, bytes: u64, region: RegionId) -> Entry
+    ensures { result ≡ whole_entry address bytes region }
+{
+    Entry {
+        address,
+        bytes,
+        region,
+        offset: 0,
+        prot: Prot {
+            read: true,
+            write: true,
+        },
+        inherit: Inherit::Copy,
+    }
+}
+
+// That an entry is entered.
+pub fn entering(entry: Entry) -> MapChange
+    ensures { result ≡ entering entry }
+{
+    MapChange {
+        kind: MapKind::Enter,
+        address: entry.address,
+        bytes: entry.bytes,
+        entry: Some(entry),
+        prot: entry.prot,
+        inherit: entry.inherit,
+    }
+}
+
+// That a task got an entry.
+pub fn entered(task: TaskId, entry: Entry) -> Event
+    ensures { result ≡ got task entry }
+{
+    Event::Entered {
+        task,
+        address: entry.address,
+        bytes: entry.bytes,
+        region: entry.region,
+        offset: entry.offset,
+        prot: entry.prot,
+        inherit: entry.inherit,
+    }
+}
+
+impl Parts {
+    pub fn make_task(&mut self, ids: &Ids, task: TaskId, log: &mut Events) -> Result<(), NoMemory>
+        ghost given: { Given }
+        requires { Starts given.header (command.Task task the_host) given.past self.old ids.now log.old.items }
+        ensures { OnOk result (Began given.header (command.Task task the_host) given.past self.new ids.now log.new.items) }
+    {
+        self.maps.add_task(task)?;
+        log.push(Event::TaskMade {
+            task,
+            host: self.host,
+        })
+    }
+
+    pub fn allocate(
+        &mut self,
+        ids: &mut Ids,
+        task: TaskId,
+        address: u64,
+        bytes: u64,
+        log: &mut Events,
+    ) -> Result<(), NoMemory>
+        ghost given: { Given }
+        requires { Starts given.header (command.Allocate task address bytes) given.past self.old ids.old log.old.items }
+        ensures { OnOk result (Began given.header (command.Allocate task address bytes) given.past self.new ids.new log.new.items) }
+    {
+        let pages = (bytes / u64::from(self.size.bytes())) as u32;
+        let region = RegionId(ids.next_region);
+        let object = ObjectId(ids.next_object);
+        self.make_range(region, object, pages)?;
+        let entry = whole_entry(address, bytes, region);
+        self.maps.enter(task, &entering(entry))?;
+        ids.next_region += 1;
+        ids.next_object += 1;
+        log.push(Event::RegionMade {
+            region,
+            object,
+            pages,
+        })?;
+        log.push(entered(task, entry))
+    }
+
+    // Makes a region with one entry, over a new object.
+    fn make_range(&mut self, region: RegionId, object: ObjectId, pages: u32) -> Result<(), NoMemory>
+        requires absent { region_at self.old.chains region.0 ≡ None }
+        requires unknown { object_at self.old.objects object.0 ≡ None }
+        ensures { OnOk result (MadeRange region object pages self.old self.new) }
+    {
+        self.objects.make(object, ObjectKind::Temp, pages)?;
+        self.objects.refer(object);
+        let row = RegionRow {
+            top: object,
+            shift: 0,
+            pages,
+            marked: false,
+            entries: 1,
+        };
+        self.chains.make_region(region, row)
+    }
+
+    pub fn wire(&mut self, ids: &Ids, count: u32, log: &mut Events) -> Result<(), NoMemory>
+        ghost given: { Given }
+        requires { Starts given.header (command.Wire the_host count) given.past self.old ids.now log.old.items }
+        ensures { OnOk result (Began given.header (command.Wire the_host count) given.past self.new ids.now log.new.items) }
+    {
+        let _ = self.frames.wire(count);
+        self.tell_wired(log)
+    }
+
+    pub fn unwire(&mut self, ids: &Ids, count: u32, log: &mut Events) -> Result<(), NoMemory>
+        ghost given: { Given }
+        requires { Starts given.header (command.Unwire the_host count) given.past self.old ids.now log.old.items }
+        ensures { OnOk result (Began given.header (command.Unwire the_host count) given.past self.new ids.now log.new.items) }
+    {
+        let _ = self.frames.unwire(count);
+        self.tell_wired(log)
+    }
+
+    // Tells how many frames are wired now.
+    fn tell_wired(&self, log: &mut Events) -> Result<(), NoMemory>
+        ensures { OnOk result (log.new.items ≡ event.Wired self.now.host self.now.frames.wired ∷ log.old.items) }
+    {
+        log.push(Event::Wired {
+            host: self.host,
+            count: self.frames.wired(),
+        })
+    }
+}

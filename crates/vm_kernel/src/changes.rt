@@ -1,0 +1,165 @@
+// The commands that change a task's entries.
+ghost use Rattle.std.specs.Prelude.{◌≡◌, OnOk};
+ghost use Rattle.vm_model.specs.declared.command.Command.TheVariants as command;
+ghost use Rattle.vm_kernel.specs.Begun.{Began, Doing, Given, Starts};
+ghost use Rattle.vm_kernel.specs.Changes.{enter, inheritance, protection, removal};
+
+use crate::counting::{lower, raise};
+use crate::parts::Parts;
+use vm_base::{Inherit, NoMemory, Prot, TaskId};
+use vm_maps::{MapChange, MapKind};
+use vm_model::{Event, Events};
+use vm_shadow::Ids;
+
+const NO_ACCESS: Prot = Prot {
+    read: false,
+    write: false,
+};
+
+/// That the range gets some entry: what is asked before the entry is known.
+pub fn enter(address: u64, bytes: u64) -> MapChange
+    ensures { result ≡ enter address bytes }
+{
+    MapChange {
+        kind: MapKind::Enter,
+        address,
+        bytes,
+        entry: None,
+        prot: NO_ACCESS,
+        inherit: Inherit::Never,
+    }
+}
+
+/// That the range is unmapped.
+pub fn removal(address: u64, bytes: u64) -> MapChange
+    ensures { result ≡ removal address bytes }
+{
+    MapChange {
+        kind: MapKind::Remove,
+        address,
+        bytes,
+        entry: None,
+        prot: NO_ACCESS,
+        inherit: Inherit::Never,
+    }
+}
+
+/// That the range gets a protection.
+pub fn protection(address: u64, bytes: u64, prot: Prot) -> MapChange
+    ensures { result ≡ protection address bytes prot }
+{
+    MapChange {
+        kind: MapKind::Protect,
+        address,
+        bytes,
+        entry: None,
+        prot,
+        inherit: Inherit::Never,
+    }
+}
+
+/// That the range gets an inheritance.
+pub fn inheritance(address: u64, bytes: u64, inherit: Inherit) -> MapChange
+    ensures { result ≡ inheritance address bytes inherit }
+{
+    MapChange {
+        kind: MapKind::Inherit,
+        address,
+        bytes,
+        entry: None,
+        prot: NO_ACCESS,
+        inherit,
+    }
+}
+
+impl Parts {
+    // The task ends.
+    pub fn exit(&mut self, ids: &Ids, task: TaskId, log: &mut Events) -> Result<(), NoMemory>
+        ghost given: { Doing }
+        requires is { given.command ≡ command.Exit task }
+        requires starts { Starts given.header given.command given.past self.old ids.now log.old.items }
+        ensures { OnOk result (Began given.header given.command given.past self.new ids.now log.new.items) }
+    {
+        let gone = self.maps.end_task(task);
+        log.push(Event::TaskEnded { task })?;
+        self.sweep(ids, &gone, log)
+    }
+
+    // The range is unmapped.
+    pub fn deallocate(
+        &mut self,
+        ids: &Ids,
+        task: TaskId,
+        address: u64,
+        bytes: u64,
+        log: &mut Events,
+    ) -> Result<(), NoMemory>
+        ghost given: { Doing }
+        requires is { given.command ≡ command.Deallocate task address bytes }
+        requires starts { Starts given.header given.command given.past self.old ids.now log.old.items }
+        ensures { OnOk result (Began given.header given.command given.past self.new ids.now log.new.items) }
+    {
+        lower(&mut self.chains, self.maps.entries(task));
+        let gone = self.maps.remove(task, &removal(address, bytes))?;
+        raise(&mut self.chains, self.maps.entries(task));
+        raise(&mut self.chains, &gone);
+        log.push(Event::Removed {
+            task,
+            address,
+            bytes,
+        })?;
+        self.sweep(ids, &gone, log)
+    }
+
+    // The range gets a protection.
+    pub fn protect(
+        &mut self,
+        ids: &Ids,
+        task: TaskId,
+        address: u64,
+        bytes: u64,
+        prot: Prot,
+        log: &mut Events,
+    ) -> Result<(), NoMemory>
+        ghost given: { Given }
+        requires { Starts given.header (command.Protect task address bytes prot) given.past self.old ids.now log.old.items }
+        ensures { OnOk result (Began given.header (command.Protect task address bytes prot) given.past self.new ids.now log.new.items) }
+    {
+        lower(&mut self.chains, self.maps.entries(task));
+        let _ = self.maps.protect(task, &protection(address, bytes, prot))?;
+        raise(&mut self.chains, self.maps.entries(task));
+        log.push(Event::Protected {
+            task,
+            address,
+            bytes,
+            prot,
+        })
+    }
+
+    // The range gets an inheritance.
+    pub fn inherit(
+        &mut self,
+        ids: &Ids,
+        task: TaskId,
+        address: u64,
+        bytes: u64,
+        inherit: Inherit,
+        log: &mut Events,
+    ) -> Result<(), NoMemory>
+        ghost given: { Given }
+        requires { Starts given.header (command.Inherit task address bytes inherit) given.past self.old ids.now log.old.items }
+        ensures { OnOk result (Began given.header (command.Inherit task address bytes inherit) given.past self.new ids.now log.new.items) }
+    {
+        lower(&mut self.chains, self.maps.entries(task));
+        let _ = self
+            .maps
+            .inherit(task, &inheritance(address, bytes, inherit))?;
+        raise(&mut self.chains, self.maps.entries(task));
+        log.push(Event::Inherited {
+            task,
+            address,
+            bytes,
+            inherit,
+        })
+    }
+}

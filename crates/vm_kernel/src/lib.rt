@@ -1,0 +1,21 @@
+//! The kernel of one host: its tasks, regions, objects and pages, and what each command does to them.
+#![tactic(auto)]
+
+mod access;
+mod building;
+mod changes;
+mod counting;
+mod dropping;
+mod forking;
+mod framing;
+mod kernel;
+mod paging;
+mod parts;
+mod running;
+mod sweeping;
+
+pub use changes::{enter, inheritance, protection, removal};
+pub use kernel::Kernel;
+
+#[cfg(test)]
+mod tests;

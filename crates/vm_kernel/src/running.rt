@@ -1,0 +1,67 @@
+// The commands of a host.
+ghost use Rattle.std.specs.Prelude.{◌≡◌, true, OnOk};
+ghost use Rattle.vm_kernel.specs.Begun.{Began, Given, Starts};
+ghost use Rattle.vm_kernel.specs.Built.{is_built};
+
+use crate::parts::Parts;
+use vm_base::NoMemory;
+use vm_model::{Command, Events};
+use vm_shadow::Ids;
+
+impl Parts {
+    // Runs one command.
+    pub fn run(
+        &mut self,
+        command: &Command,
+        ids: &mut Ids,
+        log: &mut Events,
+    ) -> Result<(), NoMemory>
+        ghost given: { Given }
+        requires starts { Starts given.header command.now given.past self.old ids.old log.old.items }
+        requires built { is_built command.now ≡ true }
+        ensures { OnOk result (Began given.header command.now given.past self.new ids.new log.new.items) }
+    {
+        match command {
+            Command::Task { task, .. } => self.make_task(ids, *task, log),
+            Command::Fork { task, child } => self.fork(ids, *task, *child, log),
+            Command::Exit { task } => self.exit(ids, *task, log),
+            Command::Allocate {
+                task,
+                address,
+                bytes,
+            } => self.allocate(ids, *task, *address, *bytes, log),
+            Command::Deallocate {
+                task,
+                address,
+                bytes,
+            } => self.deallocate(ids, *task, *address, *bytes, log),
+            Command::Protect {
+                task,
+                address,
+                bytes,
+                prot,
+            } => self.protect(ids, *task, *address, *bytes, *prot, log),
+            Command::Inherit {
+                task,
+                address,
+                bytes,
+                inherit,
+            } => self.inherit(ids, *task, *address, *bytes, *inherit, log),
+            Command::Load {
+                task,
+                address,
+                size,
+            } => self.load(ids, *task, *address, *size, log),
+            Command::Store {
+                task,
+                address,
+                size,
+                value,
+            } => self.store(ids, *task, *address, *size, *value, log),
+            Command::Pageout { count, .. } => self.pageout(ids, *count, log),
+            Command::Wire { count, .. } => self.wire(ids, *count, log),
+            Command::Unwire { count, .. } => self.unwire(ids, *count, log),
+            _ => Ok(()),
+        }
+    }
+}

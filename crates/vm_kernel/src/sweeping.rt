@@ -1,0 +1,75 @@
+// What no entry leads to any more goes.
+ghost use Rattle.std.specs.Prelude.{◌≡◌, ◌+◌, ◌<◌, ℕ, [], drop, length, OnOk, None};
+ghost use Rattle.vm_base.specs.Entries.{by_address};
+ghost use Rattle.vm_resident.specs.Resident.{row_at};
+ghost use Rattle.vm_kernel.specs.Begun.{Doing};
+ghost use Rattle.vm_kernel.specs.Sweeping.{Ends, Releasing, Sweeps};
+
+use crate::counting::{count_of, set_count};
+use crate::parts::Parts;
+use vm_base::{Entries, NoMemory, ObjectId, PageKey, PageNo, RegionId};
+use vm_model::Events;
+use vm_shadow::Ids;
+
+impl Parts {
+    // Takes entries that have gone out of the counts, by rising address, and ends each region that
+    // has none left.
+    pub fn sweep(&mut self, ids: &Ids, gone: &Entries, log: &mut Events) -> Result<(), NoMemory>
+        ghost given: { Doing }
+        requires { Sweeps given.header given.command given.past self.old ids.now (by_address gone.now) log.old.items }
+        ensures { OnOk result (Sweeps given.header given.command given.past self.new ids.now [] log.new.items) }
+    {
+        'all: for i in 0..gone.len() {
+            self.release(ids, gone, i, log)?;
+        }
+        Ok(())
+    }
+
+    // Takes one entry out of the counts.
+    fn release(
+        &mut self,
+        ids: &Ids,
+        gone: &Entries,
+        i: u32,
+        log: &mut Events,
+    ) -> Result<(), NoMemory>
+        ghost given: { Releasing }
+        requires inside { i < length gone.now.items }
+        requires rest { given.rest ≡ drop (i + 1) (by_address gone.now) }
+        requires sweeps { Sweeps given.header given.command given.past self.old ids.now (drop i (by_address gone.now)) log.old.items }
+        ensures { OnOk result (Sweeps given.header given.command given.past self.new ids.now given.rest log.new.items) }
+    {
+        let region = gone.at(i).region;
+        let count = count_of(&self.chains, region);
+        set_count(&mut self.chains, region, count - 1);
+        if count == 1 {
+            self.end_region(ids, region, log)?;
+        }
+        Ok(())
+    }
+
+    // Drops the pages of a region without entries, and ends it.
+    fn end_region(&mut self, ids: &Ids, region: RegionId, log: &mut Events) -> Result<(), NoMemory>
+        ghost given: { Releasing }
+        requires { Ends given.header given.command given.past self.old ids.now given.rest region.0 log.old.items }
+        ensures { OnOk result (Sweeps given.header given.command given.past self.new ids.now given.rest log.new.items) }
+    {
+        self.drop_pages(ids, ObjectId(region.0), log)?;
+        let object = self.chains.drop_region(region);
+        let _ = self.objects.unrefer(object);
+        Ok(())
+    }
+
+    // Drops the pages of an object, by rising number.
+    fn drop_pages(&mut self, ids: &Ids, object: ObjectId, log: &mut Events) -> Result<(), NoMemory>
+        ghost given: { Releasing }
+        requires { Ends given.header given.command given.past self.old ids.now given.rest object.0 log.old.items }
+        ensures ends { OnOk result (Ends given.header given.command given.past self.new ids.now given.rest object.0 log.new.items) }
+        ensures gone { OnOk result ((p : ℕ) → row_at self.new.resident object.0 p ≡ None) }
+    {
+        'pages: while let Some(page) = self.resident.next_page(object, PageNo(0)) {
+            self.drop_page(PageKey { object, page }, log)?;
+        }
+        Ok(())
+    }
+}
