@@ -1,5 +1,5 @@
 -- What was read is what the source had, and how a run ends tells the status.
-use Rattle.std.proofs.Common.{◌≡◌, ℕ, ◌<◌, ◌≤◌, ◌⊎◌, inl, inr, List, [], ◌∷◌, ◌++◌, length, true, refl, ap, sym, ◌∙◌, subst, arith, Some, None, Option, Ok, Err, nat_lt, length-append, append-nil}
+use Rattle.std.proofs.Common.{◌≡◌, ℕ, ◌<◌, ◌≤◌, ◌^◌, ◌⊎◌, inl, inr, List, [], ◌∷◌, ◌++◌, length, true, refl, ap, sym, ◌∙◌, subst, arith, Some, None, Option, Ok, Err, nat_lt, length-append, append-nil}
 use Rattle.std.specs.Prelude.{IfSome}
 use Rattle.std.specs.Io.KnownBytes.{Appends, Consumes, IsAtEnd}
 use Rattle.std.proofs.KnownBytes.{Consumes-all}
@@ -8,7 +8,8 @@ use Rattle.vm_model.specs.declared.event.Event.{Event}
 use Rattle.vm_model.specs.declared.fault.ScriptFault.{ScriptFault}
 use Rattle.vm_model.specs.declared.fault.ScriptFault.TheVariants as fault
 use Rattle.vm_model.specs.declared.script.Script.{Script}
-use Rattle.vm_model.specs.Ranges.{KeepsRanges}
+use Rattle.std.specs.List.{All}
+use Rattle.vm_model.specs.Ranges.{IsBetween, KeepsRanges}
 use Rattle.vm_text.specs.Script.{Whole, script_of, seen}
 use Rattle.vm_text.specs.Unbuilt.{IsBuilt, unbuilt_of}
 use Rattle.vm_top.specs.declared.top.Status.{Status}
@@ -17,7 +18,7 @@ use Rattle.vm_top.specs.declared.words.Report.{Report}
 use Rattle.vm_top.specs.Ending.{EndsAs, HasEnded, Tells, WroteStuck}
 use Rattle.vm_top.specs.Reading.{ReadWhole}
 use Rattle.vm_top.specs.Run.{IsRunnable, IsStuck}
-use Rattle.vm_top.specs.Runner.{IsPlain}
+use Rattle.vm_kernel.specs.Matches.{IsPlain}
 use Rattle.vm_top.specs.Top.{IsReadFrom, IsBadFrom, IsUnbuiltFrom, IsDone, IsEventLimit, IsStopped, IsNotBuilt, IsOutputFault, IsNoMemory, WroteStopped, not_built_text, stopped_text}
 use Rattle.vm_top.specs.Writing.{WroteStart}
 use Rattle.vm_top.proofs.Starts.{legal_start, part_legal}
@@ -164,7 +165,10 @@ header_wrote told script h line before after s stopped empty tells =
 pub runnable : (script : Script) → KeepsRanges script → IsBuilt script.header → IsRunnable script
 runnable script keeps built = record { plain = plain_of script.header.frames.items refl; ranges = keeps.commands }
   where
+    few_of : (f : ℕ) → script.header.frames.items ≡ f ∷ [] → f < 2 ^ 32
+    few_of f is = let both = subst (λ (z : List ℕ). All (IsBetween 2 4096) z) is keeps.frames 0 0 (omega arith) in let most = both.1 in omega arith
+
     plain_of : (frames : List ℕ) → script.header.frames.items ≡ frames → IsPlain script.header
     plain_of [] is = absurd (omega (arith, ap length is, built.one_host))
-    plain_of (f ∷ []) is = record { size = keeps.size; frames = f; hosts = is; objects = built.no_object }
+    plain_of (f ∷ []) is = record { size = keeps.size; frames = f; hosts = is; few = few_of f is; objects = built.no_object }
     plain_of (f ∷ g ∷ more) is = absurd (omega (arith, ap length is, built.one_host))

@@ -1,50 +1,33 @@
 -- The history stays legal with the group of each command.
-use Rattle.std.proofs.Common.{◌≡◌, ℕ, zero, suc, ◌+◌, ◌/◌, ◌%◌, ◌<◌, ◌≤◌, ◌==◌, Bool, true, false, List, [], ◌∷◌, length, replicate, refl, ap, sym, ◌∙◌, subst, arith, Some, None, Option, cond, inl, inr}
-use Rattle.std.proofs.lemmas.Bool.Decides.{eqb_tells}
-use Rattle.std.specs.Prelude.{slice_get, IfSome, if◌then◌else◌}
+use Rattle.std.proofs.Common.{◌≡◌, ℕ, zero, suc, ◌≤◌, List, [], ◌∷◌, ◌++◌, refl, sym, ◌∙◌, subst, Some, None}
+use Rattle.std.specs.Prelude.{reverse, slice_get, IfSome}
 use Rattle.vm_base.specs.declared.code.Code.{Code}
-use Rattle.vm_base.specs.declared.entry.Entry.{Entry}
-use Rattle.vm_base.specs.declared.ids.TaskId.{TaskId}
-use Rattle.vm_base.specs.Entries.{entry_at, page_at}
 use Rattle.vm_model.specs.declared.event.Event.{Event}
 use Rattle.vm_model.specs.declared.event.Event.TheVariants as event
+use Rattle.vm_model.specs.declared.command.Command.{Command}
 use Rattle.vm_model.specs.declared.command.Command.TheVariants as command
 use Rattle.vm_model.specs.declared.command.Numbered.{Numbered}
 use Rattle.vm_model.specs.declared.script.Header.{Header}
-use Rattle.vm_model.specs.Bytes.{number_in}
-use Rattle.vm_model.specs.Chains.{places, places_from, walk}
-use Rattle.vm_model.specs.Flat.{flat_page}
-use Rattle.vm_model.specs.Frames.{FramesSuffice, frames_used}
-use Rattle.vm_model.specs.Licences.{IsTop, Waits}
-use Rattle.vm_model.specs.Local.{Place, local}
-use Rattle.vm_model.specs.Moments.{EachMoment}
+use Rattle.vm_model.specs.Bytes.{FlatBytes, OwnBytes}
+use Rattle.vm_model.specs.Follows.{head}
+use Rattle.vm_model.specs.Frames.{FramesSuffice, Suffice, frames_used}
+use Rattle.vm_model.specs.Moments.{BeforeSteps, EachEvent, EachMoment, before_last_line}
 use Rattle.vm_model.specs.Prompt.{Prompt}
 use Rattle.vm_model.specs.Refusal.{refusal}
-use Rattle.vm_model.specs.Regions.{region_of, backing_of}
-use Rattle.vm_model.specs.Tasks.{host_of, entries_of}
-use Rattle.vm_model.specs.Waiting.{Access, Loading, Storing, address_of, next_page, waiting}
-use Rattle.vm_maps.specs.Maps.{Mapped, entries_in, rows_in}
-use Rattle.vm_top.specs.Pages.{Table, held, pages_of, put_in, room_all}
-use Rattle.vm_top.specs.Runner.{HasFrames, IsOwn, IsShown, Kept, KeepsLegal, host_for, or_zeros, place_of, the_host, whole_entry}
-use Rattle.vm_top.proofs.Kepts.{found_used, kept_zeroed}
-use Rattle.vm_top.proofs.Tables.{all_le, held_put, room_put}
+use Rattle.vm_shadow.specs.declared.ids.Ids.{Ids}
+use Rattle.vm_kernel.specs.Begun.{AllInner, Began, EachIn, IsInner, MomentsIn}
+use Rattle.vm_kernel.specs.Matches.{IsPlain}
+use Rattle.vm_kernel.specs.declared.parts.Parts.{Parts}
+use Rattle.vm_top.specs.Runner.{KeepsLegal}
 
 pub moment_now : (P : List Event → Type 0) (h : List Event) → EachMoment P h → P h
 moment_now P [] each = each
 moment_now P (e ∷ past) each = each.0
 
--- the one host has frames enough
-pub suffices : (header : Header) (count : ℕ) (h : List Event) → HasFrames header count → frames_used 0 h ≤ count → FramesSuffice header h
-suffices header count h has le = λ host. rw has.1 (only_host has.0 host h (let most = has.2 in omega arith))
-  where
-    only_host : (frames host : ℕ) (h : List Event) → frames_used 0 h ≤ frames → IfSome (slice_get (frames ∷ []) host) (λ most. frames_used host h ≤ most)
-    only_host frames zero h le = le
-    only_host frames (suc host) h le = tt
-
 -- a refused command adds its line and its code
 pub legal_refused : (header : Header) (c : Numbered) (why : Code) (h : List Event)
-    → refusal header h c.command ≡ Some why → Prompt header (event.Refused why ∷ event.Line c.line ∷ h) → KeepsLegal header c h (event.Refused why ∷ event.Line c.line ∷ h)
-legal_refused header c why h refused last run legal =
+    → refusal header h c.command ≡ Some why → KeepsLegal header c h (event.Refused why ∷ event.Line c.line ∷ h)
+legal_refused header c why h refused run legal =
     let now = moment_now (FramesSuffice header) h legal.frames in
     record {
       follows = (h, event.Refused why ∷ [], refl, rw refused refl, legal.follows);
@@ -52,248 +35,89 @@ legal_refused header c why h refused last run legal =
       flat_bytes = (tt, (tt, legal.flat_bytes));
       frames = (now, (now, legal.frames));
       prompt = (legal.prompt_at_end, legal.prompt);
-      prompt_at_end = last;
+      prompt_at_end = record { none = legal.prompt_at_end.none; swept = legal.prompt_at_end.swept };
     }
 
--- a task that begins or ends waits with nothing
-pub none_anew : (b : Bool) (w : Option Access) → w ≡ None → cond b None w ≡ None
-none_anew true w e = refl
-none_anew false w e = e
+-- a line in front changes no refusal and no head
 
--- a new region, and the entry on it
-abbrev pub ranged : Header → TaskId → ℕ → ℕ → ℕ → ℕ → List Event → List Event
-ranged header task address bytes number line h =
-    event.Entered task address bytes (record { 0 = number }) 0 (whole_entry address bytes (record { 0 = number })).prot (whole_entry address bytes (record { 0 = number })).inherit
-    ∷ event.RegionMade (record { 0 = number }) (record { 0 = number }) (bytes / header.size) ∷ event.Line line ∷ h
+pub refusal_line : (header : Header) (line : ℕ) (h : List Event) (c : Command) → refusal header (event.Line line ∷ h) c ≡ refusal header h c
+refusal_line header line h (command.Task task host) = refl
+refusal_line header line h (command.Fork task child) = refl
+refusal_line header line h (command.Exit task) = refl
+refusal_line header line h (command.Allocate task address bytes) = refl
+refusal_line header line h (command.Deallocate task address bytes) = refl
+refusal_line header line h (command.Protect task address bytes prot) = refl
+refusal_line header line h (command.Inherit task address bytes inherit) = refl
+refusal_line header line h (command.Load task address size) = refl
+refusal_line header line h (command.Store task address size value) = refl
+refusal_line header line h (command.Wire host count) = refl
+refusal_line header line h (command.Unwire host count) = refl
+refusal_line header line h other = refl
 
-pub legal_range : (header : Header) (maps : Mapped) (table : Table) (task : TaskId) (address bytes line : ℕ) (h : List Event) → Kept header maps table h
-    → refusal header h (command.Allocate task address bytes) ≡ None → Prompt header (ranged header task address bytes (length table) line h)
-    → KeepsLegal header (record { line = line; command = command.Allocate task address bytes }) h (ranged header task address bytes (length table) line h)
-legal_range header maps table task address bytes line h k fine last run legal =
+pub head_line : (header : Header) (line : ℕ) (h : List Event) (c : Command) → head header (event.Line line ∷ h) c ≡ head header h c
+head_line header line h (command.Task task host) = refl
+head_line header line h (command.Fork task child) = refl
+head_line header line h (command.Exit task) = refl
+head_line header line h (command.Allocate task address bytes) = refl
+head_line header line h (command.Deallocate task address bytes) = refl
+head_line header line h (command.Protect task address bytes prot) = refl
+head_line header line h (command.Inherit task address bytes inherit) = refl
+head_line header line h (command.Load task address size) = refl
+head_line header line h (command.Store task address size value) = refl
+head_line header line h (command.Pageout host count) = refl
+head_line header line h (command.Wire host count) = refl
+head_line header line h (command.Unwire host count) = refl
+head_line header line h other = refl
+
+-- what holds of the events that were added, and of those in front, holds of all
+
+each_all : (P : Event → List Event → Type 0) (events past : List Event) → EachIn P events past → EachEvent P past → EachEvent P (events ++ past)
+each_all P [] past some rest = rest
+each_all P (e ∷ events) past some rest = (some.0, each_all P events past some.1 rest)
+
+-- the one host has frames enough
+suffice_all : (header : Header) (h : List Event) → IsPlain header → Suffice header 0 h → FramesSuffice header h
+suffice_all header h plain one = λ host. subst (λ (z : List ℕ). IfSome (slice_get (reverse z) host) (λ frames. frames_used host h ≤ frames)) (sym plain.hosts) (go host (subst (λ (z : List ℕ). IfSome (slice_get (reverse z) 0) (λ frames. frames_used 0 h ≤ frames)) plain.hosts one))
+  where
+    go : (host : ℕ) → frames_used 0 h ≤ plain.frames → IfSome (slice_get (plain.frames ∷ []) host) (λ frames. frames_used host h ≤ frames)
+    go zero le = le
+    go (suc host) le = tt
+
+moments_all : (header : Header) (events past : List Event) → IsPlain header → MomentsIn (Suffice header 0) events past → EachMoment (FramesSuffice header) past → EachMoment (FramesSuffice header) (events ++ past)
+moments_all header [] past plain some rest = rest
+moments_all header (e ∷ events) past plain some rest = (suffice_all header (e ∷ (events ++ past)) plain some.0, moments_all header events past plain some.1 rest)
+
+-- events inside a step begin none
+
+inner_steps : (P : List Event → Type 0) (e : Event) (past : List Event) → IsInner e → BeforeSteps P past → BeforeSteps P (e ∷ past)
+inner_steps P (event.Line line) past inner rest = absurd inner
+inner_steps P (event.Taken channel message) past inner rest = absurd inner
+inner_steps P other past inner rest = rest
+
+pub steps_all : (P : List Event → Type 0) (events past : List Event) → AllInner events → BeforeSteps P past → BeforeSteps P (events ++ past)
+steps_all P [] past inner rest = rest
+steps_all P (e ∷ events) past inner rest = inner_steps P e (events ++ past) inner.0 (steps_all P events past inner.1 rest)
+
+inner_front : (e : Event) (past : List Event) → IsInner e → before_last_line (e ∷ past) ≡ before_last_line past
+inner_front (event.Line line) past inner = absurd inner
+inner_front other past inner = refl
+
+pub front_all : (events past : List Event) → AllInner events → before_last_line (events ++ past) ≡ before_last_line past
+front_all [] past inner = refl
+front_all (e ∷ events) past inner = inner_front e (events ++ past) inner.0 ∙ front_all events past inner.1
+
+-- a command's head, and what follows from it
+pub legal_began : (header : Header) (c : Numbered) (h events : List Event) (k : Parts) (ids : Ids) → IsPlain header → refusal header h c.command ≡ None → Began header c.command (event.Line c.line ∷ h) k ids events
+    → KeepsLegal header c h (events ++ event.Line c.line ∷ h)
+legal_began header c h events k ids plain fine began run legal =
     let now = moment_now (FramesSuffice header) h legal.frames in
+    let grows = began.grows in
+    let is : head header h c.command ≡ Some grows.first = sym (head_line header c.line h c.command) ∙ grows.head in
     record {
-      follows = (
-        h,
-        event.Entered task address bytes (record { 0 = length table }) 0 (whole_entry address bytes (record { 0 = length table })).prot (whole_entry address bytes (record { 0 = length table })).inherit
-            ∷ event.RegionMade (record { 0 = length table }) (record { 0 = length table }) (bytes / header.size) ∷ [],
-        refl,
-        rw (fine, k.regions, k.objects) ([], refl, tt),
-        legal.follows,
-      );
-      own_bytes = (tt, (tt, (tt, legal.own_bytes)));
-      flat_bytes = (tt, (tt, (tt, legal.flat_bytes)));
-      frames = (now, (now, (now, legal.frames)));
-      prompt = (legal.prompt_at_end, legal.prompt);
-      prompt_at_end = last;
-    }
-
--- the access of a task waits once it has begun, and leads through an entry
-pub itself : (n : ℕ) → (n == n) ≡ true
-itself n = elim (eqb_tells n n) [ inl same ↦ same.0 | inr apart ↦ absurd (apart.1 refl) ]
-
-begun_waits : (task : ℕ) (access : Access) (rest : Option Access) → cond (task == task) (Some access) rest ≡ Some access
-begun_waits task access rest = rw (itself task) refl
-
-pub wait_over : (b : Bool) (x w : Option Access) → w ≡ None → cond b None (cond b x w) ≡ None
-wait_over true x w e = refl
-wait_over false x w e = e
-
--- where an access of a task leads, by what is kept
-pub record Leads (header : Header) (maps : Mapped) (table : Table) (task address : ℕ) (entry : Entry) : Type 0 where
-  pub lives : entries_in task maps ≡ Some (rows_in task maps)
-  pub found : entry_at address (rows_in task maps) ≡ Some entry
-  pub region : entry.region.0 < length table
-  pub page : page_at header.size address entry < pages_of table entry.region.0
-
-abbrev it_waits : (size task : ℕ) (access : Access) (past : List Event) (entry : Entry) → waiting task past ≡ Some access → host_of task past ≡ Some 0 → entry_at (address_of size (next_page task past) access) (entries_of size task past) ≡ Some entry → Waits size task access past
-it_waits size task access past entry waits lives found = record { host = 0; entry = entry; waits = waits; lives = lives; found = found }
-
-home : (header : Header) (maps : Mapped) (table : Table) (h : List Event) (task address : ℕ) (entry : Entry) → Kept header maps table h → Leads header maps table task address entry → host_of task h ≡ Some 0
-home header maps table h task address entry k leads = k.hosts task ∙ ap host_for leads.lives
-
-through : (header : Header) (maps : Mapped) (table : Table) (h : List Event) (task address : ℕ) (entry : Entry) → Kept header maps table h → Leads header maps table task address entry → entry_at address (entries_of header.size task h) ≡ Some entry
-through header maps table h task address entry k leads = ap (entry_at address) (k.rows task) ∙ leads.found
-
--- a page of a region has one place
-stops : (b : Bool) (place : Place) (more : List Place) → b ≡ false → place ∷ (if b then more else []) ≡ place ∷ []
-stops true place more last = absurd (let bad : true ≡ false = last in cc)
-stops false place more last = refl
-
-only_place : (header : Header) (r p : ℕ) (past : List Event) → IsOwn (region_of header r past) r → ((object : ℕ) → (backing_of header object past).backed ≡ false) → places header r p past ≡ place_of r p ∷ []
-only_place header r p past own bare =
-    let top = (region_of header r past).top in
-    let page = (region_of header r past).shift + p in
-    let under = backing_of header top past in
-    let same : page ≡ p = omega (arith, own.shift) in
-    stops under.backed (place_of top page) (places_from (λ o. backing_of header o past) (length past) under.under (under.shift + page)) (bare top) ∙ ap (λ z. place_of z page ∷ []) own.top ∙ ap (λ z. place_of r z ∷ []) same
-
--- where the walk ends
-walk_found : (header : Header) (r p : ℕ) (past : List Event) → IsOwn (region_of header r past) r → ((object : ℕ) → (backing_of header object past).backed ≡ false) → (local header.size 0 (place_of r p) past).here ≡ true → walk header.size 0 (places header r p past) past ≡ Some (place_of r p)
-walk_found header r p past own bare here =
-    subst (λ (z : List Place). walk header.size 0 z past ≡ Some (place_of r p)) (sym (only_place header r p past own bare)) (ap (λ b. if b then Some (place_of r p) else None) here)
-
-walk_missed : (header : Header) (r p : ℕ) (past : List Event) → IsOwn (region_of header r past) r → ((object : ℕ) → (backing_of header object past).backed ≡ false) → (local header.size 0 (place_of r p) past).here ≡ false → walk header.size 0 (places header r p past) past ≡ None
-walk_missed header r p past own bare here =
-    subst (λ (z : List Place). walk header.size 0 z past ≡ None) (sym (only_place header r p past own bare)) (ap (λ b. if b then Some (place_of r p) else None) here)
-
-is_top : (header : Header) (r p : ℕ) (past : List Event) → IsOwn (region_of header r past) r → ((object : ℕ) → (backing_of header object past).backed ≡ false) → IsTop (places header r p past) (place_of r p)
-is_top header r p past own bare = subst (λ (z : List Place). IsTop z (place_of r p)) (sym (only_place header r p past own bare)) refl
-
-abbrev pub begun_load : TaskId → ℕ → ℕ → ℕ → List Event → List Event
-begun_load task address n line h = event.BegunLoad task address n ∷ event.Line line ∷ h
-
-abbrev pub begun_store : TaskId → ℕ → ℕ → ℕ → ℕ → List Event → List Event
-begun_store task address n value line h = event.BegunStore task address n value ∷ event.Line line ∷ h
-
--- a load from a page that is here
-pub legal_hit : (header : Header) (maps : Mapped) (table : Table) (task : TaskId) (address n line : ℕ) (entry : Entry) (bytes : List ℕ) (h : List Event)
-    → Kept header maps table h → Leads header maps table task.0 address entry → held table entry.region.0 (page_at header.size address entry) ≡ Some bytes
-    → refusal header h (command.Load task address n) ≡ None
-    → Prompt header (event.Loaded task (record { 0 = entry.region.0 }) (record { 0 = page_at header.size address entry }) (number_in bytes header.size address n) ∷ begun_load task address n line h)
-    → KeepsLegal header (record { line = line; command = command.Load task address n }) h
-    (event.Loaded task (record { 0 = entry.region.0 }) (record { 0 = page_at header.size address entry }) (number_in bytes header.size address n) ∷ begun_load task address n line h)
-legal_hit header maps table task address n line entry bytes h k leads here fine last run legal =
-    let r = entry.region.0 in
-    let p = page_at header.size address entry in
-    let past = begun_load task address n line h in
-    let number : Event = event.Loaded task (record { 0 = r }) (record { 0 = p }) (number_in bytes header.size address n) in
-    let now = moment_now (FramesSuffice header) h legal.frames in
-    let shown : IsShown (local header.size 0 (place_of r p) h) (Some bytes) = subst (IsShown (local header.size 0 (place_of r p) h)) here (k.pages r p) in
-    let flat : flat_page header.size r p h ≡ bytes = k.flat r p leads.region (found_used maps task.0 address entry leads.found) ∙ ap (or_zeros header.size) here in
-    let it = it_waits header.size task.0 (Loading address n) past entry (begun_waits task.0 (Loading address n) (waiting task.0 h)) (home header maps table h task.0 address entry k leads) (through header maps table h task.0 address entry k leads) in
-    record {
-      follows = (h, number ∷ event.BegunLoad task address n ∷ [], refl, rw fine (number ∷ [], refl, ((address, n, it, walk_found header r p past (k.tops r) k.unbacked shown.0), tt)), legal.follows);
-      own_bytes = ((address, n, it, record { here = shown.0; unlocked = inl shown.2 }, ap (λ z. number_in z header.size address n) (sym shown.1)), (tt, (tt, legal.own_bytes)));
-      flat_bytes = ((address, n, it, ap (λ z. number_in z header.size address n) (sym flat)), (tt, (tt, legal.flat_bytes)));
-      frames = (now, (now, (now, legal.frames)));
-      prompt = (legal.prompt_at_end, legal.prompt);
-      prompt_at_end = last;
-    }
-
--- a load from a page that comes now
-pub legal_miss : (header : Header) (maps : Mapped) (table : Table) (task : TaskId) (address n line : ℕ) (entry : Entry) (h : List Event)
-    → Kept header maps table h → HasFrames header (room_all table) → Leads header maps table task.0 address entry → held table entry.region.0 (page_at header.size address entry) ≡ None
-    → refusal header h (command.Load task address n) ≡ None
-    → Prompt header
-    (event.Loaded task (record { 0 = entry.region.0 }) (record { 0 = page_at header.size address entry }) (number_in (replicate header.size 0) header.size address n)
-    ∷ event.Zeroed the_host (record { 0 = entry.region.0 }) (record { 0 = page_at header.size address entry }) ∷ begun_load task address n line h)
-    → KeepsLegal header (record { line = line; command = command.Load task address n }) h
-    (event.Loaded task (record { 0 = entry.region.0 }) (record { 0 = page_at header.size address entry }) (number_in (replicate header.size 0) header.size address n)
-    ∷ event.Zeroed the_host (record { 0 = entry.region.0 }) (record { 0 = page_at header.size address entry }) ∷ begun_load task address n line h)
-legal_miss header maps table task address n line entry h k has leads absent fine last run legal =
-    let r = entry.region.0 in
-    let p = page_at header.size address entry in
-    let past = begun_load task address n line h in
-    let zeros : List ℕ = replicate header.size 0 in
-    let zeroed : Event = event.Zeroed the_host (record { 0 = r }) (record { 0 = p }) in
-    let number : Event = event.Loaded task (record { 0 = r }) (record { 0 = p }) (number_in zeros header.size address n) in
-    let now = moment_now (FramesSuffice header) h legal.frames in
-    let missing : IsShown (local header.size 0 (place_of r p) h) None = subst (IsShown (local header.size 0 (place_of r p) h)) absent (k.pages r p) in
-    let k2 = kept_zeroed header maps table past r p k leads.region leads.page absent in
-    let here = held_put table r p (Some zeros) leads.region leads.page in
-    let shown : IsShown (local header.size 0 (place_of r p) (zeroed ∷ past)) (Some zeros) = subst (IsShown (local header.size 0 (place_of r p) (zeroed ∷ past))) here (k2.pages r p) in
-    let flat : flat_page header.size r p h ≡ zeros = k.flat r p leads.region (found_used maps task.0 address entry leads.found) ∙ ap (or_zeros header.size) absent in
-    let used = k2.used in
-    let least = all_le (put_in table r p (Some zeros)) in
-    let room = room_put table r p (Some zeros) in
-    let more = suffices header (room_all table) (zeroed ∷ past) has (omega arith) in
-    let lives = home header maps table h task.0 address entry k leads in
-    let found = through header maps table h task.0 address entry k leads in
-    let it = it_waits header.size task.0 (Loading address n) past entry (begun_waits task.0 (Loading address n) (waiting task.0 h)) lives found in
-    let after = it_waits header.size task.0 (Loading address n) (zeroed ∷ past) entry (begun_waits task.0 (Loading address n) (waiting task.0 h)) lives found in
-    record {
-      follows = (
-        h,
-        number ∷ zeroed ∷ event.BegunLoad task address n ∷ [],
-        refl,
-        rw fine (
-          number ∷ zeroed ∷ [],
-          refl,
-          (
-            (address, n, after, walk_found header r p (zeroed ∷ past) (k.tops r) k.unbacked shown.0),
-            ((task.0, Loading address n, it, refl, is_top header r p past (k.tops r) k.unbacked, walk_missed header r p past (k.tops r) k.unbacked missing), tt),
-          ),
-        ),
-        legal.follows,
-      );
-      own_bytes = ((address, n, after, record { here = shown.0; unlocked = inl shown.2 }, ap (λ z. number_in z header.size address n) (sym shown.1)), (tt, (tt, (tt, legal.own_bytes))));
-      flat_bytes = ((address, n, after, ap (λ z. number_in z header.size address n) (sym flat)), (tt, (tt, (tt, legal.flat_bytes))));
-      frames = (more, (more, (now, (now, legal.frames))));
-      prompt = (legal.prompt_at_end, legal.prompt);
-      prompt_at_end = last;
-    }
-
-abbrev pub stored : Header → TaskId → ℕ → ℕ → ℕ → Entry → Event
-stored header task address n value entry = event.Stored task (record { 0 = entry.region.0 }) (record { 0 = page_at header.size address entry }) (address % header.size) n value
-
--- a store into a page that is here
-pub legal_store : (header : Header) (maps : Mapped) (table : Table) (task : TaskId) (address n value line : ℕ) (entry : Entry) (bytes : List ℕ) (h : List Event)
-    → Kept header maps table h → Leads header maps table task.0 address entry → held table entry.region.0 (page_at header.size address entry) ≡ Some bytes
-    → refusal header h (command.Store task address n value) ≡ None
-    → Prompt header (stored header task address n value entry ∷ begun_store task address n value line h)
-    → KeepsLegal header (record { line = line; command = command.Store task address n value }) h (stored header task address n value entry ∷ begun_store task address n value line h)
-legal_store header maps table task address n value line entry bytes h k leads here fine last run legal =
-    let r = entry.region.0 in
-    let p = page_at header.size address entry in
-    let past = begun_store task address n value line h in
-    let ending : Event = stored header task address n value entry in
-    let now = moment_now (FramesSuffice header) h legal.frames in
-    let shown : IsShown (local header.size 0 (place_of r p) h) (Some bytes) = subst (IsShown (local header.size 0 (place_of r p) h)) here (k.pages r p) in
-    let it = it_waits header.size task.0 (Storing address n value) past entry (begun_waits task.0 (Storing address n value) (waiting task.0 h)) (home header maps table h task.0 address entry k leads) (through header maps table h task.0 address entry k leads) in
-    record {
-      follows = (h, ending ∷ event.BegunStore task address n value ∷ [], refl, rw fine (ending ∷ [], refl, ((address, it, is_top header r p past (k.tops r) k.unbacked, shown.0, refl), tt)), legal.follows);
-      own_bytes = ((address, it, record { here = shown.0; unlocked = shown.2 }, refl), (tt, (tt, legal.own_bytes)));
-      flat_bytes = (tt, (tt, (tt, legal.flat_bytes)));
-      frames = (now, (now, (now, legal.frames)));
-      prompt = (legal.prompt_at_end, legal.prompt);
-      prompt_at_end = last;
-    }
-
--- a store into a page that comes now
-pub legal_store_miss : (header : Header) (maps : Mapped) (table : Table) (task : TaskId) (address n value line : ℕ) (entry : Entry) (h : List Event)
-    → Kept header maps table h → HasFrames header (room_all table) → Leads header maps table task.0 address entry → held table entry.region.0 (page_at header.size address entry) ≡ None
-    → refusal header h (command.Store task address n value) ≡ None
-    → Prompt header (stored header task address n value entry ∷ event.Zeroed the_host (record { 0 = entry.region.0 }) (record { 0 = page_at header.size address entry }) ∷ begun_store task address n value line h)
-    → KeepsLegal header (record { line = line; command = command.Store task address n value }) h
-    (stored header task address n value entry ∷ event.Zeroed the_host (record { 0 = entry.region.0 }) (record { 0 = page_at header.size address entry }) ∷ begun_store task address n value line h)
-legal_store_miss header maps table task address n value line entry h k has leads absent fine last run legal =
-    let r = entry.region.0 in
-    let p = page_at header.size address entry in
-    let past = begun_store task address n value line h in
-    let zeros : List ℕ = replicate header.size 0 in
-    let zeroed : Event = event.Zeroed the_host (record { 0 = r }) (record { 0 = p }) in
-    let ending : Event = stored header task address n value entry in
-    let now = moment_now (FramesSuffice header) h legal.frames in
-    let missing : IsShown (local header.size 0 (place_of r p) h) None = subst (IsShown (local header.size 0 (place_of r p) h)) absent (k.pages r p) in
-    let k2 = kept_zeroed header maps table past r p k leads.region leads.page absent in
-    let here = held_put table r p (Some zeros) leads.region leads.page in
-    let shown : IsShown (local header.size 0 (place_of r p) (zeroed ∷ past)) (Some zeros) = subst (IsShown (local header.size 0 (place_of r p) (zeroed ∷ past))) here (k2.pages r p) in
-    let used = k2.used in
-    let least = all_le (put_in table r p (Some zeros)) in
-    let room = room_put table r p (Some zeros) in
-    let more = suffices header (room_all table) (zeroed ∷ past) has (omega arith) in
-    let lives = home header maps table h task.0 address entry k leads in
-    let found = through header maps table h task.0 address entry k leads in
-    let it = it_waits header.size task.0 (Storing address n value) past entry (begun_waits task.0 (Storing address n value) (waiting task.0 h)) lives found in
-    let after = it_waits header.size task.0 (Storing address n value) (zeroed ∷ past) entry (begun_waits task.0 (Storing address n value) (waiting task.0 h)) lives found in
-    record {
-      follows = (
-        h,
-        ending ∷ zeroed ∷ event.BegunStore task address n value ∷ [],
-        refl,
-        rw fine (
-          ending ∷ zeroed ∷ [],
-          refl,
-          (
-            (address, after, is_top header r p (zeroed ∷ past) (k.tops r) k.unbacked, shown.0, refl),
-            ((task.0, Storing address n value, it, refl, is_top header r p past (k.tops r) k.unbacked, walk_missed header r p past (k.tops r) k.unbacked missing), tt),
-          ),
-        ),
-        legal.follows,
-      );
-      own_bytes = ((address, after, record { here = shown.0; unlocked = shown.2 }, refl), (tt, (tt, (tt, legal.own_bytes))));
-      flat_bytes = (tt, (tt, (tt, (tt, legal.flat_bytes))));
-      frames = (more, (more, (now, (now, legal.frames))));
-      prompt = (legal.prompt_at_end, legal.prompt);
-      prompt_at_end = last;
+      follows = (h, events, refl, rw (fine, is) (grows.more, grows.is, grows.licensed, began.done), legal.follows);
+      own_bytes = each_all (OwnBytes header) events (event.Line c.line ∷ h) grows.own_bytes (tt, legal.own_bytes);
+      flat_bytes = each_all (FlatBytes header) events (event.Line c.line ∷ h) grows.flat_bytes (tt, legal.flat_bytes);
+      frames = moments_all header events (event.Line c.line ∷ h) plain grows.frames (now, legal.frames);
+      prompt = steps_all (Prompt header) events (event.Line c.line ∷ h) grows.inner (legal.prompt_at_end, legal.prompt);
+      prompt_at_end = began.prompt;
     }

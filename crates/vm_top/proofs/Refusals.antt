@@ -1,24 +1,32 @@
 -- The runner's refusals are those of its history.
-use Rattle.std.proofs.Common.{◌≡◌, nat_le, nat_lt, ℕ, ◌+◌, ◌/◌, ◌%◌, ◌<◌, ◌≤◌, ◌==◌, ◌||◌, Bool, true, false, not, List, [], length, refl, sym, ◌∙◌, subst, arith, Some, None, Option}
+use Rattle.std.proofs.Common.{◌≡◌, nat_le, nat_lt, ℕ, ◌+◌, ◌-◌, ◌/◌, ◌%◌, ◌<◌, ◌≤◌, ◌==◌, ◌||◌, ◌&&◌, Bool, true, false, not, List, [], ◌∷◌, length, refl, ap, sym, arith, Some, None, Option}
 use Rattle.std.proofs.lemmas.Bool.Decides.{nat_tests}
-use Rattle.std.specs.Prelude.{is_none, is_some, if◌then◌else◌, unwrap_or, Ok, Err}
+use Rattle.std.specs.Prelude.{is_none, is_some, if◌then◌else◌, unwrap_or, Result, Ok, Err}
 use Rattle.vm_base.specs.declared.code.Code.{Code}
 use Rattle.vm_base.specs.declared.code.Code.TheVariants as code
 use Rattle.vm_base.specs.declared.entry.Entry.{Entry}
 use Rattle.vm_base.specs.declared.ids.Access.{Access}
+use Rattle.vm_base.specs.declared.ids.Access.TheVariants as need
 use Rattle.vm_base.specs.declared.ids.HostId.{HostId}
+use Rattle.vm_base.specs.declared.ids.Inherit.{Inherit}
+use Rattle.vm_base.specs.declared.ids.Prot.{Prot}
 use Rattle.vm_base.specs.declared.ids.TaskId.{TaskId}
-use Rattle.vm_base.specs.Entries.{allows, entry_at, is_range, meets_range, most_entries}
+use Rattle.vm_base.specs.Entries.{allows, entry_at, inherited, is_mapped, is_range, meets_range, most_entries, protected, removed}
 use Rattle.vm_model.specs.declared.command.Command.TheVariants as command
 use Rattle.vm_model.specs.declared.script.Header.{Header}
-use Rattle.vm_model.specs.Refusal.{access_refusal, refusal, where_true}
-use Rattle.vm_model.specs.Rows.{found_row}
+use Rattle.vm_model.specs.Refusal.{access_refusal, are_many, meets_declared, refusal, where_true}
+use Rattle.vm_model.specs.Tasks.{copies, is_copied, sources}
+use Rattle.vm_frames.specs.Frames.{free}
 use Rattle.vm_maps.specs.declared.change.MapChange.{MapChange}
 use Rattle.vm_maps.specs.declared.change.MapKind.TheVariants as kind
-use Rattle.vm_maps.specs.Judge.{judged, looked_up, looked_up_in, place_at}
-use Rattle.vm_maps.specs.Maps.{entries_in, rows_in}
-use Rattle.vm_top.specs.Refusing.{FoundAs, access_code, range_code}
-use Rattle.vm_top.specs.Runner.{Agrees, IsInside, host_for}
+use Rattle.vm_maps.specs.declared.place.Place.{Place}
+use Rattle.vm_maps.specs.Judge.{judged, looked_up_in, place_at}
+use Rattle.vm_maps.specs.Maps.{entries_in}
+use Rattle.vm_kernel.specs.Changes.{enter, inheritance, protection, removal}
+use Rattle.vm_kernel.specs.Matches.{host_for, the_host}
+use Rattle.vm_kernel.proofs.Growing.{free_is}
+use Rattle.vm_top.specs.Refusing.{access_code, access_code_in, change_code, exit_code, fork_code, range_code}
+use Rattle.vm_top.specs.Runner.{Agrees}
 use Rattle.vm_top.specs.declared.runner.Runner.{Runner}
 
 some_host : (o : Option (List Entry)) → is_some (host_for o) ≡ is_some o
@@ -26,8 +34,8 @@ some_host None = refl
 some_host (Some rows) = refl
 
 pub task_code : (header : Header) (runner : Runner) (task : TaskId) (host : HostId) → Agrees header runner
-    → refusal header runner.history.items (command.Task task host) ≡ where_true (is_some (entries_in task.0 runner.maps)) code.NameTaken None
-task_code header runner task host a = rw (a.kept.hosts task.0, some_host (entries_in task.0 runner.maps)) refl
+    → refusal header runner.history.items (command.Task task host) ≡ where_true (is_some (entries_in task.0 runner.kernel.maps)) code.NameTaken None
+task_code header runner task host a = rw (a.rests.matches.tasks.hosts task.0, some_host (entries_in task.0 runner.kernel.maps)) refl
 
 twice : (b : Bool) → (b || b) ≡ b
 twice true = refl
@@ -43,17 +51,15 @@ range_cases size count address bytes None = refl
 range_cases size count address bytes (Some rows) = refl
 
 pub allocate_code : (header : Header) (runner : Runner) (task : TaskId) (address bytes : ℕ) → Agrees header runner
-    → refusal header runner.history.items (command.Allocate task address bytes) ≡ range_code header.size (entries_in task.0 runner.maps) (length runner.pages) address bytes
+    → refusal header runner.history.items (command.Allocate task address bytes) ≡ range_code header.size (entries_in task.0 runner.kernel.maps) runner.ids.next_region address bytes
 allocate_code header runner task address bytes a =
-    rw (a.kept.hosts task.0, a.none task.0, a.kept.rows task.0, a.kept.regions, a.kept.objects, twice (nat_le 8192 (length runner.pages))) (range_cases header.size (length runner.pages) address bytes (entries_in task.0 runner.maps))
+    let m = a.rests.matches in
+    rw (m.tasks.hosts task.0, m.tasks.none task.0, m.tasks.rows task.0, m.regions.equal, ← m.regions.region, twice (nat_le 8192 runner.ids.next_region)) (range_cases header.size runner.ids.next_region address bytes (entries_in task.0 runner.kernel.maps))
 
 -- the tests of an allocation, one after another
-no_task : (size count address bytes : ℕ) (o : Option (List Entry)) → is_some o ≡ false → Some code.NoSuchName ≡ range_code size o count address bytes
-no_task size count address bytes None none = refl
-no_task size count address bytes (Some rows) none = absurd (let bad : true ≡ false = none in cc)
-
 pub range_no_task : (size count address bytes : ℕ) (o : Option (List Entry)) → is_some o ≡ false → Some code.NoSuchName ≡ range_code size o count address bytes
-range_no_task size count address bytes o none = no_task size count address bytes o none
+range_no_task size count address bytes None none = refl
+range_no_task size count address bytes (Some rows) none = absurd (let bad : true ≡ false = none in cc)
 
 pub range_many : (size count address bytes : ℕ) (o : Option (List Entry)) → is_some o ≡ true → 4096 < bytes / size → Some code.InvalidArgument ≡ range_code size o count address bytes
 range_many size count address bytes None some many = absurd (let bad : false ≡ true = some in cc)
@@ -98,48 +104,121 @@ range_last size count change (Some rows) enter some few passed =
     rw no (tests_passed (is_range size change.address change.bytes) (meets_range change.address change.bytes rows) (nat_lt most_entries (length rows + 1)) (nat_le 8192 count) judge)
 
 -- the code of an access
-access_cases : (o : Option (List Entry)) (odd : Bool) (later : Option (List Entry) → Option Code)
-    → where_true (is_none (host_for o)) code.NoSuchName (where_true odd code.InvalidArgument (later o))
-    ≡ (if is_some o then where_true odd code.InvalidArgument (later o) else Some code.NoSuchName)
-access_cases None odd later = refl
-access_cases (Some rows) odd later = refl
 
-pub access_is : (header : Header) (runner : Runner) (task address bytes : ℕ) (what : Access) → Agrees header runner
-    → access_code header.size runner.history.items task address bytes what
-    ≡ (if is_some (entries_in task runner.maps) then where_true (not (address % bytes == 0)) code.InvalidArgument (access_refusal what (entry_at address (rows_in task runner.maps))) else Some code.NoSuchName)
-access_is header runner task address bytes what a =
-    rw (a.kept.hosts task, a.none task, a.kept.rows task) (access_cases (entries_in task runner.maps) (not (address % bytes == 0)) (λ o. access_refusal what (entry_at address (unwrap_or o []))))
+access_cases : (o : Option (List Entry)) (address bytes : ℕ) (what : Access)
+    → where_true (is_none (host_for o)) code.NoSuchName (where_true (not (address % bytes == 0)) code.InvalidArgument (access_refusal what (entry_at address (unwrap_or o [])))) ≡ access_code_in o address bytes what
+access_cases None address bytes what = refl
+access_cases (Some rows) address bytes what = refl
 
--- where an access leads, once it has passed the tests in front
-pub found_as : (header : Header) (runner : Runner) (task address bytes : ℕ) (what : Access) → Agrees header runner → is_some (entries_in task runner.maps) ≡ true → address % bytes ≡ 0
-    → FoundAs header.size runner task address bytes what (looked_up runner.maps.size address what (rows_in task runner.maps))
-found_as header runner task address bytes what a some even =
-    subst (λ (z : ℕ). FoundAs header.size runner task address bytes what (looked_up z address what (rows_in task runner.maps))) (sym a.kept.size) (go (entry_at address (rows_in task runner.maps)) refl)
+pub load_code : (header : Header) (runner : Runner) (task : TaskId) (address bytes : ℕ) → Agrees header runner → refusal header runner.history.items (command.Load task address bytes) ≡ access_code runner.kernel.maps task.0 address bytes need.Load
+load_code header runner task address bytes a =
+    let m = a.rests.matches in
+    rw (m.tasks.hosts task.0, m.tasks.none task.0, m.tasks.rows task.0) (access_cases (entries_in task.0 runner.kernel.maps) address bytes need.Load)
+
+pub store_code : (header : Header) (runner : Runner) (task : TaskId) (address bytes value : ℕ) → Agrees header runner → refusal header runner.history.items (command.Store task address bytes value) ≡ access_code runner.kernel.maps task.0 address bytes need.Store
+store_code header runner task address bytes value a =
+    let m = a.rests.matches in
+    rw (m.tasks.hosts task.0, m.tasks.none task.0, m.tasks.rows task.0) (access_cases (entries_in task.0 runner.kernel.maps) address bytes need.Store)
+
+-- what a look-up refuses
+abbrev pub refused_of : Result Place Code → Option Code
+refused_of (Ok place) = None
+refused_of (Err why) = Some why
+
+pub looked_refused : (size address : ℕ) (what : Access) (o : Option Entry) → refused_of (looked_up_in size address what o) ≡ access_refusal what o
+looked_refused size address what None = refl
+looked_refused size address what (Some row) = go (allows what row.prot)
   where
-    told : access_code header.size runner.history.items task address bytes what ≡ access_refusal what (entry_at address (rows_in task runner.maps))
-    told = let zero_rest : (address % bytes == 0) ≡ true = grind (arith, nat_tests) in access_is header runner task address bytes what a ∙ rw (some, zero_rest) refl
+    go : (b : Bool) → refused_of (if b then Ok (place_at size address row) else Err code.ProtectionFailure) ≡ (if b then None else Some code.ProtectionFailure)
+    go true = refl
+    go false = refl
 
-    lives : (o : Option (List Entry)) → is_some o ≡ true → o ≡ Some (unwrap_or o [])
-    lives None some = absurd (let bad : false ≡ true = some in cc)
-    lives (Some rows) some = refl
+-- the code of a change
 
-    allowed : (entry : Entry) (b : Bool) → entry_at address (rows_in task runner.maps) ≡ Some entry → allows what entry.prot ≡ b
-        → FoundAs header.size runner task address bytes what (if b then Ok (place_at header.size address entry) else Err code.ProtectionFailure)
-    allowed entry true found may =
-        let here = found_row (IsInside header.size runner.pages) address (rows_in task runner.maps) entry (a.kept.inside task) found in (
-          told ∙ rw (found, may) refl,
-          record {
-            entry = entry;
-            lives = lives (entries_in task runner.maps) some;
-            found = found;
-            even = even;
-            is = refl;
-            region = here.is.region;
-            page = here.is.inside.each address here.from here.below;
-          },
-        )
-    allowed entry false found may = told ∙ rw (found, may) refl
+pub protect_code : (header : Header) (runner : Runner) (task : TaskId) (address bytes : ℕ) (prot : Prot) → Agrees header runner
+    → change_code runner.kernel.maps.size (protection address bytes prot) (entries_in task.0 runner.kernel.maps) ≡ refusal header runner.history.items (command.Protect task address bytes prot)
+protect_code header runner task address bytes prot a =
+    let m = a.rests.matches in
+    rw (m.tasks.hosts task.0, m.tasks.none task.0, m.tasks.rows task.0, m.tasks.sized) (go header.size (entries_in task.0 runner.kernel.maps))
+  where
+    go : (size : ℕ) (o : Option (List Entry)) → change_code size (protection address bytes prot) o
+        ≡ where_true (is_none (host_for o)) code.NoSuchName
+        (where_true (not (is_range size address bytes)) code.InvalidArgument
+        (where_true (not (is_mapped size address bytes (unwrap_or o []))) code.InvalidAddress
+        (where_true (are_many (protected size address bytes prot (unwrap_or o []))) code.TableFull None)))
+    go size None = refl
+    go size (Some rows) = refl
 
-    go : (o : Option Entry) → entry_at address (rows_in task runner.maps) ≡ o → FoundAs header.size runner task address bytes what (looked_up_in header.size address what o)
-    go None found = told ∙ rw found refl
-    go (Some entry) found = allowed entry (allows what entry.prot) found refl
+none_declared : (address bytes : ℕ) (rows : List Entry) → meets_declared 0 address bytes rows ≡ false
+none_declared address bytes [] = refl
+none_declared address bytes (row ∷ rows) = let no : nat_lt row.region.0 0 ≡ false = grind (arith, nat_tests) in rw (no, none_declared address bytes rows) refl
+
+nothing_more : (a b : Bool) → (a || (b && false)) ≡ a
+nothing_more true b = refl
+nothing_more false true = refl
+nothing_more false false = refl
+
+pub inherit_code : (header : Header) (runner : Runner) (task : TaskId) (address bytes : ℕ) (inherit : Inherit) → Agrees header runner
+    → change_code runner.kernel.maps.size (inheritance address bytes inherit) (entries_in task.0 runner.kernel.maps) ≡ refusal header runner.history.items (command.Inherit task address bytes inherit)
+inherit_code header runner task address bytes inherit a =
+    let m = a.rests.matches in
+    rw (m.tasks.hosts task.0, m.tasks.none task.0, m.tasks.rows task.0, m.tasks.sized, m.plain.objects) (go header.size (entries_in task.0 runner.kernel.maps))
+  where
+    go : (size : ℕ) (o : Option (List Entry)) → change_code size (inheritance address bytes inherit) o
+        ≡ where_true (is_none (host_for o)) code.NoSuchName
+        (where_true (not (is_range size address bytes) || (is_copied inherit && meets_declared 0 address bytes (unwrap_or o []))) code.InvalidArgument
+        (where_true (not (is_mapped size address bytes (unwrap_or o []))) code.InvalidAddress
+        (where_true (are_many (inherited size address bytes inherit (unwrap_or o []))) code.TableFull None)))
+    go size None = refl
+    go size (Some rows) = rw (none_declared address bytes rows, nothing_more (not (is_range size address bytes)) (is_copied inherit)) refl
+
+pub removal_code : (header : Header) (runner : Runner) (task : TaskId) (address bytes : ℕ) → Agrees header runner
+    → change_code runner.kernel.maps.size (removal address bytes) (entries_in task.0 runner.kernel.maps) ≡ refusal header runner.history.items (command.Deallocate task address bytes)
+removal_code header runner task address bytes a =
+    let m = a.rests.matches in
+    rw (m.tasks.hosts task.0, m.tasks.none task.0, m.tasks.rows task.0, m.tasks.sized) (go header.size (entries_in task.0 runner.kernel.maps))
+  where
+    go : (size : ℕ) (o : Option (List Entry)) → change_code size (removal address bytes) o
+        ≡ where_true (is_none (host_for o)) code.NoSuchName
+        (where_true (not (is_range size address bytes)) code.InvalidArgument
+        (where_true (are_many (removed size address bytes (unwrap_or o []))) code.TableFull None))
+    go size None = refl
+    go size (Some rows) = refl
+
+pub end_code : (header : Header) (runner : Runner) (task : TaskId) → Agrees header runner → exit_code (entries_in task.0 runner.kernel.maps) ≡ refusal header runner.history.items (command.Exit task)
+end_code header runner task a = let m = a.rests.matches in rw (m.tasks.hosts task.0, m.tasks.none task.0) (go (entries_in task.0 runner.kernel.maps))
+  where
+    go : (o : Option (List Entry)) → exit_code o ≡ where_true (is_none (host_for o)) code.NoSuchName None
+    go None = refl
+    go (Some rows) = refl
+
+-- why a fork is refused
+
+pub fork_full : (count copied more : ℕ) (b : Bool) → copied + more ≤ 8192 → b ≡ nat_lt (8192 - (copied + more)) count → b ≡ nat_lt 8192 (count + copied + more)
+fork_full count copied more b few is = grind (arith, nat_tests)
+
+fork_cases : (count : ℕ) (o other : Option (List Entry))
+    → where_true (is_none (host_for o)) code.NoSuchName
+    (where_true (is_some (host_for other)) code.NameTaken
+    (where_true (nat_lt 8192 (count + copies (unwrap_or o [])) || nat_lt 8192 (count + copies (unwrap_or o []) + sources (unwrap_or o []))) code.TableFull None))
+    ≡ fork_code o other count
+fork_cases count None other = refl
+fork_cases count (Some rows) (Some more) = refl
+fork_cases count (Some rows) None = ap (λ z. where_true z code.TableFull None) (larger (count + copies rows) (sources rows))
+  where
+    larger : (a b : ℕ) → (nat_lt 8192 a || nat_lt 8192 (a + b)) ≡ nat_lt 8192 (a + b)
+    larger a b = grind (arith, nat_tests)
+
+pub fork_is : (header : Header) (runner : Runner) (task child : TaskId) → Agrees header runner
+    → refusal header runner.history.items (command.Fork task child) ≡ fork_code (entries_in task.0 runner.kernel.maps) (entries_in child.0 runner.kernel.maps) runner.ids.next_region
+fork_is header runner task child a =
+    let m = a.rests.matches in
+    rw (m.tasks.hosts task.0, m.tasks.hosts child.0, m.tasks.none task.0, m.tasks.rows task.0, m.regions.equal, ← m.regions.region) (fork_cases runner.ids.next_region (entries_in task.0 runner.kernel.maps) (entries_in child.0 runner.kernel.maps))
+
+-- why frames are not wired or unwired
+
+pub wire_code : (header : Header) (runner : Runner) (count : ℕ) → Agrees header runner → refusal header runner.history.items (command.Wire the_host count) ≡ where_true (nat_lt (free runner.kernel.frames) count) code.ResourceShortage None
+wire_code header runner count a = ap (λ z. where_true (nat_lt z count) code.ResourceShortage None) (free_is header runner.kernel.frames runner.history.items a.rests.matches.frames)
+
+pub unwire_code : (header : Header) (runner : Runner) (count : ℕ) → Agrees header runner → refusal header runner.history.items (command.Unwire the_host count) ≡ where_true (nat_lt runner.kernel.frames.wired count) code.InvalidArgument None
+unwire_code header runner count a = ap (λ z. where_true (nat_lt z count) code.InvalidArgument None) a.rests.matches.frames.wired

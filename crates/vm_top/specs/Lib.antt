@@ -1,15 +1,10 @@
-pub mod Changes
 pub mod Ending
-pub mod Forking
-pub mod Pages
 pub mod Reading
 pub mod Refusing
 pub mod Run
 pub mod Runner
 pub mod Status
 pub mod Summary
-pub mod Sweeping
 pub mod Top
-pub mod Uses
 pub mod Words
 pub mod Writing

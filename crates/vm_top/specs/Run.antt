@@ -1,10 +1,8 @@
 -- What running a script gives.
-use Rattle.std.specs.Prelude.{ℕ, ◌≡◌, ◌⊎◌, ◌<◌, ◌≤◌, Bool, true, false, ◌&&◌, nat_le, if◌then◌else◌, List, [], ◌∷◌, ◌++◌, length, Option, Some, None}
+use Rattle.std.specs.Prelude.{ℕ, ◌≡◌, ◌⊎◌, ◌<◌, ◌≤◌, true, if◌then◌else◌, List, [], ◌∷◌, ◌++◌, length, Option, Some, None}
 use Rattle.std.specs.Io.KnownBytes.{Appends}
 use Rattle.std.specs.List.{All}
 use Rattle.vm_model.specs.declared.event.Event.{Event}
-use Rattle.vm_model.specs.declared.command.Command.{Command}
-use Rattle.vm_model.specs.declared.command.Command.TheVariants as command
 use Rattle.vm_model.specs.declared.command.Numbered.{Numbered}
 use Rattle.vm_model.specs.declared.script.Header.{Header}
 use Rattle.vm_model.specs.declared.script.Script.{Script}
@@ -13,7 +11,9 @@ use Rattle.vm_model.specs.Ranges.{InRange}
 use Rattle.vm_model.specs.Summary.{summary_text}
 use Rattle.vm_model.specs.Text.{text}
 use Rattle.vm_model.specs.Legal.{Legal, LegalFor, LegalSoFar}
-use Rattle.vm_top.specs.Runner.{IsPlain, KeepsLegal, event_limit, is_held_up, pages_wanted}
+use Rattle.vm_kernel.specs.Built.{is_built, is_held_up}
+use Rattle.vm_kernel.specs.Matches.{IsPlain}
+use Rattle.vm_top.specs.Runner.{KeepsLegal, event_limit}
 use Rattle.vm_top.specs.Writing.{WroteStart, WroteBeyond}
 use Rattle.vm_top.specs.declared.run.RunEnd.{RunEnd}
 use Rattle.vm_top.specs.declared.run.RunEnd.TheVariants as end
@@ -25,45 +25,23 @@ pub record IsRunnable (script : Script) : Type 0 where
   pub plain : IsPlain script.header
   pub ranges : All (λ numbered. InRange script.header numbered.command) script.commands.items
 
--- the commands that are built
-abbrev pub is_built : Command → Bool
-is_built (command.Task task host) = true
-is_built (command.Fork task child) = true
-is_built (command.Exit task) = true
-is_built (command.Allocate task address bytes) = true
-is_built (command.Deallocate task address bytes) = true
-is_built (command.Protect task address bytes prot) = true
-is_built (command.Inherit task address bytes inherit) = true
-is_built (command.Load task address size) = true
-is_built (command.Store task address size value) = true
-is_built other = false
-
--- host 0 has at least so many frames
-abbrev pub has_frames : List ℕ → ℕ → Bool
-has_frames [] count = false
-has_frames (frames ∷ more) count = nat_le count frames
-
--- a command is built, and with it all ranges up to it, refused or not, would find their frames
-abbrev pub is_next_built : Header → Numbered → List Numbered → Bool
-is_next_built header numbered before = is_built numbered.command && has_frames header.frames.items (pages_wanted header.size (numbered ∷ before))
-
 -- the line of the first command that isn't built
-abbrev pub unbuilt_line : Header → List Numbered → Option ℕ
-unbuilt_line header [] = None
-unbuilt_line header (numbered ∷ before) = elim (unbuilt_line header before) [
+abbrev pub unbuilt_line : List Numbered → Option ℕ
+unbuilt_line [] = None
+unbuilt_line (numbered ∷ before) = elim (unbuilt_line before) [
   | Some line ↦ Some line
-  | None ↦ if is_next_built header numbered before then None else Some numbered.line
+  | None ↦ if is_built numbered.command then None else Some numbered.line
 ]
 
 -- the commands that were run are all built, and the history is legal for them
 pub record IsPart (script : Script) (later run : List Numbered) (history : List Event) : Type 0 where
   pub order : script.commands.items ≡ later ++ run
-  pub built : unbuilt_line script.header run ≡ None
+  pub built : unbuilt_line run ≡ None
   pub legal : LegalFor script.header run history
 
 -- the whole script was run
 pub record IsWhole (script : Script) (history : List Event) : Type 0 where
-  pub built : unbuilt_line script.header script.commands.items ≡ None
+  pub built : unbuilt_line script.commands.items ≡ None
   pub legal : Legal script history
 
 -- a command is left that is built, but no step may begin
@@ -72,12 +50,12 @@ pub record IsFull (script : Script) (history : List Event) : Type 0 where
   pub next : Numbered
   pub run : List Numbered
   pub part : IsPart script (later ++ next ∷ []) run history
-  pub built : unbuilt_line script.header (next ∷ run) ≡ None
+  pub built : unbuilt_line (next ∷ run) ≡ None
   pub full : event_limit ≤ length history
 
 -- the command behind those that were run is built so far, but can't be run now
 pub record IsHeldUp (header : Header) (line : ℕ) (next : Numbered) (run : List Numbered) (history : List Event) : Type 0 where
-  pub built : unbuilt_line header (next ∷ run) ≡ None
+  pub built : unbuilt_line (next ∷ run) ≡ None
   pub below : length history < event_limit
   pub here : next.line ≡ line
   pub held : is_held_up header history next.command ≡ true
@@ -88,7 +66,7 @@ pub record IsStuck (script : Script) (line : ℕ) (history : List Event) : Type 
   pub next : Numbered
   pub run : List Numbered
   pub part : IsPart script (later ++ next ∷ []) run history
-  pub unbuilt : (unbuilt_line script.header (next ∷ run) ≡ Some line) ⊎ IsHeldUp script.header line next run history
+  pub unbuilt : (unbuilt_line (next ∷ run) ≡ Some line) ⊎ IsHeldUp script.header line next run history
 
 -- the text of all steps but the last was written, and then a first part of the last step's
 abbrev pub WroteButLast : Option (List ℕ) → Option (List ℕ) → List Event → Type 0

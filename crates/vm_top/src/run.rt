@@ -1,18 +1,18 @@
 // Runs a script, and writes each command's events when its step has ended.
-ghost use Rattle.std.specs.Prelude.{◌≡◌, ◌+◌, ◌<◌, ◌≤◌, ◌^◌, ◌&&◌, true, false, IsTrue, List, ℕ, length, nat_le, OnOk, IsErrOf};
+ghost use Rattle.std.specs.Prelude.{◌≡◌, ◌<◌, ◌≤◌, [], true, false, List, ℕ, length, OnOk, IsErrOf};
 ghost use Rattle.std.specs.Io.KnownBytes.{Appends};
 ghost use Rattle.std.specs.declared.option.Option.{Option};
 ghost use Rattle.vm_model.specs.Ranges.{InRange};
 ghost use Rattle.vm_outside.specs.Causes.{Rose};
-ghost use Rattle.vm_top.specs.Pages.{room_all};
-ghost use Rattle.vm_top.specs.Run.{IsRunnable, RanAs, WroteButLast, MayStep, has_frames, is_built, shown};
-ghost use Rattle.vm_top.specs.Runner.{Agrees, HasFrames, IsBelowLimit, IsBuilt, IsPlain, KeepsLegal, event_limit, is_held_up, pages_asked};
+ghost use Rattle.vm_kernel.specs.Built.{is_built, is_held_up};
+ghost use Rattle.vm_top.specs.Run.{IsRunnable, RanAs, WroteButLast, MayStep, shown};
+ghost use Rattle.vm_top.specs.Runner.{Agrees, IsBelowLimit, KeepsLegal, event_limit};
 
 use crate::render::write_step;
 use crate::runner::Runner;
 use crate::words::Report;
 use std::alloc::Global;
-use vm_base::{PageSize, WriteStop};
+use vm_base::WriteStop;
 use vm_model::{Command, Header, History, Numbered, Script};
 use vm_outside::Sink;
 
@@ -54,43 +54,12 @@ fn is_built(command: &Command) -> bool
         | Command::Protect { .. }
         | Command::Inherit { .. }
         | Command::Load { .. }
-        | Command::Store { .. } => true,
+        | Command::Store { .. }
+        | Command::Pageout { .. }
+        | Command::Wire { .. }
+        | Command::Unwire { .. } => true,
         _ => false,
     }
-}
-
-// Whether the command is one that is built, and there are frames for all pages that are wanted.
-fn can_run(command: &Command, wanted: u64, frames: u64) -> bool
-    ensures exact { result ≡ (is_built command.now && nat_le wanted frames) }
-    ensures built { IsTrue result → is_built command.now ≡ true }
-    ensures few { IsTrue result → wanted ≤ frames }
-{
-    is_built(command) && wanted <= frames
-}
-
-// How many pages the command asks for.
-fn pages_asked(size: PageSize, command: &Command) -> u64
-    requires { (header : Header) × InRange header command.now }
-    ensures exact { result ≡ pages_asked size command.now }
-    ensures small { result < 2 ^ 33 }
-{
-    match command {
-        Command::Allocate { bytes, .. } => {
-            let page = u64::from(size.bytes());
-            (*bytes + (page - 1)) / page
-        }
-        _ => 0,
-    }
-}
-
-// The frames of host 0.
-fn frames_of(header: &Header) -> u64
-    requires { IsPlain header.now }
-    ensures exact { (count : ℕ) → has_frames header.now.frames.items count ≡ nat_le count result }
-    ensures has { HasFrames header.now result }
-    ensures small { result < 2 ^ 32 }
-{
-    u64::from(*header.frames.at(0))
 }
 
 // One command's step, and its text.
@@ -103,11 +72,10 @@ fn turn<K: Sink>(
     out: &mut K,
 ) -> Result<(), WriteStop>
     requires agrees { Agrees header.now runner.old }
-    requires built { IsBuilt numbered.now.command }
+    requires range { InRange header.now numbered.now.command }
+    requires built { is_built numbered.now.command ≡ true }
     requires free { is_held_up header.now runner.old.history.items numbered.now.command ≡ false }
-    requires room { HasFrames header.now (room_all runner.old.pages + pages_asked header.now.size numbered.now.command) }
     ensures agrees { OnOk result (Agrees header.now runner.new) }
-    ensures room { OnOk result (room_all runner.new.pages ≤ room_all runner.old.pages + pages_asked header.now.size numbered.now.command) }
     ensures limit { length runner.old.history.items < event_limit → IsBelowLimit runner.old.history.items → IsBelowLimit runner.new.history.items }
     ensures later { K.faults out.old ≤ K.faults out.new }
     ensures cause { IsErrOf result WriteStop.Failed → Rose (K.faults out.old) (K.faults out.new) }
@@ -144,10 +112,20 @@ fn ended(runner: Runner, end: RunEnd) -> Ran
     }
 }
 
+// No memory was there for the first thing.
+fn nothing(alloc: Global) -> Ran
+    ensures { (result.history.items ≡ []) × (result.end ≡ RunEnd.NoMemory) }
+{
+    Ran {
+        history: History::new(alloc),
+        end: RunEnd::NoMemory,
+    }
+}
+
 /// Runs the script to its end, or to a write that fails, or until memory ends, or until the history
-/// has 200,000 events at the begin of a step, or to a command that isn't built: one that no runner
-/// knows, or a range with which there would be more pages than frames, or a fork that would copy
-/// an entry.
+/// has 200,000 events at the begin of a step, or to a command that isn't built, or can't be run now:
+/// a load or store while no frame is free, a pageout where a page may be dirty, or a fork that would
+/// copy an entry.
 pub fn run_script<K: Sink>(alloc: Global, report: Report, script: &Script, out: &mut K) -> Ran
     requires { IsRunnable script.now }
     ensures ran { RanAs report script.now result.history.items result.end (K.written out.old) (K.written out.new) }
@@ -156,21 +134,19 @@ pub fn run_script<K: Sink>(alloc: Global, report: Report, script: &Script, out: 
     ensures cause { result.end ≡ RunEnd.Failed → Rose (K.faults out.old) (K.faults out.new) }
 {
     let header = &script.header;
-    let frames = frames_of(header);
-    let mut runner = Runner::new(alloc, header.size);
-    let mut wanted = 0u64;
+    let Ok(mut runner) = Runner::new(alloc, header) else {
+        return nothing(alloc);
+    };
     for i in 0..script.commands.len() {
         let numbered = script.commands.at(i);
-        wanted += pages_asked(header.size, &numbered.command);
-        if !can_run(&numbered.command, wanted, frames) {
-            let line = numbered.line;
+        let line = numbered.line;
+        if !is_built(&numbered.command) {
             return ended(runner, RunEnd::NotBuilt { line });
         }
         if runner.history.len() >= MOST_EVENTS {
             return ended(runner, RunEnd::EventLimit);
         }
-        if !runner.builds(header, &numbered.command) {
-            let line = numbered.line;
+        if runner.is_held_up(header, &numbered.command) {
             return ended(runner, RunEnd::NotBuilt { line });
         }
         match turn(alloc, report, header, &mut runner, numbered, out) {

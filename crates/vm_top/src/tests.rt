@@ -146,7 +146,7 @@ const USAGES: [Row; 12] = [
     ("generate 7 000001", SMALLEST, 2, USAGE),
 ];
 
-const NOT_BUILT: [Row; 17] = [
+const NOT_BUILT: [Row; 18] = [
     ("generate 7 2000", SMALLEST, 7, "notbuilt 0\n"),
     ("generate 00000000000000000007 00001", "", 7, "notbuilt 0\n"),
     ("generate 18446744073709551615 10000", "", 7, "notbuilt 0\n"),
@@ -174,24 +174,27 @@ const NOT_BUILT: [Row; 17] = [
         "line 2\nmade 0 0\nnotbuilt 3\n",
     ),
     ("run", "hosts 1 4\ntake u0.0\n", 7, "notbuilt 2\n"),
+    ("run", "hosts 1 4\nfail files 1\n", 7, "notbuilt 2\n"),
+    ("run", "hosts 1 4\ncopy 0 0 16 0 64\n", 7, "notbuilt 2\n"),
+    // no frame is free for a load, even of a page that is here; one that is refused needs none
     (
         "run",
-        "page 16\nhosts 1 4\ntask 0 0\nallocate 0 0 64\nallocate 0 64 16\n",
+        "page 16\nhosts 1 2\ntask 0 0\nallocate 0 0 32\nload 0 0 1\nload 0 16 1\nload 0 32 1\nload 0 0 1\n",
         7,
-        "line 3\nmade 0 0\nline 4\nregion 0 0 4\nentered 0 0 64 0 0 3 1\nnotbuilt 5\n",
+        "line 3\nmade 0 0\nline 4\nregion 0 0 2\nentered 0 0 32 0 0 3 1\nline 5\nbegun 0 load 0 1\nzeroed 0 0 0\nloaded 0 0 0 0\nline 6\nbegun 0 load 16 1\nzeroed 0 0 1\nloaded 0 0 1 0\nline 7\nrefused 1\nnotbuilt 8\n",
     ),
     (
         "run",
-        "hosts 1 9\nframes 0 2\nallocate 0 0 4097\nallocate 0 0 1\n",
+        "page 16\nhosts 1 2\ntask 0 0\nallocate 0 0 16\nwire 0 2\nstore 0 0 1 7\n",
         7,
-        "line 3\nrefused 103\nnotbuilt 4\n",
+        "line 3\nmade 0 0\nline 4\nregion 0 0 1\nentered 0 0 16 0 0 3 1\nline 5\nwired 0 2\nnotbuilt 6\n",
     ),
-    ("run", "hosts 1 2\nallocate 0 0 8193\n", 7, "notbuilt 2\n"),
+    // pages may be dirty
     (
         "run",
-        "hosts 1 4096\nallocate 0 0 4294967296\n",
+        "page 16\nhosts 1 4\ntask 0 0\nallocate 0 0 16\nstore 0 0 1 1\npageout 0 0\npageout 0 1\n",
         7,
-        "notbuilt 2\n",
+        "line 3\nmade 0 0\nline 4\nregion 0 0 1\nentered 0 0 16 0 0 3 1\nline 5\nbegun 0 store 0 1 1\nzeroed 0 0 0\nstored 0 0 0 0 01\nline 6\nnotbuilt 7\n",
     ),
     // a fork that would copy an entry isn't built, but may be refused
     (

@@ -1,40 +1,29 @@
-use Rattle.std.proofs.Common.{Err, ap, sym, ◌∙◌, arith, length, ◌<◌, ◌≤◌, ◌+◌, refl}
+use Rattle.std.proofs.Common.{Err, ap, sym, ◌∙◌, arith, length, ◌<◌, ◌≤◌, refl}
 use Rattle.vm_top.specs.Runner.{event_limit}
 use Rattle.vm_top.specs.Writing.{oldest}
 use Rattle.vm_top.proofs.Writings.{oldest_step}
-use Rattle.vm_top.proofs.Starts.{agrees_start, legal_start, oldest_none, range_at, built_of, has_less, next_built, next_unbuilt, wanted_next, failed_at, full_at, held_at, held_up, memory_at, not_held, stuck_at, shown_none}
+use Rattle.vm_top.proofs.Starts.{failed_at, full_at, held_at, legal_start, memory_at, next_built, next_unbuilt, nothing_ran, oldest_none, range_at, shown_none, stuck_at}
 use Rattle.vm_top.proofs.run.run_script.Goals as goal
 
 pub loop-i-init : goal.loop-i-init
 loop-i-init g c =
-    let new = c.new-runner.ensures in
-    let plain = c.requires.plain in
     let none = oldest_none c.args.script.now.commands.items in
+    let empty = c.in-Ok.ensures.history in
     record {
-      agrees = agrees_start c.args.script.now.header c.new-runner.result plain new.0 new.1 new.2 new.3;
-      wanted = rw none refl;
-      few = omega arith;
-      room = rw new.1 (omega arith);
+      agrees = c.in-Ok.ensures.agrees;
       built = rw none refl;
-      legal = rw (new.3, none) (legal_start c.args.script.now.header);
-      limit = rw new.3 tt;
+      legal = rw (empty, none) (legal_start c.args.script.now.header);
+      limit = rw empty tt;
       later = omega arith;
-      written = rw new.3 (shown_none (g.K.Sink.written c.args.out.now) c.args.report);
+      written = rw empty (shown_none (g.K.Sink.written c.args.out.now) c.args.report);
     }
 
-pub pages_asked-wanted-requires : goal.pages_asked-wanted-requires
-pages_asked-wanted-requires g c = (c.args.script.now.header, range_at c.args.script.now c.loop-i.i c.at-numbered.result.now c.requires c.at-numbered.ensures)
-
-pub overflow_add-wanted : goal.overflow_add-wanted
-overflow_add-wanted g c = omega (arith, c.frames_of-frames.ensures.small, c.pages_asked-wanted.ensures.small, c.loop-i.invariant.few)
-
-pub returns-then-not-can_run-clause-ran : goal.returns-then-not-can_run-clause-ran
-returns-then-not-can_run-clause-ran g c =
+pub returns-then-not-is_built-clause-ran : goal.returns-then-not-is_built-clause-ran
+returns-then-not-is_built-clause-ran g c =
     let script = c.args.script.now in
     let n = c.at-numbered.result.now in
     let next = oldest_step script.commands.items c.loop-i.i n c.at-numbered.ensures in
-    let wanted = wanted_next script c.loop-i.i c.loop-i.wanted c.pages_asked-wanted.result n c.loop-i.invariant.wanted c.pages_asked-wanted.ensures.exact in
-    let stuck = next_unbuilt script.header n (oldest c.loop-i.i script.commands.items) (c.loop-i.wanted + c.pages_asked-wanted.result) c.frames_of-frames.result c.loop-i.invariant.built (c.frames_of-frames.ensures.exact _) wanted (sym c.can_run.ensures.exact ∙ c.if-not-can_run.true) in
+    let stuck = next_unbuilt n (oldest c.loop-i.i script.commands.items) c.loop-i.invariant.built (sym c.is_built.ensures ∙ c.if-not-is_built.true) in
     rw (c.ended.ensures.0, c.ended.ensures.1) (stuck_at script c.loop-i.i n c.loop-i.runner.history.items next c.loop-i.invariant.built c.loop-i.invariant.legal stuck, c.loop-i.invariant.written)
 
 pub returns-then-len-ge-MOST_EVENTS-clause-ran : goal.returns-then-len-ge-MOST_EVENTS-clause-ran
@@ -42,34 +31,29 @@ returns-then-len-ge-MOST_EVENTS-clause-ran g c =
     let script = c.args.script.now in
     let n = c.at-numbered.result.now in
     let next = oldest_step script.commands.items c.loop-i.i n c.at-numbered.ensures in
-    let wanted = wanted_next script c.loop-i.i c.loop-i.wanted c.pages_asked-wanted.result n c.loop-i.invariant.wanted c.pages_asked-wanted.ensures.exact in
-    let built = next_built script.header n (oldest c.loop-i.i script.commands.items) (c.loop-i.wanted + c.pages_asked-wanted.result) c.frames_of-frames.result c.loop-i.invariant.built (c.frames_of-frames.ensures.exact _) wanted (sym c.can_run.ensures.exact ∙ c.if-not-can_run.false) in
+    let built = next_built n (oldest c.loop-i.i script.commands.items) c.loop-i.invariant.built (sym c.is_built.ensures ∙ c.if-not-is_built.false) in
     let full : event_limit ≤ length c.loop-i.runner.history.items = rw c.len.ensures at c.if-len-ge-MOST_EVENTS.true in
     rw (c.ended-then-len-ge-MOST_EVENTS.ensures.0, c.ended-then-len-ge-MOST_EVENTS.ensures.1) (full_at script c.loop-i.i n c.loop-i.runner.history.items next c.loop-i.invariant.built c.loop-i.invariant.legal built full, c.loop-i.invariant.written)
 
-pub returns-then-not-builds-clause-ran : goal.returns-then-not-builds-clause-ran
-returns-then-not-builds-clause-ran g c =
+pub returns-then-is_held_up-clause-ran : goal.returns-then-is_held_up-clause-ran
+returns-then-is_held_up-clause-ran g c =
     let script = c.args.script.now in
     let n = c.at-numbered.result.now in
     let next = oldest_step script.commands.items c.loop-i.i n c.at-numbered.ensures in
-    let wanted = wanted_next script c.loop-i.i c.loop-i.wanted c.pages_asked-wanted.result n c.loop-i.invariant.wanted c.pages_asked-wanted.ensures.exact in
-    let built = next_built script.header n (oldest c.loop-i.i script.commands.items) (c.loop-i.wanted + c.pages_asked-wanted.result) c.frames_of-frames.result c.loop-i.invariant.built (c.frames_of-frames.ensures.exact _) wanted (sym c.can_run.ensures.exact ∙ c.if-not-can_run.false) in
+    let built = next_built n (oldest c.loop-i.i script.commands.items) c.loop-i.invariant.built (sym c.is_built.ensures ∙ c.if-not-is_built.false) in
     let below : length c.loop-i.runner.history.items < event_limit = let less = c.if-len-ge-MOST_EVENTS.false in omega (arith, c.len.ensures) in
-    rw (c.ended-then-not-builds.ensures.0, c.ended-then-not-builds.ensures.1)
-    (held_at script c.loop-i.i n c.loop-i.runner.history.items next c.loop-i.invariant.built c.loop-i.invariant.legal built below (held_up _ (sym c.builds.ensures ∙ c.if-not-builds.true)), c.loop-i.invariant.written)
+    rw (c.ended-then-is_held_up.ensures.0, c.ended-then-is_held_up.ensures.1)
+    (held_at script c.loop-i.i n c.loop-i.runner.history.items next c.loop-i.invariant.built c.loop-i.invariant.legal built below (sym c.is_held_up.ensures ∙ c.if-is_held_up.true), c.loop-i.invariant.written)
 
-pub turn-requires-clause-free : goal.turn-requires-clause-free
-turn-requires-clause-free g c = not_held _ (sym c.builds.ensures ∙ c.if-not-builds.false)
+pub returns-in_default-clause-ran : goal.returns-in_default-clause-ran
+returns-in_default-clause-ran g c =
+    rw (c.nothing.ensures.0, c.nothing.ensures.1) (nothing_ran c.args.report c.args.script.now (g.K.Sink.written c.args.out.now))
 
-pub turn-requires-clause-built : goal.turn-requires-clause-built
-turn-requires-clause-built g c =
-    let n = c.at-numbered.result.now in
-    built_of c.args.script.now.header n.command c.requires.plain (range_at c.args.script.now c.loop-i.i n c.requires c.at-numbered.ensures) (c.can_run.ensures.built c.if-not-can_run.false)
+pub is_held_up-requires-clause-range : goal.is_held_up-requires-clause-range
+is_held_up-requires-clause-range g c = range_at c.args.script.now c.loop-i.i c.at-numbered.result.now c.requires c.at-numbered.ensures
 
-pub turn-requires-clause-room : goal.turn-requires-clause-room
-turn-requires-clause-room g c =
-    let few = c.can_run.ensures.few c.if-not-can_run.false in
-    has_less c.args.script.now.header _ c.frames_of-frames.result c.frames_of-frames.ensures.has (omega (arith, few, c.loop-i.invariant.room, c.pages_asked-wanted.ensures.exact))
+pub turn-requires-clause-range : goal.turn-requires-clause-range
+turn-requires-clause-range g c = range_at c.args.script.now c.loop-i.i c.at-numbered.result.now c.requires c.at-numbered.ensures
 
 pub returns-in-Err-Failed-clause-ran : goal.returns-in-Err-Failed-clause-ran
 returns-in-Err-Failed-clause-ran g c =
@@ -92,15 +76,11 @@ loop-i-preserved g c =
     let script = c.args.script.now in
     let items = script.commands.items in
     let n = c.at-numbered.result.now in
-    let turn = c.in-Ok.ensures in
+    let turn = c.in-Ok-turn.ensures in
     let next = oldest_step items c.loop-i.i n c.at-numbered.ensures in
-    let wanted = wanted_next script c.loop-i.i c.loop-i.wanted c.pages_asked-wanted.result n c.loop-i.invariant.wanted c.pages_asked-wanted.ensures.exact in
-    let built = next_built script.header n (oldest c.loop-i.i items) (c.loop-i.wanted + c.pages_asked-wanted.result) c.frames_of-frames.result c.loop-i.invariant.built (c.frames_of-frames.ensures.exact _) wanted (sym c.can_run.ensures.exact ∙ c.if-not-can_run.false) in
+    let built = next_built n (oldest c.loop-i.i items) c.loop-i.invariant.built (sym c.is_built.ensures ∙ c.if-not-is_built.false) in
     record {
       agrees = turn.agrees;
-      wanted = rw next wanted;
-      few = c.can_run.ensures.few c.if-not-can_run.false;
-      room = omega (arith, turn.room, c.loop-i.invariant.room, c.pages_asked-wanted.ensures.exact);
       built = rw next built;
       legal = rw next (turn.legal (oldest c.loop-i.i items) c.loop-i.invariant.legal);
       limit = turn.limit (let less = c.if-len-ge-MOST_EVENTS.false in omega (arith, c.len.ensures)) c.loop-i.invariant.limit;

@@ -1,19 +1,15 @@
 use Rattle.std.proofs.Common.{◌≡◌, ◌≤◌, None}
 use Rattle.std.specs.Io.KnownBytes.{Appends}
 use Rattle.vm_model.specs.Legal.{LegalFor}
-use Rattle.vm_top.specs.Pages.{room_all}
 use Rattle.vm_top.specs.Run.{shown, unbuilt_line}
-use Rattle.vm_top.specs.Runner.{Agrees, IsBelowLimit, pages_wanted}
+use Rattle.vm_top.specs.Runner.{Agrees, IsBelowLimit}
 use Rattle.vm_top.specs.Writing.{oldest}
 use Rattle.vm_top.proofs.run.run_script.Given as goal
 
 abbrev pub invariant-loop-i : goal.invariant-loop-i
 invariant-loop-i g l = record {
   agrees : Agrees l.script.header l.runner;
-  wanted : l.wanted ≡ pages_wanted l.script.header.size (oldest l.i l.script.commands.items);
-  few : l.wanted ≤ l.frames;
-  room : room_all l.runner.pages ≤ l.wanted;
-  built : unbuilt_line l.script.header (oldest l.i l.script.commands.items) ≡ None;
+  built : unbuilt_line (oldest l.i l.script.commands.items) ≡ None;
   legal : LegalFor l.script.header (oldest l.i l.script.commands.items) l.runner.history.items;
   limit : IsBelowLimit l.runner.history.items;
   later : g.K.Sink.faults l.fn.out ≤ g.K.Sink.faults l.out;

@@ -1,9 +1,8 @@
 use Rattle.std.proofs.Common.{refl, sym, ◌∙◌}
-use Rattle.vm_top.proofs.Steps.{on_ok, stepped_refused}
+use Rattle.std.proofs.lemmas.Result.{on_ok_weaker}
+use Rattle.vm_top.proofs.Steps.{stepped_refused}
 use Rattle.vm_top.proofs.runner.Runner.step.Goals as goal
 
-pub returns-in-Some : goal.returns-in-Some
-returns-in-Some c = record {
-  ok = on_ok c.push_two.result _ _ (λ is. stepped_refused c.args.header.now c.args.numbered.now c.in-Some.code c.args.self.now _ c.requires.agrees (sym c.refusal.ensures ∙ c.in-Some.is) refl refl refl is) c.push_two.ensures.ok;
-  err = c.push_two.ensures.err;
-}
+pub returns-in-Some-clause-ok : goal.returns-in-Some-clause-ok
+returns-in-Some-clause-ok c =
+    on_ok_weaker c.push_two.result (λ grown. stepped_refused c.args.header.now c.args.numbered.now c.in-Some.code c.args.self.now _ c.requires.agrees (sym c.refusal.ensures ∙ c.in-Some.is) grown refl refl refl) c.push_two.ensures.ok
