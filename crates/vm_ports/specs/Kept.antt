@@ -1,0 +1,7 @@
+-- How the first letter of a channel is found.
+use Rattle.std.specs.Prelude.{ℕ, ◌==◌, Bool}
+use Rattle.vm_ports.specs.declared.letter.Letter.{Letter}
+
+-- a letter was sent on this channel
+abbrev pub is_on : {M : Type 0} → ℕ → Letter M → Bool
+is_on ch letter = letter.channel.0 == ch

@@ -1,0 +1,11 @@
+//! The ports of a run: channels of messages, and the order in which the undelivered ones were sent.
+#![tactic(auto)]
+
+mod letter;
+mod ports;
+
+pub use letter::{Letter, SendBack};
+pub use ports::Ports;
+
+#[cfg(test)]
+mod tests;
