@@ -1,0 +1,6 @@
+mod Choices
+mod Edits
+mod Fitting
+mod Marks
+mod Places
+mod Tables

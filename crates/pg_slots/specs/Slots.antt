@@ -1,0 +1,86 @@
+-- The paging slots of a host, as contracts see them.
+use Rattle.std.specs.Prelude.{ℕ, ◌≡◌, ◌<◌, ◌==◌, ◌&&◌, Bool, List, [], ◌∷◌, Option, Some, None, MatchOption, if◌then◌else◌}
+use Rattle.pg_slots.specs.declared.answers.Put.{Put}
+use Rattle.pg_slots.specs.declared.answers.Put.TheVariants as put
+use Rattle.pg_slots.specs.declared.slot_row.Held.{Held}
+use Rattle.pg_slots.specs.declared.slot_row.Held.TheVariants.{Kept, Torn, Lost}
+use Rattle.pg_slots.specs.declared.slot_row.SlotRow.{SlotRow}
+use Rattle.vm_base.specs.declared.ids.PageKey.{PageKey}
+
+-- the number of the host, the bytes of a page, the number of slots, and the pages that were put with what is held of each
+pub record SlotTable : Type 0 where
+  pub host : ℕ
+  pub size : ℕ
+  pub count : ℕ
+  pub rows : List SlotRow
+
+abbrev pub is_page : PageKey → ℕ → ℕ → Bool
+is_page key object page = key.object.0 == object && key.page.0 == page
+
+abbrev pub held_among : ℕ → ℕ → List SlotRow → Option Held
+held_among object page [] = None
+held_among object page (row ∷ rows) = if is_page row.key object page then Some row.held else held_among object page rows
+
+-- what is held of a page, None where it was never put
+abbrev pub held_at : SlotTable → ℕ → ℕ → Option Held
+held_at slots object page = held_among object page slots.rows
+
+abbrev pub slot_of : Option Held → Option ℕ
+slot_of None = None
+slot_of (Some (Kept slot)) = Some slot
+slot_of (Some (Torn slot)) = Some slot
+slot_of (Some Lost) = None
+
+-- the slot of a page, where it has one
+abbrev pub slot_at : SlotTable → ℕ → ℕ → Option ℕ
+slot_at slots object page = slot_of (held_at slots object page)
+
+-- the slot is some page's
+pub record IsTaken (slots : SlotTable) (s : ℕ) : Type 0 where
+  pub object : ℕ
+  pub page : ℕ
+  pub at : slot_at slots object page ≡ Some s
+
+-- each slot is some page's
+abbrev pub IsFull : SlotTable → Type 0
+IsFull slots = (s : ℕ) → s < slots.count → IsTaken slots s
+
+-- the lowest slot that is no page's
+pub record IsLowestFree (slots : SlotTable) (s : ℕ) : Type 0 where
+  pub inside : s < slots.count
+  pub free : IsTaken slots s → ⊥
+  pub lowest : (t : ℕ) → t < s → IsTaken slots t
+
+-- the slot that a put of a page goes to: its own, or else the lowest free one
+abbrev pub GoesTo : SlotTable → ℕ → ℕ → ℕ → Type 0
+GoesTo slots object page s = MatchOption (slot_at slots object page) (IsLowestFree slots s) (λ own. s ≡ own)
+
+-- the page has no slot, and each slot is another page's
+abbrev pub HasNoSlot : SlotTable → ℕ → ℕ → Type 0
+HasNoSlot slots object page = (slot_at slots object page ≡ None) × IsFull slots
+
+-- the host, the page size and the number of slots are as before
+pub record KeepsShape (old new : SlotTable) : Type 0 where
+  pub host : new.host ≡ old.host
+  pub size : new.size ≡ old.size
+  pub count : new.count ≡ old.count
+
+-- this is held of one page now, and of each other page what was held of it
+pub record PutsHeld (object page : ℕ) (held : Held) (old new : SlotTable) : Type 0 where
+  pub host : new.host ≡ old.host
+  pub size : new.size ≡ old.size
+  pub count : new.count ≡ old.count
+  pub at : (o p : ℕ) → held_at new o p ≡ (if object == o && page == p then Some held else held_at old o p)
+
+-- what a put leaves of the slots: the page is in the slot that it goes to, or lost with that slot, or lost with none
+abbrev pub Leaves : Put → ℕ → ℕ → SlotTable → SlotTable → Type 0
+Leaves put.Kept object page old new = (s : ℕ) × GoesTo old object page s × PutsHeld object page (Kept s) old new
+Leaves put.Failed object page old new = (s : ℕ) × GoesTo old object page s × PutsHeld object page (Torn s) old new
+Leaves put.NoSlot object page old new = PutsHeld object page Lost old new
+
+-- nothing is held of the pages of one object now, and of each other page what was held of it
+pub record DropsHeld (object : ℕ) (old new : SlotTable) : Type 0 where
+  pub host : new.host ≡ old.host
+  pub size : new.size ≡ old.size
+  pub count : new.count ≡ old.count
+  pub at : (o p : ℕ) → held_at new o p ≡ (if object == o then None else held_at old o p)

@@ -1,0 +1,15 @@
+//! The paging slots of a host's default pager: which page is in which slot, and the bytes over a
+//! backing.
+#![tactic(auto)]
+
+mod answers;
+mod rows;
+mod slot_row;
+mod slots;
+
+pub use answers::{Got, Put};
+pub use slot_row::{Held, SlotRow};
+pub use slots::Slots;
+
+#[cfg(test)]
+mod tests;
