@@ -1,3 +1,4 @@
+pub mod Buffers
 pub mod Code
 pub mod Entries
 pub mod Listing

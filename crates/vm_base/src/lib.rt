@@ -1,6 +1,7 @@
 //! Names, page sizes, page bytes, entries and lists, on which every other crate stands.
 #![tactic(auto)]
 
+mod buffers;
 mod code;
 mod entry;
 mod failure;
@@ -8,6 +9,7 @@ mod ids;
 mod listing;
 mod pages;
 
+pub use buffers::Buffers;
 pub use code::Code;
 pub use entry::Entry;
 pub use failure::{Failed, NoMemory, WriteStop};
