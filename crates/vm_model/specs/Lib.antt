@@ -25,6 +25,7 @@ pub mod Rows
 pub mod Server
 pub mod PageLicences
 pub mod Coherence
+pub mod Copies
 pub mod TaskPlace
 pub mod PagePart
 pub mod Channels

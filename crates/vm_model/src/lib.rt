@@ -2,11 +2,14 @@
 #![tactic(auto)]
 
 mod command;
+mod copies;
 mod event;
 mod fault;
 mod message;
 mod name;
 mod script;
+#[cfg(test)]
+mod tests;
 
 pub use command::{Command, Numbered};
 pub use event::{Device, Event, Way};
