@@ -1,0 +1,100 @@
+-- The accesses that wait: where they lead, how far their walks get, and what they want.
+use Rattle.std.specs.Prelude.{ℕ, zero, suc, ◌≡◌, Bool, true, false, List, [], ◌∷◌, if◌then◌else◌, ◌==◌, ◌&&◌, ◌||◌, Some}
+use Rattle.vm_base.specs.declared.entry.Entry.{Entry}
+use Rattle.vm_base.specs.Entries.{entry_at, page_at}
+use Rattle.vm_model.specs.declared.event.Event.{Event}
+use Rattle.vm_model.specs.declared.event.Event.TheVariants as event
+use Rattle.vm_model.specs.declared.message.Channel.TheVariants.{Up, Down}
+use Rattle.vm_model.specs.declared.message.Message.TheVariants as message
+use Rattle.vm_model.specs.declared.script.Header.{Header}
+use Rattle.vm_model.specs.Controls.{is_control, live_control}
+use Rattle.vm_model.specs.Regions.{region_of, backing_of}
+use Rattle.vm_model.specs.Tasks.{host_of, entries_of}
+use Rattle.vm_model.specs.Waiting.{Access, Copying, waiting, next_page, address_of, is_store}
+use Rattle.vm_legal.specs.Walks.{Leads, Sinks, IsTop, Walks, page_on, sight}
+
+-- where an address of a living task leads
+pub record At (header : Header) (task address : ℕ) (past : List Event) : Type 0 where
+  pub host : ℕ
+  pub entry : Entry
+  pub lives : host_of task past ≡ Some host
+  pub found : entry_at address (entries_of header.size task past) ≡ Some entry
+
+-- a task waits with an access, and where that leads
+pub record Waits (header : Header) (task : ℕ) (access : Access) (past : List Event) : Type 0 where
+  pub waits : waiting task past ≡ Some access
+  pub at : At header task (address_of header.size (next_page task past) access) past
+
+-- the page of its region that an access is about now
+abbrev pub page_of : (header : Header) (task : ℕ) (access : Access) (past : List Event) → Entry → ℕ
+page_of header task access past entry = page_at header.size (address_of header.size (next_page task past) access) entry
+
+-- a place is one of those of a page of a region
+pub record HasPlace (header : Header) (region page object object_page : ℕ) (past : List Event) : Type 0 where
+  pub top : ℕ
+  pub top_page : ℕ
+  pub steps : ℕ
+  pub is_top : IsTop (region_of header region past) page top top_page
+  pub leads : Leads (λ k. backing_of header k past) steps top top_page object object_page
+
+-- the walk of a page of a region gets as far as a place, in so many steps
+pub record Comes (header : Header) (host region page object object_page : ℕ) (past : List Event) : Type 0 where
+  pub top : ℕ
+  pub top_page : ℕ
+  pub steps : ℕ
+  pub is_top : IsTop (region_of header region past) page top top_page
+  pub walks : Walks (λ k q. sight header host k q past) (λ k. backing_of header k past) steps top top_page object object_page
+
+-- a lock (1 prohibits reading, 2 writing, 3 both) names a store, or another access
+abbrev pub names : ℕ → Bool → Bool
+names lock true = not_zero lock
+  where
+    not_zero : ℕ → Bool
+    not_zero zero = false
+    not_zero (suc n) = true
+names lock false = lock == 1 || lock == 3
+
+-- the control of an object that lives on the host took its ready
+abbrev pub is_ready : ℕ → ℕ → List Event → Bool
+is_ready h o [] = false
+is_ready h o (event.Sent (Up host object) (message.Init control size) ∷ past) = if host.0 == h && object.0 == o then false else is_ready h o past
+is_ready h o (event.Sent (Up host object) (message.Create control size) ∷ past) = if host.0 == h && object.0 == o then false else is_ready h o past
+is_ready h o (event.Taken (Down host object control) (message.Ready cache strategy) ∷ past) =
+    if host.0 == h && (object.0 == o && is_control control (live_control h o past)) then true else is_ready h o past
+is_ready h o (e ∷ past) = is_ready h o past
+
+-- a task of the host waits for a page that is here: the lock names its access, and an unlock is outstanding
+pub record WaitsUnlocked (header : Header) (host object page : ℕ) (past : List Event) : Type 0 where
+  pub task : ℕ
+  pub access : Access
+  pub waits : Waits header task access past
+  pub on_host : waits.at.host ≡ host
+  pub place : HasPlace header waits.at.entry.region.0 (page_of header task access past waits.at.entry) object page past
+  pub here : (page_on header host object page past).here ≡ true
+  pub named : names (page_on header host object page past).lock (is_store access) ≡ true
+  pub unlocking : (page_on header host object page past).unlocking ≡ true
+
+-- why an access wants a frame
+pub data WantsFrame (header : Header) (host task : ℕ) (access : Access) (region page : ℕ) (past : List Event) : Type 0 where
+  -- its walk finds the page nowhere
+  Nowhere : (top top_page steps : ℕ) → IsTop (region_of header region past) page top top_page
+      → Sinks (λ k q. sight header host k q past) (λ k. backing_of header k past) steps top top_page → WantsFrame header host task access region page past
+  -- its walk stops at a page that isn't asked yet, and whose pager is ready
+  Elsewhere : (object object_page : ℕ) → Comes header host region page object object_page past → (page_on header host object object_page past).here ≡ false
+      → (page_on header host object object_page past).asked ≡ false → (sight header host object object_page past).may_have ≡ true → is_ready host object past ≡ true
+      → WantsFrame header host task access region page past
+  -- it is a slow copy, whose page is here
+  Copies : (object object_page : ℕ) → Comes header host region page object object_page past → (page_on header host object object_page past).here ≡ true
+      → (address bytes to : ℕ) → access ≡ Copying address bytes to → WantsFrame header host task access region page past
+  -- it is a store, whose page is here below the top
+  Raises : (top top_page steps object object_page : ℕ) → IsTop (region_of header region past) page top top_page
+      → Walks (λ k q. sight header host k q past) (λ k. backing_of header k past) (suc steps) top top_page object object_page
+      → (page_on header host object object_page past).here ≡ true → is_store access ≡ true → WantsFrame header host task access region page past
+
+-- a task of the host waits, and wants a frame
+pub record Wants (header : Header) (host : ℕ) (past : List Event) : Type 0 where
+  pub task : ℕ
+  pub access : Access
+  pub waits : Waits header task access past
+  pub on_host : waits.at.host ≡ host
+  pub frame : WantsFrame header host task access waits.at.entry.region.0 (page_of header task access past waits.at.entry) past

@@ -1,0 +1,27 @@
+-- What a step owes when it ends.
+use Rattle.std.specs.Prelude.{ℕ, ◌<◌, ◌≤◌, ◌≡◌, List, true, Bool, Some, None}
+use Rattle.vm_model.specs.declared.event.Event.{Event}
+use Rattle.vm_model.specs.declared.message.Message.TheVariants as message
+use Rattle.vm_model.specs.declared.script.Header.{Header}
+use Rattle.vm_model.specs.Named.{named}
+use Rattle.vm_legal.specs.Licences.{created, is_paged, up, zeroes}
+use Rattle.vm_legal.specs.Pagers.{LacksSlot}
+use Rattle.vm_legal.specs.Steps.{answers, absence_taken, before_step, error_taken, fails_access, lacks_slot, readies, since, taken}
+
+pub record IsPaid (header : Header) (past : List Event) : Type 0 where
+  -- an object's first control is never made without the return behind it
+  pub returned : created past ≡ None
+  -- a pager that was told of an object is ready
+  pub init : (host object control size : ℕ) → is_paged header object ≡ true → taken past ≡ Some (record { channel = up host object; message = message.Init control size }) → since (readies object) past ≡ true
+  pub create : (host object control size : ℕ) → is_paged header object ≡ true → taken past ≡ Some (record { channel = up host object; message = message.Create control size }) → since (readies object) past ≡ true
+  -- a request is answered
+  pub request : (host object control page access : ℕ) → is_paged header object ≡ true
+      → taken past ≡ Some (record { channel = up host object; message = message.Request control (record { 0 = page }) access }) → since (answers object page) past ≡ true
+  -- an error ends some access
+  pub error : (host object page : ℕ) → error_taken header.size past ≡ Some (record { host = host; object = object; page = page }) → since (fails_access object page) past ≡ true
+  -- where a pager has no page of a declared object, zeros come
+  pub absence : (host object page : ℕ) → object < named header → absence_taken header.size past ≡ Some (record { host = host; object = object; page = page }) → since (zeroes object page) past ≡ true
+  -- a returned page for which there is no slot is told of
+  pub slot : (host object control page : ℕ) (dirty keep : Bool) (bytes : List ℕ) → named header ≤ object
+      → taken past ≡ Some (record { channel = up host object; message = message.Return control (record { 0 = page }) dirty keep bytes })
+      → LacksSlot header host object page (before_step past) → since (lacks_slot object page) past ≡ true

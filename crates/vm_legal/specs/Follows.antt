@@ -1,0 +1,142 @@
+-- What the commands make of a history: a group of events for each. Commands too have the newest first.
+use Rattle.std.specs.Prelude.{ℕ, ◌+◌, ◌-◌, ◌/◌, ◌≤◌, ◌≡◌, ◌⊎◌, ◌==◌, true, List, [], ◌∷◌, ◌++◌, reverse, if◌then◌else◌, Option, Some, None, MatchOption, IfNone}
+use Rattle.vm_base.specs.declared.entry.Entry.{Entry}
+use Rattle.vm_base.specs.declared.ids.Inherit.TheVariants.{Copy}
+use Rattle.vm_base.specs.declared.ids.TaskId.{TaskId}
+use Rattle.vm_model.specs.declared.event.Event.{Event}
+use Rattle.vm_model.specs.declared.event.Event.TheVariants as event
+use Rattle.vm_model.specs.declared.command.Command.{Command}
+use Rattle.vm_model.specs.declared.command.Command.TheVariants as command
+use Rattle.vm_model.specs.declared.command.Numbered.{Numbered}
+use Rattle.vm_model.specs.declared.message.Channel.{Channel}
+use Rattle.vm_model.specs.declared.message.Channel.TheVariants.{Up}
+use Rattle.vm_model.specs.declared.message.Message.{Message}
+use Rattle.vm_model.specs.declared.message.Message.TheVariants as message
+use Rattle.vm_model.specs.declared.script.Header.{Header}
+use Rattle.vm_model.specs.Channels.{queue}
+use Rattle.vm_model.specs.Regions.{next_region, next_object}
+use Rattle.vm_model.specs.Server.{first}
+use Rattle.vm_model.specs.Tasks.{host_of, entries_of, copies, shared}
+use Rattle.vm_legal.specs.Frames.{frames_wired}
+use Rattle.vm_legal.specs.Licences.{AllLicensed}
+use Rattle.vm_legal.specs.Outside.{Outside}
+use Rattle.vm_legal.specs.Prompt.{IsExhausted}
+use Rattle.vm_legal.specs.Refusal.{refusal}
+use Rattle.vm_legal.specs.Steps.{gone, takings}
+use Rattle.vm_legal.specs.Stretches.{EachOf}
+use Rattle.vm_legal.specs.Undelivered.{undelivered}
+
+-- a task gets these entries
+abbrev pub gets : TaskId → List Entry → List Event
+gets task [] = []
+gets task (row ∷ rows) = event.Entered task row.address row.bytes row.region row.offset row.prot row.inherit ∷ gets task rows
+
+-- a forked task is made on the host of the other, whose entries are these; where some of them are to be copied the fork is never run
+abbrev pub fork_head : TaskId → Option ℕ → List Entry → Option (List Event)
+fork_head child None rows = None
+fork_head child (Some host) rows = if copies rows == 0 then Some (event.TaskMade child (record { 0 = host }) ∷ gets child (shared rows)) else None
+
+-- the oldest message of a channel is taken, where there is one
+abbrev pub take_head : Channel → Option Message → Option (List Event)
+take_head channel None = None
+take_head channel (Some m) = Some (event.Taken channel m ∷ [])
+
+-- the head of a command's group behind its line, in the order of writing; a command without one is never run
+abbrev pub head : Header → List Event → Command → Option (List Event)
+head header past (command.Task task host) = Some (event.TaskMade task host ∷ [])
+head header past (command.Allocate task address bytes) =
+    Some
+    (event.RegionMade (record { 0 = next_region header past }) (record { 0 = next_object header past }) (bytes / header.size)
+    ∷ event.Entered task address bytes (record { 0 = next_region header past }) 0 (record { read = true; write = true }) Copy ∷ [])
+head header past (command.Load task address size) = Some (event.BegunLoad task address size ∷ [])
+head header past (command.Store task address size value) = Some (event.BegunStore task address size value ∷ [])
+head header past (command.Fork task child) = fork_head child (host_of task.0 past) (entries_of header.size task.0 past)
+head header past (command.Exit task) = Some (event.TaskEnded task ∷ [])
+head header past (command.Deallocate task address bytes) = Some (event.Removed task address bytes ∷ [])
+head header past (command.Protect task address bytes prot) = Some (event.Protected task address bytes prot ∷ [])
+head header past (command.Inherit task address bytes inherit) = Some (event.Inherited task address bytes inherit ∷ [])
+head header past (command.Take channel) = take_head channel (first (queue channel past))
+head header past (command.Settle count) = Some []
+head header past (command.Wire host count) = Some (event.Wired host (frames_wired host.0 past + count) ∷ [])
+head header past (command.Unwire host count) = Some (event.Wired host (frames_wired host.0 past - count) ∷ [])
+head header past (command.Pageout host count) = Some []
+head header past (command.FailFiles count) = Some []
+head header past (command.FailPaging count) = Some []
+head header past other = None
+
+-- the event is no part of a head, nor a line
+abbrev pub IsConsequence : Event → Type 0
+IsConsequence (event.Line line) = ⊥
+IsConsequence (event.Refused code) = ⊥
+IsConsequence (event.TaskMade task host) = ⊥
+IsConsequence (event.TaskEnded task) = ⊥
+IsConsequence (event.RegionMade region object pages) = ⊥
+IsConsequence (event.RegionCopied region source offset pages) = ⊥
+IsConsequence (event.Entered task address bytes region offset prot inherit) = ⊥
+IsConsequence (event.Removed task address bytes) = ⊥
+IsConsequence (event.Protected task address bytes prot) = ⊥
+IsConsequence (event.Inherited task address bytes inherit) = ⊥
+IsConsequence (event.BegunLoad task address size) = ⊥
+IsConsequence (event.BegunStore task address size value) = ⊥
+IsConsequence (event.BegunCopy task address bytes to) = ⊥
+IsConsequence (event.Wired host count) = ⊥
+IsConsequence other = Unit {0}
+
+-- behind its line a group is the head of its command and what follows from it; each event has its cause
+pub record IsRun (header : Header) (outside : Outside) (past : List Event) (numbered : Numbered) (first group : List Event) : Type 0 where
+  pub more : List Event
+  pub is : group ≡ more ++ reverse first
+  pub follows : EachOf IsConsequence more
+  pub licensed : AllLicensed header outside numbered.command group (event.Line numbered.line ∷ past)
+
+-- what stands behind the line of a command: its refusal alone, or what it makes
+abbrev pub IsGroup : Header → Outside → List Event → Numbered → List Event → Type 0
+IsGroup header outside past numbered group =
+    MatchOption (refusal header past numbered.command)
+    (MatchOption (head header past numbered.command) ⊥ (λ first. IsRun header outside past numbered first group))
+    (λ code. group ≡ event.Refused code ∷ [])
+
+-- the event takes a page from the host, or makes the control for its return
+abbrev pub IsReclaim : ℕ → Event → Type 0
+IsReclaim host (event.Dropped at object page) = at.0 ≡ host
+IsReclaim host (event.Sent (Up at object) (message.Create control size)) = at.0 ≡ host
+IsReclaim host (event.Sent (Up at object) (message.Return control page dirty keep bytes)) = at.0 ≡ host
+IsReclaim host other = ⊥
+
+-- at a moment of the group, with nothing but reclaims in front, nothing more could be reclaimed on the host
+pub record Empties (header : Header) (host : ℕ) (group past : List Event) : Type 0 where
+  pub later : List Event
+  pub front : List Event
+  pub is : group ≡ later ++ front
+  pub reclaims : EachOf (IsReclaim host) front
+  pub exhausted : IsExhausted header host past (front ++ past)
+
+-- what else a command owes when its group ends, behind its line: a pageout goes on until it has reclaimed so many pages or can't go on, a
+-- settle until it has taken so many messages or none is left
+abbrev pub IsDone : Header → Command → List Event → List Event → Type 0
+IsDone header (command.Pageout host count) group past = (count ≤ gone (group ++ past)) ⊎ Empties header host.0 group past
+IsDone header (command.Settle count) group past = (takings (group ++ past) ≡ count) ⊎ (undelivered (group ++ past) ≡ [])
+IsDone header other group past = Unit {0}
+
+-- the group goes as far as its command does, unless that is refused
+abbrev pub IsWhole : Header → List Event → Numbered → List Event → Type 0
+IsWhole header past numbered group = IfNone (refusal header past numbered.command) (IsDone header numbered.command group (event.Line numbered.line ∷ past))
+
+-- the groups are those of the commands
+abbrev pub Follows : Header → Outside → List Numbered → List Event → Type 0
+Follows header outside [] history = history ≡ []
+Follows header outside (numbered ∷ before) history =
+    (past : List Event) × (group : List Event)
+    × (history ≡ group ++ event.Line numbered.line ∷ past)
+    × IsGroup header outside past numbered group
+    × IsWhole header past numbered group
+    × Follows header outside before past
+
+-- the same, but that the last command may have more to do
+abbrev pub FollowsSoFar : Header → Outside → List Numbered → List Event → Type 0
+FollowsSoFar header outside [] history = history ≡ []
+FollowsSoFar header outside (numbered ∷ before) history =
+    (past : List Event) × (group : List Event)
+    × (history ≡ group ++ event.Line numbered.line ∷ past)
+    × IsGroup header outside past numbered group
+    × Follows header outside before past

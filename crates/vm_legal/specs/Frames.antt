@@ -1,0 +1,87 @@
+-- The frames of a host that are in use, wired and free.
+use Rattle.std.specs.Prelude.{ℕ, ◌+◌, ◌-◌, ◌≤◌, ◌==◌, ◌&&◌, not, Bool, List, [], ◌∷◌, if◌then◌else◌, IfSome, reverse, slice_get, unwrap_or}
+use Rattle.vm_model.specs.declared.event.Event.{Event}
+use Rattle.vm_model.specs.declared.event.Event.TheVariants as event
+use Rattle.vm_model.specs.declared.message.Channel.TheVariants.{Up, Down}
+use Rattle.vm_model.specs.declared.message.Message.{Message}
+use Rattle.vm_model.specs.declared.message.Message.TheVariants as message
+use Rattle.vm_model.specs.declared.script.Header.{Header}
+use Rattle.vm_model.specs.Controls.{is_control, live_control}
+use Rattle.vm_model.specs.Local.{local}
+use Rattle.vm_legal.specs.Living.{lives_on}
+
+-- what an event does to the frames in use
+pub data Change : Type 0 where
+  Takes : Change
+  Gives : Change
+  Keeps : Change
+
+abbrev pub where_true : Bool → Change → Change
+where_true test change = if test then change else Keeps
+
+-- A request takes the frame for its page. A return that keeps no copy gives its frame back when its pager takes it.
+abbrev pub sent_up : Bool → Message → Change
+sent_up here (message.Request control page access) = where_true here Takes
+sent_up here other = Keeps
+
+abbrev pub taken_up : Bool → Message → Change
+taken_up here (message.Return control page dirty keep bytes) = where_true (here && not keep) Gives
+taken_up here other = Keeps
+
+-- What a pager supplies stands in the frame that was asked for; where it has none, or fails, that frame is given back. Whether the
+-- page is asked comes in as a function.
+abbrev pub taken_down : (ℕ → Bool) → Message → Change
+taken_down asked (message.Unavailable page) = where_true (asked page.0) Gives
+taken_down asked (message.Error page reason) = where_true (asked page.0) Gives
+taken_down asked other = Keeps
+
+abbrev pub change : ℕ → ℕ → Event → List Event → Change
+change size host (event.Zeroed at object page) past = where_true (at.0 == host) Takes
+change size host (event.Raised at lower lower_page upper upper_page) past = where_true (at.0 == host) Takes
+change size host (event.CopiedPage task page object object_page target) past = where_true (lives_on host task.0 past) Takes
+change size host (event.Dropped at object page) past = where_true (at.0 == host) Gives
+change size host (event.Sent (Up at object) m) past = sent_up (at.0 == host) m
+change size host (event.Taken (Up at object) m) past = taken_up (at.0 == host) m
+change size host (event.Taken (Down at object control) m) past =
+    taken_down (λ page. at.0 == host && (is_control control (live_control host object.0 past) && (local size host (record { object = object.0; page = page }) past).asked)) m
+change size host e past = Keeps
+
+abbrev pub changed : Change → ℕ → ℕ
+changed Takes held = held + 1
+changed Gives held = held - 1
+changed Keeps held = held
+
+-- the frames of pages that are here or asked, and of returns that their pagers did not take yet
+abbrev pub frames_held : ℕ → ℕ → List Event → ℕ
+frames_held size host [] = 0
+frames_held size host (e ∷ past) = changed (change size host e past) (frames_held size host past)
+
+-- how many are wired: what was told last
+abbrev pub frames_wired : ℕ → List Event → ℕ
+frames_wired host [] = 0
+frames_wired host (event.Wired at count ∷ past) = if at.0 == host then count else frames_wired host past
+frames_wired host (e ∷ past) = frames_wired host past
+
+abbrev pub frames_used : ℕ → ℕ → List Event → ℕ
+frames_used size host past = frames_held size host past + frames_wired host past
+
+-- a host uses no more frames than it has
+abbrev pub Suffice : Header → ℕ → List Event → Type 0
+Suffice header host past = IfSome (slice_get (reverse header.frames.items) host) (λ frames. frames_used header.size host past ≤ frames)
+
+-- no host does
+abbrev pub FramesSuffice : Header → List Event → Type 0
+FramesSuffice header past = (host : ℕ) → Suffice header host past
+
+abbrev pub frames_of : Header → ℕ → ℕ
+frames_of header host = unwrap_or (slice_get (reverse header.frames.items) host) 0
+
+abbrev pub frames_free : Header → ℕ → List Event → ℕ
+frames_free header host past = frames_of header host - frames_used header.size host past
+
+-- the returns without a copy that the host sent and whose pagers did not take them yet
+abbrev pub returns_out : ℕ → List Event → ℕ
+returns_out host [] = 0
+returns_out host (event.Sent (Up at object) (message.Return control page dirty keep bytes) ∷ past) = if at.0 == host && not keep then returns_out host past + 1 else returns_out host past
+returns_out host (event.Taken (Up at object) (message.Return control page dirty keep bytes) ∷ past) = if at.0 == host && not keep then returns_out host past - 1 else returns_out host past
+returns_out host (e ∷ past) = returns_out host past

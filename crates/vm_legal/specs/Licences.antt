@@ -1,0 +1,431 @@
+-- Why an event stands where it does: its cause, in the events in front of it. What is said here is about temporary and file memory.
+use Rattle.std.specs.Prelude.{ℕ, zero, suc, ◌+◌, ◌*◌, ◌/◌, ◌%◌, ◌<◌, ◌≤◌, ◌≡◌, ◌⊎◌, List, [], ◌∷◌, ◌++◌, Bool, true, false, not, Option, Some, None, MatchOption, if◌then◌else◌, ◌==◌, ◌&&◌, ◌||◌, nat_lt}
+use Rattle.vm_base.specs.Entries.{page_at}
+use Rattle.vm_model.specs.declared.event.Event.{Event}
+use Rattle.vm_model.specs.declared.event.Event.TheVariants as event
+use Rattle.vm_model.specs.declared.event.Device.TheVariants as device
+use Rattle.vm_model.specs.declared.event.Device.{Device}
+use Rattle.vm_model.specs.declared.event.Way.{Way}
+use Rattle.vm_model.specs.declared.event.Way.TheVariants as way
+use Rattle.vm_model.specs.declared.command.Command.{Command}
+use Rattle.vm_model.specs.declared.command.Command.TheVariants as command
+use Rattle.vm_model.specs.declared.message.Channel.{Channel}
+use Rattle.vm_model.specs.declared.message.Channel.TheVariants.{Up, Down}
+use Rattle.vm_model.specs.declared.message.Message.{Message}
+use Rattle.vm_model.specs.declared.message.Message.TheVariants as message
+use Rattle.vm_model.specs.declared.script.Header.{Header}
+use Rattle.vm_model.specs.Channels.{queue}
+use Rattle.vm_model.specs.Controls.{last_control, live_control}
+use Rattle.vm_model.specs.Local.{Local, is_known_absent}
+use Rattle.vm_model.specs.Named.{named}
+use Rattle.vm_model.specs.Regions.{next_region, next_object, region_of, backing_of}
+use Rattle.vm_model.specs.Server.{first}
+use Rattle.vm_model.specs.Tasks.{host_of, entries_of, has_entry}
+use Rattle.vm_model.specs.Waiting.{Access, Loading, Storing, Copying, waiting, next_page, copy_target, is_store}
+use Rattle.vm_legal.specs.Accesses.{At, Waits, Comes, HasPlace, is_ready, page_of}
+use Rattle.vm_legal.specs.Living.{lives_on, tasks}
+use Rattle.vm_legal.specs.Outside.{Outside, is_file, is_said, start_page, zeros}
+use Rattle.vm_legal.specs.Pagers.{LacksSlot, is_lost, last_return, newer, slot_at}
+use Rattle.vm_legal.specs.Reclaims.{Reclaims}
+use Rattle.vm_legal.specs.Steps.{Letter, absence_taken, answers, error_taken, fails_reading, readies, since, taken, takings}
+use Rattle.vm_legal.specs.Undelivered.{oldest}
+use Rattle.vm_legal.specs.Used.{in_use, is_filled}
+use Rattle.vm_legal.specs.Walks.{IsTop, Reach, Sinks, Walks, page_on, sight}
+
+abbrev pub up : ℕ → ℕ → Channel
+up host object = Up (record { 0 = host }) (record { 0 = object })
+
+-- a load ends with the page where its walk found it
+pub record Loads (header : Header) (task object page : ℕ) (past : List Event) : Type 0 where
+  pub address : ℕ
+  pub bytes : ℕ
+  pub waits : Waits header task (Loading address bytes) past
+  pub comes : Comes header waits.at.host waits.at.entry.region.0 (page_at header.size address waits.at.entry) object page past
+  pub here : (page_on header waits.at.host object page past).here ≡ true
+
+-- a store ends in the top place of its page, which is here, and its region has no copy mark
+pub record Stores (header : Header) (task object page at bytes value : ℕ) (past : List Event) : Type 0 where
+  pub address : ℕ
+  pub waits : Waits header task (Storing address bytes value) past
+  pub is_top : IsTop (region_of header waits.at.entry.region.0 past) (page_at header.size address waits.at.entry) object page
+  pub unmarked : (region_of header waits.at.entry.region.0 past).mark ≡ false
+  pub here : (page_on header waits.at.host object page past).here ≡ true
+  pub place : at ≡ address % header.size
+
+-- a page is copied up to the top place of a waiting store that found it below
+pub record Raises (header : Header) (host lower lower_page upper upper_page : ℕ) (past : List Event) : Type 0 where
+  pub task : ℕ
+  pub address : ℕ
+  pub bytes : ℕ
+  pub value : ℕ
+  pub waits : Waits header task (Storing address bytes value) past
+  pub on_host : waits.at.host ≡ host
+  pub unmarked : (region_of header waits.at.entry.region.0 past).mark ≡ false
+  pub is_top : IsTop (region_of header waits.at.entry.region.0 past) (page_at header.size address waits.at.entry) upper upper_page
+  pub steps : ℕ
+  pub walks : Walks (λ k q. sight header host k q past) (λ k. backing_of header k past) (suc steps) upper upper_page lower lower_page
+  pub here : (page_on header host lower lower_page past).here ≡ true
+
+-- zeros come to the top place of a waiting access that finds its page nowhere
+pub record Bottoms (header : Header) (host object page : ℕ) (past : List Event) : Type 0 where
+  pub task : ℕ
+  pub access : Access
+  pub waits : Waits header task access past
+  pub on_host : waits.at.host ≡ host
+  pub temporary : named header ≤ object
+  pub unmarked : is_store access ≡ true → (region_of header waits.at.entry.region.0 past).mark ≡ false
+  pub is_top : IsTop (region_of header waits.at.entry.region.0 past) (page_of header task access past waits.at.entry) object page
+  pub steps : ℕ
+  pub sinks : Sinks (λ k q. sight header host k q past) (λ k. backing_of header k past) steps object page
+
+-- the event puts zeros into the page of the object
+abbrev pub zeroes : ℕ → ℕ → Event → Bool
+zeroes o p (event.Zeroed host object page) = object.0 == o && page.0 == p
+zeroes o p other = false
+
+-- zeros come, once, to an asked page of a declared object of which the step took its pager's word that there is none
+pub record Fills (header : Header) (host object page : ℕ) (past : List Event) : Type 0 where
+  pub declared : object < named header
+  pub void : absence_taken header.size past ≡ Some (record { host = host; object = object; page = page })
+  pub once : since (zeroes object page) past ≡ false
+  pub away : (page_on header host object page past).here ≡ false
+  pub unasked : (page_on header host object page past).asked ≡ false
+
+-- a slow copy makes its next page, of a declared object's page that is here, a page of the region that it fills
+pub record CopiesPage (header : Header) (task index object page target : ℕ) (past : List Event) : Type 0 where
+  pub address : ℕ
+  pub bytes : ℕ
+  pub to : ℕ
+  pub waits : Waits header task (Copying address bytes to) past
+  pub next : index ≡ next_page task past
+  pub declared : waits.at.entry.region.0 < named header
+  pub is_top : IsTop (region_of header waits.at.entry.region.0 past) (page_at header.size (address + next_page task past * header.size) waits.at.entry) object page
+  pub here : (page_on header waits.at.host object page past).here ≡ true
+  pub region : ℕ
+  pub filled : copy_target task past ≡ Some (record { region = region; object = target })
+  pub inside : index < (region_of header region past).pages
+  pub away : (page_on header waits.at.host target index past).here ≡ false
+  pub unasked : (page_on header waits.at.host target index past).asked ≡ false
+
+-- all pages of a slow copy are copied
+pub record EndsCopy (header : Header) (task : ℕ) (past : List Event) : Type 0 where
+  pub address : ℕ
+  pub bytes : ℕ
+  pub to : ℕ
+  pub waits : waiting task past ≡ Some (Copying address bytes to)
+  pub all : next_page task past * header.size ≡ bytes
+
+-- an access ends by the error that the step took, for a page of its chain that was asked
+pub record Fails (header : Header) (task object page : ℕ) (past : List Event) : Type 0 where
+  pub access : Access
+  pub waits : Waits header task access past
+  pub error : error_taken header.size past ≡ Some (record { host = waits.at.host; object = object; page = page })
+  pub place : HasPlace header waits.at.entry.region.0 (page_of header task access past waits.at.entry) object page past
+
+-- 3 for a store on its top place, and 1 for everything else
+abbrev pub access_number : Access → ℕ → ℕ
+access_number access zero = if is_store access then 3 else 1
+access_number access (suc steps) = 1
+
+-- the walk of a waiting access stops at a page that its pager, which is ready, may have, and nobody asked
+pub record Asks (header : Header) (host control object page wanted : ℕ) (past : List Event) : Type 0 where
+  pub task : ℕ
+  pub access : Access
+  pub waits : Waits header task access past
+  pub on_host : waits.at.host ≡ host
+  pub unmarked : is_store access ≡ true → (region_of header waits.at.entry.region.0 past).mark ≡ false
+  pub comes : Comes header host waits.at.entry.region.0 (page_of header task access past waits.at.entry) object page past
+  pub number : wanted ≡ access_number access comes.steps
+  pub live : live_control host object past ≡ Some control
+  pub ready : is_ready host object past ≡ true
+  pub away : (page_on header host object page past).here ≡ false
+  pub unasked : (page_on header host object page past).asked ≡ false
+  pub known : is_known_absent header (record { object = object; page = page }) (page_on header host object page past) ≡ false
+
+-- no task of the host has an entry on the region
+abbrev pub IsUnmapped : Header → ℕ → ℕ → List Event → Type 0
+IsUnmapped header host region past = (task : ℕ) → lives_on host task past ≡ true → has_entry region (entries_of header.size task past) ≡ false
+
+-- a lock_request for so many pages of an object
+pub record LockRequest : Type 0 where
+  pub host : ℕ
+  pub object : ℕ
+  pub page : ℕ
+  pub count : ℕ
+  pub returns : ℕ
+  pub flush : Bool
+
+-- what the present step took, if that was a lock_request
+abbrev pub lock_taken : List Event → Option LockRequest
+lock_taken [] = None
+lock_taken (event.Line line ∷ past) = None
+lock_taken (event.Taken (Down host object control) (message.Lock page count returns flush lock reply) ∷ past) = Some (record { host = host.0; object = object.0; page = page.0; count = count; returns = returns; flush = flush })
+lock_taken (event.Taken channel other ∷ past) = None
+lock_taken (e ∷ past) = lock_taken past
+
+-- a lock_request of this kind gives such a page back: kind 1 and 2 the changed ones; of these objects none is precious
+abbrev pub gives_back : ℕ → Bool → Bool
+gives_back returns dirty = (returns == 1 || returns == 2) && dirty
+
+-- the step took a lock_request over the page, of this kind
+pub record IsLocked (host object page returns : ℕ) (flush : Bool) (past : List Event) : Type 0 where
+  pub first : ℕ
+  pub count : ℕ
+  pub taken : lock_taken past ≡ Some (record { host = host; object = object; page = first; count = count; returns = returns; flush = flush })
+  pub from : first ≤ page
+  pub below : page < first + count
+
+-- why a page goes back to its pager
+pub data Gives (header : Header) (doing : Command) (host object page : ℕ) (keep : Bool) (past : List Event) : Type 0 where
+  -- it is reclaimed
+  Reclaimed : keep ≡ false → Reclaims header doing host object page past → Gives header doing host object page keep past
+  -- it is reclaimed, and its object's first control was made for that
+  Created : (control size : ℕ) (rest : List Event) → past ≡ event.Sent (up host object) (message.Create control size) ∷ rest
+      → keep ≡ false → Reclaims header doing host object page rest → Gives header doing host object page keep past
+  -- its pager wants it
+  Wanted : (returns : ℕ) (flush : Bool) → IsLocked host object page returns flush past → gives_back returns true ≡ true → keep ≡ not flush → Gives header doing host object page keep past
+  -- its object ends on the host
+  Ended : keep ≡ false → object < named header → IsUnmapped header host object past → Gives header doing host object page keep past
+
+-- a changed page goes back to its pager, as it is
+pub record GivesBack (header : Header) (doing : Command) (host control object page : ℕ) (changed keep : Bool) (bytes : List ℕ) (past : List Event) : Type 0 where
+  pub live : live_control host object past ≡ Some control
+  pub here : (page_on header host object page past).here ≡ true
+  pub dirty : (page_on header host object page past).dirty ≡ true
+  pub same : bytes ≡ (page_on header host object page past).bytes
+  pub flag : changed ≡ (page_on header host object page past).dirty
+  pub why : Gives header doing host object page keep past
+
+-- an object's first control is made: a page of it, which is here, goes to the default pager next
+pub record Creates (header : Header) (host control object size : ℕ) (past : List Event) : Type 0 where
+  pub number : control ≡ 1
+  pub sized : size ≡ header.size
+  pub temporary : named header ≤ object
+  pub never : last_control host object past ≡ 0
+  pub page : ℕ
+  pub here : (page_on header host object page past).here ≡ true
+
+-- a declared object is mapped on a host that has no live control of it
+pub record Opens (header : Header) (host control object size : ℕ) (past : List Event) : Type 0 where
+  pub number : control ≡ suc (last_control host object past)
+  pub sized : size ≡ header.size
+  pub declared : object < named header
+  pub none : live_control host object past ≡ None
+  pub task : ℕ
+  pub address : ℕ
+  pub at : At header task address past
+  pub on_host : at.host ≡ host
+  pub region : at.entry.region.0 ≡ object
+
+-- an object ends on a host: it is a declared one without an entry there, or no region leads to it, and nothing of it is here or asked
+pub record Ends (header : Header) (host control object : ℕ) (past : List Event) : Type 0 where
+  pub live : live_control host object past ≡ Some control
+  pub unreached : named header ≤ object → Reach header host object past → ⊥
+  pub unmapped : object < named header → IsUnmapped header host object past
+  pub away : (page : ℕ) → (page_on header host object page past).here ≡ false
+  pub unasked : (page : ℕ) → (page_on header host object page past).asked ≡ false
+
+-- what a host sends up about a temporary object or a file
+abbrev pub MaySendUp : Header → Command → ℕ → ℕ → Message → List Event → Type 0
+MaySendUp header why host object (message.Init control size) past = Opens header host control object size past
+MaySendUp header why host object (message.Create control size) past = Creates header host control object size past
+MaySendUp header why host object (message.Request control page access) past = Asks header host control object page.0 access past
+MaySendUp header why host object (message.Return control page dirty keep bytes) past = GivesBack header why host control object page.0 dirty keep bytes past
+MaySendUp header why host object (message.Completed control page count) past =
+    (first : ℕ) × (counted : ℕ) × (returns : ℕ) × (flush : Bool) × (lock_taken past ≡ Some (record { host = host; object = object; page = first; count = counted; returns = returns; flush = flush })) × (page.0 ≡ first) × (count ≡ counted)
+MaySendUp header why host object (message.Terminate control) past = Ends header host control object past
+MaySendUp header why host object other past = ⊥
+
+-- the step took a request for the page from this control, and it is not answered yet
+pub record Answers (host object control page : ℕ) (past : List Event) : Type 0 where
+  pub access : ℕ
+  pub taken : taken past ≡ Some (record { channel = up host object; message = message.Request control (record { 0 = page }) access })
+  pub unanswered : since (answers object page) past ≡ false
+
+-- the pager can give the page: its last return is not lost, and reading it did not fail in this step
+pub record Reads (object page : ℕ) (past : List Event) : Type 0 where
+  pub kept : is_lost object page past ≡ false
+  pub read : since (fails_reading object page) past ≡ false
+
+-- the page was lost, or reading it failed in this step
+abbrev pub IsFault : ℕ → ℕ → List Event → Type 0
+IsFault object page past = (is_lost object page past ≡ true) ⊎ (since (fails_reading object page) past ≡ true)
+
+-- what the pager of a page has: the last return that it took; of a file's page at first what the file has; of a temporary object's nothing
+abbrev pub pager_has : Header → Outside → ℕ → ℕ → ℕ → List Event → Option (List ℕ)
+pager_has header outside host object page past =
+    newer (last_return host object page past) (if is_file header object then Some (start_page header outside object page) else None)
+
+-- what that counts for a supply: what is told of files and of the paging area
+abbrev pub tells : Header → Outside → ℕ → Bool
+tells header outside object = if is_file header object then not (is_said header outside object) else outside.paging
+
+-- the pager says that it has no such page: nothing was returned, and of a file that tells, there are zeros
+abbrev pub MayLack : Header → Outside → ℕ → ℕ → ℕ → List Event → Type 0
+MayLack header outside host object page past =
+    (is_file header object ≡ false → last_return host object page past ≡ None)
+    × (tells header outside object ≡ true → is_file header object ≡ true → pager_has header outside host object page past ≡ Some (zeros header))
+
+-- what the pager of a temporary object or a file sends down
+abbrev pub MaySendDown : Header → Outside → ℕ → ℕ → ℕ → Message → List Event → Type 0
+MaySendDown header outside host object control (message.Supply page lock precious bytes) past =
+    Answers host object control page.0 past × Reads object page.0 past × (lock ≡ 0) × (precious ≡ false)
+    × (is_file header object ≡ false → (was : List ℕ) × (last_return host object page.0 past ≡ Some was))
+    × (tells header outside object ≡ true → pager_has header outside host object page.0 past ≡ Some bytes)
+MaySendDown header outside host object control (message.Unavailable page) past = Answers host object control page.0 past × Reads object page.0 past × MayLack header outside host object page.0 past
+MaySendDown header outside host object control (message.Error page reason) past = Answers host object control page.0 past × (reason ≡ 10) × IsFault object page.0 past
+MaySendDown header outside host object control (message.Ready cache strategy) past =
+    (size : ℕ) × (cache ≡ false) × (since (readies object) past ≡ false)
+    × (((taken past ≡ Some (record { channel = up host object; message = message.Create control size })) × (strategy ≡ 3))
+    ⊎ ((taken past ≡ Some (record { channel = up host object; message = message.Init control size })) × (strategy ≡ 0)))
+-- the file pager's clean wants all changed pages back
+MaySendDown header outside host object control (message.Lock page count returns flush lock reply) past = (is_file header object ≡ true) × (returns ≡ 2) × (lock ≡ 8) × (reply ≡ true)
+MaySendDown header outside host object control other past = ⊥
+
+-- a symmetric copy is of pages of an entry on a temporary region
+pub record CopiesRegion (header : Header) (region source offset pages : ℕ) (past : List Event) : Type 0 where
+  pub next : region ≡ next_region header past
+  pub temporary : named header ≤ source
+  pub task : ℕ
+  pub address : ℕ
+  pub at : At header task address past
+  pub source_is : source ≡ at.entry.region.0
+  pub inside : offset + pages ≤ at.entry.offset + at.entry.bytes / header.size
+
+-- an entry is of whole pages that its region has, on the host where the region is in use
+pub record Enters (header : Header) (task bytes region offset : ℕ) (past : List Event) : Type 0 where
+  pub host : ℕ
+  pub lives : host_of task past ≡ Some host
+  pub whole : bytes % header.size ≡ 0
+  pub inside : offset + bytes / header.size ≤ (region_of header region past).pages
+  pub made : region < next_region header past
+  pub used : named header ≤ region → in_use header host region past ≡ true
+  pub file : is_file header region ≡ true → in_use header host region past ≡ true
+  pub unfilled : is_filled region (tasks past) past ≡ false
+
+-- the top object of a marked region of a waiting store gets a shadow
+pub record Shadows (header : Header) (region new old : ℕ) (past : List Event) : Type 0 where
+  pub next : new ≡ next_object header past
+  pub is_top : (region_of header region past).top ≡ old
+  pub marked : (region_of header region past).mark ≡ true
+  pub task : ℕ
+  pub address : ℕ
+  pub bytes : ℕ
+  pub value : ℕ
+  pub waits : Waits header task (Storing address bytes value) past
+  pub region_is : region ≡ waits.at.entry.region.0
+
+-- why a page goes away without a word
+pub data Leaves (header : Header) (doing : Command) (host object page : ℕ) (seen : Local) (past : List Event) : Type 0 where
+  -- it is clean, and is reclaimed
+  Reclaimed : seen.dirty ≡ false → seen.precious ≡ false → Reclaims header doing host object page past → Leaves header doing host object page seen past
+  -- no region leads to its temporary object
+  Unreached : named header ≤ object → (Reach header host object past → ⊥) → Leaves header doing host object page seen past
+  -- its pager flushes it, and doesn't want it back
+  Flushed : (returns : ℕ) → IsLocked host object page returns true past → gives_back returns seen.dirty ≡ false → Leaves header doing host object page seen past
+  -- it is clean, and its object ends on the host
+  Ended : seen.dirty ≡ false → seen.precious ≡ false → object < named header → IsUnmapped header host object past → Leaves header doing host object page seen past
+
+pub record Drops (header : Header) (doing : Command) (host object page : ℕ) (past : List Event) : Type 0 where
+  pub here : (page_on header host object page past).here ≡ true
+  pub why : Leaves header doing host object page (page_on header host object page past) past
+
+-- a message is taken for the command: `take` takes one of its channel, `settle` the oldest of all, up to its number
+abbrev pub MayTake : Command → Channel → List Event → Type 0
+MayTake (command.Take of) channel past = (channel ≡ of) × (takings past ≡ 0)
+MayTake (command.Settle count) channel past = (oldest past ≡ Some channel) × (takings past < count)
+MayTake other channel past = ⊥
+
+-- the message that the step just took: nothing came behind it yet
+abbrev pub just_taken : List Event → Option Letter
+just_taken (event.Taken channel m ∷ past) = Some (record { channel = channel; message = m })
+just_taken other = None
+
+abbrev pub before_taking : List Event → List Event
+before_taking [] = []
+before_taking (e ∷ past) = past
+
+-- the step just took the return of the page
+pub record TakesReturn (host object page : ℕ) (past : List Event) : Type 0 where
+  pub control : ℕ
+  pub dirty : Bool
+  pub keep : Bool
+  pub bytes : List ℕ
+  pub is : just_taken past ≡ Some (record { channel = up host object; message = message.Return control (record { 0 = page }) dirty keep bytes })
+
+-- the step just took a request for the page
+pub record TakesRequest (host object page : ℕ) (past : List Event) : Type 0 where
+  pub control : ℕ
+  pub access : ℕ
+  pub is : just_taken past ≡ Some (record { channel = up host object; message = message.Request control (record { 0 = page }) access })
+
+-- which backing keeps the pages of the object
+abbrev pub KeepsPages : Header → Device → ℕ → Type 0
+KeepsPages header device.Paging object = named header ≤ object
+KeepsPages header device.Files object = is_file header object ≡ true
+
+-- reading is tried only where there is a slot
+abbrev pub HasSlot : Header → Device → ℕ → ℕ → ℕ → List Event → Type 0
+HasSlot header device.Paging host object page past = (slot : ℕ) × (slot_at header host object page past ≡ Some slot)
+HasSlot header device.Files host object page past = Unit {0}
+
+-- a backing fails right behind the request, or the return, for which it was called
+abbrev pub DeviceFails : Header → Device → Way → ℕ → ℕ → List Event → Type 0
+DeviceFails header who way.Read object page past = KeepsPages header who object × ((host : ℕ) × TakesRequest host object page past × HasSlot header who host object page past)
+DeviceFails header who way.Write object page past = KeepsPages header who object × ((host : ℕ) × TakesReturn host object page past × HasSlot header who host object page past)
+
+-- there was no slot for a page whose return the step just took
+pub record NoSlotFor (header : Header) (object page : ℕ) (past : List Event) : Type 0 where
+  pub temporary : named header ≤ object
+  pub host : ℕ
+  pub takes : TakesReturn host object page past
+  pub lacks : LacksSlot header host object page (before_taking past)
+
+-- the object is temporary, or a file
+abbrev pub is_paged : Header → ℕ → Bool
+is_paged header object = not (nat_lt object (named header)) || is_file header object
+
+-- behind the create of an object stands the return for which it was made
+abbrev pub created : List Event → Option Channel
+created (event.Sent channel (message.Create control size) ∷ past) = Some channel
+created other = None
+
+abbrev pub ReturnsOn : Channel → Event → Type 0
+ReturnsOn channel (event.Sent on (message.Return control page dirty keep bytes)) = on ≡ channel
+ReturnsOn channel other = ⊥
+
+abbrev pub IsBehind : Event → List Event → Type 0
+IsBehind e past = MatchOption (created past) (Unit {0}) (λ channel. ReturnsOn channel e)
+
+-- the cause of an event in the step of a command; heads of groups have theirs in the command, and premises here
+abbrev pub Caused : Header → Outside → Command → Event → List Event → Type 0
+Caused header outside why (event.RegionMade region object pages) past = (region.0 ≡ next_region header past) × (object.0 ≡ next_object header past)
+Caused header outside why (event.RegionCopied region source offset pages) past = CopiesRegion header region.0 source.0 offset pages past
+Caused header outside why (event.Entered task address bytes region offset prot inherit) past = Enters header task.0 bytes region.0 offset past
+Caused header outside why (event.Shadowed region new old) past = Shadows header region.0 new.0 old.0 past
+Caused header outside why (event.Loaded task object page value) past = Loads header task.0 object.0 page.0 past
+Caused header outside why (event.Stored task object page at bytes value) past = Stores header task.0 object.0 page.0 at bytes value past
+Caused header outside why (event.CopiedPage task page object object_page target) past = CopiesPage header task.0 page.0 object.0 object_page.0 target.0 past
+Caused header outside why (event.CopyEnded task) past = EndsCopy header task.0 past
+Caused header outside why (event.Failed task object page) past = Fails header task.0 object.0 page.0 past
+Caused header outside why (event.Zeroed host object page) past = is_paged header object.0 ≡ true → Fills header host.0 object.0 page.0 past ⊎ Bottoms header host.0 object.0 page.0 past
+Caused header outside why (event.Raised host lower lower_page upper upper_page) past = Raises header host.0 lower.0 lower_page.0 upper.0 upper_page.0 past
+Caused header outside why (event.Dropped host object page) past = is_paged header object.0 ≡ true → Drops header why host.0 object.0 page.0 past
+Caused header outside why (event.Sent (Up host object) m) past = is_paged header object.0 ≡ true → MaySendUp header why host.0 object.0 m past
+Caused header outside why (event.Sent (Down host object control) m) past = is_paged header object.0 ≡ true → MaySendDown header outside host.0 object.0 control m past
+Caused header outside why (event.Taken channel m) past = (first (queue channel past) ≡ Some m) × MayTake why channel past
+Caused header outside why (event.DeviceFailed who way object page) past = DeviceFails header who way object.0 page.0 past
+Caused header outside why (event.NoSlot object page) past = NoSlotFor header object.0 page.0 past
+Caused header outside why other past = Unit {0}
+
+-- the event has its cause, whatever the command is in whose step it stands
+abbrev pub HasCause : Header → Outside → Event → List Event → Type 0
+HasCause header outside e past = (doing : Command) × Caused header outside doing e past
+
+abbrev pub Licensed : Header → Outside → Command → Event → List Event → Type 0
+Licensed header outside why e past = Caused header outside why e past × IsBehind e past
+
+-- each of these events, on top of a past, has its cause
+abbrev pub AllLicensed : Header → Outside → Command → List Event → List Event → Type 0
+AllLicensed header outside why [] past = Unit {0}
+AllLicensed header outside why (e ∷ more) past = Licensed header outside why e (more ++ past) × AllLicensed header outside why more past

@@ -1,0 +1,54 @@
+-- What is told of the outside, and of which objects the flat map speaks.
+use Rattle.std.specs.Prelude.{ℕ, ◌&&◌, ◌||◌, not, nat_lt, Bool, true, false, List, replicate, Option, Some, None}
+use Rattle.vm_base.specs.declared.ids.ObjectKind.{ObjectKind}
+use Rattle.vm_base.specs.declared.ids.ObjectKind.TheVariants.{File}
+use Rattle.vm_model.specs.declared.script.Header.{Header}
+use Rattle.vm_model.specs.declared.script.Declared.{Declared}
+use Rattle.vm_model.specs.Named.{declared, named}
+
+abbrev pub is_file_kind : ObjectKind → Bool
+is_file_kind File = true
+is_file_kind other = false
+
+abbrev pub is_file_kept : Option Declared → Bool
+is_file_kept None = false
+is_file_kept (Some object) = is_file_kind object.kind
+
+-- the number is a file object's, and its region's too
+abbrev pub is_file : Header → ℕ → Bool
+is_file header object = nat_lt object (named header) && is_file_kept (declared header object)
+
+-- what the files hold at the start, by object and page; or it is not told
+pub data Held : Type 0 where
+  Told : (pages : ℕ → ℕ → List ℕ) → Held
+  Untold : Held
+
+-- what is told of the outside: what the files hold at the start, and whether the paging area gives back what it got
+pub record Outside : Type 0 where
+  pub files : Held
+  pub paging : Bool
+
+abbrev pub are_untold : Held → Bool
+are_untold (Told pages) = false
+are_untold Untold = true
+
+-- what the pager answers for the object says what its file has
+abbrev pub is_said : Header → Outside → ℕ → Bool
+is_said header outside object = are_untold outside.files && is_file header object
+
+-- a page of zeros
+abbrev pub zeros : Header → List ℕ
+zeros header = replicate header.size 0
+
+-- a file's page at the start; where it is not told, zeros until an answer
+abbrev pub start_in : Header → Held → ℕ → ℕ → List ℕ
+start_in header (Told pages) object page = pages object page
+start_in header Untold object page = zeros header
+
+abbrev pub start_page : Header → Outside → ℕ → ℕ → List ℕ
+start_page header outside object page = start_in header outside.files object page
+
+-- A file's object or region; or a temporary one, where the paging area tells. Of these the law speaks: for shared objects
+-- their server answers, for wild ones the script.
+abbrev pub is_private : Header → Outside → ℕ → Bool
+is_private header outside object = (not (nat_lt object (named header)) && outside.paging) || (nat_lt object (named header) && is_file_kept (declared header object))

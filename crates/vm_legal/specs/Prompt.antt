@@ -1,0 +1,62 @@
+-- Nobody waits in vain, and nothing is left behind: what holds whenever a step has ended.
+use Rattle.std.specs.Prelude.{ℕ, ◌<◌, ◌≤◌, ◌≡◌, ◌⊎◌, List, length, Bool, true, false, Some, None}
+use Rattle.vm_model.specs.declared.event.Event.{Event}
+use Rattle.vm_model.specs.declared.script.Header.{Header}
+use Rattle.vm_model.specs.Controls.{live_control}
+use Rattle.vm_model.specs.Named.{named}
+use Rattle.vm_model.specs.Waiting.{Access, is_store}
+use Rattle.vm_legal.specs.Accesses.{Comes, HasPlace, Waits, WaitsUnlocked, WantsFrame, is_ready, names, page_of}
+use Rattle.vm_legal.specs.Frames.{frames_free, returns_out}
+use Rattle.vm_legal.specs.Walks.{Reach, page_on}
+
+-- what an access waits for at a place of its page
+pub data Awaits (header : Header) (host : ℕ) (store : Bool) (object page : ℕ) (past : List Event) : Type 0 where
+  -- the page is asked
+  AnAnswer : (page_on header host object page past).asked ≡ true → Awaits header host store object page past
+  -- the pager was told of the object, and isn't ready yet
+  AReady : (control : ℕ) → live_control host object past ≡ Some control → is_ready host object past ≡ false → Awaits header host store object page past
+  -- the page is here, but locked, and an unlock is outstanding
+  AnUnlock : (page_on header host object page past).here ≡ true → names (page_on header host object page past).lock store ≡ true
+      → (page_on header host object page past).unlocking ≡ true → Awaits header host store object page past
+
+-- an access waits for something at one of its places
+pub record WaitsForPager (header : Header) (host task : ℕ) (access : Access) (past : List Event) : Type 0 where
+  pub waits : Waits header task access past
+  pub on_host : waits.at.host ≡ host
+  pub object : ℕ
+  pub page : ℕ
+  pub place : HasPlace header waits.at.entry.region.0 (page_of header task access past waits.at.entry) object page past
+  pub what : Awaits header host (is_store access) object page past
+
+-- a place is where the walk of a task of the host ends that wants a frame
+pub record IsSource (header : Header) (host object page : ℕ) (past : List Event) : Type 0 where
+  pub task : ℕ
+  pub access : Access
+  pub waits : Waits header task access past
+  pub on_host : waits.at.host ≡ host
+  pub comes : Comes header host waits.at.entry.region.0 (page_of header task access past waits.at.entry) object page past
+  pub wants : WantsFrame header host task access waits.at.entry.region.0 (page_of header task access past waits.at.entry) past
+
+-- nothing on the host can be reclaimed: somebody waits for each page that is here, but for at most one, which was a source at a moment
+pub record IsExhausted (header : Header) (host : ℕ) (moment past : List Event) : Type 0 where
+  pub held : (o p : ℕ) → (page_on header host o p past).here ≡ true → WaitsUnlocked header host o p past ⊎ IsSource header host o p moment
+  pub one : (o p q r : ℕ) → (page_on header host o p past).here ≡ true → (page_on header host q r past).here ≡ true
+      → (WaitsUnlocked header host o p past → ⊥) → (WaitsUnlocked header host q r past → ⊥) → (o ≡ q) × (p ≡ r)
+
+-- the host has no free frame, and a return is on its way, or nothing can be reclaimed
+pub record IsFull (header : Header) (host : ℕ) (past : List Event) : Type 0 where
+  pub none : frames_free header host past ≡ 0
+  pub why : (0 < returns_out host past) ⊎ IsExhausted header host past past
+
+-- no access of the host waits in vain
+abbrev pub NoneInVain : Header → ℕ → List Event → Type 0
+NoneInVain header host past = (task : ℕ) (access : Access) → (waits : Waits header task access past) → waits.at.host ≡ host → WaitsForPager header host task access past ⊎ IsFull header host past
+
+-- no temporary object to which no region leads has a page or a live control left on the host
+pub record IsSwept (header : Header) (host : ℕ) (past : List Event) : Type 0 where
+  pub pages : (object page : ℕ) → named header ≤ object → (Reach header host object past → ⊥) → (page_on header host object page past).here ≡ false
+  pub controls : (object : ℕ) → named header ≤ object → (Reach header host object past → ⊥) → live_control host object past ≡ None
+
+pub record Prompt (header : Header) (past : List Event) : Type 0 where
+  pub waits : (host : ℕ) → host < length header.frames.items → NoneInVain header host past
+  pub swept : (host : ℕ) → host < length header.frames.items → IsSwept header host past

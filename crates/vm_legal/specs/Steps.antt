@@ -1,0 +1,137 @@
+-- What the present step is, and what has happened in it so far: a step begins at each line and at each taken message.
+use Rattle.std.specs.Prelude.{ℕ, ◌+◌, ◌==◌, ◌&&◌, ◌||◌, not, Bool, true, false, List, [], ◌∷◌, if◌then◌else◌, Option, Some, None}
+use Rattle.vm_model.specs.declared.event.Event.{Event}
+use Rattle.vm_model.specs.declared.event.Event.TheVariants as event
+use Rattle.vm_model.specs.declared.event.Device.TheVariants as device
+use Rattle.vm_model.specs.declared.event.Way.TheVariants as way
+use Rattle.vm_model.specs.declared.event.Device.{Device}
+use Rattle.vm_model.specs.declared.event.Way.{Way}
+use Rattle.vm_model.specs.declared.message.Channel.{Channel}
+use Rattle.vm_model.specs.declared.message.Channel.TheVariants.{Down}
+use Rattle.vm_model.specs.declared.message.Message.{Message}
+use Rattle.vm_model.specs.declared.message.Message.TheVariants as message
+use Rattle.vm_model.specs.Controls.{is_control, live_control}
+use Rattle.vm_model.specs.Local.{local}
+
+-- a message, and the channel on which it was taken
+pub record Letter : Type 0 where
+  pub channel : Channel
+  pub message : Message
+
+-- what the step took, if it began with that
+abbrev pub taken : List Event → Option Letter
+taken [] = None
+taken (event.Line line ∷ past) = None
+taken (event.Taken channel m ∷ past) = Some (record { channel = channel; message = m })
+taken (e ∷ past) = taken past
+
+-- some event of the step so far is such
+abbrev pub since : (Event → Bool) → List Event → Bool
+since test [] = false
+since test (event.Line line ∷ past) = false
+since test (event.Taken channel m ∷ past) = false
+since test (e ∷ past) = test e || since test past
+
+-- how many messages the present command took
+abbrev pub takings : List Event → ℕ
+takings [] = 0
+takings (event.Line line ∷ past) = 0
+takings (event.Taken channel m ∷ past) = takings past + 1
+takings (e ∷ past) = takings past
+
+-- how many pages were reclaimed, or went otherwise, in the step
+abbrev pub gone : List Event → ℕ
+gone [] = 0
+gone (event.Line line ∷ past) = 0
+gone (event.Taken channel m ∷ past) = 0
+gone (event.Dropped host object page ∷ past) = gone past + 1
+gone (event.Sent channel (message.Return control page dirty keep bytes) ∷ past) = if keep then gone past else gone past + 1
+gone (e ∷ past) = gone past
+
+-- a message to a host about a page is the answer to a request for it
+abbrev pub is_answer : ℕ → Message → Bool
+is_answer page (message.Supply at lock precious bytes) = at.0 == page
+is_answer page (message.Unavailable at) = at.0 == page
+is_answer page (message.Error at reason) = at.0 == page
+is_answer page other = false
+
+-- the event answers a request for the page of the object
+abbrev pub answers : ℕ → ℕ → Event → Bool
+answers o page (event.Sent (Down host object control) m) = object.0 == o && is_answer page m
+answers o page other = false
+
+abbrev pub is_ready : Message → Bool
+is_ready (message.Ready cache strategy) = true
+is_ready other = false
+
+-- the event says that the pager of the object is ready
+abbrev pub readies : ℕ → Event → Bool
+readies o (event.Sent (Down host object control) m) = object.0 == o && is_ready m
+readies o other = false
+
+abbrev pub is_paging : Device → Bool
+is_paging device.Paging = true
+is_paging device.Files = false
+
+abbrev pub is_read : Way → Bool
+is_read way.Read = true
+is_read way.Write = false
+
+-- the event says that reading the page of the object failed
+abbrev pub fails_reading : ℕ → ℕ → Event → Bool
+fails_reading o p (event.DeviceFailed who way object page) = is_read way && (object.0 == o && page.0 == p)
+fails_reading o p other = false
+
+-- the event says that writing the page of the object failed
+abbrev pub fails_writing : ℕ → ℕ → Event → Bool
+fails_writing o p (event.DeviceFailed who way object page) = not (is_read way) && (object.0 == o && page.0 == p)
+fails_writing o p other = false
+
+-- the event says that there was no slot for the page of the object
+abbrev pub lacks_slot : ℕ → ℕ → Event → Bool
+lacks_slot o p (event.NoSlot object page) = object.0 == o && page.0 == p
+lacks_slot o p other = false
+
+-- the event ends some access by an error for the page of the object
+abbrev pub fails_access : ℕ → ℕ → Event → Bool
+fails_access o p (event.Failed task object page) = object.0 == o && page.0 == p
+fails_access o p other = false
+
+-- a page for which the live control of a host took an error, or the word that there is none, while it was asked
+pub record Asked : Type 0 where
+  pub host : ℕ
+  pub object : ℕ
+  pub page : ℕ
+
+abbrev pub error_of : ℕ → ℕ → (ℕ → Bool) → Message → Option Asked
+error_of host object asked (message.Error page reason) = if asked page.0 then Some (record { host = host; object = object; page = page.0 }) else None
+error_of host object asked other = None
+
+-- the asked page for which the step took an error
+abbrev pub error_taken : ℕ → List Event → Option Asked
+error_taken size [] = None
+error_taken size (event.Line line ∷ past) = None
+error_taken size (event.Taken (Down host object control) m ∷ past) =
+    error_of host.0 object.0 (λ page. is_control control (live_control host.0 object.0 past) && (local size host.0 (record { object = object.0; page = page }) past).asked) m
+error_taken size (event.Taken channel m ∷ past) = None
+error_taken size (e ∷ past) = error_taken size past
+
+abbrev pub absence_of : ℕ → ℕ → (ℕ → Bool) → Message → Option Asked
+absence_of host object asked (message.Unavailable page) = if asked page.0 then Some (record { host = host; object = object; page = page.0 }) else None
+absence_of host object asked other = None
+
+-- the asked page of which the step took the word that the pager has none
+abbrev pub absence_taken : ℕ → List Event → Option Asked
+absence_taken size [] = None
+absence_taken size (event.Line line ∷ past) = None
+absence_taken size (event.Taken (Down host object control) m ∷ past) =
+    absence_of host.0 object.0 (λ page. is_control control (live_control host.0 object.0 past) && (local size host.0 (record { object = object.0; page = page }) past).asked) m
+absence_taken size (event.Taken channel m ∷ past) = None
+absence_taken size (e ∷ past) = absence_taken size past
+
+-- the events in front of the present step
+abbrev pub before_step : List Event → List Event
+before_step [] = []
+before_step (event.Line line ∷ past) = past
+before_step (event.Taken channel m ∷ past) = past
+before_step (e ∷ past) = before_step past
