@@ -1,6 +1,6 @@
 use crate::{
-    Armed, Backing, MemSink, MemSource, Sink, Source, StdSink, StdSource, SureBacking, SureSink,
-    SureSource,
+    Armed, Backing, MemBacking, MemSink, MemSource, Sink, Source, StdSink, StdSource, SureBacking,
+    SureSink, SureSource,
 };
 use std::alloc::Global;
 use std::io;
@@ -147,8 +147,8 @@ fn read_area<B: Backing>(backing: &mut B, at: u64) -> Result<[u8; 4], Failed> {
     Ok(buf)
 }
 
-fn area_is(backing: &SureBacking, name: &str, want: &[u8]) -> bool {
-    match backing.area(name) {
+fn is(area: Option<&[u8]>, want: &[u8]) -> bool {
+    match area {
         Some(bytes) => bytes == want,
         None => false,
     }
@@ -165,8 +165,8 @@ fn areas(rt: HostRuntime) {
     assert_eq!(rt; backing.length("a"), Ok(Some(5)));
     assert_eq!(rt; read_area(&mut backing, 3), Ok(*b"yz\0\0"));
     assert_eq!(rt; backing.write("a", 3, b"!"), Ok(()));
-    assert!(rt; area_is(&backing, "a", b"\0\0x!z"));
-    assert!(rt; area_is(&backing, "b", b"b"));
+    assert!(rt; is(backing.area("a"), b"\0\0x!z"));
+    assert!(rt; is(backing.area("b"), b"b"));
     assert!(rt; backing.area("c").is_none());
 }
 
@@ -186,11 +186,50 @@ fn check_arming(rt: &impl Abort, backing: &mut Armed<SureBacking>) {
     backing.arm(1);
     assert_eq!(rt; backing.length("a"), Err(Failed));
     assert_eq!(rt; backing.reached(), 3);
-    assert!(rt; area_is(backing.inner(), "a", b"x"));
+    assert!(rt; is(backing.inner().area("a"), b"x"));
 }
 
 #[test]
 fn arming(rt: HostRuntime) {
     let mut backing = Armed::new(SureBacking::new(rt.alloc()));
     check_arming(&rt, &mut backing);
+}
+
+// Which of five calls fail.
+fn failures<B: Backing>(backing: &mut B) -> [bool; 5] {
+    [
+        backing.write("a", 0, b"x").is_err(),
+        backing.length("a").is_err(),
+        read_area(backing, 0).is_err(),
+        backing.write("a", 0, b"y").is_err(),
+        backing.length("a").is_err(),
+    ]
+}
+
+#[test]
+fn failing_areas(rt: HostRuntime) -> Result<(), Fail> {
+    let table: [(u64, &[u8]); 5] = [(1, b"y"), (2, b"y"), (3, b"y"), (4, b"x"), (5, b"y")];
+    for (bad, want) in table {
+        let mut backing = MemBacking::new(rt.alloc(), [bad].to_vec(rt.alloc())?);
+        assert_eq!(rt; backing.put_area("b", b"b"), Ok(()));
+        for (i, fails) in failures(&mut backing).iter().enumerate() {
+            assert_eq!(rt; *fails, i as u64 + 1 == bad, "at {bad}");
+        }
+        assert!(rt; is(backing.area("a"), want), "at {bad}");
+        assert!(rt; is(backing.area("b"), b"b"), "at {bad}");
+        assert!(rt; backing.area("c").is_none());
+    }
+    Ok(())
+}
+
+#[test]
+fn arming_failing_areas(rt: HostRuntime) -> Result<(), Fail> {
+    // The armed third call doesn't reach the areas, whose third call is then the fourth one.
+    let fails = [3].to_vec(rt.alloc())?;
+    let mut backing = Armed::new(MemBacking::new(rt.alloc(), fails));
+    backing.arm(3);
+    assert_eq!(rt; failures(&mut backing), [false, false, true, true, false]);
+    assert_eq!(rt; backing.reached(), 1);
+    assert!(rt; is(backing.inner().area("a"), b"x"));
+    Ok(())
 }
