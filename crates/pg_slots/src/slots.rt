@@ -59,6 +59,13 @@ impl Slots {
         })
     }
 
+    /// The host that the slots are of.
+    pub fn host(&self) -> HostId
+        ensures { result.0 ≡ self.now.host }
+    {
+        self.host
+    }
+
     /// Stores a page in the slot that it has, or else in the lowest free one. It takes all its
     /// memory before it calls the backing, and calls it at most once. A page that is lost for want
     /// of a slot has none; one whose write failed has its slot, and is lost until it is stored.

@@ -1,0 +1,158 @@
+-- What the default pager answers to each message, and what it leaves.
+use Rattle.std.specs.Prelude.{ℕ, ◌≡◌, ◌≤◌, ◌⊎◌, ◌↔◌, List, [], ◌∷◌, length, false, Option, Some, None, IfOk, OnErr, Result, Ok, Err}
+use Rattle.pg_slots.specs.Contents.{Content, Kept, PutTold, after_put, same_content, without}
+use Rattle.pg_slots.specs.Slots.{DropsHeld, HasNoSlot, Leaves, SlotTable, held_at, slot_at}
+use Rattle.pg_slots.specs.declared.answers.Put.{Put}
+use Rattle.pg_slots.specs.declared.answers.Put.TheVariants as put
+use Rattle.pg_slots.specs.declared.slot_row.Held.{Held}
+use Rattle.pg_slots.specs.declared.slot_row.Held.TheVariants as held
+use Rattle.vm_base.specs.Listing.{Listed}
+use Rattle.vm_base.specs.declared.failure.NoMemory.{NoMemory}
+use Rattle.vm_base.specs.declared.ids.ObjectId.{ObjectId}
+use Rattle.vm_base.specs.declared.ids.PageNo.{PageNo}
+use Rattle.vm_model.specs.declared.event.Device.TheVariants.{Paging}
+use Rattle.vm_model.specs.declared.event.Event.{Event}
+use Rattle.vm_model.specs.declared.event.Event.TheVariants as event
+use Rattle.vm_model.specs.declared.event.Way.{Way}
+use Rattle.vm_model.specs.declared.event.Way.TheVariants.{Read, Write}
+use Rattle.vm_model.specs.declared.message.Channel.TheVariants.{Down}
+use Rattle.vm_model.specs.declared.message.Message.{Message}
+use Rattle.vm_model.specs.declared.message.Message.TheVariants as message
+use Rattle.vm_outside.specs.Areas.{SameAreas, Told}
+use Rattle.vm_outside.specs.Causes.{Rose}
+
+-- a message from a kernel to a pager
+abbrev pub IsToPager : Message → Type 0
+IsToPager (message.Init control size) = Unit {0}
+IsToPager (message.Create control size) = Unit {0}
+IsToPager (message.Request control page access) = Unit {0}
+IsToPager (message.Unlock control page access) = Unit {0}
+IsToPager (message.Return control page dirty keep bytes) = Unit {0}
+IsToPager (message.Completed control page count) = Unit {0}
+IsToPager (message.Terminate control) = Unit {0}
+IsToPager (message.Changed control cache strategy) = Unit {0}
+IsToPager m = ⊥
+
+-- a page that is returned has so many bytes
+abbrev pub ReturnsWhole : ℕ → Message → Type 0
+ReturnsWhole size (message.Return control page dirty keep bytes) = length bytes ≡ size
+ReturnsWhole size m = Unit {0}
+
+-- a message is sent to a control of a host
+abbrev pub sent_to : ℕ → ObjectId → ℕ → Message → Event
+sent_to host object control m = event.Sent (Down (record { 0 = host }) object control) m
+
+-- the paging device failed at a page
+abbrev pub device_failed : Way → ObjectId → PageNo → Event
+device_failed way object page = event.DeviceFailed Paging way object page
+
+abbrev pub supply : PageNo → List ℕ → Message
+supply page bytes = message.Supply page 0 false bytes
+
+-- KERN_MEMORY_ERROR: the page is lost, or can't be read
+abbrev pub error : PageNo → Message
+error page = message.Error page 10
+
+-- the bytes of a page are supplied
+abbrev pub Supplied : ℕ → ℕ → ObjectId → ℕ → PageNo → List Event → Type 0
+Supplied size host object control page events = (bytes : List ℕ) × (length bytes ≡ size) × (events ≡ sent_to host object control (supply page bytes) ∷ [])
+
+-- the read of a page failed
+abbrev pub Unread : ℕ → ObjectId → ℕ → PageNo → List Event → Type 0
+Unread host object control page events = events ≡ sent_to host object control (error page) ∷ device_failed Read object page ∷ []
+
+-- what a request is answered, by what is held of the page
+abbrev pub Requested : ℕ → ℕ → ObjectId → ℕ → PageNo → Option Held → List Event → Type 0
+Requested size host object control page None events = events ≡ sent_to host object control (message.Unavailable page) ∷ []
+Requested size host object control page (Some held.Lost) events = events ≡ sent_to host object control (error page) ∷ []
+Requested size host object control page (Some (held.Torn s)) events = events ≡ sent_to host object control (error page) ∷ []
+Requested size host object control page (Some (held.Kept s)) events = Supplied size host object control page events ⊎ Unread host object control page events
+
+-- what became of a page that was returned, as the events tell it
+abbrev pub became : List Event → Put
+became [] = put.Kept
+became (event.NoSlot object page ∷ past) = put.NoSlot
+became (e ∷ past) = put.Failed
+
+abbrev pub told_of : Put → ObjectId → PageNo → List Event
+told_of put.Kept object page = []
+told_of put.NoSlot object page = event.NoSlot object page ∷ []
+told_of put.Failed object page = device_failed Write object page ∷ []
+
+-- a page that was returned is put into the slots, and the events tell what became of it
+pub record Returned (object : ObjectId) (page : PageNo) (old new : SlotTable) (events : List Event) : Type 0 where
+  pub told : events ≡ told_of (became events) object page
+  pub held : Leaves (became events) object.0 page.0 old new
+  pub no_slot : (became events ≡ put.NoSlot) ↔ HasNoSlot old object.0 page.0
+
+-- what the pager of a host answers to a message about an object, and what it leaves of its slots; the newest event stands in front
+abbrev pub Answered : Message → ObjectId → SlotTable → SlotTable → List Event → Type 0
+Answered (message.Init control size) object old new events = (new ≡ old) × (events ≡ sent_to old.host object control (message.Ready false 0) ∷ [])
+Answered (message.Create control size) object old new events = (new ≡ old) × (events ≡ sent_to old.host object control (message.Ready false 3) ∷ [])
+Answered (message.Request control page access) object old new events = (new ≡ old) × Requested old.size old.host object control page (held_at old object.0 page.0) events
+Answered (message.Return control page dirty keep bytes) object old new events = Returned object page old new events
+Answered (message.Terminate control) object old new events = DropsHeld object.0 old new × (events ≡ [])
+Answered (message.Unlock control page access) object old new events = (new ≡ old) × (events ≡ [])
+Answered (message.Completed control page count) object old new events = (new ≡ old) × (events ≡ [])
+Answered (message.Changed control cache strategy) object old new events = (new ≡ old) × (events ≡ [])
+Answered m object old new events = ⊥
+
+-- what was stored of each page after a message was answered
+abbrev pub after_message : Message → ObjectId → Result (Listed Event) NoMemory → Content → Content
+after_message (message.Return control page dirty keep bytes) object (Ok events) = after_put (Ok (became events.items)) object.0 page.0 bytes
+after_message (message.Terminate control) object (Ok events) = without object.0
+after_message m object result = same_content
+
+-- a supply has the bytes that were stored of its page
+abbrev pub SuppliesStored : ObjectId → List Event → Content → Type 0
+SuppliesStored object (event.Sent channel (message.Supply page lock precious bytes) ∷ past) content = content object.0 page.0 ≡ Some (Kept bytes)
+SuppliesStored object events content = Unit {0}
+
+-- what a message leaves in the areas: a return what its put leaves, and all others what was there
+abbrev pub LeavesAreas : Message → ObjectId → SlotTable → (List ℕ → Told) → (List ℕ → Told) → Result (Listed Event) NoMemory → Type 0
+LeavesAreas (message.Return control page dirty keep bytes) object slots before after (Ok events) =
+    PutTold (Ok (became events.items)) before after slots (slot_at slots object.0 page.0) bytes
+LeavesAreas m object slots before after result = SameAreas before after
+
+-- nothing is kept of the page
+abbrev pub NotKept : Option Held → Type 0
+NotKept (Some (held.Kept s)) = ⊥
+NotKept has = Unit {0}
+
+-- the backing is called only for a request of a kept page, and for a return that has a slot
+abbrev pub LeavesBacking : {P : Type 0} → Message → ObjectId → SlotTable → P → P → Result (Listed Event) NoMemory → Type 0
+LeavesBacking (message.Request control page access) object slots before after (Ok events) = NotKept (held_at slots object.0 page.0) → after ≡ before
+LeavesBacking (message.Return control page dirty keep bytes) object slots before after (Ok events) = became events.items ≡ put.NoSlot → after ≡ before
+LeavesBacking (message.Return control page dirty keep bytes) object slots before after (Err e) = Unit {0}
+LeavesBacking m object slots before after result = after ≡ before
+
+-- the events tell that the device failed
+abbrev pub TellsFault : List Event → Type 0
+TellsFault [] = ⊥
+TellsFault (event.DeviceFailed who way object page ∷ past) = Unit {0}
+TellsFault (e ∷ past) = TellsFault past
+
+-- a device event stands only where the count of faults rose, and want of memory leaves the count
+pub record AnswerHasCause (before now : ℕ) (result : Result (Listed Event) NoMemory) : Type 0 where
+  pub later : before ≤ now
+  pub failed : IfOk result (λ events. TellsFault events.items → Rose before now)
+  pub same : OnErr result (now ≡ before)
+
+-- the answer to a request of a page
+abbrev pub IsReply : PageNo → Message → Type 0
+IsReply page (message.Supply p lock precious bytes) = p ≡ page
+IsReply page (message.Unavailable p) = p ≡ page
+IsReply page (message.Error p reason) = p ≡ page
+IsReply page m = ⊥
+
+-- the last event is the one answer, and behind it stands at most a failed read
+pub record RepliesOnce (host : ℕ) (object : ObjectId) (control : ℕ) (page : PageNo) (events : List Event) : Type 0 where
+  pub reply : Message
+  pub about : IsReply page reply
+  pub faults : List Event
+  pub last : events ≡ sent_to host object control reply ∷ faults
+  pub few : (faults ≡ []) ⊎ (faults ≡ device_failed Read object page ∷ [])
+
+abbrev pub EndsInReply : Message → ℕ → ObjectId → List Event → Type 0
+EndsInReply (message.Request control page access) host object events = RepliesOnce host object control page events
+EndsInReply m host object events = Unit {0}

@@ -1,0 +1,10 @@
+//! The default pager of a host: what it answers to the messages of the kernel, over the paging slots.
+#![tactic(auto)]
+
+mod pager;
+mod telling;
+
+pub use pager::DefaultPager;
+
+#[cfg(test)]
+mod tests;
