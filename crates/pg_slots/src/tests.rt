@@ -65,6 +65,7 @@ fn one_slot(rt: HostRuntime) -> Result<(), Fail> {
     let size = PageSize::of(16).ok_or("no size")?;
     let mut paging = Armed::new(SureBacking::new(alloc));
     let mut slots = Slots::new(alloc, HostId(1), 1, size)?;
+    assert!(rt; slots.host() == HostId(1));
     assert!(rt; put(alloc, &mut slots, key(2, 0), 5, &mut paging)? == Put::Kept);
     assert!(rt; put(alloc, &mut slots, key(2, 1), 6, &mut paging)? == Put::NoSlot);
     assert!(rt; begins(&slots.get(key(2, 0), &mut paging)?, 5));
