@@ -1,0 +1,326 @@
+-- The rows by their tasks: what a change of one, or of all, leaves of each.
+use Rattle.std.proofs.Common.{ℕ, suc, ◌≡◌, ◌+◌, ◌<◌, ◌≤◌, ◌==◌, Bool, true, false, List, [], ◌∷◌, ◌++◌, length, map, get_or, set, Option, Some, None, refl, sym, ◌∙◌, ap, subst, ⊎_elim, arith}
+use Rattle.std.proofs.lemmas.Bool.{cases_Bool, false≢true}
+use Rattle.std.proofs.lemmas.Bool.Decides.{nat_tests}
+use Rattle.std.proofs.lemmas.Option.{none-some, same_Some, slice_get_read}
+use Rattle.std.specs.List.{remove}
+use Rattle.std.specs.Prelude.{option_map, slice_get, if◌then◌else◌}
+use Rattle.vm_waits.specs.Kept.{closer, spot}
+use Rattle.vm_waits.specs.Waits.{EachOnce, counted, entry, oldest, one, turned, with_on, without, woken}
+use Rattle.vm_waits.specs.declared.waiting.On.{On}
+use Rattle.vm_waits.specs.declared.waiting.On.TheVariants as on
+use Rattle.vm_waits.specs.declared.waiting.Waiting.{Waiting}
+
+none_split : {A : Type 0} (b : Bool) (x : A) (o : Option A) → (if b then Some x else o) ≡ None → (b ≡ false) × (o ≡ None)
+none_split true x o none = absurd (none-some x (sym none))
+none_split false x o none = (refl, none)
+
+-- where a test is passed, or what is left
+some_split : {A : Type 0} {P : Type 0} (b : Bool) (x y : A) (o : Option A) → (if b then Some x else o) ≡ Some y → (b ≡ true → x ≡ y → P) → (b ≡ false → o ≡ Some y → P) → P
+some_split true x y o some here later = here refl (same_Some x y some)
+some_split false x y o some here later = later refl some
+
+-- the row of a task names it
+pub entry_task : (rows : List Waiting) (t : ℕ) (w : Waiting) → entry rows t ≡ Some w → w.task.0 ≡ t
+entry_task [] t w is = absurd (none-some w is)
+entry_task (x ∷ xs) t w is =
+    some_split (x.task.0 == t) x w (entry xs t) is
+    (λ (yes : (x.task.0 == t) ≡ true) (same : x ≡ w). let named : x.task.0 ≡ t = grind (arith, nat_tests) in ap (λ (z : Waiting). z.task.0) (sym same) ∙ named)
+    (λ (no : (x.task.0 == t) ≡ false) (more : entry xs t ≡ Some w). entry_task xs t w more)
+
+-- a row behind the others
+pub entry_push : (rows : List Waiting) (w : Waiting) (t : ℕ) → entry rows w.task.0 ≡ None → entry (rows ++ w ∷ []) t ≡ (if w.task.0 == t then Some w else entry rows t)
+entry_push [] w t none = refl
+entry_push (x ∷ xs) w t none =
+    let apart = none_split (x.task.0 == w.task.0) x (entry xs w.task.0) none in
+    let other : (x.task.0 == w.task.0) ≡ false = apart.0 in
+    let more = entry_push xs w t apart.1 in
+    grind (arith, nat_tests, more)
+
+pub once_push : (rows : List Waiting) (w : Waiting) → EachOnce rows → entry rows w.task.0 ≡ None → EachOnce (rows ++ w ∷ [])
+once_push [] w once none = (refl, tt)
+once_push (x ∷ xs) w once none =
+    let apart = none_split (x.task.0 == w.task.0) x (entry xs w.task.0) none in
+    let other : (x.task.0 == w.task.0) ≡ false = apart.0 in
+    let no : (w.task.0 == x.task.0) ≡ false = grind (arith, nat_tests) in
+    (rw (entry_push xs w x.task.0 apart.1, no) once.0, once_push xs w once.1 apart.1)
+
+spot_step : (a b : Bool) (n : ℕ) (o : Option ℕ) → (a ≡ true → b ≡ false) → (if a then Some 0 else option_map suc (if b then Some n else o)) ≡ (if b then Some (suc n) else (if a then Some 0 else option_map suc o))
+spot_step true true n o apart = absurd (false≢true (sym (apart refl)))
+spot_step true false n o apart = refl
+spot_step false true n o apart = refl
+spot_step false false n o apart = refl
+
+pub spot_push : (rows : List Waiting) (w : Waiting) (t : ℕ) → entry rows w.task.0 ≡ None → spot t (rows ++ w ∷ []) ≡ (if w.task.0 == t then Some (length rows) else spot t rows)
+spot_push [] w t none = refl
+spot_push (x ∷ xs) w t none =
+    let apart = none_split (x.task.0 == w.task.0) x (entry xs w.task.0) none in
+    let other : (x.task.0 == w.task.0) ≡ false = apart.0 in
+    rw (spot_push xs w t apart.1) (spot_step (x.task.0 == t) (w.task.0 == t) (length xs) (spot t xs) (λ yes. grind (arith, nat_tests)))
+
+pub counted_push : (test : On → Bool) (rows : List Waiting) (w : Waiting) → counted test (rows ++ w ∷ []) ≡ counted test rows + one (test w.on)
+counted_push test [] w = omega arith
+counted_push test (x ∷ xs) w = omega (arith, counted_push test xs w)
+
+-- where a task's row stands
+abbrev pub row_at : List Waiting → Option ℕ → Option Waiting
+row_at rows None = None
+row_at rows (Some i) = slice_get rows i
+
+row_later : (x : Waiting) (xs : List Waiting) (o : Option ℕ) → row_at (x ∷ xs) (option_map suc o) ≡ row_at xs o
+row_later x xs None = refl
+row_later x xs (Some i) = refl
+
+pub entry_spot : (rows : List Waiting) (t : ℕ) → entry rows t ≡ row_at rows (spot t rows)
+entry_spot [] t = refl
+entry_spot (x ∷ xs) t =
+    ⊎_elim
+    (λ (yes : (x.task.0 == t) ≡ true). rw yes refl)
+    (λ (no : (x.task.0 == t) ≡ false). rw (no, row_later x xs (spot t xs)) (entry_spot xs t))
+    (cases_Bool (x.task.0 == t))
+
+-- one behind the first
+record IsNext (o : Option ℕ) (n : ℕ) : Type 0 where
+  pub at : ℕ
+  pub is : o ≡ Some at
+  pub next : n ≡ suc at
+
+next_of : (o : Option ℕ) (n : ℕ) → option_map suc o ≡ Some n → IsNext o n
+next_of None n is = absurd (none-some n is)
+next_of (Some at) n is = record { at = at; is = refl; next = sym (same_Some (suc at) n is) }
+
+pub spot_within : (rows : List Waiting) (t at : ℕ) → spot t rows ≡ Some at → at < length rows
+spot_within [] t at is = absurd (none-some at is)
+spot_within (x ∷ xs) t at is =
+    some_split (x.task.0 == t) 0 at (option_map suc (spot t xs)) is
+    (λ (here : (x.task.0 == t) ≡ true) (same : 0 ≡ at). omega (arith, same))
+    (λ (no : (x.task.0 == t) ≡ false) (more : option_map suc (spot t xs) ≡ Some at).
+    let next = next_of (spot t xs) at more in
+    omega (arith, next.next, spot_within xs t next.at next.is))
+
+-- the row where a task's stands
+pub entry_at : (rows : List Waiting) (t at : ℕ) (w : Waiting) → spot t rows ≡ Some at → w ≡ get_or rows at w → entry rows t ≡ Some w
+entry_at rows t at w is read = entry_spot rows t ∙ ap (row_at rows) is ∙ slice_get_read rows (length rows) at w refl (spot_within rows t at is) read
+
+pub spot_none : (rows : List Waiting) (t : ℕ) → entry rows t ≡ None → spot t rows ≡ None
+spot_none [] t none = refl
+spot_none (x ∷ xs) t none =
+    let apart = none_split (x.task.0 == t) x (entry xs t) none in
+    rw (apart.0, spot_none xs t apart.1) refl
+
+-- a change that leaves each row its task
+abbrev pub Keeps : (Waiting → Waiting) → Type 0
+Keeps f = (w : Waiting) → (f w).task.0 ≡ w.task.0
+
+pub entry_map : (f : Waiting → Waiting) (rows : List Waiting) (t : ℕ) → Keeps f → entry (map f rows) t ≡ option_map f (entry rows t)
+entry_map f [] t keeps = refl
+entry_map f (x ∷ xs) t keeps =
+    let same : ((f x).task.0 == t) ≡ (x.task.0 == t) = ap (λ (n : ℕ). n == t) (keeps x) in
+    ⊎_elim
+    (λ (here : (x.task.0 == t) ≡ true). let now : ((f x).task.0 == t) ≡ true = same ∙ here in rw (now, here) refl)
+    (λ (no : (x.task.0 == t) ≡ false). let now : ((f x).task.0 == t) ≡ false = same ∙ no in rw (now, no) (entry_map f xs t keeps))
+    (cases_Bool (x.task.0 == t))
+
+pub spot_map : (f : Waiting → Waiting) (rows : List Waiting) (t : ℕ) → Keeps f → spot t (map f rows) ≡ spot t rows
+spot_map f [] t keeps = refl
+spot_map f (x ∷ xs) t keeps = rw (keeps x, spot_map f xs t keeps) refl
+
+pub once_map : (f : Waiting → Waiting) (rows : List Waiting) → Keeps f → EachOnce rows → EachOnce (map f rows)
+once_map f [] keeps once = tt
+once_map f (x ∷ xs) keeps once = (rw (keeps x, entry_map f xs x.task.0 keeps, once.0) refl, once_map f xs keeps once.1)
+
+-- a task's row with another reason
+turned_step : (test : Bool) (w : Waiting) (reason : On) → (if test then with_on w reason else w).task.0 ≡ w.task.0
+turned_step true w reason = refl
+turned_step false w reason = refl
+
+pub turned_keeps : (t : ℕ) (reason : On) → Keeps (turned t reason)
+turned_keeps t reason w = turned_step (w.task.0 == t) w reason
+
+pub woken_keeps : (test : On → Bool) → Keeps (woken test)
+woken_keeps test w = turned_step (test w.on) w on.Again
+
+unturned : (t : ℕ) (reason : On) (rows : List Waiting) → entry rows t ≡ None → map (turned t reason) rows ≡ rows
+unturned t reason [] none = refl
+unturned t reason (x ∷ xs) none =
+    let apart = none_split (x.task.0 == t) x (entry xs t) none in
+    rw (apart.0) (ap (λ z. x ∷ z) (unturned t reason xs apart.1))
+
+absent_behind : (x : Waiting) (xs : List Waiting) (t : ℕ) → (x.task.0 == t) ≡ true → entry xs x.task.0 ≡ None → entry xs t ≡ None
+absent_behind x xs t here none = let same : x.task.0 ≡ t = grind (arith, nat_tests) in ap (entry xs) (sym same) ∙ none
+
+pub set_turned : (t at : ℕ) (rows : List Waiting) (d : Waiting) (reason : On) → EachOnce rows → spot t rows ≡ Some at → d ≡ get_or rows at d → set rows at (with_on d reason) ≡ map (turned t reason) rows
+set_turned t at [] d reason once is read = absurd (none-some at is)
+set_turned t at (x ∷ xs) d reason once is read =
+    some_split (x.task.0 == t) 0 at (option_map suc (spot t xs)) is
+    (λ (yes : (x.task.0 == t) ≡ true) (same : 0 ≡ at).
+    let here : d ≡ x = read ∙ ap (λ (i : ℕ). get_or (x ∷ xs) i d) (sym same) in
+    rw (← same, yes, here, unturned t reason xs (absent_behind x xs t yes once.0)) refl)
+    (λ (no : (x.task.0 == t) ≡ false) (more : option_map suc (spot t xs) ≡ Some at).
+    let next = next_of (spot t xs) at more in
+    let there : d ≡ get_or xs next.at d = read ∙ ap (λ (i : ℕ). get_or (x ∷ xs) i d) next.next in
+    rw (next.next, no) (ap (λ z. x ∷ z) (set_turned t next.at xs d reason once.1 next.is there)))
+
+pub counted_turned : (test : On → Bool) (t : ℕ) (reason : On) (rows : List Waiting) (was : Waiting) → EachOnce rows → entry rows t ≡ Some was → counted test (map (turned t reason) rows) + one (test was.on) ≡ counted test rows + one (test reason)
+counted_turned test t reason [] was once is = absurd (none-some was is)
+counted_turned test t reason (x ∷ xs) was once is =
+    some_split (x.task.0 == t) x was (entry xs t) is
+    (λ (yes : (x.task.0 == t) ≡ true) (same : x ≡ was). rw (yes, unturned t reason xs (absent_behind x xs t yes once.0), ← same) (omega arith))
+    (λ (no : (x.task.0 == t) ≡ false) (more : entry xs t ≡ Some was). rw no (omega (arith, counted_turned test t reason xs was once.1 more)))
+
+-- the rows without a task's
+unlisted : (t : ℕ) (rows : List Waiting) → entry rows t ≡ None → without t rows ≡ rows
+unlisted t [] none = refl
+unlisted t (x ∷ xs) none =
+    let apart = none_split (x.task.0 == t) x (entry xs t) none in
+    rw (apart.0) (ap (λ z. x ∷ z) (unlisted t xs apart.1))
+
+pub remove_without : (t at : ℕ) (rows : List Waiting) → EachOnce rows → spot t rows ≡ Some at → remove rows at ≡ without t rows
+remove_without t at [] once is = absurd (none-some at is)
+remove_without t at (x ∷ xs) once is =
+    some_split (x.task.0 == t) 0 at (option_map suc (spot t xs)) is
+    (λ (yes : (x.task.0 == t) ≡ true) (same : 0 ≡ at). rw (← same, yes, unlisted t xs (absent_behind x xs t yes once.0)) refl)
+    (λ (no : (x.task.0 == t) ≡ false) (more : option_map suc (spot t xs) ≡ Some at).
+    let next = next_of (spot t xs) at more in
+    rw (next.next, no) (ap (λ z. x ∷ z) (remove_without t next.at xs once.1 next.is)))
+
+pub entry_without : (t : ℕ) (rows : List Waiting) (u : ℕ) → entry (without t rows) u ≡ (if t == u then None else entry rows u)
+entry_without t [] u = grind (arith, nat_tests)
+entry_without t (x ∷ xs) u =
+    let more = entry_without t xs u in
+    ⊎_elim
+    (λ (yes : (x.task.0 == t) ≡ true). rw yes (grind (arith, nat_tests, more)))
+    (λ (no : (x.task.0 == t) ≡ false). rw no (grind (arith, nat_tests, more)))
+    (cases_Bool (x.task.0 == t))
+
+pub once_without : (t : ℕ) (rows : List Waiting) → EachOnce rows → EachOnce (without t rows)
+once_without t [] once = tt
+once_without t (x ∷ xs) once =
+    ⊎_elim
+    (λ (yes : (x.task.0 == t) ≡ true). rw yes (once_without t xs once.1))
+    (λ (no : (x.task.0 == t) ≡ false).
+    let other : (t == x.task.0) ≡ false = grind (arith, nat_tests) in
+    rw no (rw (entry_without t xs x.task.0, other) once.0, once_without t xs once.1))
+    (cases_Bool (x.task.0 == t))
+
+pub counted_without : (test : On → Bool) (t : ℕ) (rows : List Waiting) (was : Waiting) → EachOnce rows → entry rows t ≡ Some was → counted test (without t rows) + one (test was.on) ≡ counted test rows
+counted_without test t [] was once is = absurd (none-some was is)
+counted_without test t (x ∷ xs) was once is =
+    some_split (x.task.0 == t) x was (entry xs t) is
+    (λ (yes : (x.task.0 == t) ≡ true) (same : x ≡ was). rw (yes, unlisted t xs (absent_behind x xs t yes once.0), ← same) (omega arith))
+    (λ (no : (x.task.0 == t) ≡ false) (more : entry xs t ≡ Some was). rw no (omega (arith, counted_without test t xs was once.1 more)))
+
+closer_step : (gap at : ℕ) → closer (suc gap) (suc at) ≡ suc (closer gap at)
+closer_step gap at = grind (arith, nat_tests)
+
+closer_none : (gap : ℕ) → 0 ≡ closer (suc gap) 0
+closer_none gap = grind (arith, nat_tests)
+
+closer_later : (gap : ℕ) (o : Option ℕ) → option_map suc (option_map (closer gap) o) ≡ option_map (closer (suc gap)) (option_map suc o)
+closer_later gap None = refl
+closer_later gap (Some at) = ap Some (sym (closer_step gap at))
+
+closer_first : (o : Option ℕ) → o ≡ option_map (closer 0) (option_map suc o)
+closer_first None = refl
+closer_first (Some at) = let e : closer 0 (suc at) ≡ at = grind (arith, nat_tests) in ap Some (sym e)
+
+pub spot_without : (t at : ℕ) (rows : List Waiting) (u : ℕ) → EachOnce rows → spot t rows ≡ Some at → spot u (without t rows) ≡ (if t == u then None else option_map (closer at) (spot u rows))
+spot_without t at [] u once is = absurd (none-some at is)
+spot_without t at (x ∷ xs) u once is =
+    some_split (x.task.0 == t) 0 at (option_map suc (spot t xs)) is
+    (λ (yes : (x.task.0 == t) ≡ true) (same : 0 ≡ at).
+    let absent = absent_behind x xs t yes once.0 in
+    rw (← same, yes, unlisted t xs absent)
+    (⊎_elim
+    (λ (here : (t == u) ≡ true). let one : t ≡ u = grind (arith, nat_tests) in rw here (spot_none xs u (ap (entry xs) (sym one) ∙ absent)))
+    (λ (other : (t == u) ≡ false). let no : (x.task.0 == u) ≡ false = grind (arith, nat_tests) in rw (other, no) (closer_first (spot u xs)))
+    (cases_Bool (t == u))))
+    (λ (no : (x.task.0 == t) ≡ false) (more : option_map suc (spot t xs) ≡ Some at).
+    let next = next_of (spot t xs) at more in
+    let rest = spot_without t next.at xs u once.1 next.is in
+    rw (next.next, no, rest)
+    (⊎_elim
+    (λ (here : (t == u) ≡ true). let other : (x.task.0 == u) ≡ false = grind (arith, nat_tests) in rw (here, other) refl)
+    (λ (apart : (t == u) ≡ false).
+    ⊎_elim
+    (λ (mine : (x.task.0 == u) ≡ true). rw (apart, mine) (ap Some (closer_none next.at)))
+    (λ (other : (x.task.0 == u) ≡ false). rw (apart, other) (closer_later next.at (spot u xs)))
+    (cases_Bool (x.task.0 == u)))
+    (cases_Bool (t == u))))
+
+-- rows that are woken
+pub counted_woken : (test count : On → Bool) (n : Bool) (rows : List Waiting) → ((reason : On) → test reason ≡ true → count reason ≡ false) → count on.Again ≡ n → counted count (map (woken test) rows) ≡ counted count rows + (if n then counted test rows else 0)
+counted_woken test count n [] apart is = grind (arith, nat_tests)
+counted_woken test count n (x ∷ xs) apart is =
+    let more = counted_woken test count n xs apart is in
+    ⊎_elim
+    (λ (yes : test x.on ≡ true). let other = apart x.on yes in rw (yes, is, other, more) (⊎_elim (λ (a : n ≡ true). rw a (omega arith)) (λ (a : n ≡ false). rw a (omega arith)) (cases_Bool n)))
+    (λ (no : test x.on ≡ false). rw (no, more) (⊎_elim (λ (a : n ≡ true). rw a (omega arith)) (λ (a : n ≡ false). rw a (omega arith)) (cases_Bool n)))
+    (cases_Bool (test x.on))
+
+-- the oldest row that passes a test, and how many pass it
+first_apart : (x : Waiting) (xs : List Waiting) (w : Waiting) → entry xs x.task.0 ≡ None → entry xs w.task.0 ≡ Some w → entry (x ∷ xs) w.task.0 ≡ Some w
+first_apart x xs w none some =
+    ⊎_elim
+    (λ (here : (x.task.0 == w.task.0) ≡ true). absurd (none-some w (sym (absent_behind x xs w.task.0 here none) ∙ some)))
+    (λ (no : (x.task.0 == w.task.0) ≡ false). rw no some)
+    (cases_Bool (x.task.0 == w.task.0))
+
+-- a row that passes a test
+pub record Passes (test : On → Bool) (rows : List Waiting) (w : Waiting) : Type 0 where
+  pub row : entry rows w.task.0 ≡ Some w
+  pub passes : test w.on ≡ true
+
+itself : (x : Waiting) (xs : List Waiting) → entry (x ∷ xs) x.task.0 ≡ Some x
+itself x xs = let same : (x.task.0 == x.task.0) ≡ true = grind (arith, nat_tests) in rw same refl
+
+pub oldest_some : (test : On → Bool) (rows : List Waiting) (w : Waiting) → EachOnce rows → oldest test rows ≡ Some w → Passes test rows w
+oldest_some test [] w once is = absurd (none-some w is)
+oldest_some test (x ∷ xs) w once is =
+    some_split (test x.on) x w (oldest test xs) is
+    (λ (passes : test x.on ≡ true) (same : x ≡ w). subst (Passes test (x ∷ xs)) same (record { row = itself x xs; passes = passes }))
+    (λ (fails : test x.on ≡ false) (more : oldest test xs ≡ Some w).
+    let rest = oldest_some test xs w once.1 more in
+    record { row = first_apart x xs w once.0 rest.row; passes = rest.passes })
+
+pub oldest_none : (test : On → Bool) (rows : List Waiting) → oldest test rows ≡ None → counted test rows ≡ 0
+oldest_none test [] is = refl
+oldest_none test (x ∷ xs) is =
+    let fails = none_split (test x.on) x (oldest test xs) is in
+    let rest = oldest_none test xs fails.1 in
+    rw (fails.0) (omega (arith, rest))
+
+pub none_passes : (test : On → Bool) (rows : List Waiting) (t : ℕ) (w : Waiting) → counted test rows ≡ 0 → entry rows t ≡ Some w → test w.on ≡ false
+none_passes test [] t w none is = absurd (none-some w is)
+none_passes test (x ∷ xs) t w none is =
+    ⊎_elim
+    (λ (passes : test x.on ≡ true). let one = rw passes at none in absurd (omega (arith, one)))
+    (λ (fails : test x.on ≡ false).
+    let rest = rw fails at none in
+    some_split (x.task.0 == t) x w (entry xs t) is
+    (λ (here : (x.task.0 == t) ≡ true) (same : x ≡ w). ap (λ (z : Waiting). test z.on) (sym same) ∙ fails)
+    (λ (no : (x.task.0 == t) ≡ false) (more : entry xs t ≡ Some w). none_passes test xs t w (omega (arith, rest)) more))
+    (cases_Bool (test x.on))
+
+pub no_row_passes : (test : On → Bool) (rows : List Waiting) → EachOnce rows → ((t : ℕ) (w : Waiting) → entry rows t ≡ Some w → test w.on ≡ false) → counted test rows ≡ 0
+no_row_passes test [] once fails = refl
+no_row_passes test (x ∷ xs) once fails =
+    let first = fails x.task.0 x (itself x xs) in
+    let rest = no_row_passes test xs once.1 (λ t w is. fails w.task.0 w (first_apart x xs w once.0 (ap (entry xs) (entry_task xs t w is) ∙ is))) in
+    rw first (omega (arith, rest))
+
+pub counted_within : (test : On → Bool) (rows : List Waiting) → counted test rows ≤ length rows
+counted_within test [] = omega arith
+counted_within test (x ∷ xs) =
+    let rest = counted_within test xs in
+    ⊎_elim
+    (λ (passes : test x.on ≡ true). rw passes (omega (arith, rest)))
+    (λ (fails : test x.on ≡ false). rw fails (omega (arith, rest)))
+    (cases_Bool (test x.on))
+
+pub length_without : (t : ℕ) (rows : List Waiting) (was : Waiting) → EachOnce rows → entry rows t ≡ Some was → length (without t rows) + 1 ≡ length rows
+length_without t [] was once is = absurd (none-some was is)
+length_without t (x ∷ xs) was once is =
+    some_split (x.task.0 == t) x was (entry xs t) is
+    (λ (here : (x.task.0 == t) ≡ true) (same : x ≡ was). rw (here, unlisted t xs (absent_behind x xs t here once.0)) (omega arith))
+    (λ (no : (x.task.0 == t) ≡ false) (more : entry xs t ≡ Some was). rw no (omega (arith, length_without t xs was once.1 more)))

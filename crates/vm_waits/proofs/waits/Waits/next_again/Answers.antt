@@ -1,0 +1,8 @@
+use Rattle.vm_waits.proofs.Tables.{matched}
+use Rattle.vm_waits.specs.Waits.{is_again}
+use Rattle.vm_waits.proofs.waits.Waits.next_again.Goals as goal
+
+pub returns-clause-row : goal.returns-clause-row
+returns-clause-row c =
+    let old = c.self.inside in
+    rw (← c.self.view_is) (matched is_again old.rows.items c.oldest_again.result c.self.invariant.0.once (rw c.deref.ensures.value at c.oldest_again.ensures))

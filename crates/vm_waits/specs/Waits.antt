@@ -1,0 +1,121 @@
+-- The waiting accesses of a host, as contracts see them.
+use Rattle.std.specs.Prelude.{ℕ, ◌≡◌, ◌+◌, ◌==◌, ◌&&◌, ◌||◌, Bool, true, false, List, [], ◌∷◌, Option, Some, None, if◌then◌else◌}
+use Rattle.vm_base.specs.declared.ids.PageKey.{PageKey}
+use Rattle.vm_base.specs.declared.ids.TaskId.{TaskId}
+use Rattle.vm_waits.specs.declared.waiting.On.{On}
+use Rattle.vm_waits.specs.declared.waiting.On.TheVariants as on
+use Rattle.vm_waits.specs.declared.waiting.Waiting.{Waiting}
+
+-- the waiting accesses, the oldest first; the tasks that wait for a frame, the first of the queue first; how many further accesses begin without memory
+pub record WaitTable : Type 0 where
+  pub rows : List Waiting
+  pub queue : List TaskId
+  pub room : ℕ
+
+-- the waiting access of a task
+abbrev pub entry : List Waiting → ℕ → Option Waiting
+entry [] t = None
+entry (w ∷ ws) t = if w.task.0 == t then Some w else entry ws t
+
+-- one task has this now, or none, and each other task has what it had
+pub record PutsEntry (task : ℕ) (row : Option Waiting) (old new : List Waiting) : Type 0 where
+  pub at : (t : ℕ) → entry new t ≡ (if task == t then row else entry old t)
+
+-- each task stands there once
+abbrev pub EachOnce : List Waiting → Type 0
+EachOnce [] = Unit {0}
+EachOnce (w ∷ ws) = (entry ws w.task.0 ≡ None) × EachOnce ws
+
+abbrev pub is_again : On → Bool
+is_again on.Again = true
+is_again (on.Ready object) = false
+is_again (on.Page key) = false
+is_again on.Frame = false
+
+abbrev pub is_frame : On → Bool
+is_frame on.Again = false
+is_frame (on.Ready object) = false
+is_frame (on.Page key) = false
+is_frame on.Frame = true
+
+-- a row that waits for a frame
+abbrev pub waits_for_frame : Option Waiting → Bool
+waits_for_frame None = false
+waits_for_frame (Some w) = is_frame w.on
+
+-- it waits for this page
+abbrev pub woken_page : PageKey → On → Bool
+woken_page key on.Again = false
+woken_page key (on.Ready object) = false
+woken_page key (on.Page other) = other.object.0 == key.object.0 && other.page.0 == key.page.0
+woken_page key on.Frame = false
+
+-- it waits for the pager of this object
+abbrev pub woken_ready : ℕ → On → Bool
+woken_ready object on.Again = false
+woken_ready object (on.Ready other) = other.0 == object
+woken_ready object (on.Page key) = false
+woken_ready object on.Frame = false
+
+abbrev pub one : Bool → ℕ
+one true = 1
+one false = 0
+
+abbrev pub one_again : On → ℕ
+one_again reason = one (is_again reason)
+
+abbrev pub one_frame : On → ℕ
+one_frame reason = one (is_frame reason)
+
+-- how many rows' reasons pass a test
+abbrev pub counted : (On → Bool) → List Waiting → ℕ
+counted test [] = 0
+counted test (w ∷ ws) = one (test w.on) + counted test ws
+
+-- how many are to be run again
+abbrev pub again : List Waiting → ℕ
+again rows = counted is_again rows
+
+-- how many wait for a frame
+abbrev pub queued : List Waiting → ℕ
+queued rows = counted is_frame rows
+
+-- the oldest row whose reason passes a test
+abbrev pub oldest : (On → Bool) → List Waiting → Option Waiting
+oldest test [] = None
+oldest test (w ∷ ws) = if test w.on then Some w else oldest test ws
+
+-- the task that is first in the queue
+abbrev pub first : List TaskId → Option TaskId
+first [] = None
+first (task ∷ tasks) = Some task
+
+abbrev pub is_listed : ℕ → List TaskId → Bool
+is_listed t [] = false
+is_listed t (task ∷ tasks) = task.0 == t || is_listed t tasks
+
+-- the queue without a task
+abbrev pub others : ℕ → List TaskId → List TaskId
+others t [] = []
+others t (task ∷ tasks) = if task.0 == t then others t tasks else task ∷ others t tasks
+
+-- the rows without a task's
+abbrev pub without : ℕ → List Waiting → List Waiting
+without t [] = []
+without t (w ∷ ws) = if w.task.0 == t then without t ws else w ∷ without t ws
+
+abbrev pub with_on : Waiting → On → Waiting
+with_on w reason = record { task = w.task; want = w.want; on = reason }
+
+-- a task's row has another reason
+abbrev pub turned : ℕ → On → Waiting → Waiting
+turned t reason w = if w.task.0 == t then with_on w reason else w
+
+-- a row whose reason passes a test is to be run again
+abbrev pub woken : (On → Bool) → Waiting → Waiting
+woken test w = if test w.on then with_on w on.Again else w
+
+-- where a task had a row, it has it still, to be run again if its reason passed the test
+abbrev pub Waked : (On → Bool) → Option Waiting → Option Waiting → Type 0
+Waked test None new = new ≡ None
+Waked test (Some w) new = new ≡ Some (woken test w)

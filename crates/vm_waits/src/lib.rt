@@ -1,0 +1,14 @@
+//! The accesses that wait on one host, in the order in which they began, and the queue for its
+//! frames.
+#![tactic(auto)]
+
+mod place;
+mod scan;
+mod waiting;
+mod waits;
+
+pub use waiting::{On, Waiting, Want};
+pub use waits::Waits;
+
+#[cfg(test)]
+mod tests;

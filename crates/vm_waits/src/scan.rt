@@ -1,0 +1,112 @@
+// Walks along the rows, and along the queue.
+ghost use Rattle.std.specs.Prelude.{◌≡◌, map};
+ghost use Rattle.std.specs.Vec.{vec_capacity};
+ghost use Rattle.vm_waits.specs.Waits.{is_again, oldest, others, woken, woken_page, woken_ready};
+
+use crate::{On, Waiting};
+use vm_base::{ObjectId, PageKey, TaskId};
+
+pub fn is_on_again(on: On) -> bool
+    ensures { result ≡ is_again on }
+{
+    match on {
+        On::Again => true,
+        On::Ready { object: _ } | On::Page { key: _ } | On::Frame => false,
+    }
+}
+
+pub fn is_on_page(on: On, key: PageKey) -> bool
+    ensures { result ≡ woken_page key on }
+{
+    match on {
+        On::Page { key: other } => { other.object.0 == key.object.0 && other.page.0 == key.page.0 }
+        On::Again | On::Ready { object: _ } | On::Frame => false,
+    }
+}
+
+pub fn is_on_ready(on: On, object: ObjectId) -> bool
+    ensures { result ≡ woken_ready object.0 on }
+{
+    match on {
+        On::Ready { object: other } => other.0 == object.0,
+        On::Again | On::Page { key: _ } | On::Frame => false,
+    }
+}
+
+// The oldest row that is to be run again.
+pub fn oldest_again(rows: &[Waiting]) -> Option<Waiting>
+    ensures { result ≡ oldest is_again rows.now }
+{
+    'all: for row in rows {
+        if is_on_again(row.on) {
+            return Some(*row);
+        }
+    }
+    None
+}
+
+// The oldest row that waits for a page.
+pub fn oldest_on(rows: &[Waiting], key: PageKey) -> Option<Waiting>
+    ensures { result ≡ oldest (woken_page key) rows.now }
+{
+    'all: for row in rows {
+        if is_on_page(row.on, key) {
+            return Some(*row);
+        }
+    }
+    None
+}
+
+// What becomes of a row where those that wait for a page are woken.
+fn after_page(row: Waiting, key: PageKey) -> Waiting
+    ensures { result ≡ woken (woken_page key) row }
+{
+    if is_on_page(row.on, key) {
+        Waiting {
+            on: On::Again,
+            ..row
+        }
+    } else {
+        row
+    }
+}
+
+pub fn wake_for_page(rows: &mut Vec<Waiting>, key: PageKey)
+    ensures items { rows.new.items ≡ map (woken (woken_page key)) rows.old.items }
+    ensures capacity { vec_capacity rows.new ≡ vec_capacity rows.old }
+{
+    'all: for row in rows.iter_mut() {
+        *row = after_page(*row, key);
+    }
+}
+
+// What becomes of a row where those that wait for the pager of an object are woken.
+fn after_ready(row: Waiting, object: ObjectId) -> Waiting
+    ensures { result ≡ woken (woken_ready object.0) row }
+{
+    if is_on_ready(row.on, object) {
+        Waiting {
+            on: On::Again,
+            ..row
+        }
+    } else {
+        row
+    }
+}
+
+pub fn wake_for_ready(rows: &mut Vec<Waiting>, object: ObjectId)
+    ensures items { rows.new.items ≡ map (woken (woken_ready object.0)) rows.old.items }
+    ensures capacity { vec_capacity rows.new ≡ vec_capacity rows.old }
+{
+    'all: for row in rows.iter_mut() {
+        *row = after_ready(*row, object);
+    }
+}
+
+// Takes a task out of the queue, if it stands there.
+pub fn take_off(queue: &mut Vec<TaskId>, task: TaskId)
+    ensures tasks { queue.new.items ≡ others task.0 queue.old.items }
+    ensures capacity { vec_capacity queue.new ≡ vec_capacity queue.old }
+{
+    queue.retain(|other| other.0 != task.0);
+}

@@ -1,0 +1,235 @@
+// The waiting accesses of a host, and the queue for its frames.
+ghost use Rattle.std.specs.Prelude.{ℕ, ◌≡◌, ◌+◌, ◌<◌, ◌≤◌, ◌++◌, ◌∷◌, [], true, false, length, map, nat_lt, IfSome, IsOk, IsSome, IsSomeAnd, MatchOption, None, OnErr, OnOk, Some};
+ghost use Rattle.vm_waits.specs.Waits.{EachOnce, PutsEntry, Waked, again, counted, entry, first, is_again, is_frame, is_listed, oldest, one_again, one_frame, others, queued, turned, waits_for_frame, with_on, without, woken, woken_page, woken_ready};
+ghost use Rattle.vm_waits.specs.declared.waiting.On.TheVariants.{Again, Frame};
+
+use crate::place::{Place, close_gap, find, known_place, place_of};
+use crate::scan::{oldest_again, oldest_on, take_off, wake_for_page, wake_for_ready};
+use crate::{On, Waiting, Want};
+use std::alloc::Global;
+use std::marker::Model;
+use vm_base::{NoMemory, ObjectId, PageKey, TaskId};
+
+/// The accesses that wait on one host, and the queue for its frames.
+///
+/// Contracts see the rows in the order in which the accesses began, the queue in the order in which
+/// it was joined, and how many more accesses begin without memory. A row stands still in its place
+/// until it is removed, whatever it waits for, so what is run again goes in the order of beginning
+/// (this profile). Only `reserve` takes memory.
+#[derive(Drop)]
+pub struct Waits {
+    // In the order in which they began.
+    rows: Vec<Waiting>,
+    // By rising task.
+    places: Vec<Place>,
+    // In the order of joining.
+    queue: Vec<TaskId>,
+    room: u32,
+}
+
+impl Model for Waits {
+    ghost use Rattle.std.specs.Prelude.{length, vec_capacity};
+    ghost use Rattle.vm_waits.specs.Kept.{AreFound, AreQueued, HasRoom};
+    ghost use Rattle.vm_waits.specs.Waits.{WaitTable};
+
+    ghost Value = { WaitTable };
+
+    ghost view = { λ s. record { rows = s.rows.items; queue = s.queue.items; room = s.room } };
+
+    ghost invariant = { λ s. AreFound s.rows.items s.places.items × AreQueued s.rows.items s.queue.items × HasRoom s.room (length s.rows.items) (vec_capacity s.rows) (vec_capacity s.places) (vec_capacity s.queue) };
+}
+
+impl Waits {
+    /// No access waits.
+    pub fn new(alloc: Global) -> Waits
+        ensures { result ≡ record { rows = []; queue = []; room = 0 } }
+    {
+        Waits {
+            rows: Vec::new(alloc),
+            places: Vec::new(alloc),
+            queue: Vec::new(alloc),
+            room: 0,
+        }
+    }
+
+    /// Makes room for so many further accesses; it fails for want of memory alone.
+    pub fn reserve(&mut self, n: u32) -> Result<(), NoMemory>
+        ensures rows { self.new.rows ≡ self.old.rows }
+        ensures queue { self.new.queue ≡ self.old.queue }
+        ensures room { OnOk result (n ≤ self.new.room) }
+        ensures kept { self.old.room ≤ self.new.room }
+        ensures succeeds { n ≤ self.old.room → IsOk result }
+        ensures err { OnErr result (self.new ≡ self.old) }
+    {
+        if n <= self.room {
+            return Ok(());
+        }
+        let len = self.rows.len();
+        if n as usize > u32::MAX as usize - len {
+            return Err(NoMemory);
+        }
+        self.rows.reserve(n as usize)?;
+        self.places.reserve(n as usize)?;
+        self.queue.reserve(len + n as usize)?;
+        self.room = n;
+        Ok(())
+    }
+
+    /// An access of a task begins: it stands behind all others, and is to be run.
+    pub fn begin(&mut self, task: TaskId, want: Want)
+        requires absent { entry self.old.rows task.0 ≡ None }
+        requires room { 0 < self.old.room }
+        ensures rows { self.new.rows ≡ self.old.rows ++ (record { task = task; want = want; on = Again }) ∷ [] }
+        ensures entry { PutsEntry task.0 (Some (record { task = task; want = want; on = Again })) self.old.rows self.new.rows }
+        ensures again { again self.new.rows ≡ again self.old.rows + 1 }
+        ensures queued { queued self.new.rows ≡ queued self.old.rows }
+        ensures queue { self.new.queue ≡ self.old.queue }
+        ensures room { self.old.room ≡ self.new.room + 1 }
+    {
+        let at = self.rows.len();
+        let i = find(&self.places, task);
+        let _ = self.rows.push(Waiting {
+            task,
+            want,
+            on: On::Again,
+        });
+        let _ = self.places.insert(i, Place { task, at });
+        self.room -= 1;
+    }
+
+    /// The waiting access of a task; None exactly where it has none. The rows aren't searched for it.
+    pub fn get(&self, task: TaskId) -> Option<Waiting>
+        ensures { result ≡ entry self.now.rows task.0 }
+    {
+        let at = place_of(&self.places, task)?;
+        Some(self.rows[at])
+    }
+
+    /// The oldest access that is to be run again; None exactly where none is.
+    pub fn next_again(&self) -> Option<Waiting>
+        ensures oldest { result ≡ oldest is_again self.now.rows }
+        ensures row { MatchOption result (again self.now.rows ≡ 0)
+            (λ w. (entry self.now.rows w.task.0 ≡ Some w) × (is_again w.on ≡ true)) }
+    {
+        oldest_again(&self.rows)
+    }
+
+    /// The access that is first in the queue for frames; None exactly where the queue is empty.
+    pub fn front(&self) -> Option<Waiting>
+        ensures first { MatchOption result (self.now.queue ≡ []) (λ w. first self.now.queue ≡ Some w.task) }
+        ensures row { MatchOption result (queued self.now.rows ≡ 0)
+            (λ w. (entry self.now.rows w.task.0 ≡ Some w) × (is_frame w.on ≡ true)) }
+    {
+        let task = *self.queue.first()?;
+        self.get(task)
+    }
+
+    /// Whether an access waits for a frame.
+    pub fn has_queue(&self) -> bool
+        ensures queued { result ≡ nat_lt 0 (queued self.now.rows) }
+        ensures even { length self.now.queue ≡ queued self.now.rows }
+    {
+        !self.queue.is_empty()
+    }
+
+    /// The oldest access that waits for a page; None exactly where none does.
+    pub fn next_on(&self, key: PageKey) -> Option<Waiting>
+        ensures oldest { result ≡ oldest (woken_page key) self.now.rows }
+        ensures row { MatchOption result
+            ((t : ℕ) → IfSome (entry self.now.rows t) (λ w. woken_page key w.on ≡ false))
+            (λ w. (entry self.now.rows w.task.0 ≡ Some w) × (woken_page key w.on ≡ true)) }
+    {
+        oldest_on(&self.rows, key)
+    }
+
+    /// A task's access waits for something else, but not for a frame; it leaves the queue if it was
+    /// there.
+    pub fn set_on(&mut self, task: TaskId, on: On)
+        requires there { IsSome (entry self.old.rows task.0) }
+        requires other { is_frame on ≡ false }
+        ensures rows { self.new.rows ≡ map (turned task.0 on) self.old.rows }
+        ensures entry { IfSome (entry self.old.rows task.0) (λ was.
+            PutsEntry task.0 (Some (with_on was on)) self.old.rows self.new.rows) }
+        ensures again { IfSome (entry self.old.rows task.0) (λ was.
+            again self.new.rows + one_again was.on ≡ again self.old.rows + one_again on) }
+        ensures queued { IfSome (entry self.old.rows task.0) (λ was.
+            queued self.new.rows + one_frame was.on ≡ queued self.old.rows) }
+        ensures queue { self.new.queue ≡ others task.0 self.old.queue }
+        ensures room { self.new.room ≡ self.old.room }
+    {
+        let at = known_place(&self.places, task);
+        self.rows[at].on = on;
+        take_off(&mut self.queue, task);
+    }
+
+    /// A task's access waits for a frame, behind all others of the queue.
+    pub fn join_queue(&mut self, task: TaskId)
+        requires { IsSomeAnd (entry self.old.rows task.0) (λ was. is_frame was.on ≡ false) }
+        ensures rows { self.new.rows ≡ map (turned task.0 Frame) self.old.rows }
+        ensures entry { IfSome (entry self.old.rows task.0) (λ was.
+            PutsEntry task.0 (Some (with_on was Frame)) self.old.rows self.new.rows) }
+        ensures again { IfSome (entry self.old.rows task.0) (λ was.
+            again self.new.rows + one_again was.on ≡ again self.old.rows) }
+        ensures queued { queued self.new.rows ≡ queued self.old.rows + 1 }
+        ensures queue { self.new.queue ≡ self.old.queue ++ task ∷ [] }
+        ensures room { self.new.room ≡ self.old.room }
+    {
+        let at = known_place(&self.places, task);
+        self.rows[at].on = On::Frame;
+        let _ = self.queue.push(task);
+    }
+
+    /// A task's access waits no more; it leaves the queue if it was there.
+    pub fn remove(&mut self, task: TaskId)
+        requires { IsSome (entry self.old.rows task.0) }
+        ensures rows { self.new.rows ≡ without task.0 self.old.rows }
+        ensures entry { PutsEntry task.0 None self.old.rows self.new.rows }
+        ensures again { IfSome (entry self.old.rows task.0) (λ was.
+            again self.new.rows + one_again was.on ≡ again self.old.rows) }
+        ensures queued { IfSome (entry self.old.rows task.0) (λ was.
+            queued self.new.rows + one_frame was.on ≡ queued self.old.rows) }
+        ensures length { length self.new.rows + 1 ≡ length self.old.rows }
+        ensures queue { self.new.queue ≡ others task.0 self.old.queue }
+        ensures room { self.new.room ≡ self.old.room + 1 }
+    {
+        let i = find(&self.places, task);
+        let place = self.places.remove(i);
+        let _ = self.rows.remove(place.at);
+        close_gap(&mut self.places, place.at);
+        take_off(&mut self.queue, task);
+        self.room += 1;
+    }
+
+    /// The accesses that wait for a page are to be run again.
+    pub fn wake_page(&mut self, key: PageKey)
+        ensures rows { self.new.rows ≡ map (woken (woken_page key)) self.old.rows }
+        ensures entry { (t : ℕ) → Waked (woken_page key) (entry self.old.rows t) (entry self.new.rows t) }
+        ensures again { again self.new.rows ≡ again self.old.rows + counted (woken_page key) self.old.rows }
+        ensures queued { queued self.new.rows ≡ queued self.old.rows }
+        ensures queue { self.new.queue ≡ self.old.queue }
+        ensures room { self.new.room ≡ self.old.room }
+    {
+        wake_for_page(&mut self.rows, key);
+    }
+
+    /// The accesses that wait for the pager of an object are to be run again.
+    pub fn wake_ready(&mut self, object: ObjectId)
+        ensures rows { self.new.rows ≡ map (woken (woken_ready object.0)) self.old.rows }
+        ensures entry { (t : ℕ) → Waked (woken_ready object.0) (entry self.old.rows t) (entry self.new.rows t) }
+        ensures again { again self.new.rows ≡ again self.old.rows + counted (woken_ready object.0) self.old.rows }
+        ensures queued { queued self.new.rows ≡ queued self.old.rows }
+        ensures queue { self.new.queue ≡ self.old.queue }
+        ensures room { self.new.room ≡ self.old.room }
+    {
+        wake_for_ready(&mut self.rows, object);
+    }
+
+    /// The number of waiting accesses.
+    pub fn count(&self) -> u32
+        ensures count { result ≡ length self.now.rows }
+        ensures once { EachOnce self.now.rows }
+        ensures queue { (t : ℕ) → is_listed t self.now.queue ≡ waits_for_frame (entry self.now.rows t) }
+    {
+        self.rows.len() as u32
+    }
+}
