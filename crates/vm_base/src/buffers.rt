@@ -38,6 +38,13 @@ impl Buffers {
         }
     }
 
+    /// The size of each buffer.
+    pub fn size(&self) -> PageSize
+        ensures { result ≡ self.now.size }
+    {
+        self.size
+    }
+
     /// Makes buffers until so many are kept; it fails for want of memory alone, and the buffers
     /// that were made by then stay.
     pub fn reserve(&mut self, n: u32) -> Result<(), NoMemory>
