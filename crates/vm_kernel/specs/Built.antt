@@ -5,8 +5,8 @@ use Rattle.vm_model.specs.declared.event.Event.TheVariants as event
 use Rattle.vm_model.specs.declared.command.Command.{Command}
 use Rattle.vm_model.specs.declared.command.Command.TheVariants as command
 use Rattle.vm_model.specs.declared.script.Header.{Header}
-use Rattle.vm_model.specs.Frames.{frames_free}
-use Rattle.vm_model.specs.Refusal.{refusal}
+use Rattle.vm_legal.specs.Frames.{frames_free}
+use Rattle.vm_legal.specs.Refusal.{refusal}
 use Rattle.vm_model.specs.Tasks.{copies, entries_of}
 
 -- the commands that are built

@@ -5,9 +5,12 @@ use Rattle.vm_base.specs.declared.ids.TaskId.{TaskId}
 use Rattle.vm_base.specs.Entries.{entered}
 use Rattle.vm_model.specs.declared.event.Event.{Event}
 use Rattle.vm_model.specs.declared.event.Event.TheVariants as event
+use Rattle.vm_model.specs.declared.command.Command.TheVariants as command
 use Rattle.vm_model.specs.declared.script.Header.{Header}
-use Rattle.vm_model.specs.Follows.{gets}
 use Rattle.vm_model.specs.Tasks.{shared}
+use Rattle.vm_legal.specs.Follows.{gets}
+use Rattle.vm_legal.specs.Licences.{AllLicensed}
+use Rattle.vm_legal.specs.Outside.{Outside}
 use Rattle.vm_maps.specs.Judge.{judged}
 use Rattle.vm_maps.specs.Maps.{ChangesOnly, entries_in, rows_in}
 use Rattle.vm_shadow.specs.declared.ids.Ids.{Ids}
@@ -46,10 +49,11 @@ abbrev pub with_child : TaskId → List Entry → List Event
 with_child child rows = reverse (gets child rows) ++ event.TaskMade child the_host ∷ []
 
 -- a child was made, and has what is shared of the first of these entries of another task
-pub record HasForked (header : Header) (task child : TaskId) (rows : List Entry) (count : ℕ) (past : List Event) (k : Parts) (ids : Ids) (events : List Event) : Type 0 where
+pub record HasForked (header : Header) (outside : Outside) (task child : TaskId) (rows : List Entry) (count : ℕ) (past : List Event) (k : Parts) (ids : Ids) (events : List Event) : Type 0 where
   pub apart : task.0 ≢ child.0
   pub matches : Matches header k ids [] (events ++ past)
   pub used : AllUsed k.chains
   pub others : entries_in task.0 k.maps ≡ Some rows
   pub own : entries_in child.0 k.maps ≡ Some (shared (take count rows))
   pub told : events ≡ with_child child (shared (take count rows))
+  pub licensed : AllLicensed header outside (command.Fork task child) events past

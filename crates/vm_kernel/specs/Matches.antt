@@ -1,5 +1,5 @@
 -- A kernel stands for what a history says of its host: its parts are the facts of that history.
-use Rattle.std.specs.Prelude.{ℕ, ◌≡◌, ◌+◌, ◌<◌, ◌≤◌, ◌^◌, Bool, true, false, List, [], ◌∷◌, length, replicate, Option, Some, None, slice_get, reverse}
+use Rattle.std.specs.Prelude.{ℕ, ◌≡◌, ◌+◌, ◌<◌, ◌≤◌, ◌^◌, ◌==◌, ◌||◌, nat_lt, Bool, true, false, List, [], ◌∷◌, length, Option, Some, None, slice_get, reverse}
 use Rattle.vm_base.specs.declared.entry.Entry.{Entry}
 use Rattle.vm_base.specs.declared.ids.HostId.{HostId}
 use Rattle.vm_base.specs.declared.ids.ObjectKind.TheVariants.{Temp}
@@ -7,14 +7,18 @@ use Rattle.vm_base.specs.Entries.{most_entries}
 use Rattle.vm_base.specs.Pages.{IsPageSize}
 use Rattle.vm_model.specs.declared.event.Event.{Event}
 use Rattle.vm_model.specs.declared.script.Header.{Header}
-use Rattle.vm_model.specs.Flat.{flat_page}
-use Rattle.vm_model.specs.Frames.{frames_held, frames_wired}
+use Rattle.vm_model.specs.Controls.{last_control, live_control}
 use Rattle.vm_model.specs.Local.{Local, local}
 use Rattle.vm_model.specs.Regions.{Backing, Region, backing_of, next_object, next_region, region_of}
 use Rattle.vm_model.specs.Rows.{AllRows, Inside}
 use Rattle.vm_model.specs.Tasks.{entries_of, host_of}
 use Rattle.vm_model.specs.Waiting.{Access, waiting}
-use Rattle.vm_frames.specs.Frames.{FrameTable, claimed, frame_count, page_in}
+use Rattle.vm_legal.specs.Frames.{frames_held, frames_wired}
+use Rattle.vm_legal.specs.Licences.{created}
+use Rattle.vm_legal.specs.Living.{tasks as made_tasks}
+use Rattle.vm_legal.specs.Used.{in_use}
+use Rattle.vm_model.specs.declared.message.Channel.{Channel}
+use Rattle.vm_frames.specs.Frames.{FrameTable, claimed, frame_count}
 use Rattle.vm_maps.specs.Maps.{Mapped, entries_in, rows_in}
 use Rattle.vm_objects.specs.Objects.{ObjectTable, absent_at, object_at}
 use Rattle.vm_objects.specs.declared.row.ObjectRow.{ObjectRow}
@@ -27,7 +31,7 @@ use Rattle.vm_shadow.specs.declared.region_row.RegionRow.{RegionRow}
 use Rattle.vm_kernel.specs.Built.{has_stored}
 use Rattle.vm_kernel.specs.Counts.{count_by, count_on, most_tasks}
 use Rattle.vm_kernel.specs.Fits.{Fits}
-use Rattle.vm_kernel.specs.Places.{bytes_behind, has_region, place_of, region_entries, region_pages, shown}
+use Rattle.vm_kernel.specs.Places.{has_region, place_of, region_pages, shown}
 use Rattle.vm_kernel.specs.declared.parts.Parts.{Parts}
 
 -- all tasks live on host 0
@@ -58,8 +62,9 @@ pub record HasTasks (size : ℕ) (maps : Mapped) (host_at : ℕ → Option ℕ) 
   pub rows : (task : ℕ) → rows_at task ≡ rows_in task maps
   pub none : (task : ℕ) → waiting_at task ≡ None
 
--- a region is that of the object with its number, from its page 0 on
+-- a region is that of the object with its number, from its page 0 on, and has no copy mark
 pub record IsOwn (region : Region) (number : ℕ) : Type 0 where
+  pub unmarked : region.mark ≡ false
   pub top : region.top ≡ number
   pub shift : region.shift ≡ 0
 
@@ -103,11 +108,21 @@ pub record HasPages (frames : FrameTable) (resident : ResidentTable) (objects : 
   pub shown : (o p : ℕ) → local_at o p ≡ shown frames (row_at resident o p) (absent_at objects o p)
   pub live : (o p : ℕ) (row : PageRow) → row_at resident o p ≡ Some row → has_region chains o ≡ true
 
--- the flat map's bytes are those of the pages that are here, and zeros elsewhere, where entries lead; a page that was not
--- changed has zeros
-pub record HasFlat (size : ℕ) (frames : FrameTable) (resident : ResidentTable) (chains : ChainTable) (flat_at : ℕ → ℕ → List ℕ) : Type 0 where
-  pub flat : (r p : ℕ) → 0 < region_entries chains r → flat_at r p ≡ bytes_behind size frames (row_at resident r p)
-  pub clean : (o p : ℕ) (row : PageRow) → row_at resident o p ≡ Some row → row.dirty ≡ false → page_in frames row.frame.0 ≡ replicate size 0
+-- the number is one of these
+abbrev pub is_among : ℕ → List ℕ → Bool
+is_among n [] = false
+is_among n (m ∷ more) = m == n || is_among n more
+
+-- the regions in use are those on which some task has an entry; all tasks that live were made
+pub record HasUse (maps : Mapped) (used_at : ℕ → Bool) (made : List ℕ) : Type 0 where
+  pub used : (r : ℕ) → used_at r ≡ nat_lt 0 (count_by most_tasks r maps)
+  pub among : (task : ℕ) (rows : List Entry) → entries_in task maps ≡ Some rows → is_among task made ≡ true
+
+-- no pager runs: no object ever had a control
+pub record HasControls (last_at : ℕ → ℕ) (live_at : ℕ → Option ℕ) (created_now : Option Channel) : Type 0 where
+  pub last : (o : ℕ) → last_at o ≡ 0
+  pub live : (o : ℕ) → live_at o ≡ None
+  pub created : created_now ≡ None
 
 -- while no store has ended no page was changed
 pub record HasStores (resident : ResidentTable) (stored : Bool) : Type 0 where
@@ -130,9 +145,10 @@ pub record Matches (header : Header) (k : Parts) (ids : Ids) (gone : List Entry)
   pub regions : HasRegions k.chains k.objects ids (λ r. region_of header r past) (λ o. backing_of header o past) (next_region header past) (next_object header past)
   pub entries : HasEntries header.size k.maps k.chains gone
   pub pages : HasPages k.frames k.resident k.objects k.chains (λ o p. local header.size 0 (place_of o p) past)
-  pub flat : HasFlat header.size k.frames k.resident k.chains (λ r p. flat_page header.size r p past)
+  pub uses : HasUse k.maps (λ r. in_use header 0 r past) (made_tasks past)
+  pub controls : HasControls (λ o. last_control 0 o past) (λ o. live_control 0 o past) (created past)
   pub stores : HasStores k.resident (has_stored past)
-  pub frames : HasFrames (slice_get (reverse header.frames.items) 0) k.frames (frames_held 0 past) (frames_wired 0 past)
+  pub frames : HasFrames (slice_get (reverse header.frames.items) 0) k.frames (frames_held header.size 0 past) (frames_wired 0 past)
 
 -- each region has an entry
 abbrev pub AllUsed : ChainTable → Type 0

@@ -1,5 +1,5 @@
 -- What a host has of the pages of objects, by the rows and frames that its kernel keeps.
-use Rattle.std.specs.Prelude.{ℕ, ◌+◌, Bool, true, false, List, Option, Some, None, if◌then◌else◌, is_some, not, replicate}
+use Rattle.std.specs.Prelude.{ℕ, ◌+◌, Bool, true, false, List, Option, Some, None, if◌then◌else◌, is_some, not}
 use Rattle.vm_base.specs.declared.ids.Lock.{Lock}
 use Rattle.vm_base.specs.declared.ids.FrameNo.{FrameNo}
 use Rattle.vm_model.specs.Local.{Local, Place, away}
@@ -37,11 +37,6 @@ shown frames (Some row) lacked =
 -- the row of a page that has come as zeros
 abbrev pub fresh_row : FrameNo → PageRow
 fresh_row frame = record { frame = frame; lock = unlocked; dirty = false; precious = false; here = true; unlock_sent = false }
-
--- the bytes that are behind a page: zeros where it isn't here
-abbrev pub bytes_behind : ℕ → FrameTable → Option PageRow → List ℕ
-bytes_behind size frames None = replicate size 0
-bytes_behind size frames (Some row) = page_in frames row.frame.0
 
 abbrev pub pages_kept : Option ObjectRow → ℕ
 pages_kept None = 0

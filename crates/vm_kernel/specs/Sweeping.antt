@@ -4,6 +4,7 @@ use Rattle.vm_base.specs.declared.entry.Entry.{Entry}
 use Rattle.vm_model.specs.declared.event.Event.{Event}
 use Rattle.vm_model.specs.declared.command.Command.{Command}
 use Rattle.vm_model.specs.declared.script.Header.{Header}
+use Rattle.vm_legal.specs.Outside.{Outside}
 use Rattle.vm_shadow.specs.Chains.{ChainTable, PutsRegion, region_at}
 use Rattle.vm_shadow.specs.declared.ids.Ids.{Ids}
 use Rattle.vm_shadow.specs.declared.region_row.RegionRow.{RegionRow}
@@ -33,18 +34,19 @@ pub record Lowered (rows : List Entry) (old new : ChainTable) : Type 0 where
 -- what is given to calls that take entries out of the counts: those that are left, too
 pub record Releasing : Type 0 where
   pub header : Header
+  pub outside : Outside
   pub past : List Event
   pub command : Command
   pub rest : List Entry
 
 -- some entries have gone, but are still among the counts
-pub record Sweeps (header : Header) (doing : Command) (past : List Event) (k : Parts) (ids : Ids) (gone : List Entry) (events : List Event) : Type 0 where
-  pub runs : Runs header doing past k ids gone events
+pub record Sweeps (header : Header) (outside : Outside) (doing : Command) (past : List Event) (k : Parts) (ids : Ids) (gone : List Entry) (events : List Event) : Type 0 where
+  pub runs : Runs header outside doing past k ids gone events
   pub used : AllUsed k.chains
 
 -- a region has no entries left, and all others have some
-pub record Ends (header : Header) (doing : Command) (past : List Event) (k : Parts) (ids : Ids) (gone : List Entry) (region : ℕ) (events : List Event) : Type 0 where
-  pub runs : Runs header doing past k ids gone events
+pub record Ends (header : Header) (outside : Outside) (doing : Command) (past : List Event) (k : Parts) (ids : Ids) (gone : List Entry) (region : ℕ) (events : List Event) : Type 0 where
+  pub runs : Runs header outside doing past k ids gone events
   pub there : has_region k.chains region ≡ true
   pub none : region_entries k.chains region ≡ 0
   pub others : (r : ℕ) (row : RegionRow) → r ≢ region → region_at k.chains r ≡ Some row → 0 < row.entries

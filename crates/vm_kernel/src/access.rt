@@ -57,7 +57,7 @@ impl Parts {
     ) -> Result<(), NoMemory>
         ghost given: { Given }
         requires { Starts given.header (command.Load task address size) given.past self.old ids.now log.old.items }
-        ensures { OnOk result (Began given.header (command.Load task address size) given.past self.new ids.now log.new.items) }
+        ensures { OnOk result (Began given.header given.outside (command.Load task address size) given.past self.new ids.now log.new.items) }
     {
         log.push(Event::BegunLoad {
             task,
@@ -88,7 +88,7 @@ impl Parts {
     ) -> Result<(), NoMemory>
         ghost given: { Given }
         requires { Starts given.header (command.Store task address size value) given.past self.old ids.now log.old.items }
-        ensures { OnOk result (Began given.header (command.Store task address size value) given.past self.new ids.now log.new.items) }
+        ensures { OnOk result (Began given.header given.outside (command.Store task address size value) given.past self.new ids.now log.new.items) }
     {
         log.push(Event::BegunStore {
             task,

@@ -36,7 +36,7 @@ impl Parts {
     pub fn pageout(&mut self, ids: &Ids, count: u32, log: &mut Events) -> Result<(), NoMemory>
         ghost given: { Given }
         requires { Starts given.header (command.Pageout the_host count) given.past self.old ids.now log.old.items }
-        ensures { OnOk result (Began given.header (command.Pageout the_host count) given.past self.new ids.now log.new.items) }
+        ensures { OnOk result (Began given.header given.outside (command.Pageout the_host count) given.past self.new ids.now log.new.items) }
     {
         'pages: for _ in 0..count {
             let Some(frame) = self.queues.victim(&[]) else {

@@ -32,7 +32,7 @@ impl Parts {
     ) -> Result<(), NoMemory>
         ghost given: { Given }
         requires { Starts given.header (command.Fork task child) given.past self.old ids.now log.old.items }
-        ensures { OnOk result (Began given.header (command.Fork task child) given.past self.new ids.now log.new.items) }
+        ensures { OnOk result (Began given.header given.outside (command.Fork task child) given.past self.new ids.now log.new.items) }
     {
         self.maps.add_task(child)?;
         log.push(Event::TaskMade {

@@ -67,7 +67,7 @@ impl Kernel {
         ghost given: { Given }
         requires starts { Starts given.header command.now given.past self.old ids.old [] }
         requires built { is_built command.now ≡ true }
-        ensures { IfOk result (λ events. Began given.header command.now given.past self.new ids.new events.items) }
+        ensures { IfOk result (λ events. Began given.header given.outside command.now given.past self.new ids.new events.items) }
     {
         let mut log = Events::new(self.parts.alloc);
         self.parts.run(command, ids, &mut log)?;

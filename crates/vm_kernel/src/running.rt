@@ -19,7 +19,7 @@ impl Parts {
         ghost given: { Given }
         requires starts { Starts given.header command.now given.past self.old ids.old log.old.items }
         requires built { is_built command.now ≡ true }
-        ensures { OnOk result (Began given.header command.now given.past self.new ids.new log.new.items) }
+        ensures { OnOk result (Began given.header given.outside command.now given.past self.new ids.new log.new.items) }
     {
         match command {
             Command::Task { task, .. } => self.make_task(ids, *task, log),

@@ -16,8 +16,8 @@ impl Parts {
     // has none left.
     pub fn sweep(&mut self, ids: &Ids, gone: &Entries, log: &mut Events) -> Result<(), NoMemory>
         ghost given: { Doing }
-        requires { Sweeps given.header given.command given.past self.old ids.now (by_address gone.now) log.old.items }
-        ensures { OnOk result (Sweeps given.header given.command given.past self.new ids.now [] log.new.items) }
+        requires { Sweeps given.header given.outside given.command given.past self.old ids.now (by_address gone.now) log.old.items }
+        ensures { OnOk result (Sweeps given.header given.outside given.command given.past self.new ids.now [] log.new.items) }
     {
         'all: for i in 0..gone.len() {
             self.release(ids, gone, i, log)?;
@@ -36,8 +36,8 @@ impl Parts {
         ghost given: { Releasing }
         requires inside { i < length gone.now.items }
         requires rest { given.rest ≡ drop (i + 1) (by_address gone.now) }
-        requires sweeps { Sweeps given.header given.command given.past self.old ids.now (drop i (by_address gone.now)) log.old.items }
-        ensures { OnOk result (Sweeps given.header given.command given.past self.new ids.now given.rest log.new.items) }
+        requires sweeps { Sweeps given.header given.outside given.command given.past self.old ids.now (drop i (by_address gone.now)) log.old.items }
+        ensures { OnOk result (Sweeps given.header given.outside given.command given.past self.new ids.now given.rest log.new.items) }
     {
         let region = gone.at(i).region;
         let count = count_of(&self.chains, region);
@@ -51,8 +51,8 @@ impl Parts {
     // Drops the pages of a region without entries, and ends it.
     fn end_region(&mut self, ids: &Ids, region: RegionId, log: &mut Events) -> Result<(), NoMemory>
         ghost given: { Releasing }
-        requires { Ends given.header given.command given.past self.old ids.now given.rest region.0 log.old.items }
-        ensures { OnOk result (Sweeps given.header given.command given.past self.new ids.now given.rest log.new.items) }
+        requires { Ends given.header given.outside given.command given.past self.old ids.now given.rest region.0 log.old.items }
+        ensures { OnOk result (Sweeps given.header given.outside given.command given.past self.new ids.now given.rest log.new.items) }
     {
         self.drop_pages(ids, ObjectId(region.0), log)?;
         let object = self.chains.drop_region(region);
@@ -63,8 +63,8 @@ impl Parts {
     // Drops the pages of an object, by rising number.
     fn drop_pages(&mut self, ids: &Ids, object: ObjectId, log: &mut Events) -> Result<(), NoMemory>
         ghost given: { Releasing }
-        requires { Ends given.header given.command given.past self.old ids.now given.rest object.0 log.old.items }
-        ensures ends { OnOk result (Ends given.header given.command given.past self.new ids.now given.rest object.0 log.new.items) }
+        requires { Ends given.header given.outside given.command given.past self.old ids.now given.rest object.0 log.old.items }
+        ensures ends { OnOk result (Ends given.header given.outside given.command given.past self.new ids.now given.rest object.0 log.new.items) }
         ensures gone { OnOk result ((p : ℕ) → row_at self.new.resident object.0 p ≡ None) }
     {
         'pages: while let Some(page) = self.resident.next_page(object, PageNo(0)) {

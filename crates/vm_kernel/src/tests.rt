@@ -1,6 +1,7 @@
 // Each call once, on a host of four frames.
-ghost use Rattle.std.specs.Prelude.{◌≡◌, [], IfOk};
+ghost use Rattle.std.specs.Prelude.{◌≡◌, [], ◌∷◌, IfOk};
 ghost use Rattle.vm_model.specs.declared.command.Command.TheVariants as command;
+ghost use Rattle.vm_model.specs.declared.event.Event.TheVariants as event;
 ghost use Rattle.vm_kernel.specs.Begun.{Began, Given};
 ghost use Rattle.vm_kernel.specs.Matches.{IsPlain, Rests, the_host};
 
@@ -38,9 +39,10 @@ fn header_of(alloc: Global, frames: u32) -> Result<Header, Fail>
 // A kernel's first command makes a task.
 fn make_task(header: &Header, kernel: &mut Kernel, ids: &mut Ids) -> Result<Events, NoMemory>
     ghost given: { Given }
-    requires given { given ≡ record { header = header.now; past = [] } }
+    requires header { given.header ≡ header.now }
+    requires past { given.past ≡ event.Line 1 ∷ [] }
     requires rests { Rests header.now kernel.old ids.old [] }
-    ensures { IfOk result (λ events. Began header.now (command.Task TASK the_host) [] kernel.new ids.new events.items) }
+    ensures { IfOk result (λ events. Began header.now given.outside (command.Task TASK the_host) (event.Line 1 ∷ []) kernel.new ids.new events.items) }
 {
     let command = Command::Task {
         task: TASK,

@@ -8,13 +8,13 @@ abbrev pub ghost-fork : goal.ghost-fork
 ghost-fork g a = g.given
 
 abbrev pub ghost-exit : goal.ghost-exit
-ghost-exit g a = record { header = g.given.header; past = g.given.past; command = command.Exit a.task }
+ghost-exit g a = record { header = g.given.header; outside = g.given.outside; past = g.given.past; command = command.Exit a.task }
 
 abbrev pub ghost-allocate : goal.ghost-allocate
 ghost-allocate g a = g.given
 
 abbrev pub ghost-deallocate : goal.ghost-deallocate
-ghost-deallocate g a = record { header = g.given.header; past = g.given.past; command = command.Deallocate a.task a.address a.bytes }
+ghost-deallocate g a = record { header = g.given.header; outside = g.given.outside; past = g.given.past; command = command.Deallocate a.task a.address a.bytes }
 
 abbrev pub ghost-protect : goal.ghost-protect
 ghost-protect g a = g.given

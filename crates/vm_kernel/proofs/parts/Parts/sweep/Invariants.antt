@@ -4,7 +4,7 @@ use Rattle.vm_kernel.specs.Sweeping.{Sweeps}
 use Rattle.vm_kernel.proofs.parts.Parts.sweep.Given as goal
 
 abbrev pub ghost-release : goal.ghost-release
-ghost-release g a = record { header = g.given.header; past = g.given.past; command = g.given.command; rest = drop (a.i + 1) (by_address a.gone.now) }
+ghost-release g a = record { header = g.given.header; outside = g.given.outside; past = g.given.past; command = g.given.command; rest = drop (a.i + 1) (by_address a.gone.now) }
 
 abbrev pub invariant-all : goal.invariant-all
 invariant-all g l = Sweeps g.given.header g.given.command g.given.past l.self l.ids (drop l.i (by_address l.gone)) l.log.items
