@@ -1,5 +1,5 @@
 -- A load or store from its beginning to its end.
-use Rattle.std.proofs.Common.{◌≡◌, ℕ, ◌+◌, ◌%◌, ◌<◌, ◌==◌, ◌&&◌, Bool, true, false, List, [], ◌∷◌, ◌++◌, length, replicate, refl, ap, sym, ◌∙◌, subst, Some, None, Option, cond, inl, inr}
+use Rattle.std.proofs.Common.{◌≡◌, ℕ, ◌+◌, ◌%◌, ◌<◌, ◌==◌, ◌&&◌, Bool, true, false, List, [], ◌∷◌, ◌++◌, length, replicate, refl, ap, sym, ◌∙◌, subst, arith, Some, None, Option, cond, inl, inr}
 use Rattle.std.proofs.lemmas.Bool.Decides.{eqb_tells}
 use Rattle.std.specs.Prelude.{if◌then◌else◌, not, reverse, slice_get, slice_range}
 use Rattle.vm_base.specs.declared.entry.Entry.{Entry}
@@ -14,36 +14,44 @@ use Rattle.vm_model.specs.declared.command.Command.{Command}
 use Rattle.vm_model.specs.declared.command.Command.TheVariants as command
 use Rattle.vm_model.specs.declared.script.Header.{Header}
 use Rattle.vm_model.specs.Bytes.{number_in}
-use Rattle.vm_model.specs.Flat.{flat_page}
-use Rattle.vm_model.specs.Frames.{frames_held, frames_wired}
-use Rattle.vm_model.specs.Chains.{places, walk}
-use Rattle.vm_model.specs.Licences.{IsTop, Waits, its_places}
-use Rattle.vm_model.specs.Local.{Place, local}
+use Rattle.vm_model.specs.Controls.{last_control, live_control}
+use Rattle.vm_model.specs.Local.{local}
 use Rattle.vm_model.specs.Regions.{backing_of, next_object, next_region, region_of}
 use Rattle.vm_model.specs.Tasks.{entries_of, host_of}
 use Rattle.vm_model.specs.Waiting.{Access, Loading, Storing, address_of, next_page, waiting}
+use Rattle.vm_legal.specs.Accesses.{Waits, page_of}
+use Rattle.vm_legal.specs.Bytes.{AnswersOwn, PutsOwn}
+use Rattle.vm_legal.specs.Frames.{frames_held, frames_wired}
+use Rattle.vm_legal.specs.Licences.{Bottoms, Loads, Stores, created}
+use Rattle.vm_legal.specs.Living.{tasks as made_tasks}
+use Rattle.vm_legal.specs.Outside.{Outside}
+use Rattle.vm_legal.specs.Used.{in_use}
+use Rattle.vm_legal.specs.Walks.{page_on}
 use Rattle.vm_frames.specs.Frames.{count_claims, is_claimed, page_in}
 use Rattle.vm_maps.specs.Maps.{entries_in, rows_in}
 use Rattle.vm_queues.specs.Queues.{KeepsPages, Queues, is_queued}
 use Rattle.vm_objects.specs.Objects.{absent_at}
 use Rattle.vm_resident.specs.Resident.{row_at}
 use Rattle.vm_shadow.specs.declared.ids.Ids.{Ids}
-use Rattle.vm_kernel.specs.Begun.{Began, Grows, Starts}
+use Rattle.vm_kernel.specs.Begun.{Began, Grows, IsLined, Starts}
 use Rattle.vm_kernel.specs.Built.{has_stored}
 use Rattle.vm_kernel.specs.Changes.{Brought, Came, Faulted, IsHere, Wrote, WasHere, zeroed}
 use Rattle.vm_kernel.specs.Fits.{Fits}
-use Rattle.vm_kernel.specs.Matches.{AllUsed, HasEntries, HasFlat, HasFrames, HasPages, HasRegions, HasStores, HasTasks, IsPlain, Rests, host_for, the_host}
-use Rattle.vm_kernel.specs.Places.{bytes_behind, fresh_row, has_region, lock_number, place_of, region_entries, shown}
+use Rattle.vm_kernel.specs.Matches.{AllUsed, HasControls, HasEntries, HasFrames, HasPages, HasRegions, HasStores, HasTasks, HasUse, IsPlain, Rests, host_for, the_host}
+use Rattle.vm_kernel.specs.Places.{fresh_row, has_region, lock_number, place_of, shown}
 use Rattle.vm_kernel.specs.declared.parts.Parts.{Parts}
 use Rattle.vm_kernel.proofs.Fitting.{fit_touched}
-use Rattle.vm_kernel.proofs.Growing.{grows_more, suffices}
-use Rattle.vm_kernel.proofs.Pages.{flat_brought, flat_wrote, frames_brought, pages_brought, pages_wrote, stores_brought}
-use Rattle.vm_kernel.proofs.Prompting.{prompt_of, region_row}
+use Rattle.vm_kernel.proofs.Growing.{Follows, grows_more, paid_of, suffices}
+use Rattle.vm_kernel.proofs.Heads.{grows_one}
+use Rattle.vm_kernel.proofs.Pages.{frames_brought, pages_brought, pages_wrote, stores_brought}
+use Rattle.vm_kernel.proofs.Prompting.{prompt_of}
 use Rattle.vm_kernel.proofs.Rows.{row_cases}
-use Rattle.vm_kernel.proofs.Walking.{top_place, walk_found, walk_missed}
+use Rattle.vm_kernel.proofs.Uses.{still}
+use Rattle.vm_kernel.proofs.Walking.{comes_top, sinks_own, top_of}
 
 -- inside the step of an access, while it waits
-pub record Accesses (header : Header) (doing : Command) (past : List Event) (task : ℕ) (access : Access) (k : Parts) (ids : Ids) (events : List Event) : Type 0 where
+pub record Accesses (header : Header) (outside : Outside) (doing : Command) (past : List Event) (task : ℕ) (access : Access) (k : Parts) (ids : Ids) (events : List Event) : Type 0 where
+  pub begins : IsLined past
   pub plain : IsPlain header
   pub size : k.size ≡ header.size
   pub host : k.host ≡ the_host
@@ -53,10 +61,11 @@ pub record Accesses (header : Header) (doing : Command) (past : List Event) (tas
   pub regions : HasRegions k.chains k.objects ids (λ r. region_of header r (events ++ past)) (λ o. backing_of header o (events ++ past)) (next_region header (events ++ past)) (next_object header (events ++ past))
   pub entries : HasEntries header.size k.maps k.chains []
   pub pages : HasPages k.frames k.resident k.objects k.chains (λ o p. local header.size 0 (place_of o p) (events ++ past))
-  pub flat : HasFlat header.size k.frames k.resident k.chains (λ r p. flat_page header.size r p (events ++ past))
+  pub uses : HasUse k.maps (λ r. in_use header 0 r (events ++ past)) (made_tasks (events ++ past))
+  pub controls : HasControls (λ o. last_control 0 o (events ++ past)) (λ o. live_control 0 o (events ++ past)) (created (events ++ past))
   pub stores : HasStores k.resident (has_stored (events ++ past))
-  pub frames : HasFrames (slice_get (reverse header.frames.items) 0) k.frames (frames_held 0 (events ++ past)) (frames_wired 0 (events ++ past))
-  pub grows : Grows header doing past events
+  pub frames : HasFrames (slice_get (reverse header.frames.items) 0) k.frames (frames_held header.size 0 (events ++ past)) (frames_wired 0 (events ++ past))
+  pub grows : Grows header outside doing past events
   pub used : AllUsed k.chains
 
 -- where it leads
@@ -68,11 +77,12 @@ pub record Leads (header : Header) (k : Parts) (task address : ℕ) (key : PageK
   pub page : key.page.0 ≡ page_at header.size address entry
   pub region : has_region k.chains entry.region.0 ≡ true
 
-pub begun_load : (header : Header) (task : TaskId) (address n : ℕ) (past : List Event) (k : Parts) (ids : Ids) (before : List Event) → Starts header (command.Load task address n) past k ids before
-    → Accesses header (command.Load task address n) past task.0 (Loading address n) k ids (event.BegunLoad task address n ∷ [])
-begun_load header task address n past k ids before s =
+pub begun_load : (header : Header) (outside : Outside) (task : TaskId) (address n : ℕ) (past : List Event) (k : Parts) (ids : Ids) (before : List Event) → Starts header (command.Load task address n) past k ids before
+    → Accesses header outside (command.Load task address n) past task.0 (Loading address n) k ids (event.BegunLoad task address n ∷ [])
+begun_load header outside task address n past k ids before s =
     let m = s.rests.matches in
     record {
+      begins = s.begins;
       plain = m.plain;
       size = m.size;
       host = m.host;
@@ -82,18 +92,20 @@ begun_load header task address n past k ids before s =
       regions = m.regions;
       entries = m.entries;
       pages = m.pages;
-      flat = m.flat;
+      uses = m.uses;
+      controls = still (λ o. last_control 0 o past) (λ o. live_control 0 o past) (created past) m.controls;
       stores = m.stores;
       frames = m.frames;
-      grows = record { first = event.BegunLoad task address n ∷ []; more = []; head = refl; is = refl; licensed = tt; own_bytes = (tt, tt); flat_bytes = (tt, tt); frames = (suffices header k.frames past m.frames, tt); inner = (tt, tt) };
+      grows = grows_one header outside (command.Load task address n) past (event.BegunLoad task address n) refl (record { quiet = m.controls.created; cause = tt; own_bytes = tt; copies = tt; frames = suffices header k.frames past m.frames; inner = tt });
       used = s.rests.used;
     }
 
-pub begun_store : (header : Header) (task : TaskId) (address n value : ℕ) (past : List Event) (k : Parts) (ids : Ids) (before : List Event) → Starts header (command.Store task address n value) past k ids before
-    → Accesses header (command.Store task address n value) past task.0 (Storing address n value) k ids (event.BegunStore task address n value ∷ [])
-begun_store header task address n value past k ids before s =
+pub begun_store : (header : Header) (outside : Outside) (task : TaskId) (address n value : ℕ) (past : List Event) (k : Parts) (ids : Ids) (before : List Event) → Starts header (command.Store task address n value) past k ids before
+    → Accesses header outside (command.Store task address n value) past task.0 (Storing address n value) k ids (event.BegunStore task address n value ∷ [])
+begun_store header outside task address n value past k ids before s =
     let m = s.rests.matches in
     record {
+      begins = s.begins;
       plain = m.plain;
       size = m.size;
       host = m.host;
@@ -103,10 +115,11 @@ begun_store header task address n value past k ids before s =
       regions = m.regions;
       entries = m.entries;
       pages = m.pages;
-      flat = m.flat;
+      uses = m.uses;
+      controls = still (λ o. last_control 0 o past) (λ o. live_control 0 o past) (created past) m.controls;
       stores = m.stores;
       frames = m.frames;
-      grows = record { first = event.BegunStore task address n value ∷ []; more = []; head = refl; is = refl; licensed = tt; own_bytes = (tt, tt); flat_bytes = (tt, tt); frames = (suffices header k.frames past m.frames, tt); inner = (tt, tt) };
+      grows = grows_one header outside (command.Store task address n value) past (event.BegunStore task address n value) refl (record { quiet = m.controls.created; cause = tt; own_bytes = tt; copies = tt; frames = suffices header k.frames past m.frames; inner = tt });
       used = s.rests.used;
     }
 
@@ -114,40 +127,52 @@ itself : (n : ℕ) → (n == n) ≡ true
 itself n = elim (eqb_tells n n) [ inl same ↦ same.0 | inr apart ↦ absurd (apart.1 refl) ]
 
 -- the waiting access, as licences want it
-abbrev it_waits : (header : Header) (doing : Command) (past : List Event) (task : ℕ) (access : Access) (k : Parts) (ids : Ids) (events : List Event) (address : ℕ) (key : PageKey)
-    → Accesses header doing past task access k ids events → (to : Leads header k task address key) → ((next : ℕ) → address_of header.size next access ≡ address) → Waits header.size task access (events ++ past)
-it_waits header doing past task access k ids events address key a to aims =
+abbrev it_waits : (header : Header) (outside : Outside) (doing : Command) (past : List Event) (task : ℕ) (access : Access) (k : Parts) (ids : Ids) (events : List Event) (address : ℕ) (key : PageKey)
+    → Accesses header outside doing past task access k ids events → (to : Leads header k task address key) → ((next : ℕ) → address_of header.size next access ≡ address) → Waits header task access (events ++ past)
+it_waits header outside doing past task access k ids events address key a to aims =
     record {
-      host = 0;
-      entry = to.entry;
       waits = a.waits task ∙ ap (λ b. cond b (Some access) (waiting task past)) (itself task);
-      lives = a.tasks.hosts task ∙ ap host_for to.lives;
-      found = ap (λ z. entry_at z (entries_of header.size task (events ++ past))) (aims (next_page task (events ++ past))) ∙ (ap (entry_at address) (a.tasks.rows task) ∙ to.found);
+      at =
+          record {
+            host = 0;
+            entry = to.entry;
+            lives = a.tasks.hosts task ∙ ap host_for to.lives;
+            found = ap (λ z. entry_at z (entries_of header.size task (events ++ past))) (aims (next_page task (events ++ past))) ∙ (ap (entry_at address) (a.tasks.rows task) ∙ to.found);
+          };
     }
 
 -- a page of zeros comes for it
-pub access_brought : (header : Header) (doing : Command) (past : List Event) (task : ℕ) (access : Access) (k mid : Parts) (ids : Ids) (events : List Event) (address : ℕ) (key : PageKey) (frame : FrameNo)
-    → Accesses header doing past task access k ids events → (to : Leads header k task address key) → ((next : ℕ) → address_of header.size next access ≡ address)
-    → Brought key frame k mid → Accesses header doing past task access mid ids (zeroed key k ∷ events)
-access_brought header doing past task access k mid ids events address key frame a to aims b =
+pub access_brought : (header : Header) (outside : Outside) (doing : Command) (past : List Event) (task : ℕ) (access : Access) (k mid : Parts) (ids : Ids) (events : List Event) (address : ℕ) (key : PageKey) (frame : FrameNo)
+    → Accesses header outside doing past task access k ids events → (to : Leads header k task address key) → ((next : ℕ) → address_of header.size next access ≡ address)
+    → Brought key frame k mid → Accesses header outside doing past task access mid ids (zeroed key k ∷ events)
+access_brought header outside doing past task access k mid ids events address key frame a to aims b =
     let o = key.object.0 in
     let p = key.page.0 in
     let region : has_region k.chains o ≡ true = subst (λ (z : ℕ). has_region k.chains z ≡ true) (sym to.object) to.region in
     let zeros : (g : ℕ) → page_in mid.frames g ≡ (if frame.0 == g then replicate header.size 0 else page_in k.frames g) = subst (λ (z : ℕ). (g : ℕ) → page_in mid.frames g ≡ (if frame.0 == g then replicate z 0 else page_in k.frames g)) a.size b.page.at in
     let pages2 = pages_brought header.size k.frames mid.frames k.resident mid.resident k.queues k.objects k.chains (λ o p. local header.size 0 (place_of o p) (events ++ past)) frame o p (rw a.size at a.fits) a.pages b.fresh b.absent b.row zeros region in
-    let flat2 = flat_brought header.size k.frames mid.frames k.resident mid.resident k.queues k.objects k.chains (λ r p. flat_page header.size r p (events ++ past)) frame o p (rw a.size at a.fits) a.flat b.fresh b.absent b.row zeros in
-    let frames2 = frames_brought (slice_get (reverse header.frames.items) 0) k.frames mid.frames (frames_held 0 (events ++ past)) (frames_wired 0 (events ++ past)) a.frames b.claims b.wired b.count b.room in
-    let own = a.regions.tops o in
-    let bare = a.regions.unbacked in
-    let away : (local header.size 0 (place_of o p) (events ++ past)).here ≡ false = ap (λ z. z.here) (a.pages.shown o p ∙ ap (λ z. shown k.frames z (absent_at k.objects o p)) b.absent) in
-    let it = it_waits header doing past task access k ids events address key a to aims in
-    let own_top : IsTop (places header o p (events ++ past)) (place_of o p) = top_place header o p (events ++ past) own bare in
-    let own_missed : walk header.size 0 (places header o p (events ++ past)) (events ++ past) ≡ None = walk_missed header o p (events ++ past) own bare away in
-    let same : its_places header task access (events ++ past) it ≡ places header o p (events ++ past) =
-    ap (λ z. places header to.entry.region.0 (page_at header.size z to.entry) (events ++ past)) (aims (next_page task (events ++ past))) ∙ (ap (λ z. places header to.entry.region.0 z (events ++ past)) (sym to.page) ∙ ap (λ z. places header z p (events ++ past)) (sym to.object)) in
-    let top = subst (λ (z : List Place). IsTop z (place_of o p)) (sym same) own_top in
-    let missed = subst (λ (z : List Place). walk header.size 0 z (events ++ past) ≡ None) (sym same) own_missed in
+    let frames2 = frames_brought (slice_get (reverse header.frames.items) 0) k.frames mid.frames (frames_held header.size 0 (events ++ past)) (frames_wired 0 (events ++ past)) a.frames b.claims b.wired b.count b.room in
+    let shown_page = a.pages.shown o p ∙ ap (λ z. shown k.frames z (absent_at k.objects o p)) b.absent in
+    let away : (page_on header 0 o p (events ++ past)).here ≡ false = ap (λ z. z.here) shown_page in
+    let unasked : (page_on header 0 o p (events ++ past)).asked ≡ false = ap (λ z. z.asked) shown_page in
+    let own = a.regions.tops to.entry.region.0 in
+    let it = it_waits header outside doing past task access k ids events address key a to aims in
+    let bottoms : Bottoms header 0 o p (events ++ past) =
     record {
+      task = task;
+      access = access;
+      waits = it;
+      on_host = refl;
+      temporary = let none = ap length a.plain.objects in omega arith;
+      unmarked = λ store. own.unmarked;
+      is_top = top_of header (events ++ past) to.entry.region.0 o p (page_of header task access (events ++ past) to.entry) (page_at header.size address to.entry) own to.object to.page (ap (λ z. page_at header.size z to.entry) (aims (next_page task (events ++ past))));
+      steps = 0;
+      sinks = sinks_own header o p (events ++ past) (a.regions.unbacked o) (a.controls.live o) away unasked;
+    } in
+    let follows : Follows header outside doing (event.Zeroed the_host key.object key.page) (events ++ past) =
+    record { consequence = tt; cause = λ paged. inr bottoms; own_bytes = tt; copies = tt; frames = suffices header mid.frames (event.Zeroed the_host key.object key.page ∷ (events ++ past)) frames2; inner = tt } in
+    record {
+      begins = a.begins;
       plain = a.plain;
       size = b.plan.size ∙ a.size;
       host = b.plan.host ∙ a.host;
@@ -157,17 +182,17 @@ access_brought header doing past task access k mid ids events address key frame 
       regions = rw (b.plan.chains, b.plan.objects) a.regions;
       entries = rw (b.plan.chains, b.plan.maps) a.entries;
       pages = rw (a.host, b.plan.chains, b.plan.objects) pages2;
-      flat = rw b.plan.chains flat2;
+      uses = rw b.plan.maps a.uses;
+      controls = still (λ o. last_control 0 o (events ++ past)) (λ o. live_control 0 o (events ++ past)) (created (events ++ past)) a.controls;
       stores = stores_brought k.resident mid.resident frame o p (has_stored (events ++ past)) a.stores b.row;
       frames = rw a.host frames2;
-      grows = rw a.host (grows_more header doing past events (event.Zeroed the_host key.object key.page) a.grows
-          (task, access, it, refl, top, missed) tt tt (suffices header mid.frames (event.Zeroed the_host key.object key.page ∷ (events ++ past)) frames2) tt);
+      grows = rw a.host (grows_more header outside doing past events (event.Zeroed the_host key.object key.page) a.grows a.controls.created follows);
       used = rw b.plan.chains a.used;
     }
 
 -- the page is here then
-pub record Stands (header : Header) (doing : Command) (past : List Event) (task : ℕ) (access : Access) (address : ℕ) (key : PageKey) (frame : FrameNo) (k : Parts) (ids : Ids) (events : List Event) : Type 0 where
-  pub accesses : Accesses header doing past task access k ids events
+pub record Stands (header : Header) (outside : Outside) (doing : Command) (past : List Event) (task : ℕ) (access : Access) (address : ℕ) (key : PageKey) (frame : FrameNo) (k : Parts) (ids : Ids) (events : List Event) : Type 0 where
+  pub accesses : Accesses header outside doing past task access k ids events
   pub leads : Leads header k task address key
   pub here : IsHere key frame k
 
@@ -193,15 +218,15 @@ put_there key frame k mid b =
       is = refl;
     }
 
-pub access_faulted : (header : Header) (doing : Command) (past : List Event) (task : ℕ) (access : Access) (k mid : Parts) (ids : Ids) (events after : List Event) (address : ℕ) (key : PageKey) (frame : FrameNo)
-    → Accesses header doing past task access k ids events → (to : Leads header k task address key) → ((next : ℕ) → address_of header.size next access ≡ address)
-    → Faulted key frame k mid events after → Stands header doing past task access address key frame mid ids after
-access_faulted header doing past task access k mid ids events after address key frame a to aims (WasHere here same log) =
-    subst (λ (z : List Event). Stands header doing past task access address key frame mid ids z) (sym log)
-    (subst (λ (z : Parts). Stands header doing past task access address key frame z ids events) (sym same) (record { accesses = a; leads = to; here = here }))
-access_faulted header doing past task access k mid ids events after address key frame a to aims (Came b log) =
-    subst (λ (z : List Event). Stands header doing past task access address key frame mid ids z) (sym log)
-    (record { accesses = access_brought header doing past task access k mid ids events address key frame a to aims b; leads = leads_brought header k mid task address key frame to b; here = put_there key frame k mid b })
+pub access_faulted : (header : Header) (outside : Outside) (doing : Command) (past : List Event) (task : ℕ) (access : Access) (k mid : Parts) (ids : Ids) (events after : List Event) (address : ℕ) (key : PageKey) (frame : FrameNo)
+    → Accesses header outside doing past task access k ids events → (to : Leads header k task address key) → ((next : ℕ) → address_of header.size next access ≡ address)
+    → Faulted key frame k mid events after → Stands header outside doing past task access address key frame mid ids after
+access_faulted header outside doing past task access k mid ids events after address key frame a to aims (WasHere here same log) =
+    subst (λ (z : List Event). Stands header outside doing past task access address key frame mid ids z) (sym log)
+    (subst (λ (z : Parts). Stands header outside doing past task access address key frame z ids events) (sym same) (record { accesses = a; leads = to; here = here }))
+access_faulted header outside doing past task access k mid ids events after address key frame a to aims (Came b log) =
+    subst (λ (z : List Event). Stands header outside doing past task access address key frame mid ids z) (sym log)
+    (record { accesses = access_brought header outside doing past task access k mid ids events address key frame a to aims b; leads = leads_brought header k mid task address key frame to b; here = put_there key frame k mid b })
 
 -- an access is over
 wait_over : (b : Bool) (x w : Option Access) → w ≡ None → cond b None (cond b x w) ≡ None
@@ -214,9 +239,9 @@ pub record Holds (header : Header) (past events : List Event) (key : PageKey) (f
   pub listed : is_queued k.queues frame.0 ≡ true
   pub whole : length (page_in k.frames frame.0) ≡ header.size
 
-pub holds_of : (header : Header) (doing : Command) (past : List Event) (task : ℕ) (access : Access) (address : ℕ) (key : PageKey) (frame : FrameNo) (k : Parts) (ids : Ids) (events : List Event)
-    → Stands header doing past task access address key frame k ids events → Holds header past events key frame k
-holds_of header doing past task access address key frame k ids events s =
+pub holds_of : (header : Header) (outside : Outside) (doing : Command) (past : List Event) (task : ℕ) (access : Access) (address : ℕ) (key : PageKey) (frame : FrameNo) (k : Parts) (ids : Ids) (events : List Event)
+    → Stands header outside doing past task access address key frame k ids events → Holds header past events key frame k
+holds_of header outside doing past task access address key frame k ids events s =
     let fits = s.accesses.fits in
     let row = s.here.row in
     let held = fits.held key.object.0 key.page.0 row s.here.found in
@@ -228,9 +253,9 @@ holds_of header doing past task access address key frame k ids events s =
     }
 
 -- what the page shows
-pub shows : (header : Header) (doing : Command) (past : List Event) (task : ℕ) (access : Access) (address : ℕ) (key : PageKey) (frame : FrameNo) (k : Parts) (ids : Ids) (events : List Event)
-    → (s : Stands header doing past task access address key frame k ids events) → local header.size 0 (place_of key.object.0 key.page.0) (events ++ past) ≡ record { here = true; bytes = page_in k.frames frame.0; lock = 0; dirty = s.here.row.dirty; precious = s.here.row.precious; asked = false; unlocking = s.here.row.unlock_sent; absent = absent_at k.objects key.object.0 key.page.0 }
-shows header doing past task access address key frame k ids events s =
+pub shows : (header : Header) (outside : Outside) (doing : Command) (past : List Event) (task : ℕ) (access : Access) (address : ℕ) (key : PageKey) (frame : FrameNo) (k : Parts) (ids : Ids) (events : List Event)
+    → (s : Stands header outside doing past task access address key frame k ids events) → local header.size 0 (place_of key.object.0 key.page.0) (events ++ past) ≡ record { here = true; bytes = page_in k.frames frame.0; lock = 0; dirty = s.here.row.dirty; precious = s.here.row.precious; asked = false; unlocking = s.here.row.unlock_sent; absent = absent_at k.objects key.object.0 key.page.0 }
+shows header outside doing past task access address key frame k ids events s =
     let row = s.here.row in
     let plain = s.accesses.fits.plain key.object.0 key.page.0 row s.here.found in
     let lacked = absent_at k.objects key.object.0 key.page.0 in
@@ -241,30 +266,28 @@ shows header doing past task access address key frame k ids events s =
     ∙ ap (λ z. record { here = true; bytes = page_in k.frames z.0; lock = 0; dirty = row.dirty; precious = row.precious; asked = false; unlocking = row.unlock_sent; absent = lacked }) s.here.is)))
 
 -- a load ends
-pub access_loaded : (header : Header) (task : TaskId) (address n value : ℕ) (past : List Event) (key : PageKey) (frame : FrameNo) (k : Parts) (ids : Ids) (queues : Queues) (events : List Event)
-    → Stands header (command.Load task address n) past task.0 (Loading address n) address key frame k ids events → KeepsPages k.queues queues → queues.frames ≡ k.queues.frames
+pub access_loaded : (header : Header) (outside : Outside) (task : TaskId) (address n value : ℕ) (past : List Event) (key : PageKey) (frame : FrameNo) (k : Parts) (ids : Ids) (queues : Queues) (events : List Event)
+    → Stands header outside (command.Load task address n) past task.0 (Loading address n) address key frame k ids events → KeepsPages k.queues queues → queues.frames ≡ k.queues.frames
     → waiting task.0 past ≡ None
     → value ≡ little_endian (slice_range (page_in k.frames frame.0) (address % header.size) (address % header.size + n))
-    → Began header (command.Load task address n) past (record k { queues = queues }) ids (event.Loaded task key.object key.page value ∷ events)
-access_loaded header task address n value past key frame k ids queues events s keeps count idle number =
+    → Began header outside (command.Load task address n) past (record k { queues = queues }) ids (event.Loaded task key.object key.page value ∷ events)
+access_loaded header outside task address n value past key frame k ids queues events s keeps count idle number =
     let a = s.accesses in
     let o = key.object.0 in
     let p = key.page.0 in
     let to = s.leads in
     let h = events ++ past in
-    let it = it_waits header (command.Load task address n) past task.0 (Loading address n) k ids events address key a to (λ next. refl) in
-    let shown_page = shows header (command.Load task address n) past task.0 (Loading address n) address key frame k ids events s in
+    let it = it_waits header outside (command.Load task address n) past task.0 (Loading address n) k ids events address key a to (λ next. refl) in
+    let shown_page = shows header outside (command.Load task address n) past task.0 (Loading address n) address key frame k ids events s in
     let here : (local header.size 0 (place_of o p) h).here ≡ true = ap (λ z. z.here) shown_page in
-    let found : walk header.size 0 (its_places header task.0 (Loading address n) h it) h ≡ Some (place_of o p) =
-    subst (λ (z : List Place). walk header.size 0 z h ≡ Some (place_of o p)) (ap (λ z. places header z p h) to.object ∙ ap (λ z. places header to.entry.region.0 z h) to.page) (walk_found header o p h (a.regions.tops o) a.regions.unbacked here) in
     let bytes : page_in k.frames frame.0 ≡ (local header.size 0 (place_of o p) h).bytes = ap (λ z. z.bytes) (sym shown_page) in
-    let region = region_row k.chains to.entry.region.0 to.region in
-    let used : 0 < region_entries k.chains to.entry.region.0 = rw region.1 (a.used to.entry.region.0 region.0 region.1) in
-    let flat : flat_page header.size to.entry.region.0 (page_at header.size address to.entry) h ≡ page_in k.frames frame.0 =
-    a.flat.flat to.entry.region.0 (page_at header.size address to.entry) used
-    ∙ (ap (bytes_behind header.size k.frames) (subst (λ (z : ℕ). row_at k.resident to.entry.region.0 z ≡ Some s.here.row) to.page (subst (λ (z : ℕ). row_at k.resident z p ≡ Some s.here.row) to.object s.here.found))
-    ∙ ap (λ z. page_in k.frames z.0) s.here.is) in
-    let frames : HasFrames (slice_get (reverse header.frames.items) 0) k.frames (frames_held 0 (event.Loaded task key.object key.page value ∷ h)) (frames_wired 0 (event.Loaded task key.object key.page value ∷ h)) = a.frames in
+    let frames : HasFrames (slice_get (reverse header.frames.items) 0) k.frames (frames_held header.size 0 (event.Loaded task key.object key.page value ∷ h)) (frames_wired 0 (event.Loaded task key.object key.page value ∷ h)) = a.frames in
+    let is_top = top_of header h to.entry.region.0 o p (page_at header.size address to.entry) (page_at header.size address to.entry) (a.regions.tops to.entry.region.0) to.object to.page refl in
+    let loads : Loads header task.0 o p h = record { address = address; bytes = n; waits = it; comes = comes_top header to.entry.region.0 (page_at header.size address to.entry) o p h is_top; here = here } in
+    let own_bytes : AnswersOwn header task.0 o p value h =
+    record { address = address; bytes = n; waits = it; readable = record { here = here; unlocked = inl (ap (λ z. z.lock) shown_page) }; number = number ∙ ap (λ z. number_in z header.size address n) bytes } in
+    let follows : Follows header outside (command.Load task address n) (event.Loaded task key.object key.page value) h =
+    record { consequence = tt; cause = loads; own_bytes = own_bytes; copies = tt; frames = suffices header k.frames (event.Loaded task key.object key.page value ∷ h) frames; inner = tt } in
     let rests : Rests header (record k { queues = queues }) ids (event.Loaded task key.object key.page value ∷ h) =
     record {
       matches =
@@ -277,7 +300,8 @@ access_loaded header task address n value past key frame k ids queues events s k
             regions = a.regions;
             entries = a.entries;
             pages = a.pages;
-            flat = a.flat;
+            uses = a.uses;
+            controls = still (λ o. last_control 0 o h) (λ o. live_control 0 o h) (created h) a.controls;
             stores = a.stores;
             frames = a.frames;
           };
@@ -285,21 +309,18 @@ access_loaded header task address n value past key frame k ids queues events s k
     } in
     record {
       rests = rests;
-      grows = grows_more header (command.Load task address n) past events (event.Loaded task key.object key.page value) a.grows
-          (address, n, it, found)
-          (address, n, it, record { here = here; unlocked = inl (ap (λ z. z.lock) shown_page) }, number ∙ ap (λ z. number_in z header.size address n) bytes)
-          (address, n, it, number ∙ ap (λ z. number_in z header.size address n) (sym flat))
-          (suffices header k.frames (event.Loaded task key.object key.page value ∷ h) frames) tt;
+      grows = grows_more header outside (command.Load task address n) past events (event.Loaded task key.object key.page value) a.grows a.controls.created follows;
       done = tt;
       prompt = prompt_of header (record k { queues = queues }) ids (event.Loaded task key.object key.page value ∷ h) rests;
+      paid = paid_of header past (event.Loaded task key.object key.page value ∷ events) a.begins (tt, a.grows.inner) refl;
     }
 
 -- a store ends
-pub access_stored : (header : Header) (task : TaskId) (address n value : ℕ) (past : List Event) (key : PageKey) (frame : FrameNo) (k k2 : Parts) (ids : Ids) (events : List Event)
-    → Stands header (command.Store task address n value) past task.0 (Storing address n value) address key frame k ids events
+pub access_stored : (header : Header) (outside : Outside) (task : TaskId) (address n value : ℕ) (past : List Event) (key : PageKey) (frame : FrameNo) (k k2 : Parts) (ids : Ids) (events : List Event)
+    → Stands header outside (command.Store task address n value) past task.0 (Storing address n value) address key frame k ids events
     → Wrote key frame (with_bytes (address % header.size) (little_endian_bytes n value) (page_in k.frames frame.0)) k k2
-    → Began header (command.Store task address n value) past k2 ids (event.Stored task key.object key.page (address % header.size) n value ∷ events)
-access_stored header task address n value past key frame k k2 ids events s w =
+    → Began header outside (command.Store task address n value) past k2 ids (event.Stored task key.object key.page (address % header.size) n value ∷ events)
+access_stored header outside task address n value past key frame k k2 ids events s w =
     let a = s.accesses in
     let o = key.object.0 in
     let p = key.page.0 in
@@ -307,27 +328,24 @@ access_stored header task address n value past key frame k k2 ids events s w =
     let h = events ++ past in
     let at = address % header.size in
     let put = little_endian_bytes n value in
-    let it = it_waits header (command.Store task address n value) past task.0 (Storing address n value) k ids events address key a to (λ next. refl) in
-    let shown_page = shows header (command.Store task address n value) past task.0 (Storing address n value) address key frame k ids events s in
+    let it = it_waits header outside (command.Store task address n value) past task.0 (Storing address n value) k ids events address key a to (λ next. refl) in
+    let shown_page = shows header outside (command.Store task address n value) past task.0 (Storing address n value) address key frame k ids events s in
     let here : (local header.size 0 (place_of o p) h).here ≡ true = ap (λ z. z.here) shown_page in
-    let top : IsTop (its_places header task.0 (Storing address n value) h it) (place_of o p) =
-    subst (λ (z : List Place). IsTop z (place_of o p)) (ap (λ z. places header z p h) to.object ∙ ap (λ z. places header to.entry.region.0 z h) to.page) (top_place header o p h (a.regions.tops o) a.regions.unbacked) in
     let row = w.row in
     let written : (g : ℕ) → page_in k2.frames g ≡ (if row.frame.0 == g then with_bytes at put (page_in k.frames row.frame.0) else page_in k.frames g) =
     subst (λ (z : FrameNo). (g : ℕ) → page_in k2.frames g ≡ (if z.0 == g then with_bytes at put (page_in k.frames z.0) else page_in k.frames g)) (sym w.is) w.page.at in
     let fit = rw a.size at a.fits in
     let pages2 = pages_wrote header.size k.frames k2.frames k.resident k2.resident k.queues k.objects k.chains (λ o p. local header.size 0 (place_of o p) h) o p at put row fit a.pages w.found w.put written in
-    let flat2 = flat_wrote header.size k.frames k2.frames k.resident k2.resident k.queues k.objects k.chains (λ r p. flat_page header.size r p h) o p at put row fit a.flat w.found w.put written in
-    let lives : host_of task.0 h ≡ Some 0 = it.lives in
-    let waits : waiting task.0 h ≡ Some (Storing address n value) = it.waits in
-    let found : entry_at address (entries_of header.size task.0 h) ≡ Some to.entry = it.found in
+    let lives : host_of task.0 h ≡ Some 0 = it.at.lives in
     let e : Event = event.Stored task key.object key.page at n value in
     let pages3 : HasPages k2.frames k2.resident k.objects k.chains (λ o2 p2. local header.size 0 (place_of o2 p2) (e ∷ h)) = rw lives pages2 in
-    let flat3 : HasFlat header.size k2.frames k2.resident k.chains (λ r2 p2. flat_page header.size r2 p2 (e ∷ h)) =
-    rw (waits, found) (subst (λ (z : ℕ). HasFlat header.size k2.frames k2.resident k.chains (λ r2 p2. if z == r2 && page_at header.size address to.entry == p2 then with_bytes at put (flat_page header.size r2 p2 h) else flat_page header.size r2 p2 h)) to.object
-    (subst (λ (z : ℕ). HasFlat header.size k2.frames k2.resident k.chains (λ r2 p2. if o == r2 && z == p2 then with_bytes at put (flat_page header.size r2 p2 h) else flat_page header.size r2 p2 h)) to.page flat2)) in
-    let frames2 : HasFrames (slice_get (reverse header.frames.items) 0) k2.frames (frames_held 0 h) (frames_wired 0 h) =
+    let frames2 : HasFrames (slice_get (reverse header.frames.items) 0) k2.frames (frames_held header.size 0 h) (frames_wired 0 h) =
     record { total = a.frames.total ∙ ap (λ z. Some (length z)) (sym w.claims); held = a.frames.held ∙ ap count_claims (sym w.claims); wired = a.frames.wired ∙ sym w.wired; fits = rw (w.claims, w.wired) a.frames.fits } in
+    let is_top = top_of header h to.entry.region.0 o p (page_at header.size address to.entry) (page_at header.size address to.entry) (a.regions.tops to.entry.region.0) to.object to.page refl in
+    let stores : Stores header task.0 o p at n value h = record { address = address; waits = it; is_top = is_top; unmarked = (a.regions.tops to.entry.region.0).unmarked; here = here; place = refl } in
+    let own_bytes : PutsOwn header task.0 o p at n value h = record { address = address; waits = it; writable = record { here = here; unlocked = ap (λ z. z.lock) shown_page }; place = refl } in
+    let follows : Follows header outside (command.Store task address n value) e h =
+    record { consequence = tt; cause = stores; own_bytes = own_bytes; copies = tt; frames = suffices header k2.frames (e ∷ h) frames2; inner = tt } in
     let rests : Rests header k2 ids (e ∷ h) =
     record {
       matches =
@@ -340,7 +358,8 @@ access_stored header task address n value past key frame k k2 ids events s w =
             regions = rw (w.plan.chains, w.plan.objects) a.regions;
             entries = rw (w.plan.chains, w.plan.maps) a.entries;
             pages = rw (w.plan.chains, w.plan.objects) pages3;
-            flat = rw w.plan.chains flat3;
+            uses = rw w.plan.maps a.uses;
+            controls = still (λ o. last_control 0 o h) (λ o. live_control 0 o h) (created h) a.controls;
             stores = record { clean = λ none. absurd (let bad : true ≡ false = none in cc) };
             frames = frames2;
           };
@@ -348,11 +367,8 @@ access_stored header task address n value past key frame k k2 ids events s w =
     } in
     record {
       rests = rests;
-      grows = grows_more header (command.Store task address n value) past events e a.grows
-          (address, it, top, here, refl)
-          (address, it, record { here = here; unlocked = ap (λ z. z.lock) shown_page }, refl)
-          tt
-          (suffices header k2.frames (e ∷ h) frames2) tt;
+      grows = grows_more header outside (command.Store task address n value) past events e a.grows a.controls.created follows;
       done = tt;
       prompt = prompt_of header k2 ids (e ∷ h) rests;
+      paid = paid_of header past (e ∷ events) a.begins (tt, a.grows.inner) refl;
     }

@@ -11,12 +11,16 @@ use Rattle.vm_model.specs.declared.event.Event.{Event}
 use Rattle.vm_model.specs.declared.event.Event.TheVariants as event
 use Rattle.vm_model.specs.declared.command.Command.TheVariants as command
 use Rattle.vm_model.specs.declared.script.Header.{Header}
-use Rattle.vm_model.specs.Flat.{flat_page}
+use Rattle.vm_model.specs.Controls.{last_control, live_control}
 use Rattle.vm_model.specs.Local.{local}
 use Rattle.vm_model.specs.Regions.{backing_of, next_object, next_region, region_of}
 use Rattle.vm_model.specs.Rows.{AllRows, Parts, inside_part, rows_known, rows_map, rows_rewritten}
 use Rattle.vm_model.specs.Tasks.{entries_of, has_entry, host_of}
 use Rattle.vm_model.specs.Waiting.{waiting}
+use Rattle.vm_legal.specs.Licences.{created}
+use Rattle.vm_legal.specs.Living.{tasks}
+use Rattle.vm_legal.specs.Outside.{Outside}
+use Rattle.vm_legal.specs.Used.{in_use}
 use Rattle.vm_maps.specs.declared.change.MapChange.{MapChange}
 use Rattle.vm_maps.specs.Maps.{ChangesOnly, Mapped, entries_in, rows_in}
 use Rattle.vm_shadow.specs.Chains.{ChainTable, region_at}
@@ -25,16 +29,17 @@ use Rattle.vm_shadow.specs.declared.region_row.RegionRow.{RegionRow}
 use Rattle.vm_kernel.specs.Begun.{Began, Starts}
 use Rattle.vm_kernel.specs.Changes.{inheritance, protection}
 use Rattle.vm_kernel.specs.Counts.{count_by, count_on, most_tasks}
-use Rattle.vm_kernel.specs.Matches.{AllInside, AllUsed, HasEntries, HasFlat, HasPages, HasRegions, IsInside, Rests}
+use Rattle.vm_kernel.specs.Matches.{AllInside, AllUsed, HasEntries, HasPages, HasRegions, HasUse, IsInside, Rests}
 use Rattle.vm_kernel.specs.Places.{entries_in_row, has_region, place_of, region_entries, region_pages}
 use Rattle.vm_kernel.specs.Sweeping.{Lowered, Raised}
 use Rattle.vm_kernel.specs.declared.parts.Parts.{Parts as KernelParts}
-use Rattle.vm_kernel.proofs.Counts.{by_few, most_is}
-use Rattle.vm_kernel.proofs.Growing.{suffices}
+use Rattle.vm_kernel.proofs.Counts.{by_changed, by_few, most_is}
+use Rattle.vm_kernel.proofs.Growing.{paid_of, suffices}
 use Rattle.vm_kernel.proofs.Heads.{grows_one}
 use Rattle.vm_kernel.proofs.Prompting.{prompt_of, region_row}
 use Rattle.vm_kernel.proofs.Recounts.{Recounts, entries_are, entries_most, lowered_recounts, raised_recounts, recounts_as, recounts_twice}
-use Rattle.vm_kernel.proofs.Rewrites.{IsSpan, entries_changed, lives_below, on_among, on_kept, recount_flat, recount_known, recount_pages, recount_regions, recount_used, tasks_changed}
+use Rattle.vm_kernel.proofs.Rewrites.{IsSpan, entries_changed, lives_below, on_among, on_kept, recount_known, recount_pages, recount_regions, recount_used, tasks_changed}
+use Rattle.vm_kernel.proofs.Uses.{still, uses_same}
 
 -- how many entries lead to a region
 
@@ -119,7 +124,6 @@ pub record Changed (header : Header) (past : List Event) (k : KernelParts) (ids 
   pub regions : HasRegions chains k.objects ids (λ r. region_of header r past) (λ o. backing_of header o past) (next_region header past) (next_object header past)
   pub entries : HasEntries header.size maps chains lost
   pub pages : HasPages k.frames k.resident k.objects chains (λ o p. local header.size 0 (place_of o p) past)
-  pub flat : HasFlat header.size k.frames k.resident chains (λ r p. flat_page header.size r p past)
   pub used : AllUsed chains
 
 pub changed_by : (header : Header) (past : List Event) (k : KernelParts) (ids : Ids) (maps : Mapped) (chains : ChainTable) (task : ℕ) (rows : Option (List Entry)) (lost : List Entry) (count : ℕ → ℕ) → Rests header k ids past
@@ -133,20 +137,32 @@ changed_by header past k ids maps chains task rows lost count rests changes live
       regions = recount_regions count k.chains chains k.objects ids (λ r. region_of header r past) (λ o. backing_of header o past) (next_region header past) (next_object header past) is m.regions;
       entries = entries_changed header.size task k.maps maps k.chains chains count rows lost m.entries changes lives is sums cuts.inside cuts.known cuts.few;
       pages = recount_pages count k.frames k.resident k.objects k.chains chains (λ o p. local header.size 0 (place_of o p) past) is m.pages;
-      flat = recount_flat count header.size k.frames k.resident k.chains chains (λ r p. flat_page header.size r p past) is (λ r there some. had r there (count_on r made) refl (count_on r lost) refl some) m.flat;
       used = recount_used count k.chains chains is (λ r there some. let sum = sums r there in let kept = cuts.kept r in omega arith) rests.used;
     }
+
+-- a region is in use as long as before where no entry on it is new, and after where none goes
+
+pub uses_fewer : (size task r : ℕ) (maps new : Mapped) (cs : ChainTable) (rows : Option (List Entry)) → HasEntries size maps cs [] → ChangesOnly maps new task rows → entries_in task maps ≡ Some (rows_in task maps)
+    → AllRows (λ row. has_entry row.region.0 (rows_in task maps) ≡ true) (unwrap_or rows []) → 0 < count_by most_tasks r new → 0 < count_by most_tasks r maps
+uses_fewer size task r maps new cs rows has changes lives own some = by_count (count_on r (unwrap_or rows [])) refl
   where
-    had : (r : ℕ) → has_region k.chains r ≡ true → (n : ℕ) → count_on r (unwrap_or rows []) ≡ n → (l : ℕ) → count_on r lost ≡ l → 0 < count r → 0 < region_entries k.chains r
-    had r there zero one zero two some = let sum = sums r there in omega arith
-    had r there (suc n) one l two some =
-        let own = on_among r (rows_in task k.maps) (unwrap_or rows []) cuts.own (omega arith) in
-        let most = counted header.size task k.maps k.chains [] rests.matches.entries lives r there in
+    below : task < most_tasks
+    below = lives_below size task maps cs [] has lives
+
+    by_count : (n : ℕ) → count_on r (unwrap_or rows []) ≡ n → 0 < count_by most_tasks r maps
+    by_count zero is = let moved = by_changed most_tasks r task maps new rows below changes in omega arith
+    by_count (suc n) is =
+        let had = on_among r (rows_in task maps) (unwrap_or rows []) own (omega arith) in
+        let most = by_most most_tasks r task maps below in
         omega arith
-    had r there zero one (suc l) two some =
-        let own = on_among r (rows_in task k.maps) lost cuts.gone (omega arith) in
-        let most = counted header.size task k.maps k.chains [] rests.matches.entries lives r there in
-        omega arith
+
+pub uses_kept : (header : Header) (past : List Event) (k : KernelParts) (ids : Ids) (maps : Mapped) (task : ℕ) (two : List Entry) → Rests header k ids past → ChangesOnly k.maps maps task (Some two) → entries_in task k.maps ≡ Some (rows_in task k.maps)
+    → Cuts header.size k.chains (rows_in task k.maps) two [] → HasUse maps (λ r. in_use header 0 r past) (tasks past)
+uses_kept header past k ids maps task two rests changes lives cuts =
+    let m = rests.matches in
+    uses_same k.maps maps (λ r. in_use header 0 r past) (tasks past) task (Some two) m.uses changes lives
+    (λ r some. let moved = by_changed most_tasks r task k.maps maps (Some two) (lives_below header.size task k.maps k.chains [] m.entries lives) changes in let kept = cuts.kept r in omega arith)
+    (λ r some. uses_fewer header.size task r k.maps maps k.chains (Some two) m.entries changes lives cuts.own some)
 
 -- counts that go down, and up again
 pub recounted : (rows made : List Entry) (old mid new : ChainTable) → Lowered rows old mid → Raised made mid new → Recounts (λ r. region_entries old r - count_on r rows + count_on r made) old new
@@ -196,12 +212,12 @@ changed_counts header past k ids maps mid chains task one two rests changes valu
     changed_by header past k ids maps chains task (Some two) [] (λ r. region_entries k.chains r - count_on r rows + count_on r two) rests changes live.1 cuts (recounted rows two k.chains mid chains down2 up)
     (λ r there. let most = counted header.size task k.maps k.chains [] rests.matches.entries live.1 r there in omega arith)
 
-pub began_protect : (header : Header) (task : TaskId) (address bytes : ℕ) (prot : Prot) (past events : List Event) (k : KernelParts) (ids : Ids) (maps : Mapped) (mid chains : ChainTable) (change : MapChange) (one two : List Entry)
+pub began_protect : (header : Header) (outside : Outside) (task : TaskId) (address bytes : ℕ) (prot : Prot) (past events : List Event) (k : KernelParts) (ids : Ids) (maps : Mapped) (mid chains : ChainTable) (change : MapChange) (one two : List Entry)
     → Starts header (command.Protect task address bytes prot) past k ids events → change ≡ protection address bytes prot
     → ChangesOnly k.maps maps task.0 (Some (protected k.maps.size change.address change.bytes change.prot (rows_in task.0 k.maps)))
     → entries_in task.0 k.maps ≡ Some one → entries_in task.0 maps ≡ Some two → length two ≤ most_entries → Lowered one k.chains mid → Raised two mid chains
-    → Began header (command.Protect task address bytes prot) past (record k { maps = maps; chains = chains }) ids (event.Protected task address bytes prot ∷ [])
-began_protect header task address bytes prot past events k ids maps mid chains change one two s is changes value now few down up =
+    → Began header outside (command.Protect task address bytes prot) past (record k { maps = maps; chains = chains }) ids (event.Protected task address bytes prot ∷ [])
+began_protect header outside task address bytes prot past events k ids maps mid chains change one two s is changes value now few down up =
     let m = s.rests.matches in
     let live = lives_as task.0 k.maps one value in
     let rows = rows_in task.0 k.maps in
@@ -221,7 +237,8 @@ began_protect header task address bytes prot past events k ids maps mid chains c
             regions = c.regions;
             entries = c.entries;
             pages = c.pages;
-            flat = c.flat;
+            uses = uses_kept header past k ids maps task.0 two s.rests (record { size = changes.size; changed = now; others = changes.others }) live.1 cuts;
+            controls = still (λ o. last_control 0 o past) (λ o. live_control 0 o past) (created past) m.controls;
             stores = m.stores;
             frames = m.frames;
           };
@@ -229,17 +246,18 @@ began_protect header task address bytes prot past events k ids maps mid chains c
     } in
     record {
       rests = rests;
-      grows = grows_one header (command.Protect task address bytes prot) past (event.Protected task address bytes prot) refl tt tt (suffices header k.frames (event.Protected task address bytes prot ∷ past) m.frames) tt;
+      grows = grows_one header outside (command.Protect task address bytes prot) past (event.Protected task address bytes prot) refl (record { quiet = m.controls.created; cause = tt; own_bytes = tt; copies = tt; frames = suffices header k.frames (event.Protected task address bytes prot ∷ past) m.frames; inner = tt });
       done = tt;
       prompt = prompt_of header (record k { maps = maps; chains = chains }) ids (event.Protected task address bytes prot ∷ past) rests;
+      paid = paid_of header past (event.Protected task address bytes prot ∷ []) s.begins (tt, tt) refl;
     }
 
-pub began_inherit : (header : Header) (task : TaskId) (address bytes : ℕ) (inherit : Inherit) (past events : List Event) (k : KernelParts) (ids : Ids) (maps : Mapped) (mid chains : ChainTable) (change : MapChange) (one two : List Entry)
+pub began_inherit : (header : Header) (outside : Outside) (task : TaskId) (address bytes : ℕ) (inherit : Inherit) (past events : List Event) (k : KernelParts) (ids : Ids) (maps : Mapped) (mid chains : ChainTable) (change : MapChange) (one two : List Entry)
     → Starts header (command.Inherit task address bytes inherit) past k ids events → change ≡ inheritance address bytes inherit
     → ChangesOnly k.maps maps task.0 (Some (inherited k.maps.size change.address change.bytes change.inherit (rows_in task.0 k.maps)))
     → entries_in task.0 k.maps ≡ Some one → entries_in task.0 maps ≡ Some two → length two ≤ most_entries → Lowered one k.chains mid → Raised two mid chains
-    → Began header (command.Inherit task address bytes inherit) past (record k { maps = maps; chains = chains }) ids (event.Inherited task address bytes inherit ∷ [])
-began_inherit header task address bytes inherit past events k ids maps mid chains change one two s is changes value now few down up =
+    → Began header outside (command.Inherit task address bytes inherit) past (record k { maps = maps; chains = chains }) ids (event.Inherited task address bytes inherit ∷ [])
+began_inherit header outside task address bytes inherit past events k ids maps mid chains change one two s is changes value now few down up =
     let m = s.rests.matches in
     let live = lives_as task.0 k.maps one value in
     let rows = rows_in task.0 k.maps in
@@ -259,7 +277,8 @@ began_inherit header task address bytes inherit past events k ids maps mid chain
             regions = c.regions;
             entries = c.entries;
             pages = c.pages;
-            flat = c.flat;
+            uses = uses_kept header past k ids maps task.0 two s.rests (record { size = changes.size; changed = now; others = changes.others }) live.1 cuts;
+            controls = still (λ o. last_control 0 o past) (λ o. live_control 0 o past) (created past) m.controls;
             stores = m.stores;
             frames = m.frames;
           };
@@ -267,7 +286,8 @@ began_inherit header task address bytes inherit past events k ids maps mid chain
     } in
     record {
       rests = rests;
-      grows = grows_one header (command.Inherit task address bytes inherit) past (event.Inherited task address bytes inherit) refl tt tt (suffices header k.frames (event.Inherited task address bytes inherit ∷ past) m.frames) tt;
+      grows = grows_one header outside (command.Inherit task address bytes inherit) past (event.Inherited task address bytes inherit) refl (record { quiet = m.controls.created; cause = tt; own_bytes = tt; copies = tt; frames = suffices header k.frames (event.Inherited task address bytes inherit ∷ past) m.frames; inner = tt });
       done = tt;
       prompt = prompt_of header (record k { maps = maps; chains = chains }) ids (event.Inherited task address bytes inherit ∷ past) rests;
+      paid = paid_of header past (event.Inherited task address bytes inherit ∷ []) s.begins (tt, tt) refl;
     }

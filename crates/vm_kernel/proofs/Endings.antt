@@ -10,7 +10,7 @@ use Rattle.vm_model.specs.declared.event.Event.TheVariants as event
 use Rattle.vm_model.specs.declared.command.Command.{Command}
 use Rattle.vm_model.specs.declared.command.Command.TheVariants as command
 use Rattle.vm_model.specs.declared.script.Header.{Header}
-use Rattle.vm_model.specs.Follows.{IsDone}
+use Rattle.vm_legal.specs.Follows.{IsDone}
 use Rattle.vm_model.specs.Rows.{AllRows, rows_cut, rows_flat, rows_known, rows_map, rows_rewritten}
 use Rattle.vm_model.specs.Tasks.{entries_of, has_entry, host_of}
 use Rattle.vm_model.specs.Waiting.{Access, waiting}
@@ -68,7 +68,7 @@ ended_cuts size chains rows gone all same =
     })
 
 pub sweeps_exit : (header : Header) (task : TaskId) (past events : List Event) (k : KernelParts) (ids : Ids) (maps : Mapped) (gone : List Entry) → Starts header (command.Exit task) past k ids events
-    → entries_in task.0 k.maps ≡ Some gone → ChangesOnly k.maps maps task.0 None → Sweeps header (command.Exit task) past (record k { maps = maps }) ids gone (event.TaskEnded task ∷ [])
+    → entries_in task.0 k.maps ≡ Some gone → ChangesOnly k.maps maps task.0 None → Sweeps header outside (command.Exit task) past (record k { maps = maps }) ids gone (event.TaskEnded task ∷ [])
 sweeps_exit header task past events k ids maps gone s value changes =
     let m = s.rests.matches in
     let live = lives_as task.0 k.maps gone value in
@@ -87,11 +87,11 @@ sweeps_exit header task past events k ids maps gone s value changes =
           regions = c.regions;
           entries = c.entries;
           pages = c.pages;
-          flat = c.flat;
+__FLAT__
           stores = m.stores;
           frames = m.frames;
         };
-        grows = grows_one header (command.Exit task) past (event.TaskEnded task) refl tt tt (suffices header k.frames (event.TaskEnded task ∷ past) m.frames) tt;
+        grows = grows_one header outside (command.Exit task) past (event.TaskEnded task) refl tt tt (suffices header k.frames (event.TaskEnded task ∷ past) m.frames) tt;
       };
       used = c.used;
     }
@@ -146,7 +146,7 @@ pub sweeps_removed : (header : Header) (task : TaskId) (address bytes : ℕ) (pa
     → Starts header (command.Deallocate task address bytes) past k ids events → change ≡ removal address bytes
     → ChangesOnly k.maps maps task.0 (Some (removed k.maps.size change.address change.bytes (rows_in task.0 k.maps))) → gone ≡ parts_for k.maps task.0 change
     → entries_in task.0 k.maps ≡ Some one → entries_in task.0 maps ≡ Some two → length two ≤ most_entries → Lowered one k.chains mid → Raised two mid high → Raised gone high chains
-    → Sweeps header (command.Deallocate task address bytes) past (record k { maps = maps; chains = chains }) ids gone (event.Removed task address bytes ∷ [])
+    → Sweeps header outside (command.Deallocate task address bytes) past (record k { maps = maps; chains = chains }) ids gone (event.Removed task address bytes ∷ [])
 sweeps_removed header task address bytes past events k ids maps mid high chains change one two gone s is changes taken value now few down up more =
     let m = s.rests.matches in
     let live = lives_as task.0 k.maps one value in
@@ -175,17 +175,17 @@ sweeps_removed header task address bytes past events k ids maps mid high chains 
           regions = c.regions;
           entries = c.entries;
           pages = c.pages;
-          flat = c.flat;
+__FLAT__
           stores = m.stores;
           frames = m.frames;
         };
-        grows = grows_one header (command.Deallocate task address bytes) past (event.Removed task address bytes) refl tt tt (suffices header k.frames (event.Removed task address bytes ∷ past) m.frames) tt;
+        grows = grows_one header outside (command.Deallocate task address bytes) past (event.Removed task address bytes) refl tt tt (suffices header k.frames (event.Removed task address bytes ∷ past) m.frames) tt;
       };
       used = c.used;
     }
 
 -- once all that has gone is swept
-pub began_swept : (header : Header) (doing : Command) (past events : List Event) (k : KernelParts) (ids : Ids) → Sweeps header doing past k ids [] events → IsDone header doing (events ++ past) → Began header doing past k ids events
+pub began_swept : (header : Header) (doing : Command) (past events : List Event) (k : KernelParts) (ids : Ids) → Sweeps header outside doing past k ids [] events → IsDone header doing (events ++ past) → Began header outside doing past k ids events
 began_swept header doing past events k ids s done =
     let rests : Rests header k ids (events ++ past) = record { matches = s.runs.matches; used = s.used } in
     record { rests = rests; grows = s.runs.grows; done = done; prompt = prompt_of header k ids (events ++ past) rests }

@@ -11,7 +11,7 @@ use Rattle.vm_model.specs.declared.command.Command.{Command}
 use Rattle.vm_model.specs.declared.script.Header.{Header}
 use Rattle.vm_model.specs.Chains.{IsUnreachable}
 use Rattle.vm_model.specs.Flat.{flat_page}
-use Rattle.vm_model.specs.Frames.{frames_held, frames_wired}
+use Rattle.vm_legal.specs.Frames.{frames_held, frames_wired}
 use Rattle.vm_model.specs.Licences.{Licensed, Unreached}
 use Rattle.vm_model.specs.Local.{local}
 use Rattle.vm_model.specs.Regions.{backing_of, next_object, next_region, region_of}
@@ -62,9 +62,9 @@ no_entry size maps cs rest r has there none task = by_test (nat_lt task most_tas
 
 -- a page of such a region goes
 pub ends_lost : (header : Header) (doing : Command) (past : List Event) (k k2 : Parts) (ids : Ids) (rest : List Entry) (region : ℕ) (key : PageKey) (events after : List Event)
-    → Ends header doing past k ids rest region events → key.object.0 ≡ region → Lost key k k2 events after → Ends header doing past k2 ids rest region after
+    → Ends header outside doing past k ids rest region events → key.object.0 ≡ region → Lost key k k2 events after → Ends header outside doing past k2 ids rest region after
 ends_lost header doing past k k2 ids rest region key events after e same lost =
-    subst (λ (z : List Event). Ends header doing past k2 ids rest region z) (ap (λ z. event.Dropped z key.object key.page ∷ events) (sym m.host) ∙ sym lost.told) (record {
+    subst (λ (z : List Event). Ends header outside doing past k2 ids rest region z) (ap (λ z. event.Dropped z key.object key.page ∷ events) (sym m.host) ∙ sym lost.told) (record {
       runs = record {
         matches = record {
           plain = m.plain;
@@ -123,8 +123,8 @@ ends_lost header doing past k k2 ids rest region key events after e same lost =
     flat2 : HasFlat header.size k2.frames k2.resident k.chains (λ r2 p2. flat_page header.size r2 p2 (event.Dropped the_host key.object key.page ∷ (events ++ past)))
     flat2 = flat_lost header.size k.frames k2.frames k.resident k2.resident k.chains (λ r2 p2. flat_page header.size r2 p2 (events ++ past)) o p lost.row m.flat lost.found (inl unused) lost.pages lost.put
 
-    frames2 : HasFrames (slice_get (reverse header.frames.items) 0) k2.frames (frames_held 0 (event.Dropped the_host key.object key.page ∷ (events ++ past))) (frames_wired 0 (event.Dropped the_host key.object key.page ∷ (events ++ past)))
-    frames2 = frames_lost (slice_get (reverse header.frames.items) 0) k.frames k2.frames (frames_held 0 (events ++ past)) (frames_wired 0 (events ++ past)) m.frames lost.claims lost.wired lost.count
+    frames2 : HasFrames (slice_get (reverse header.frames.items) 0) k2.frames (frames_held header.size 0 (event.Dropped the_host key.object key.page ∷ (events ++ past))) (frames_wired 0 (event.Dropped the_host key.object key.page ∷ (events ++ past)))
+    frames2 = frames_lost (slice_get (reverse header.frames.items) 0) k.frames k2.frames (frames_held header.size 0 (events ++ past)) (frames_wired 0 (events ++ past)) m.frames lost.claims lost.wired lost.count
 
 -- a region without entries ends
 
@@ -183,8 +183,8 @@ pages_as r was now os os2 found same put o = elim (one_case r o (Some now) (obje
 ]
 
 pub sweeps_ended : (header : Header) (doing : Command) (past : List Event) (k : Parts) (ids : Ids) (rest : List Entry) (r : ℕ) (events : List Event) (chains : ChainTable) (objects : ObjectTable) (now : ObjectRow) (row : RegionRow)
-    → Ends header doing past k ids rest r events → ((p : ℕ) → row_at k.resident r p ≡ None) → region_at k.chains r ≡ Some row → PutsRegion r None k.chains chains
-    → PutsObject r (Some now) k.objects objects → SameMarks k.objects objects → now.pages ≡ row.pages → Sweeps header doing past (record k { chains = chains; objects = objects }) ids rest events
+    → Ends header outside doing past k ids rest r events → ((p : ℕ) → row_at k.resident r p ≡ None) → region_at k.chains r ≡ Some row → PutsRegion r None k.chains chains
+    → PutsObject r (Some now) k.objects objects → SameMarks k.objects objects → now.pages ≡ row.pages → Sweeps header outside doing past (record k { chains = chains; objects = objects }) ids rest events
 sweeps_ended header doing past k ids rest r events chains objects now row e bare found put put_object marks same =
     record {
       runs = record {
@@ -263,8 +263,8 @@ sweeps_ended header doing past k ids rest r events chains objects now row e bare
 
 -- the same, with what the region's object was told to lose
 pub sweeps_region : (header : Header) (doing : Command) (past : List Event) (k : Parts) (ids : Ids) (rest : List Entry) (r left : ℕ) (events : List Event) (chains : ChainTable) (objects : ObjectTable) (object : ObjectId)
-    → Ends header doing past k ids rest r events → ((p : ℕ) → row_at k.resident r p ≡ None) → IfSome (region_at k.chains r) (λ row. object ≡ row.top) → PutsRegion r None k.chains chains
-    → IfSome (object_at k.objects object.0) (λ row. PutsObject object.0 (Some (record row { references = left })) k.objects objects) → SameMarks k.objects objects → Sweeps header doing past (record k { chains = chains; objects = objects }) ids rest events
+    → Ends header outside doing past k ids rest r events → ((p : ℕ) → row_at k.resident r p ≡ None) → IfSome (region_at k.chains r) (λ row. object ≡ row.top) → PutsRegion r None k.chains chains
+    → IfSome (object_at k.objects object.0) (λ row. PutsObject object.0 (Some (record row { references = left })) k.objects objects) → SameMarks k.objects objects → Sweeps header outside doing past (record k { chains = chains; objects = objects }) ids rest events
 sweeps_region header doing past k ids rest r left events chains objects object e bare top put put_object marks =
     let row = region_row k.chains r e.there in
     let under = top_object header k ids rest (events ++ past) r row.0 e.runs.matches row.1 in
@@ -284,7 +284,7 @@ itself n = elim (eqb_tells n n) [ inl same ↦ same.0 | inr apart ↦ absurd (ap
 abbrev pub count_less : ChainTable → ℕ → ℕ → ℕ
 count_less cs region r = if region == r then region_entries cs region - 1 else region_entries cs r
 
-pub some_left : (header : Header) (doing : Command) (past : List Event) (k : Parts) (ids : Ids) (entry : Entry) (rest : List Entry) (events : List Event) → Sweeps header doing past k ids (entry ∷ rest) events → 1 ≤ region_entries k.chains entry.region.0
+pub some_left : (header : Header) (doing : Command) (past : List Event) (k : Parts) (ids : Ids) (entry : Entry) (rest : List Entry) (events : List Event) → Sweeps header outside doing past k ids (entry ∷ rest) events → 1 ≤ region_entries k.chains entry.region.0
 some_left header doing past k ids entry rest events s =
     let row = region_row k.chains entry.region.0 s.runs.matches.entries.known.0 in
     let some = s.used entry.region.0 row.0 row.1 in
@@ -325,8 +325,8 @@ counts_less size maps cs cs2 entry rest is has =
           ];
     }
 
-pub runs_less : (header : Header) (doing : Command) (past : List Event) (k : Parts) (ids : Ids) (entry : Entry) (rest : List Entry) (events : List Event) (chains : ChainTable) → Runs header doing past k ids (entry ∷ rest) events
-    → PutsEntries entry.region.0 (region_entries k.chains entry.region.0 - 1) k.chains chains → Runs header doing past (record k { chains = chains }) ids rest events
+pub runs_less : (header : Header) (doing : Command) (past : List Event) (k : Parts) (ids : Ids) (entry : Entry) (rest : List Entry) (events : List Event) (chains : ChainTable) → Runs header outside doing past k ids (entry ∷ rest) events
+    → PutsEntries entry.region.0 (region_entries k.chains entry.region.0 - 1) k.chains chains → Runs header outside doing past (record k { chains = chains }) ids rest events
 runs_less header doing past k ids entry rest events chains s put =
     let m = s.matches in
     let h = events ++ past in
@@ -357,8 +357,8 @@ others_less cs cs2 region put used r row apart found = elim (region_cases region
 ]
 
 -- the region has others
-pub sweeps_less : (header : Header) (doing : Command) (past : List Event) (k : Parts) (ids : Ids) (entry : Entry) (rest : List Entry) (events : List Event) (chains : ChainTable) → Sweeps header doing past k ids (entry ∷ rest) events
-    → PutsEntries entry.region.0 (region_entries k.chains entry.region.0 - 1) k.chains chains → (region_entries k.chains entry.region.0 ≡ 1 → ⊥) → Sweeps header doing past (record k { chains = chains }) ids rest events
+pub sweeps_less : (header : Header) (doing : Command) (past : List Event) (k : Parts) (ids : Ids) (entry : Entry) (rest : List Entry) (events : List Event) (chains : ChainTable) → Sweeps header outside doing past k ids (entry ∷ rest) events
+    → PutsEntries entry.region.0 (region_entries k.chains entry.region.0 - 1) k.chains chains → (region_entries k.chains entry.region.0 ≡ 1 → ⊥) → Sweeps header outside doing past (record k { chains = chains }) ids rest events
 sweeps_less header doing past k ids entry rest events chains s put more =
     record {
       runs = runs_less header doing past k ids entry rest events chains s.runs put;
@@ -379,8 +379,8 @@ sweeps_less header doing past k ids entry rest events chains s put more =
     by_count (suc (suc n)) m more some is = omega arith
 
 -- it was the last of its region
-pub ends_less : (header : Header) (doing : Command) (past : List Event) (k : Parts) (ids : Ids) (entry : Entry) (rest : List Entry) (events : List Event) (chains : ChainTable) → Sweeps header doing past k ids (entry ∷ rest) events
-    → PutsEntries entry.region.0 (region_entries k.chains entry.region.0 - 1) k.chains chains → region_entries k.chains entry.region.0 ≡ 1 → Ends header doing past (record k { chains = chains }) ids rest entry.region.0 events
+pub ends_less : (header : Header) (doing : Command) (past : List Event) (k : Parts) (ids : Ids) (entry : Entry) (rest : List Entry) (events : List Event) (chains : ChainTable) → Sweeps header outside doing past k ids (entry ∷ rest) events
+    → PutsEntries entry.region.0 (region_entries k.chains entry.region.0 - 1) k.chains chains → region_entries k.chains entry.region.0 ≡ 1 → Ends header outside doing past (record k { chains = chains }) ids rest entry.region.0 events
 ends_less header doing past k ids entry rest events chains s put last =
     let count = count_less k.chains entry.region.0 in
     let is : Recounts count k.chains chains = recounts_put entry.region.0 (region_entries k.chains entry.region.0 - 1) k.chains chains put in
@@ -396,6 +396,6 @@ ends_less header doing past k ids entry rest events chains s put last =
 
 -- the entry at an index is the next
 pub sweeps_next : (header : Header) (doing : Command) (past : List Event) (k : Parts) (ids : Ids) (rows rest : List Entry) (i : ℕ) (entry : Entry) (events : List Event) → slice_get rows i ≡ Some entry → rest ≡ drop (i + 1) rows
-    → Sweeps header doing past k ids (drop i rows) events → Sweeps header doing past k ids (entry ∷ rest) events
+    → Sweeps header outside doing past k ids (drop i rows) events → Sweeps header outside doing past k ids (entry ∷ rest) events
 sweeps_next header doing past k ids rows rest i entry events found is s =
-    subst (λ (z : List Entry). Sweeps header doing past k ids z events) (next_row rows i entry found ∙ ap (λ z. entry ∷ z) (sym is)) s
+    subst (λ (z : List Entry). Sweeps header outside doing past k ids z events) (next_row rows i entry found ∙ ap (λ z. entry ∷ z) (sym is)) s

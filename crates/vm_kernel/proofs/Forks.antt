@@ -7,7 +7,7 @@ use Rattle.vm_base.specs.declared.entry.Entry.{Entry}
 use Rattle.vm_base.specs.declared.ids.TaskId.{TaskId}
 use Rattle.vm_base.specs.Entries.{AllWholePages, HasWholePages, InOrder, entered, meets_range}
 use Rattle.vm_model.specs.declared.event.Event.TheVariants as event
-use Rattle.vm_model.specs.Follows.{gets}
+use Rattle.vm_legal.specs.Follows.{gets}
 use Rattle.vm_model.specs.Rows.{AllRows}
 use Rattle.vm_model.specs.Tasks.{is_shared, shared}
 use Rattle.vm_kernel.proofs.Recounts.{next_row}

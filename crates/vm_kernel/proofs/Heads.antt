@@ -5,14 +5,18 @@ use Rattle.vm_base.specs.declared.code.Code.{Code}
 use Rattle.vm_model.specs.declared.event.Event.{Event}
 use Rattle.vm_model.specs.declared.command.Command.{Command}
 use Rattle.vm_model.specs.declared.script.Header.{Header}
-use Rattle.vm_model.specs.Bytes.{FlatBytes, OwnBytes}
-use Rattle.vm_model.specs.Follows.{IsDone, head}
-use Rattle.vm_model.specs.Frames.{Suffice}
-use Rattle.vm_model.specs.Refusal.{where_true}
+use Rattle.vm_legal.specs.Bytes.{CopiesCurrent, OwnBytes}
+use Rattle.vm_legal.specs.Follows.{IsDone, head}
+use Rattle.vm_legal.specs.Frames.{Suffice}
+use Rattle.vm_legal.specs.Licences.{AllLicensed, Caused, created}
+use Rattle.vm_legal.specs.Outside.{Outside}
+use Rattle.vm_legal.specs.Refusal.{where_true}
+use Rattle.vm_legal.specs.Stretches.{EachIn, MomentsIn}
 use Rattle.vm_shadow.specs.declared.ids.Ids.{Ids}
-use Rattle.vm_kernel.specs.Begun.{AllInner, Began, EachIn, Grows, IsInner, MomentsIn}
+use Rattle.vm_kernel.specs.Begun.{AllInner, Began, Grows, IsInner, IsLined}
 use Rattle.vm_kernel.specs.Matches.{Rests}
 use Rattle.vm_kernel.specs.declared.parts.Parts.{Parts}
+use Rattle.vm_kernel.proofs.Growing.{licensed, paid_of}
 use Rattle.vm_kernel.proofs.Prompting.{prompt_of}
 
 -- of a list of tests that finds nothing, each found nothing
@@ -21,37 +25,51 @@ passed true why later none = absurd (let bad : Some why ≡ None = none in cc)
 passed false why later none = (refl, none)
 
 -- what holds of each event of a command's head
-pub record Heads (header : Header) (past events : List Event) : Type 0 where
+pub record Heads (header : Header) (outside : Outside) (doing : Command) (past events : List Event) : Type 0 where
+  pub licensed : AllLicensed header outside doing events past
   pub own_bytes : EachIn (OwnBytes header) events past
-  pub flat_bytes : EachIn (FlatBytes header) events past
+  pub copies : EachIn (CopiesCurrent header outside) events past
   pub frames : MomentsIn (Suffice header 0) events past
   pub inner : AllInner events
 
-pub grows_head : (header : Header) (doing : Command) (past events first : List Event) → head header past doing ≡ Some first → events ≡ reverse first → Heads header past events → Grows header doing past events
-grows_head header doing past events first is same all =
+pub grows_head : (header : Header) (outside : Outside) (doing : Command) (past events first : List Event) → head header past doing ≡ Some first → events ≡ reverse first → Heads header outside doing past events → Grows header outside doing past events
+grows_head header outside doing past events first is same all =
     record {
       first = first;
       more = [];
       head = is;
       is = same;
-      licensed = tt;
+      follows = tt;
+      licensed = all.licensed;
       own_bytes = all.own_bytes;
-      flat_bytes = all.flat_bytes;
+      copies = all.copies;
       frames = all.frames;
       inner = all.inner;
     }
 
--- a command's one event
-pub grows_one : (header : Header) (doing : Command) (past : List Event) (e : Event) → head header past doing ≡ Some (e ∷ []) → OwnBytes header e past → FlatBytes header e past → Suffice header 0 (e ∷ past) → IsInner e → Grows header doing past (e ∷ [])
-grows_one header doing past e is own flat frames inner =
-    grows_head header doing past (e ∷ []) (e ∷ []) is refl (record { own_bytes = (own, tt); flat_bytes = (flat, tt); frames = (frames, tt); inner = (inner, tt) })
+-- what holds of a command's one event
+pub record IsOne (header : Header) (outside : Outside) (doing : Command) (past : List Event) (e : Event) : Type 0 where
+  pub quiet : created past ≡ None
+  pub cause : Caused header outside doing e past
+  pub own_bytes : OwnBytes header e past
+  pub copies : CopiesCurrent header outside e past
+  pub frames : Suffice header 0 (e ∷ past)
+  pub inner : IsInner e
 
-pub began_head : (header : Header) (doing : Command) (past : List Event) (k : Parts) (ids : Ids) (events first : List Event) → head header past doing ≡ Some first → events ≡ reverse first → Heads header past events
-    → IsDone header doing (events ++ past) → Rests header k ids (events ++ past) → Began header doing past k ids events
-began_head header doing past k ids events first is same all done rests =
+pub heads_one : (header : Header) (outside : Outside) (doing : Command) (past : List Event) (e : Event) → IsOne header outside doing past e → Heads header outside doing past (e ∷ [])
+heads_one header outside doing past e is =
+    record { licensed = (licensed header outside doing e past is.quiet is.cause, tt); own_bytes = (is.own_bytes, tt); copies = (is.copies, tt); frames = (is.frames, tt); inner = (is.inner, tt) }
+
+pub grows_one : (header : Header) (outside : Outside) (doing : Command) (past : List Event) (e : Event) → head header past doing ≡ Some (e ∷ []) → IsOne header outside doing past e → Grows header outside doing past (e ∷ [])
+grows_one header outside doing past e first is = grows_head header outside doing past (e ∷ []) (e ∷ []) first refl (heads_one header outside doing past e is)
+
+pub began_head : (header : Header) (outside : Outside) (doing : Command) (past : List Event) (k : Parts) (ids : Ids) (events first : List Event) → IsLined past → head header past doing ≡ Some first → events ≡ reverse first
+    → Heads header outside doing past events → IsDone header doing events past → Rests header k ids (events ++ past) → Began header outside doing past k ids events
+began_head header outside doing past k ids events first lined is same all done rests =
     record {
       rests = rests;
-      grows = grows_head header doing past events first is same all;
+      grows = grows_head header outside doing past events first is same all;
       done = done;
       prompt = prompt_of header k ids (events ++ past) rests;
+      paid = paid_of header past events lined all.inner rests.matches.controls.created;
     }

@@ -11,8 +11,8 @@ use Rattle.vm_base.specs.Pages.{IsAccessSize, IsPageSize, access_fits}
 use Rattle.vm_base.specs.Entries.{allows, entry_at, page_at}
 use Rattle.vm_model.specs.declared.event.Event.{Event}
 use Rattle.vm_model.specs.declared.script.Header.{Header}
-use Rattle.vm_model.specs.Frames.{frames_free}
-use Rattle.vm_model.specs.Refusal.{access_refusal, acting, where_true}
+use Rattle.vm_legal.specs.Frames.{frames_free}
+use Rattle.vm_legal.specs.Refusal.{access_refusal, acting, where_true}
 use Rattle.vm_model.specs.Rows.{FoundRow, found_row}
 use Rattle.vm_model.specs.Tasks.{entries_of, host_of}
 use Rattle.vm_model.specs.Waiting.{waiting}

@@ -21,5 +21,6 @@ pub mod Rows
 pub mod Shares
 pub mod Standing
 pub mod Tasks
+pub mod Uses
 pub mod Walking
 pub mod Wires

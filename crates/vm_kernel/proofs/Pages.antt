@@ -1,6 +1,6 @@
--- What a host has of its pages, and what the flat map has, once a page has come or gone or was written.
+-- What a host has of its pages, once a page has come or gone or was written.
 use Rattle.std.proofs.Common.{◌≡◌, ℕ, suc, ◌+◌, ◌-◌, ◌<◌, ◌==◌, ◌&&◌, Bool, true, false, List, [], get_or, replicate, refl, ap, sym, ◌∙◌, subst, arith, Some, None, Option, inl, inr}
-use Rattle.std.specs.Prelude.{if◌then◌else◌, not, ◌⊎◌}
+use Rattle.std.specs.Prelude.{if◌then◌else◌, not}
 use Rattle.vm_base.specs.declared.ids.FrameNo.{FrameNo}
 use Rattle.vm_base.specs.Pages.{with_bytes}
 use Rattle.vm_model.specs.Local.{Local, away, moved, Zeroes, Stores, Drops, Elsewhere}
@@ -11,18 +11,14 @@ use Rattle.vm_resident.specs.Resident.{IsOwned, PutsRow, ResidentTable, page_key
 use Rattle.vm_resident.specs.declared.page_row.PageRow.{PageRow}
 use Rattle.vm_shadow.specs.Chains.{ChainTable}
 use Rattle.vm_kernel.specs.Fits.{Fit, IsPlainRow}
-use Rattle.vm_kernel.specs.Matches.{HasFlat, HasFrames, HasPages, HasStores}
-use Rattle.vm_kernel.specs.Places.{bytes_behind, fresh_row, has_region, lock_number, region_entries, shown}
+use Rattle.vm_kernel.specs.Matches.{HasFrames, HasPages, HasStores}
+use Rattle.vm_kernel.specs.Places.{fresh_row, has_region, lock_number, shown}
 use Rattle.vm_kernel.proofs.Rows.{one_case, row_cases, some_is}
 
 -- a page shows the same where its frame has the same bytes
 shown_same : (fs fs2 : FrameTable) (x : Option PageRow) (lacked : Bool) → ((r : PageRow) → x ≡ Some r → page_in fs2 r.frame.0 ≡ page_in fs r.frame.0) → shown fs x lacked ≡ shown fs2 x lacked
 shown_same fs fs2 None lacked same = refl
 shown_same fs fs2 (Some r) lacked same = ap (λ z. record { here = r.here; bytes = z; lock = lock_number r.lock; dirty = r.dirty; precious = r.precious; asked = not r.here; unlocking = r.unlock_sent; absent = lacked }) (sym (same r refl))
-
-behind_same : (size : ℕ) (fs fs2 : FrameTable) (x : Option PageRow) → ((r : PageRow) → x ≡ Some r → page_in fs2 r.frame.0 ≡ page_in fs r.frame.0) → bytes_behind size fs x ≡ bytes_behind size fs2 x
-behind_same size fs fs2 None same = refl
-behind_same size fs fs2 (Some r) same = sym (same r refl)
 
 -- another page's frame has the bytes that it had
 apart_bytes : (fs fs2 : FrameTable) (f : ℕ) (bytes : List ℕ) (r : PageRow) → ((g : ℕ) → page_in fs2 g ≡ (if f == g then bytes else page_in fs g)) → (f ≡ r.frame.0 → ⊥) → page_in fs2 r.frame.0 ≡ page_in fs r.frame.0
@@ -67,28 +63,6 @@ pages_brought size fs fs2 rs rs2 qs os cs local_at f o p fit has fresh absent pu
     zeros : page_in fs2 f.0 ≡ replicate size 0
     zeros = elim (one_case f.0 f.0 (replicate size 0) (page_in fs f.0) (page_in fs2 f.0) (pages f.0)) [ inl same ↦ same.1 | inr apart ↦ absurd (apart.0 refl) ]
 
-pub flat_brought : (size : ℕ) (fs fs2 : FrameTable) (rs rs2 : ResidentTable) (qs : Queues) (os : ObjectTable) (cs : ChainTable) (flat_at : ℕ → ℕ → List ℕ) (f : FrameNo) (o p : ℕ)
-    → Fit size fs rs qs os → HasFlat size fs rs cs flat_at → is_claimed fs f.0 ≡ false → row_at rs o p ≡ None → PutsRow o p (Some (fresh_row f)) rs rs2
-    → ((g : ℕ) → page_in fs2 g ≡ (if f.0 == g then replicate size 0 else page_in fs g)) → HasFlat size fs2 rs2 cs flat_at
-flat_brought size fs fs2 rs rs2 qs os cs flat_at f o p fit has fresh absent put pages =
-    record {
-      flat = λ r2 p2 used. elim (row_cases o p (Some (fresh_row f)) rs rs2 put r2 p2) [
-        | inl now ↦
-            let was : row_at rs r2 p2 ≡ None = subst (λ (z : ℕ). row_at rs r2 z ≡ None) now.page (subst (λ (z : ℕ). row_at rs z p ≡ None) now.object absent) in
-            has.flat r2 p2 used ∙ (ap (bytes_behind size fs) was ∙ (sym zeros ∙ sym (ap (bytes_behind size fs2) now.is)))
-        | inr other ↦ has.flat r2 p2 used ∙ (behind_same size fs fs2 (row_at rs r2 p2) (λ r is. apart_bytes fs fs2 f.0 (replicate size 0) r pages (not_fresh size fs rs qs os f.0 r2 p2 r fit fresh is)) ∙ sym (ap (bytes_behind size fs2) other.is))
-      ];
-      clean = λ o2 p2 r is clean. elim (row_cases o p (Some (fresh_row f)) rs rs2 put o2 p2) [
-        | inl now ↦ subst (λ (z : PageRow). page_in fs2 z.frame.0 ≡ replicate size 0) (some_is (fresh_row f) r (sym now.is ∙ is)) zeros
-        | inr other ↦
-            let had : row_at rs o2 p2 ≡ Some r = sym other.is ∙ is in
-            apart_bytes fs fs2 f.0 (replicate size 0) r pages (not_fresh size fs rs qs os f.0 o2 p2 r fit fresh had) ∙ has.clean o2 p2 r had clean
-      ];
-    }
-  where
-    zeros : page_in fs2 f.0 ≡ replicate size 0
-    zeros = elim (one_case f.0 f.0 (replicate size 0) (page_in fs f.0) (page_in fs2 f.0) (pages f.0)) [ inl same ↦ same.1 | inr apart ↦ absurd (apart.0 refl) ]
-
 pub frames_brought : (most : Option ℕ) (fs fs2 : FrameTable) (held wired : ℕ) → HasFrames most fs held wired → claimed fs2 ≡ suc (claimed fs) → fs2.wired ≡ fs.wired → frame_count fs2 ≡ frame_count fs
     → claimed fs2 + fs2.wired < suc (frame_count fs2) → HasFrames most fs2 (held + 1) wired
 frames_brought most fs fs2 held wired has claims same count room =
@@ -124,29 +98,6 @@ pages_lost size fs fs2 rs rs2 os cs local_at o p row found plain has pages put =
     same : (r : PageRow) → page_in fs2 r.frame.0 ≡ page_in fs r.frame.0
     same r = ap (λ z. get_or z r.frame.0 []) pages
 
--- nothing leads to it, or it has zeros
-pub flat_lost : (size : ℕ) (fs fs2 : FrameTable) (rs rs2 : ResidentTable) (cs : ChainTable) (flat_at : ℕ → ℕ → List ℕ) (o p : ℕ) (row : PageRow)
-    → HasFlat size fs rs cs flat_at → row_at rs o p ≡ Some row → (region_entries cs o ≡ 0) ⊎ (row.dirty ≡ false) → fs2.pages ≡ fs.pages → PutsRow o p None rs rs2 → HasFlat size fs2 rs2 cs flat_at
-flat_lost size fs fs2 rs rs2 cs flat_at o p row has found why pages put =
-    record {
-      flat = λ r2 p2 used. elim (row_cases o p None rs rs2 put r2 p2) [
-        | inl now ↦ elim why [
-          | inl unused ↦ absurd (let none : region_entries cs r2 ≡ 0 = subst (λ (z : ℕ). region_entries cs z ≡ 0) now.object unused in omega arith)
-          | inr clean ↦
-              let was : row_at rs r2 p2 ≡ Some row = subst (λ (z : ℕ). row_at rs r2 z ≡ Some row) now.page (subst (λ (z : ℕ). row_at rs z p ≡ Some row) now.object found) in
-              has.flat r2 p2 used ∙ (ap (bytes_behind size fs) was ∙ (has.clean r2 p2 row was clean ∙ sym (ap (bytes_behind size fs2) now.is)))
-        ]
-        | inr other ↦ has.flat r2 p2 used ∙ (behind_same size fs fs2 (row_at rs r2 p2) (λ r is. same r) ∙ sym (ap (bytes_behind size fs2) other.is))
-      ];
-      clean = λ o2 p2 r is clean. elim (row_cases o p None rs rs2 put o2 p2) [
-        | inl now ↦ absurd (let bad : None ≡ Some r = sym now.is ∙ is in cc)
-        | inr other ↦ same r ∙ has.clean o2 p2 r (sym other.is ∙ is) clean
-      ];
-    }
-  where
-    same : (r : PageRow) → page_in fs2 r.frame.0 ≡ page_in fs r.frame.0
-    same r = ap (λ z. get_or z r.frame.0 []) pages
-
 pub frames_lost : (most : Option ℕ) (fs fs2 : FrameTable) (held wired : ℕ) → HasFrames most fs held wired → claimed fs ≡ suc (claimed fs2) → fs2.wired ≡ fs.wired → frame_count fs2 ≡ frame_count fs → HasFrames most fs2 (held - 1) wired
 frames_lost most fs fs2 held wired has claims same count =
     record {
@@ -175,32 +126,6 @@ pages_wrote size fs fs2 rs rs2 qs os cs local_at o p at put_there row fit has fo
       live = λ o2 p2 r is. elim (row_cases o p (Some (record row { dirty = true })) rs rs2 put o2 p2) [
         | inl now ↦ subst (λ (z : ℕ). has_region cs z ≡ true) now.object (has.live o p row found)
         | inr other ↦ has.live o2 p2 r (sym other.is ∙ is)
-      ];
-    }
-  where
-    new : List ℕ
-    new = with_bytes at put_there (page_in fs row.frame.0)
-
-    written : page_in fs2 row.frame.0 ≡ new
-    written = elim (one_case row.frame.0 row.frame.0 new (page_in fs row.frame.0) (page_in fs2 row.frame.0) (pages row.frame.0)) [ inl same ↦ same.1 | inr apart ↦ absurd (apart.0 refl) ]
-
-pub flat_wrote : (size : ℕ) (fs fs2 : FrameTable) (rs rs2 : ResidentTable) (qs : Queues) (os : ObjectTable) (cs : ChainTable) (flat_at : ℕ → ℕ → List ℕ) (o p at : ℕ) (put_there : List ℕ) (row : PageRow)
-    → Fit size fs rs qs os → HasFlat size fs rs cs flat_at → row_at rs o p ≡ Some row → PutsRow o p (Some (record row { dirty = true })) rs rs2
-    → ((g : ℕ) → page_in fs2 g ≡ (if row.frame.0 == g then with_bytes at put_there (page_in fs row.frame.0) else page_in fs g))
-    → HasFlat size fs2 rs2 cs (λ r2 p2. if o == r2 && p == p2 then with_bytes at put_there (flat_at r2 p2) else flat_at r2 p2)
-flat_wrote size fs fs2 rs rs2 qs os cs flat_at o p at put_there row fit has found put pages =
-    record {
-      flat = λ r2 p2 used. elim (row_cases o p (Some (record row { dirty = true })) rs rs2 put r2 p2) [
-        | inl now ↦
-            let had : flat_at r2 p2 ≡ page_in fs row.frame.0 = has.flat r2 p2 used ∙ ap (bytes_behind size fs) (subst (λ (z : ℕ). row_at rs r2 z ≡ Some row) now.page (subst (λ (z : ℕ). row_at rs z p ≡ Some row) now.object found)) in
-            ap (λ b. if b then with_bytes at put_there (flat_at r2 p2) else flat_at r2 p2) now.test ∙ (ap (with_bytes at put_there) had ∙ (sym written ∙ sym (ap (bytes_behind size fs2) now.is)))
-        | inr other ↦ ap (λ b. if b then with_bytes at put_there (flat_at r2 p2) else flat_at r2 p2) other.test ∙ (has.flat r2 p2 used ∙ (behind_same size fs fs2 (row_at rs r2 p2) (λ r is. apart_bytes fs fs2 row.frame.0 new r pages (not_shared rs o p r2 p2 row r fit.owned found is other.apart)) ∙ sym (ap (bytes_behind size fs2) other.is)))
-      ];
-      clean = λ o2 p2 r is clean. elim (row_cases o p (Some (record row { dirty = true })) rs rs2 put o2 p2) [
-        | inl now ↦ absurd (let bad : true ≡ false = ap (λ z. z.dirty) (some_is (record row { dirty = true }) r (sym now.is ∙ is)) ∙ clean in cc)
-        | inr other ↦
-            let had : row_at rs o2 p2 ≡ Some r = sym other.is ∙ is in
-            apart_bytes fs fs2 row.frame.0 new r pages (not_shared rs o p o2 p2 row r fit.owned found had other.apart) ∙ has.clean o2 p2 r had clean
       ];
     }
   where

@@ -1,12 +1,12 @@
 -- At the end of a step nobody waits, and no page is left behind.
-use Rattle.std.proofs.Common.{◌≡◌, ℕ, zero, suc, ◌<◌, Bool, true, false, List, length, refl, ap, sym, ◌∙◌, arith, Some, None, Option}
-use Rattle.std.specs.Prelude.{is_some}
+use Rattle.std.proofs.Common.{◌≡◌, ℕ, zero, suc, ◌<◌, Bool, true, false, List, [], length, refl, ap, sym, ◌∙◌, arith, Some, None, Option}
+use Rattle.std.proofs.lemmas.Bool.Decides.{nat_tests}
+use Rattle.std.specs.Prelude.{is_some, nat_lt}
 use Rattle.vm_model.specs.declared.event.Event.{Event}
 use Rattle.vm_model.specs.declared.script.Header.{Header}
-use Rattle.vm_model.specs.Chains.{IsUnreachable}
-use Rattle.vm_model.specs.Local.{local}
-use Rattle.vm_model.specs.Prompt.{Prompt}
-use Rattle.vm_model.specs.Tasks.{entries_of, has_entry}
+use Rattle.vm_model.specs.Waiting.{Access, waiting}
+use Rattle.vm_legal.specs.Prompt.{IsSwept, Prompt}
+use Rattle.vm_legal.specs.Walks.{Reach, page_on}
 use Rattle.vm_frames.specs.Frames.{FrameTable}
 use Rattle.vm_objects.specs.Objects.{absent_at}
 use Rattle.vm_resident.specs.Resident.{row_at}
@@ -14,11 +14,10 @@ use Rattle.vm_resident.specs.declared.page_row.PageRow.{PageRow}
 use Rattle.vm_shadow.specs.Chains.{ChainTable, region_at}
 use Rattle.vm_shadow.specs.declared.ids.Ids.{Ids}
 use Rattle.vm_shadow.specs.declared.region_row.RegionRow.{RegionRow}
-use Rattle.vm_kernel.specs.Counts.{most_tasks}
-use Rattle.vm_kernel.specs.Matches.{Rests}
-use Rattle.vm_kernel.specs.Places.{has_region, place_of, shown}
+use Rattle.vm_kernel.specs.Counts.{count_by, most_tasks}
+use Rattle.vm_kernel.specs.Matches.{Matches, Rests}
+use Rattle.vm_kernel.specs.Places.{has_region, shown}
 use Rattle.vm_kernel.specs.declared.parts.Parts.{Parts}
-use Rattle.vm_kernel.proofs.Counts.{by_some}
 
 -- the row of a region that is there
 pub region_row : (cs : ChainTable) (r : ℕ) → has_region cs r ≡ true → (row : RegionRow) × (region_at cs r ≡ Some row)
@@ -33,23 +32,30 @@ here_row : (fs : FrameTable) (x : Option PageRow) (lacked : Bool) → (shown fs 
 here_row fs None lacked bad = absurd (let no : false ≡ true = bad in cc)
 here_row fs (Some row) lacked is = (row, refl)
 
+-- no access waits
+no_wait : {B : Type 0} (x : Option Access) (access : Access) → x ≡ None → x ≡ Some access → B
+no_wait x access none some = absurd (let bad : None ≡ Some access = sym none ∙ some in cc)
+
 pub prompt_of : (header : Header) (k : Parts) (ids : Ids) (past : List Event) → Rests header k ids past → Prompt header past
 prompt_of header k ids past rests =
     record {
-      none = rests.matches.tasks.none;
-      swept = λ host object page below temporary away. at_home host object page (let one : length header.frames.items ≡ 1 = ap length rests.matches.plain.hosts in omega arith) away;
+      waits = λ host below task access waits on_host. no_wait (waiting task past) access (m.tasks.none task) waits.waits;
+      swept = λ host below. at_home host (let one : length header.frames.items ≡ 1 = ap length m.plain.hosts in omega arith);
     }
   where
-    gone : (object page : ℕ) → IsUnreachable header object past → (b : Bool) → (local header.size 0 (place_of object page) past).here ≡ b → b ≡ false
+    m : Matches header k ids [] past
+    m = rests.matches
+
+    gone : (object page : ℕ) → (Reach header 0 object past → ⊥) → (b : Bool) → (page_on header 0 object page past).here ≡ b → b ≡ false
     gone object page away false is = refl
     gone object page away true is =
-        let row = here_row k.frames (row_at k.resident object page) (absent_at k.objects object page) (ap (λ z. z.here) (sym (rests.matches.pages.shown object page)) ∙ is) in
-        let region = region_row k.chains object (rests.matches.pages.live object page row.0 row.1) in
+        let row = here_row k.frames (row_at k.resident object page) (absent_at k.objects object page) (ap (λ z. z.here) (sym (m.pages.shown object page)) ∙ is) in
+        let region = region_row k.chains object (m.pages.live object page row.0 row.1) in
         let some = rests.used object region.0 region.1 in
-        let task = by_some most_tasks object k.maps (let counts = rests.matches.entries.counts object region.0 region.1 in omega arith) in
-        let reach : has_entry object (entries_of header.size task.0 past) ≡ false = away task.0 object 0 (rests.matches.regions.tops object).top in
-        absurd (let bad : true ≡ false = sym task.1 ∙ (ap (has_entry object) (sym (rests.matches.tasks.rows task.0)) ∙ reach) in cc)
+        let less : 0 < count_by most_tasks object k.maps = let counts = m.entries.counts object region.0 region.1 in omega arith in
+        let test : nat_lt 0 (count_by most_tasks object k.maps) ≡ true = grind (arith, nat_tests) in
+        absurd (away (object, 0, m.uses.used object ∙ test, (m.regions.tops object).top))
 
-    at_home : (host object page : ℕ) → host < 1 → IsUnreachable header object past → (local header.size host (place_of object page) past).here ≡ false
-    at_home zero object page below away = gone object page away (local header.size 0 (place_of object page) past).here refl
-    at_home (suc host) object page below away = absurd (omega arith)
+    at_home : (host : ℕ) → host < 1 → IsSwept header host past
+    at_home zero below = record { pages = λ object page temporary away. gone object page away (page_on header 0 object page past).here refl; controls = λ object temporary away. m.controls.live object }
+    at_home (suc host) below = absurd (omega arith)

@@ -13,9 +13,9 @@ use Rattle.vm_model.specs.declared.event.Event.TheVariants as event
 use Rattle.vm_model.specs.declared.command.Command.TheVariants as command
 use Rattle.vm_model.specs.declared.script.Header.{Header}
 use Rattle.vm_model.specs.Flat.{flat_page}
-use Rattle.vm_model.specs.Follows.{head}
+use Rattle.vm_legal.specs.Follows.{head}
 use Rattle.vm_model.specs.Local.{Local, local}
-use Rattle.vm_model.specs.Refusal.{where_true}
+use Rattle.vm_legal.specs.Refusal.{where_true}
 use Rattle.vm_model.specs.Regions as R
 use Rattle.vm_model.specs.Regions.{Region, backing_of, next_object, next_region, region_of}
 use Rattle.vm_model.specs.Rows.{AllRows, page_below, rows_entered, rows_map}
@@ -356,7 +356,7 @@ rests_range header task address bytes past k k2 ids maps rests may below made ch
 pub began_range : (header : Header) (task : TaskId) (address bytes pages : ℕ) (past : List Event) (k k2 : Parts) (ids : Ids) (before after : List Event) (maps : Mapped) → Starts header (command.Allocate task address bytes) past k ids before → pages ≡ bytes / k.size
     → MadeRange (record { 0 = ids.next_region }) (record { 0 = ids.next_object }) pages k k2
     → ChangesOnly k2.maps maps task.0 (Some (entered (whole_entry address bytes (record { 0 = ids.next_region })) (rows_in task.0 k2.maps))) → after ≡ ranged task ids address bytes pages ++ before
-    → Began header (command.Allocate task address bytes) past (record k2 { maps = maps }) (ids_after ids) after
+    → Began header outside (command.Allocate task address bytes) past (record k2 { maps = maps }) (ids_after ids) after
 began_range header task address bytes pages past k k2 ids before after maps s count made changes told =
     let m = s.rests.matches in
     let whole : pages ≡ bytes / header.size = count ∙ ap (λ z. bytes / z) m.size in
@@ -368,11 +368,11 @@ began_range header task address bytes pages past k k2 ids before after maps s co
     let first = event.RegionMade (record { 0 = ids.next_region }) (record { 0 = ids.next_object }) (bytes / header.size) ∷ got task (whole_entry address bytes (record { 0 = ids.next_region })) ∷ [] in
     let is : head header past (command.Allocate task address bytes) ≡ Some first = rw (← m.regions.region, ← m.regions.object) refl in
     let fine = suffices header k.frames past m.frames in
-    let began : Began header (command.Allocate task address bytes) past (with_range k k2 maps) (ids_after ids) events =
-    began_head header (command.Allocate task address bytes) past (with_range k k2 maps) (ids_after ids) events first is refl
+    let began : Began header outside (command.Allocate task address bytes) past (with_range k k2 maps) (ids_after ids) events =
+    began_head header outside (command.Allocate task address bytes) past (with_range k k2 maps) (ids_after ids) events first is refl
     (record { own_bytes = (tt, (tt, tt)); flat_bytes = (tt, (tt, tt)); frames = (fine, (fine, tt)); inner = (tt, (tt, tt)) })
     tt rests in
     let same : record k2 { maps = maps } ≡ with_range k k2 maps =
     λ i. record { alloc = k2.alloc; host = made.host i; size = made.size i; frames = made.frames i; resident = made.resident i; queues = made.queues i; objects = k2.objects; maps = maps; chains = k2.chains } in
-    subst (λ (z : List Event). Began header (command.Allocate task address bytes) past (record k2 { maps = maps }) (ids_after ids) z) (sym log)
-    (subst (λ (z : Parts). Began header (command.Allocate task address bytes) past z (ids_after ids) events) (sym same) began)
+    subst (λ (z : List Event). Began header outside (command.Allocate task address bytes) past (record k2 { maps = maps }) (ids_after ids) z) (sym log)
+    (subst (λ (z : Parts). Began header outside (command.Allocate task address bytes) past z (ids_after ids) events) (sym same) began)

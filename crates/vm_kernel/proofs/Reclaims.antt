@@ -7,8 +7,8 @@ use Rattle.vm_model.specs.declared.event.Event.TheVariants as event
 use Rattle.vm_model.specs.declared.command.Command.TheVariants as command
 use Rattle.vm_model.specs.declared.script.Header.{Header}
 use Rattle.vm_model.specs.Flat.{flat_page}
-use Rattle.vm_model.specs.Follows.{IsDone}
-use Rattle.vm_model.specs.Frames.{frames_held, frames_wired}
+use Rattle.vm_legal.specs.Follows.{IsDone}
+use Rattle.vm_legal.specs.Frames.{frames_held, frames_wired}
 use Rattle.vm_model.specs.Licences.{Reclaimed as Taken, gone}
 use Rattle.vm_model.specs.Local.{local}
 use Rattle.vm_objects.specs.Objects.{absent_at}
@@ -31,7 +31,7 @@ use Rattle.vm_kernel.proofs.Prompting.{prompt_of}
 pub record Reclaims (header : Header) (count done : ℕ) (past : List Event) (k : Parts) (ids : Ids) (events : List Event) : Type 0 where
   pub matches : Matches header k ids [] (events ++ past)
   pub used : AllUsed k.chains
-  pub grows : Grows header (command.Pageout the_host count) past events
+  pub grows : Grows header outside (command.Pageout the_host count) past events
   pub gone : gone (events ++ past) ≡ done
   pub clean : 0 < count → has_stored (events ++ past) ≡ false
 
@@ -66,7 +66,7 @@ reclaims_spared header count done past k ids queues events r is keeps =
             regions = m.regions;
             entries = m.entries;
             pages = m.pages;
-            flat = m.flat;
+__FLATM__
             stores = m.stores;
             frames = m.frames;
           };
@@ -92,8 +92,8 @@ reclaims_more header count done past k k2 ids events after r less reclaimed =
     let here : (local header.size 0 (place_of o p) h).here ≡ true = ap (λ z. z.here) is ∙ (m.fits.plain o p lost.row lost.found).here in
     let row_clean : lost.row.dirty ≡ false = m.stores.clean stored o p lost.row lost.found in
     let clean : (local header.size 0 (place_of o p) h).dirty ≡ false = ap (λ z. z.dirty) is ∙ row_clean in
-    let frames : HasFrames (slice_get (reverse header.frames.items) 0) k2.frames (frames_held 0 (e ∷ h)) (frames_wired 0 (e ∷ h)) =
-    frames_lost (slice_get (reverse header.frames.items) 0) k.frames k2.frames (frames_held 0 h) (frames_wired 0 h) m.frames lost.claims lost.wired lost.count in
+    let frames : HasFrames (slice_get (reverse header.frames.items) 0) k2.frames (frames_held header.size 0 (e ∷ h)) (frames_wired 0 (e ∷ h)) =
+    frames_lost (slice_get (reverse header.frames.items) 0) k.frames k2.frames (frames_held header.size 0 h) (frames_wired 0 h) m.frames lost.claims lost.wired lost.count in
     subst (λ (z : List Event). Reclaims header count (done + 1) past k2 ids z) (sym log)
     (record {
       matches =
@@ -117,18 +117,18 @@ reclaims_more header count done past k k2 ids events after r less reclaimed =
     })
 
 reclaims_end : (header : Header) (count done : ℕ) (past : List Event) (k : Parts) (ids : Ids) (events : List Event) → Reclaims header count done past k ids events → IsDone header (command.Pageout the_host count) (events ++ past)
-    → Began header (command.Pageout the_host count) past k ids events
+    → Began header outside (command.Pageout the_host count) past k ids events
 reclaims_end header count done past k ids events r is_done =
     let rests : Rests header k ids (events ++ past) = record { matches = r.matches; used = r.used } in
     record { rests = rests; grows = r.grows; done = is_done; prompt = prompt_of header k ids (events ++ past) rests }
 
 -- as many as were asked for are gone
-pub began_pageout : (header : Header) (count done : ℕ) (past : List Event) (k : Parts) (ids : Ids) (events : List Event) → Reclaims header count done past k ids events → done ≡ count → Began header (command.Pageout the_host count) past k ids events
+pub began_pageout : (header : Header) (count done : ℕ) (past : List Event) (k : Parts) (ids : Ids) (events : List Event) → Reclaims header count done past k ids events → done ≡ count → Began header outside (command.Pageout the_host count) past k ids events
 began_pageout header count done past k ids events r all = reclaims_end header count done past k ids events r (inl (r.gone ∙ all))
 
 -- no page is on a list, so none is here
 pub began_bare : (header : Header) (count done : ℕ) (past : List Event) (k : Parts) (ids : Ids) (queues : Queues) (events : List Event) → Reclaims header count done past k ids events → queues ≡ spared (balanced k.queues) → KeepsPages k.queues queues → AllSkipped [] k.queues
-    → Began header (command.Pageout the_host count) past (record k { queues = queues }) ids events
+    → Began header outside (command.Pageout the_host count) past (record k { queues = queues }) ids events
 began_bare header count done past k ids queues events r is keeps none =
     reclaims_end header count done past (record k { queues = queues }) ids events (reclaims_spared header count done past k ids queues events r is keeps) (inr (λ o p. bare o p (row_at k.resident o p) refl))
   where

@@ -18,11 +18,11 @@ use Rattle.vm_shadow.specs.Chains.{ChainTable, region_at}
 use Rattle.vm_shadow.specs.declared.ids.Ids.{Ids}
 use Rattle.vm_shadow.specs.declared.region_row.RegionRow.{RegionRow}
 use Rattle.vm_kernel.specs.Counts.{count_on, most_tasks}
-use Rattle.vm_kernel.specs.Matches.{AllInside, AllUsed, HasEntries, HasFlat, HasPages, HasRegions, HasTasks, IsInside, host_for, object_under}
+use Rattle.vm_kernel.specs.Matches.{AllInside, AllUsed, HasEntries, HasPages, HasRegions, HasTasks, IsInside, host_for, object_under}
 use Rattle.vm_kernel.specs.Places.{entries_in_row, has_region, region_entries}
 use Rattle.vm_kernel.specs.Sweeping.{with_entries}
 use Rattle.vm_kernel.proofs.Counts.{by_changed, on_append, on_zero}
-use Rattle.vm_kernel.proofs.Recounts.{Recounts, entries_most, has_same, pages_same, row_before}
+use Rattle.vm_kernel.proofs.Recounts.{Recounts, has_same, pages_same, row_before}
 
 -- regions that count anew are as they were else
 
@@ -44,21 +44,6 @@ recount_regions count cs cs2 os ids region_from backing_from regions_made object
 
 pub recount_pages : (count : ℕ → ℕ) (fs : FrameTable) (rs : ResidentTable) (os : ObjectTable) (cs cs2 : ChainTable) (local_at : ℕ → ℕ → Local) → Recounts count cs cs2 → HasPages fs rs os cs local_at → HasPages fs rs os cs2 local_at
 recount_pages count fs rs os cs cs2 local_at is has = record { shown = has.shown; live = λ o p row found. has_same count cs cs2 is o ∙ has.live o p row found }
-
-some_entries : (x : Option RegionRow) → 0 < entries_in_row x → is_some x ≡ true
-some_entries None some = absurd (omega arith)
-some_entries (Some row) some = refl
-
-pub recount_flat : (count : ℕ → ℕ) (size : ℕ) (fs : FrameTable) (rs : ResidentTable) (cs cs2 : ChainTable) (flat_at : ℕ → ℕ → List ℕ) → Recounts count cs cs2 → ((r : ℕ) → has_region cs r ≡ true → 0 < count r → 0 < region_entries cs r)
-    → HasFlat size fs rs cs flat_at → HasFlat size fs rs cs2 flat_at
-recount_flat count size fs rs cs cs2 flat_at is more has =
-    record {
-      flat = λ r p used.
-          let there = sym (has_same count cs cs2 is r) ∙ some_entries (region_at cs2 r) used in
-          let most = entries_most count cs cs2 is r in
-          has.flat r p (more r there (omega arith));
-      clean = has.clean;
-    }
 
 pub recount_used : (count : ℕ → ℕ) (cs cs2 : ChainTable) → Recounts count cs cs2 → ((r : ℕ) → has_region cs r ≡ true → 0 < region_entries cs r → 0 < count r) → AllUsed cs → AllUsed cs2
 recount_used count cs cs2 is more used r row found =

@@ -13,10 +13,10 @@ use Rattle.vm_model.specs.declared.command.Command.TheVariants as command
 use Rattle.vm_model.specs.declared.script.Header.{Header}
 use Rattle.vm_model.specs.Bytes.{FlatBytes, OwnBytes}
 use Rattle.vm_model.specs.Flat.{flat_page}
-use Rattle.vm_model.specs.Follows.{gets, head}
-use Rattle.vm_model.specs.Frames.{Suffice, frames_used}
+use Rattle.vm_legal.specs.Follows.{gets, head}
+use Rattle.vm_legal.specs.Frames.{Suffice, frames_used}
 use Rattle.vm_model.specs.Local.{local}
-use Rattle.vm_model.specs.Refusal.{is_fork_full, where_true}
+use Rattle.vm_legal.specs.Refusal.{is_fork_full, where_true}
 use Rattle.vm_model.specs.Regions.{backing_of, next_object, next_region, region_of}
 use Rattle.vm_model.specs.Rows.{AllRows, rows_entered}
 use Rattle.vm_model.specs.Tasks.{copies, entries_of, host_of, is_shared, shared}
@@ -72,7 +72,7 @@ same_rows a b o one two = let both : ◌≡◌ {A = Option (List Entry)} (Some a
 
 -- nothing has been shared yet
 pub fork_start : (header : Header) (task child : TaskId) (past : List Event) (k : Parts) (ids : Ids) (before after : List Event) (maps : Mapped) → Starts header (command.Fork task child) past k ids before
-    → ChangesOnly k.maps maps child.0 (Some []) → after ≡ event.TaskMade child k.host ∷ before → HasForked header task child (rows_in task.0 k.maps) 0 past (record k { maps = maps }) ids after
+    → ChangesOnly k.maps maps child.0 (Some []) → after ≡ event.TaskMade child k.host ∷ before → HasForked header outside task child (rows_in task.0 k.maps) 0 past (record k { maps = maps }) ids after
 fork_start header task child past k ids before after maps s changes told =
     let m = s.rests.matches in
     let may = may_fork header task child past k ids before s in
@@ -91,7 +91,7 @@ fork_start header task child past k ids before after maps s changes told =
             regions = m.regions;
             entries = entries_made header.size k.maps maps k.chains child.0 m.entries changes may.free s.range.1;
             pages = m.pages;
-            flat = m.flat;
+__FLATM__
             stores = m.stores;
             frames = m.frames;
           });
@@ -110,7 +110,7 @@ few_entries size maps chains r has there =
     omega (arith, same, has.counts r row.0 row.1, most)
 
 -- an entry of the task can be shared
-pub can_share : (header : Header) (task child : TaskId) (rows : List Entry) (i : ℕ) (row : Entry) (past : List Event) (k : Parts) (ids : Ids) (events : List Event) → HasForked header task child rows i past k ids events → AreEntries k.maps.size rows → slice_get rows i ≡ Some row
+pub can_share : (header : Header) (task child : TaskId) (rows : List Entry) (i : ℕ) (row : Entry) (past : List Event) (k : Parts) (ids : Ids) (events : List Event) → HasForked header outside task child rows i past k ids events → AreEntries k.maps.size rows → slice_get rows i ≡ Some row
     → CanShare child.0 row k
 can_share header task child rows i row past k ids events f sound found =
     let front = take i rows in
@@ -142,8 +142,8 @@ can_share header task child rows i row past k ids events f sound found =
     }
 
 -- an entry more was shared
-pub fork_shared : (header : Header) (task child : TaskId) (rows : List Entry) (i : ℕ) (row : Entry) (past : List Event) (k k2 : Parts) (ids : Ids) (events after : List Event) → HasForked header task child rows i past k ids events → AreEntries k.maps.size rows → slice_get rows i ≡ Some row
-    → is_shared row.inherit ≡ true → Shares child row k k2 events after → HasForked header task child rows (i + 1) past k2 ids after
+pub fork_shared : (header : Header) (task child : TaskId) (rows : List Entry) (i : ℕ) (row : Entry) (past : List Event) (k k2 : Parts) (ids : Ids) (events after : List Event) → HasForked header outside task child rows i past k ids events → AreEntries k.maps.size rows → slice_get rows i ≡ Some row
+    → is_shared row.inherit ≡ true → Shares child row k k2 events after → HasForked header outside task child rows (i + 1) past k2 ids after
 fork_shared header task child rows i row past k k2 ids events after f sound found is_here s =
     let m = f.matches in
     let front = take i rows in
@@ -212,8 +212,8 @@ fork_shared header task child rows i row past k k2 ids events after f sound foun
         omega arith
 
 -- an entry isn't shared
-pub fork_other : (header : Header) (task child : TaskId) (rows : List Entry) (i : ℕ) (row : Entry) (past : List Event) (k : Parts) (ids : Ids) (events : List Event) → HasForked header task child rows i past k ids events → slice_get rows i ≡ Some row → is_shared row.inherit ≡ false
-    → HasForked header task child rows (i + 1) past k ids events
+pub fork_other : (header : Header) (task child : TaskId) (rows : List Entry) (i : ℕ) (row : Entry) (past : List Event) (k : Parts) (ids : Ids) (events : List Event) → HasForked header outside task child rows i past k ids events → slice_get rows i ≡ Some row → is_shared row.inherit ≡ false
+    → HasForked header outside task child rows (i + 1) past k ids events
 fork_other header task child rows i row past k ids events f found isnt =
     let none : shared (take i rows) ++ shared (row ∷ []) ≡ shared (take i rows) = ap (λ z. shared (take i rows) ++ z) (shared_other row isnt) ∙ nothing (shared (take i rows)) in
     let same : shared (take (i + 1) rows) ≡ shared (take i rows) = ap shared (more_taken rows i row found) ∙ (shared_more (take i rows) (row ∷ []) ∙ none) in
@@ -234,7 +234,7 @@ fork_other header task child rows i row past k ids events f found isnt =
 record Quiet (header : Header) (e : Event) : Type 0 where
   own : (past : List Event) → OwnBytes header e past
   flat : (past : List Event) → FlatBytes header e past
-  frames : (past : List Event) → frames_used 0 (e ∷ past) ≡ frames_used 0 past
+  frames : (past : List Event) → frames_used header.size 0 (e ∷ past) ≡ frames_used header.size 0 past
   inner : IsInner e
 
 abbrev AllQuiet : Header → List Event → Type 0
@@ -256,7 +256,7 @@ quiet_gets header child [] = tt
 quiet_gets header child (row ∷ rows) = subst (AllQuiet header) (sym (reverse-append (got child row ∷ []) (gets child rows)))
     (quiet_append header (reverse (gets child rows)) (got child row ∷ []) (quiet_gets header child rows) (quiet_got header child row, tt))
 
-quiet_used : (header : Header) (events past : List Event) → AllQuiet header events → frames_used 0 (events ++ past) ≡ frames_used 0 past
+quiet_used : (header : Header) (events past : List Event) → AllQuiet header events → frames_used header.size 0 (events ++ past) ≡ frames_used header.size 0 past
 quiet_used header [] past all = refl
 quiet_used header (e ∷ events) past all = all.0.frames (events ++ past) ∙ quiet_used header events past all.1
 
@@ -272,8 +272,8 @@ heads_quiet header (e ∷ events) past all fine =
     }
 
 -- all that is shared was given
-pub began_fork : (header : Header) (task child : TaskId) (i : ℕ) (past : List Event) (k k2 : Parts) (ids : Ids) (before events : List Event) → Starts header (command.Fork task child) past k ids before → HasForked header task child (rows_in task.0 k.maps) i past k2 ids events → length (rows_in task.0 k.maps) ≤ i
-    → Began header (command.Fork task child) past k2 ids events
+pub began_fork : (header : Header) (task child : TaskId) (i : ℕ) (past : List Event) (k k2 : Parts) (ids : Ids) (before events : List Event) → Starts header (command.Fork task child) past k ids before → HasForked header outside task child (rows_in task.0 k.maps) i past k2 ids events → length (rows_in task.0 k.maps) ≤ i
+    → Began header outside (command.Fork task child) past k2 ids events
 began_fork header task child i past k k2 ids before events s f end =
     let m = s.rests.matches in
     let may = may_fork header task child past k ids before s in
@@ -283,4 +283,4 @@ began_fork header task child i past k k2 ids before events s f end =
     let whole : events ≡ reverse first = f.told ∙ (ap (λ z. with_child child (shared z)) (take_all rows i end) ∙ sym turned) in
     let quiet : AllQuiet header events = subst (AllQuiet header) (sym (whole ∙ turned)) (quiet_append header (reverse (gets child (shared rows))) (event.TaskMade child the_host ∷ []) (quiet_gets header child (shared rows)) (quiet_made header child, tt)) in
     let is : head header past (command.Fork task child) ≡ Some first = rw (m.tasks.hosts task.0, m.tasks.rows task.0, ap host_for may.lives, may.shares) refl in
-    began_head header (command.Fork task child) past k2 ids events first is whole (heads_quiet header events past quiet (suffices header k.frames past m.frames)) tt (record { matches = f.matches; used = f.used })
+    began_head header outside (command.Fork task child) past k2 ids events first is whole (heads_quiet header events past quiet (suffices header k.frames past m.frames)) tt (record { matches = f.matches; used = f.used })

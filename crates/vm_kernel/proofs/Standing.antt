@@ -11,9 +11,10 @@ use Rattle.vm_model.specs.declared.event.Event.{Event}
 use Rattle.vm_model.specs.declared.event.Event.TheVariants as event
 use Rattle.vm_model.specs.declared.command.Command.TheVariants as command
 use Rattle.vm_model.specs.declared.script.Header.{Header}
-use Rattle.vm_model.specs.Refusal.{access_refusal}
+use Rattle.vm_legal.specs.Refusal.{access_refusal}
 use Rattle.vm_model.specs.Tasks.{entries_of}
 use Rattle.vm_model.specs.Waiting.{Loading, Storing}
+use Rattle.vm_legal.specs.Outside.{Outside}
 use Rattle.vm_maps.specs.Judge.{place_at}
 use Rattle.vm_maps.specs.Maps.{rows_in}
 use Rattle.vm_maps.specs.declared.place.Place.{Place}
@@ -51,22 +52,22 @@ store_leads header task address n value past k ids before place key s placed key
     let a = store_allowed header task address n value past k ids before s in
     leads_of header k ids past [] task.0 address Store place key s.rests.matches a (placed a.entry a.found) keyed
 
-pub load_stands : (header : Header) (task : TaskId) (address n : ℕ) (past : List Event) (k mid : Parts) (ids : Ids) (before log after : List Event) (place : Place) (key : PageKey) (frame : FrameNo) → Starts header (command.Load task address n) past k ids before
+pub load_stands : (header : Header) (outside : Outside) (task : TaskId) (address n : ℕ) (past : List Event) (k mid : Parts) (ids : Ids) (before log after : List Event) (place : Place) (key : PageKey) (frame : FrameNo) → Starts header (command.Load task address n) past k ids before
     → log ≡ event.BegunLoad task address n ∷ before → IsPlaced k task.0 address place → IsKeyed k place key → Faulted key frame k mid log after
-    → Stands header (command.Load task address n) past task.0 (Loading address n) address key frame mid ids after
-load_stands header task address n past k mid ids before log after place key frame s begun placed keyed faulted =
+    → Stands header outside (command.Load task address n) past task.0 (Loading address n) address key frame mid ids after
+load_stands header outside task address n past k mid ids before log after place key frame s begun placed keyed faulted =
     let first : log ≡ event.BegunLoad task address n ∷ [] = begun ∙ ap (λ z. event.BegunLoad task address n ∷ z) s.nothing in
-    access_faulted header (command.Load task address n) past task.0 (Loading address n) k mid ids (event.BegunLoad task address n ∷ []) after address key frame
-    (begun_load header task address n past k ids before s) (load_leads header task address n past k ids before place key s placed keyed) (λ next. refl)
+    access_faulted header outside (command.Load task address n) past task.0 (Loading address n) k mid ids (event.BegunLoad task address n ∷ []) after address key frame
+    (begun_load header outside task address n past k ids before s) (load_leads header task address n past k ids before place key s placed keyed) (λ next. refl)
     (subst (λ (z : List Event). Faulted key frame k mid z after) first faulted)
 
-pub store_stands : (header : Header) (task : TaskId) (address n value : ℕ) (past : List Event) (k mid : Parts) (ids : Ids) (before log after : List Event) (place : Place) (key : PageKey) (frame : FrameNo) → Starts header (command.Store task address n value) past k ids before
+pub store_stands : (header : Header) (outside : Outside) (task : TaskId) (address n value : ℕ) (past : List Event) (k mid : Parts) (ids : Ids) (before log after : List Event) (place : Place) (key : PageKey) (frame : FrameNo) → Starts header (command.Store task address n value) past k ids before
     → log ≡ event.BegunStore task address n value ∷ before → IsPlaced k task.0 address place → IsKeyed k place key → Faulted key frame k mid log after
-    → Stands header (command.Store task address n value) past task.0 (Storing address n value) address key frame mid ids after
-store_stands header task address n value past k mid ids before log after place key frame s begun placed keyed faulted =
+    → Stands header outside (command.Store task address n value) past task.0 (Storing address n value) address key frame mid ids after
+store_stands header outside task address n value past k mid ids before log after place key frame s begun placed keyed faulted =
     let first : log ≡ event.BegunStore task address n value ∷ [] = begun ∙ ap (λ z. event.BegunStore task address n value ∷ z) s.nothing in
-    access_faulted header (command.Store task address n value) past task.0 (Storing address n value) k mid ids (event.BegunStore task address n value ∷ []) after address key frame
-    (begun_store header task address n value past k ids before s) (store_leads header task address n value past k ids before place key s placed keyed) (λ next. refl)
+    access_faulted header outside (command.Store task address n value) past task.0 (Storing address n value) k mid ids (event.BegunStore task address n value ∷ []) after address key frame
+    (begun_store header outside task address n value past k ids before s) (store_leads header task address n value past k ids before place key s placed keyed) (λ next. refl)
     (subst (λ (z : List Event). Faulted key frame k mid z after) first faulted)
 
 pub load_at : (header : Header) (task : TaskId) (address n : ℕ) (past : List Event) (k : Parts) (ids : Ids) (before : List Event) (place : Place) → Starts header (command.Load task address n) past k ids before → IsPlaced k task.0 address place

@@ -10,7 +10,12 @@ use Rattle.vm_model.specs.declared.event.Event.{Event}
 use Rattle.vm_model.specs.declared.event.Event.TheVariants as event
 use Rattle.vm_model.specs.declared.command.Command.TheVariants as command
 use Rattle.vm_model.specs.declared.script.Header.{Header}
+use Rattle.vm_model.specs.Controls.{last_control, live_control}
 use Rattle.vm_model.specs.Rows.{rows_map}
+use Rattle.vm_legal.specs.Licences.{created}
+use Rattle.vm_legal.specs.Living.{tasks}
+use Rattle.vm_legal.specs.Outside.{Outside}
+use Rattle.vm_legal.specs.Used.{in_use}
 use Rattle.vm_model.specs.Tasks.{entries_of, host_of}
 use Rattle.vm_model.specs.Waiting.{Access, waiting}
 use Rattle.vm_maps.specs.Maps.{ChangesOnly, Mapped, entries_in, rows_in}
@@ -25,7 +30,8 @@ use Rattle.vm_kernel.specs.Places.{has_region, region_pages}
 use Rattle.vm_kernel.specs.declared.parts.Parts.{Parts}
 use Rattle.vm_kernel.proofs.Counts.{by_changed, most_is}
 use Rattle.vm_kernel.proofs.Growing.{suffices}
-use Rattle.vm_kernel.proofs.Heads.{began_head, passed}
+use Rattle.vm_kernel.proofs.Heads.{began_head, heads_one, passed}
+use Rattle.vm_kernel.proofs.Uses.{still, uses_made}
 
 -- a task with a host has its entries
 pub lives_of : (o : Option (List Entry)) (host : Option ℕ) → host ≡ host_for o → is_none host ≡ false → o ≡ Some (unwrap_or o [])
@@ -129,15 +135,15 @@ entries_made size maps new chains task has changes free below =
     entries_changed size maps new chains chains task [] has (keeps_all chains) changes (rw most_is below) tt (omega arith)
     (λ r row found. omega (arith, has.counts r row found, ap (λ z. count_on r (unwrap_or z [])) free))
 
-pub began_task : (header : Header) (task : TaskId) (past : List Event) (k : Parts) (ids : Ids) (before after : List Event) (maps : Mapped) → Starts header (command.Task task the_host) past k ids before
-    → ChangesOnly k.maps maps task.0 (Some []) → after ≡ event.TaskMade task k.host ∷ before → Began header (command.Task task the_host) past (record k { maps = maps }) ids after
-began_task header task past k ids before after maps s changes told =
+pub began_task : (header : Header) (outside : Outside) (task : TaskId) (past : List Event) (k : Parts) (ids : Ids) (before after : List Event) (maps : Mapped) → Starts header (command.Task task the_host) past k ids before
+    → ChangesOnly k.maps maps task.0 (Some []) → after ≡ event.TaskMade task k.host ∷ before → Began header outside (command.Task task the_host) past (record k { maps = maps }) ids after
+began_task header outside task past k ids before after maps s changes told =
     let m = s.rests.matches in
     let e : Event = event.TaskMade task the_host in
     let log : after ≡ e ∷ [] = told ∙ (ap (λ z. event.TaskMade task z ∷ before) m.host ∙ ap (λ z. e ∷ z) s.nothing) in
-    subst (λ (z : List Event). Began header (command.Task task the_host) past (record k { maps = maps }) ids z) (sym log)
-    (began_head header (command.Task task the_host) past (record k { maps = maps }) ids (e ∷ []) (e ∷ []) refl refl
-    (record { own_bytes = (tt, tt); flat_bytes = (tt, tt); frames = (suffices header k.frames past m.frames, tt); inner = (tt, tt) })
+    subst (λ (z : List Event). Began header outside (command.Task task the_host) past (record k { maps = maps }) ids z) (sym log)
+    (began_head header outside (command.Task task the_host) past (record k { maps = maps }) ids (e ∷ []) (e ∷ []) s.begins refl refl
+    (heads_one header outside (command.Task task the_host) past e (record { quiet = m.controls.created; cause = tt; own_bytes = tt; copies = tt; frames = suffices header k.frames past m.frames; inner = tt }))
     tt
     (record {
       matches =
@@ -150,7 +156,8 @@ began_task header task past k ids before after maps s changes told =
             regions = m.regions;
             entries = entries_made header.size k.maps maps k.chains task.0 m.entries changes (can_make header task past k ids before s) s.range.0;
             pages = m.pages;
-            flat = m.flat;
+            uses = uses_made k.maps maps (λ r. in_use header 0 r past) (tasks past) task.0 m.uses changes (can_make header task past k ids before s) (rw most_is s.range.0);
+            controls = still (λ o. last_control 0 o past) (λ o. live_control 0 o past) (created past) m.controls;
             stores = m.stores;
             frames = m.frames;
           };

@@ -1,43 +1,34 @@
 -- Where an access leads, while each region is over an object of its own.
-use Rattle.std.proofs.Common.{◌≡◌, ℕ, zero, suc, ◌+◌, Bool, true, false, List, [], ◌∷◌, length, refl, ap, sym, ◌∙◌, subst, arith, Some, None}
-use Rattle.std.specs.Prelude.{if◌then◌else◌}
+use Rattle.std.proofs.Common.{◌≡◌, ℕ, zero, suc, true, false, List, refl, ap, sym, ◌∙◌, arith, None}
 use Rattle.vm_model.specs.declared.event.Event.{Event}
 use Rattle.vm_model.specs.declared.script.Header.{Header}
-use Rattle.vm_model.specs.Chains.{IsUnreachable, places, places_from, walk}
-use Rattle.vm_model.specs.Licences.{IsTop}
-use Rattle.vm_model.specs.Local.{Place, local}
+use Rattle.vm_model.specs.Controls.{live_control}
 use Rattle.vm_model.specs.Regions.{backing_of, region_of}
-use Rattle.vm_model.specs.Tasks.{entries_of, has_entry}
+use Rattle.vm_legal.specs.Accesses.{Comes}
+use Rattle.vm_legal.specs.Used.{in_use}
+use Rattle.vm_legal.specs.Walks.{Below, IsTop, Reach, Sinks, page_on, sight}
 use Rattle.vm_kernel.specs.Matches.{IsOwn}
-use Rattle.vm_kernel.specs.Places.{place_of}
 
 -- a page of a region has one place
-stops : (b : Bool) (place : Place) (more : List Place) → b ≡ false → place ∷ (if b then more else []) ≡ place ∷ []
-stops true place more last = absurd (let bad : true ≡ false = last in cc)
-stops false place more last = refl
-
-pub only_place : (header : Header) (r p : ℕ) (past : List Event) → IsOwn (region_of header r past) r → ((object : ℕ) → (backing_of header object past).backed ≡ false) → places header r p past ≡ place_of r p ∷ []
-only_place header r p past own bare =
-    let top = (region_of header r past).top in
-    let page = (region_of header r past).shift + p in
-    let under = backing_of header top past in
-    let same : page ≡ p = omega (arith, own.shift) in
-    stops under.backed (place_of top page) (places_from (λ o. backing_of header o past) (length past) under.under (under.shift + page)) (bare top) ∙ ap (λ z. place_of z page ∷ []) own.top ∙ ap (λ z. place_of r z ∷ []) same
+pub top_of : (header : Header) (past : List Event) (r o p index address_page : ℕ) → IsOwn (region_of header r past) r → o ≡ r → p ≡ address_page → index ≡ address_page → IsTop (region_of header r past) index o p
+top_of header past r o p index address_page own same is are = record { object = own.top ∙ sym same; page = omega (arith, own.shift, is, are) }
 
 -- where the walk ends
-pub walk_found : (header : Header) (r p : ℕ) (past : List Event) → IsOwn (region_of header r past) r → ((object : ℕ) → (backing_of header object past).backed ≡ false) → (local header.size 0 (place_of r p) past).here ≡ true → walk header.size 0 (places header r p past) past ≡ Some (place_of r p)
-walk_found header r p past own bare here =
-    subst (λ (z : List Place). walk header.size 0 z past ≡ Some (place_of r p)) (sym (only_place header r p past own bare)) (ap (λ b. if b then Some (place_of r p) else None) here)
+pub comes_top : (header : Header) (r index o p : ℕ) (past : List Event) → IsTop (region_of header r past) index o p → Comes header 0 r index o p past
+comes_top header r index o p past top = record { top = o; top_page = p; steps = 0; is_top = top; walks = (refl, refl) }
 
-pub walk_missed : (header : Header) (r p : ℕ) (past : List Event) → IsOwn (region_of header r past) r → ((object : ℕ) → (backing_of header object past).backed ≡ false) → (local header.size 0 (place_of r p) past).here ≡ false → walk header.size 0 (places header r p past) past ≡ None
-walk_missed header r p past own bare here =
-    subst (λ (z : List Place). walk header.size 0 z past ≡ None) (sym (only_place header r p past own bare)) (ap (λ b. if b then Some (place_of r p) else None) here)
+-- a page that isn't here, of an object without a pager, is passed over, and nothing is below
+pub sinks_own : (header : Header) (r p : ℕ) (past : List Event) → (backing_of header r past).backed ≡ false → live_control 0 r past ≡ None → (page_on header 0 r p past).here ≡ false → (page_on header 0 r p past).asked ≡ false
+    → Sinks (λ k q. sight header 0 k q past) (λ k. backing_of header k past) 0 r p
+sinks_own header r p past bare none away unasked = (record { away = away; unasked = unasked; without = rw none refl }, bare)
 
-pub top_place : (header : Header) (r p : ℕ) (past : List Event) → IsOwn (region_of header r past) r → ((object : ℕ) → (backing_of header object past).backed ≡ false) → IsTop (places header r p past) (place_of r p)
-top_place header r p past own bare = subst (λ (z : List Place). IsTop z (place_of r p)) (sym (only_place header r p past own bare)) refl
-
--- an object whose region no task has an entry on is unreachable
-pub unreachable_of : (header : Header) (o : ℕ) (past : List Event) → ((r : ℕ) → IsOwn (region_of header r past) r) → ((object : ℕ) → (backing_of header object past).backed ≡ false) → ((task : ℕ) → has_entry o (entries_of header.size task past) ≡ false)
-    → IsUnreachable header o past
-unreachable_of header o past own bare none task region zero below = subst (λ (z : ℕ). has_entry z (entries_of header.size task past) ≡ false) (sym below ∙ (own region).top) (none task)
-unreachable_of header o past own bare none task region (suc n) below = absurd (let bad : true ≡ false = sym below.0 ∙ bare (region_of header region past).top in cc)
+-- a region that is not in use leads to no object
+pub unreached : (header : Header) (o : ℕ) (past : List Event) → ((r : ℕ) → IsOwn (region_of header r past) r) → ((object : ℕ) → (backing_of header object past).backed ≡ false) → in_use header 0 o past ≡ false → Reach header 0 o past → ⊥
+unreached header o past own bare none reach = go reach.0 reach.1 reach.2 reach.3
+  where
+    go : (r n : ℕ) → in_use header 0 r past ≡ true → Below (λ k. backing_of header k past) n (region_of header r past).top o → ⊥
+    go r zero used below =
+        let same : r ≡ o = sym (own r).top ∙ below in
+        let bad : true ≡ false = sym used ∙ (ap (λ z. in_use header 0 z past) same ∙ none) in
+        cc
+    go r (suc n) used below = let bad : true ≡ false = sym below.0 ∙ bare (region_of header r past).top in cc

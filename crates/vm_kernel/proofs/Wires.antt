@@ -8,9 +8,11 @@ use Rattle.vm_model.specs.declared.event.Event.TheVariants as event
 use Rattle.vm_model.specs.declared.command.Command.{Command}
 use Rattle.vm_model.specs.declared.command.Command.TheVariants as command
 use Rattle.vm_model.specs.declared.script.Header.{Header}
-use Rattle.vm_model.specs.Flat.{flat_page}
-use Rattle.vm_model.specs.Follows.{IsDone, head}
-use Rattle.vm_model.specs.Frames.{frames_free, frames_held, frames_wired}
+use Rattle.vm_model.specs.Controls.{last_control, live_control}
+use Rattle.vm_legal.specs.Follows.{IsDone, head}
+use Rattle.vm_legal.specs.Licences.{created}
+use Rattle.vm_legal.specs.Outside.{Outside}
+use Rattle.vm_legal.specs.Frames.{frames_free, frames_held, frames_wired}
 use Rattle.vm_model.specs.Local.{Local, local}
 use Rattle.vm_frames.specs.Frames.{FrameTable, claimed, frame_count, free}
 use Rattle.vm_objects.specs.Objects.{ObjectTable, absent_at}
@@ -19,13 +21,14 @@ use Rattle.vm_resident.specs.Resident.{ResidentTable, row_at}
 use Rattle.vm_resident.specs.declared.page_row.PageRow.{PageRow}
 use Rattle.vm_shadow.specs.Chains.{ChainTable}
 use Rattle.vm_shadow.specs.declared.ids.Ids.{Ids}
-use Rattle.vm_kernel.specs.Begun.{Began, Starts}
+use Rattle.vm_kernel.specs.Begun.{Began, IsLined, Starts}
 use Rattle.vm_kernel.specs.Fits.{Fit}
-use Rattle.vm_kernel.specs.Matches.{HasFlat, HasFrames, HasPages, Rests, the_host}
-use Rattle.vm_kernel.specs.Places.{bytes_behind, place_of, shown}
+use Rattle.vm_kernel.specs.Matches.{HasFrames, HasPages, Rests, the_host}
+use Rattle.vm_kernel.specs.Places.{place_of, shown}
 use Rattle.vm_kernel.specs.declared.parts.Parts.{Parts}
 use Rattle.vm_kernel.proofs.Growing.{free_is, suffices}
-use Rattle.vm_kernel.proofs.Heads.{began_head, passed}
+use Rattle.vm_kernel.proofs.Heads.{began_head, heads_one, passed}
+use Rattle.vm_kernel.proofs.Uses.{still}
 
 -- the frames, with another number wired
 abbrev pub with_wired : FrameTable → ℕ → FrameTable
@@ -51,25 +54,18 @@ shown_wired : (fs : FrameTable) (wired : ℕ) (x : Option PageRow) (lacked : Boo
 shown_wired fs wired None lacked = refl
 shown_wired fs wired (Some row) lacked = refl
 
-behind_wired : (size : ℕ) (fs : FrameTable) (wired : ℕ) (x : Option PageRow) → bytes_behind size fs x ≡ bytes_behind size (with_wired fs wired) x
-behind_wired size fs wired None = refl
-behind_wired size fs wired (Some row) = refl
-
 pages_wired : (fs : FrameTable) (rs : ResidentTable) (os : ObjectTable) (cs : ChainTable) (local_at : ℕ → ℕ → Local) (wired : ℕ) → HasPages fs rs os cs local_at → HasPages (with_wired fs wired) rs os cs local_at
 pages_wired fs rs os cs local_at wired has = record { shown = λ o p. has.shown o p ∙ shown_wired fs wired (row_at rs o p) (absent_at os o p); live = has.live }
 
-flat_wired : (size : ℕ) (fs : FrameTable) (rs : ResidentTable) (cs : ChainTable) (flat_at : ℕ → ℕ → List ℕ) (wired : ℕ) → HasFlat size fs rs cs flat_at → HasFlat size (with_wired fs wired) rs cs flat_at
-flat_wired size fs rs cs flat_at wired has = record { flat = λ r p used. has.flat r p used ∙ behind_wired size fs wired (row_at rs r p); clean = has.clean }
-
 -- so many frames are wired now, and that was told
-began_wired : (header : Header) (doing : Command) (past : List Event) (k : Parts) (ids : Ids) (wired : ℕ) → Rests header k ids past → claimed k.frames + wired ≤ frame_count k.frames → head header past doing ≡ Some (event.Wired the_host wired ∷ [])
-    → IsDone header doing (event.Wired the_host wired ∷ past) → Began header doing past (record k { frames = with_wired k.frames wired }) ids (event.Wired the_host wired ∷ [])
-began_wired header doing past k ids wired rests few first done =
+began_wired : (header : Header) (outside : Outside) (doing : Command) (past : List Event) (k : Parts) (ids : Ids) (wired : ℕ) → IsLined past → Rests header k ids past → claimed k.frames + wired ≤ frame_count k.frames → head header past doing ≡ Some (event.Wired the_host wired ∷ [])
+    → IsDone header doing (event.Wired the_host wired ∷ []) past → Began header outside doing past (record k { frames = with_wired k.frames wired }) ids (event.Wired the_host wired ∷ [])
+began_wired header outside doing past k ids wired lined rests few first done =
     let m = rests.matches in
-    let frames : HasFrames (slice_get (reverse header.frames.items) 0) (with_wired k.frames wired) (frames_held 0 (event.Wired the_host wired ∷ past)) (frames_wired 0 (event.Wired the_host wired ∷ past)) =
+    let frames : HasFrames (slice_get (reverse header.frames.items) 0) (with_wired k.frames wired) (frames_held header.size 0 (event.Wired the_host wired ∷ past)) (frames_wired 0 (event.Wired the_host wired ∷ past)) =
     record { total = m.frames.total; held = m.frames.held; wired = refl; fits = few } in
-    began_head header doing past (record k { frames = with_wired k.frames wired }) ids (event.Wired the_host wired ∷ []) (event.Wired the_host wired ∷ []) first refl
-    (record { own_bytes = (tt, tt); flat_bytes = (tt, tt); frames = (suffices header (with_wired k.frames wired) (event.Wired the_host wired ∷ past) frames, tt); inner = (tt, tt) })
+    began_head header outside doing past (record k { frames = with_wired k.frames wired }) ids (event.Wired the_host wired ∷ []) (event.Wired the_host wired ∷ []) lined first refl
+    (heads_one header outside doing past (event.Wired the_host wired) (record { quiet = m.controls.created; cause = tt; own_bytes = tt; copies = tt; frames = suffices header (with_wired k.frames wired) (event.Wired the_host wired ∷ past) frames; inner = tt }))
     done
     (record {
       matches =
@@ -82,17 +78,18 @@ began_wired header doing past k ids wired rests few first done =
             regions = m.regions;
             entries = m.entries;
             pages = pages_wired k.frames k.resident k.objects k.chains (λ o p. local header.size 0 (place_of o p) past) wired m.pages;
-            flat = flat_wired header.size k.frames k.resident k.chains (λ r p. flat_page header.size r p past) wired m.flat;
+            uses = m.uses;
+            controls = still (λ o. last_control 0 o past) (λ o. live_control 0 o past) (created past) m.controls;
             stores = m.stores;
             frames = frames;
           };
       used = rests.used;
     })
 
-pub began_wire : (header : Header) (count : ℕ) (past : List Event) (k : Parts) (ids : Ids) (before after : List Event) (frames : FrameTable) (enough : Bool) → Starts header (command.Wire the_host count) past k ids before
+pub began_wire : (header : Header) (outside : Outside) (count : ℕ) (past : List Event) (k : Parts) (ids : Ids) (before after : List Event) (frames : FrameTable) (enough : Bool) → Starts header (command.Wire the_host count) past k ids before
     → enough ≡ nat_le count (free k.frames) → frames ≡ (if enough then with_wired k.frames (k.frames.wired + count) else k.frames) → after ≡ event.Wired k.host frames.wired ∷ before
-    → Began header (command.Wire the_host count) past (record k { frames = frames }) ids after
-began_wire header count past k ids before after frames enough s test is told =
+    → Began header outside (command.Wire the_host count) past (record k { frames = frames }) ids after
+began_wire header outside count past k ids before after frames enough s test is told =
     let m = s.rests.matches in
     let short : nat_lt (frames_free header 0 past) count ≡ false = (passed (nat_lt (frames_free header 0 past) count) code.ResourceShortage None s.accepted).0 in
     let same = free_is header k.frames past m.frames in
@@ -100,15 +97,15 @@ began_wire header count past k ids before after frames enough s test is told =
     let yes : enough ≡ true = test ∙ grind (arith, nat_tests) in
     let now : frames ≡ with_wired k.frames (k.frames.wired + count) = is ∙ ap (λ b. if b then with_wired k.frames (k.frames.wired + count) else k.frames) yes in
     let fits = m.frames.fits in
-    let began = began_wired header (command.Wire the_host count) past k ids (k.frames.wired + count) s.rests (omega (arith, less, fits)) (ap (λ z. Some (event.Wired the_host (z + count) ∷ [])) m.frames.wired) tt in
+    let began = began_wired header outside (command.Wire the_host count) past k ids (k.frames.wired + count) s.begins s.rests (omega (arith, less, fits)) (ap (λ z. Some (event.Wired the_host (z + count) ∷ [])) m.frames.wired) tt in
     let log : after ≡ event.Wired the_host (k.frames.wired + count) ∷ [] = told ∙ (ap (λ z. event.Wired z frames.wired ∷ before) m.host ∙ (ap (λ z. event.Wired the_host z.wired ∷ before) now ∙ ap (λ z. event.Wired the_host (k.frames.wired + count) ∷ z) s.nothing)) in
-    subst (λ (z : List Event). Began header (command.Wire the_host count) past (record k { frames = frames }) ids z) (sym log)
-    (subst (λ (z : FrameTable). Began header (command.Wire the_host count) past (record k { frames = z }) ids (event.Wired the_host (k.frames.wired + count) ∷ [])) (sym now) began)
+    subst (λ (z : List Event). Began header outside (command.Wire the_host count) past (record k { frames = frames }) ids z) (sym log)
+    (subst (λ (z : FrameTable). Began header outside (command.Wire the_host count) past (record k { frames = z }) ids (event.Wired the_host (k.frames.wired + count) ∷ [])) (sym now) began)
 
-pub began_unwire : (header : Header) (count : ℕ) (past : List Event) (k : Parts) (ids : Ids) (before after : List Event) (frames : FrameTable) (enough : Bool) → Starts header (command.Unwire the_host count) past k ids before
+pub began_unwire : (header : Header) (outside : Outside) (count : ℕ) (past : List Event) (k : Parts) (ids : Ids) (before after : List Event) (frames : FrameTable) (enough : Bool) → Starts header (command.Unwire the_host count) past k ids before
     → enough ≡ nat_le count k.frames.wired → k.frames ≡ (if enough then with_wired frames (frames.wired + count) else frames) → after ≡ event.Wired k.host frames.wired ∷ before
-    → Began header (command.Unwire the_host count) past (record k { frames = frames }) ids after
-began_unwire header count past k ids before after frames enough s test is told =
+    → Began header outside (command.Unwire the_host count) past (record k { frames = frames }) ids after
+began_unwire header outside count past k ids before after frames enough s test is told =
     let m = s.rests.matches in
     let short : nat_lt (frames_wired 0 past) count ≡ false = (passed (nat_lt (frames_wired 0 past) count) code.InvalidArgument None s.accepted).0 in
     let same = m.frames.wired in
@@ -120,7 +117,7 @@ began_unwire header count past k ids before after frames enough s test is told =
     let now : frames ≡ with_wired k.frames frames.wired = sym (ap (λ z. with_wired z frames.wired) was) in
     let fits = m.frames.fits in
     let first : head header past (command.Unwire the_host count) ≡ Some (event.Wired the_host frames.wired ∷ []) = ap (λ z. Some (event.Wired the_host (z - count) ∷ [])) m.frames.wired ∙ ap (λ z. Some (event.Wired the_host z ∷ [])) left in
-    let began = began_wired header (command.Unwire the_host count) past k ids frames.wired s.rests (omega (arith, number, fits)) first tt in
+    let began = began_wired header outside (command.Unwire the_host count) past k ids frames.wired s.begins s.rests (omega (arith, number, fits)) first tt in
     let log : after ≡ event.Wired the_host frames.wired ∷ [] = told ∙ (ap (λ z. event.Wired z frames.wired ∷ before) m.host ∙ ap (λ z. event.Wired the_host frames.wired ∷ z) s.nothing) in
-    subst (λ (z : List Event). Began header (command.Unwire the_host count) past (record k { frames = frames }) ids z) (sym log)
-    (subst (λ (z : FrameTable). Began header (command.Unwire the_host count) past (record k { frames = z }) ids (event.Wired the_host frames.wired ∷ [])) (sym now) began)
+    subst (λ (z : List Event). Began header outside (command.Unwire the_host count) past (record k { frames = frames }) ids z) (sym log)
+    (subst (λ (z : FrameTable). Began header outside (command.Unwire the_host count) past (record k { frames = z }) ids (event.Wired the_host frames.wired ∷ [])) (sym now) began)

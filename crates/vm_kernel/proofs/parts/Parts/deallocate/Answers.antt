@@ -6,7 +6,7 @@ use Rattle.vm_model.specs.declared.command.Command.{Command}
 use Rattle.vm_model.specs.declared.command.Command.TheVariants as command
 use Rattle.vm_model.specs.declared.event.Event.{Event}
 use Rattle.vm_model.specs.declared.event.Event.TheVariants as event
-use Rattle.vm_model.specs.Follows.{IsDone}
+use Rattle.vm_legal.specs.Follows.{IsDone}
 use Rattle.vm_maps.specs.Maps.{rows_in}
 use Rattle.vm_kernel.specs.Begun.{Starts}
 use Rattle.vm_kernel.specs.Counts.{count_on}

@@ -30,23 +30,23 @@ pub fault-requires-clause-free : goal.fault-requires-clause-free
 fault-requires-clause-free g c = some_free _ _ _ _ _ c.requires.rests.matches c.requires.enough
 
 pub bytes-requires : goal.bytes-requires
-bytes-requires g c = (holds_of _ _ _ _ _ _ _ _ _ _ _ (load_stands _ _ _ _ _ _ _ _ _ _ _ _ _ _ c.requires c.in_ok-push.ensures.ok c.find-place.ensures c.key_of-key.ensures c.in_ok-frame.ensures)).claimed
+bytes-requires g c = (holds_of _ _ _ _ _ _ _ _ _ _ _ _ (load_stands _ g.given.outside _ _ _ _ _ _ _ _ _ _ _ _ _ c.requires c.in_ok-push.ensures.ok c.find-place.ensures c.key_of-key.ensures c.in_ok-frame.ensures)).claimed
 
 pub get-value-requires-clause-inside : goal.get-value-requires-clause-inside
 get-value-requires-clause-inside g c =
-    let stands = load_stands _ _ _ _ _ _ _ _ _ _ _ _ _ _ c.requires c.in_ok-push.ensures.ok c.find-place.ensures c.key_of-key.ensures c.in_ok-frame.ensures in
+    let stands = load_stands _ g.given.outside _ _ _ _ _ _ _ _ _ _ _ _ _ c.requires c.in_ok-push.ensures.ok c.find-place.ensures c.key_of-key.ensures c.in_ok-frame.ensures in
     at_fits _ _ _ _ _ (load_at _ _ _ _ _ _ _ _ _ c.requires c.find-place.ensures) (load_fits _ _ _ _ _ _ _ _ c.requires)
-    (ap length c.bytes.ensures ∙ (holds_of _ _ _ _ _ _ _ _ _ _ _ stands).whole)
+    (ap length c.bytes.ensures ∙ (holds_of _ _ _ _ _ _ _ _ _ _ _ _ stands).whole)
 
 pub touch-requires : goal.touch-requires
-touch-requires g c = (holds_of _ _ _ _ _ _ _ _ _ _ _ (load_stands _ _ _ _ _ _ _ _ _ _ _ _ _ _ c.requires c.in_ok-push.ensures.ok c.find-place.ensures c.key_of-key.ensures c.in_ok-frame.ensures)).listed
+touch-requires g c = (holds_of _ _ _ _ _ _ _ _ _ _ _ _ (load_stands _ g.given.outside _ _ _ _ _ _ _ _ _ _ _ _ _ c.requires c.in_ok-push.ensures.ok c.find-place.ensures c.key_of-key.ensures c.in_ok-frame.ensures)).listed
 
 pub returns : goal.returns
 returns g c =
-    let stands = load_stands _ _ _ _ _ _ _ _ _ _ _ _ _ _ c.requires c.in_ok-push.ensures.ok c.find-place.ensures c.key_of-key.ensures c.in_ok-frame.ensures in
+    let stands = load_stands _ g.given.outside _ _ _ _ _ _ _ _ _ _ _ _ _ c.requires c.in_ok-push.ensures.ok c.find-place.ensures c.key_of-key.ensures c.in_ok-frame.ensures in
     let at = load_at _ _ _ _ _ _ _ _ _ c.requires c.find-place.ensures in
     on_ok c.push-2.result _ _
-    (λ told. subst (λ (z : List Event). Began g.given.header (command.Load c.args.task c.args.address c.args.size) g.given.past (record c.fault.new.self { queues = c.touch.new.self }) c.args.ids.now z) (sym told)
-    (access_loaded _ _ _ _ c.get-value.result _ _ _ _ _ c.touch.new.self _ stands c.touch.ensures.pages (ap (λ (z : Queues). z.frames) c.touch.ensures.queues) (c.requires.rests.matches.tasks.none c.args.task.0)
+    (λ told. subst (λ (z : List Event). Began g.given.header g.given.outside (command.Load c.args.task c.args.address c.args.size) g.given.past (record c.fault.new.self { queues = c.touch.new.self }) c.args.ids.now z) (sym told)
+    (access_loaded _ _ _ _ _ c.get-value.result _ _ _ _ _ c.touch.new.self _ stands c.touch.ensures.pages (ap (λ (z : Queues). z.frames) c.touch.ensures.queues) (c.requires.rests.matches.tasks.none c.args.task.0)
     (c.get-value.ensures ∙ (ap (λ z. little_endian (slice_range z c.find-place.result.at (c.find-place.result.at + c.args.size))) c.bytes.ensures ∙ ap (λ z. little_endian (slice_range (page_in c.fault.new.self.frames c.in_ok-frame.frame.0) z (z + c.args.size))) at))))
     c.push-2.ensures.ok

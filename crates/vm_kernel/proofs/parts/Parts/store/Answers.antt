@@ -30,23 +30,23 @@ pub fault-requires-clause-free : goal.fault-requires-clause-free
 fault-requires-clause-free g c = some_free _ _ _ _ _ c.requires.rests.matches c.requires.enough
 
 pub write-requires-clause-fits : goal.write-requires-clause-fits
-write-requires-clause-fits g c = (store_stands _ _ _ _ _ _ _ _ _ _ _ _ _ _ _ c.requires c.in_ok-push.ensures.ok c.find-place.ensures c.key_of-key.ensures c.in_ok-frame.ensures).accesses.fits
+write-requires-clause-fits g c = (store_stands _ g.given.outside _ _ _ _ _ _ _ _ _ _ _ _ _ _ c.requires c.in_ok-push.ensures.ok c.find-place.ensures c.key_of-key.ensures c.in_ok-frame.ensures).accesses.fits
 
 pub write-requires-clause-here : goal.write-requires-clause-here
-write-requires-clause-here g c = (store_stands _ _ _ _ _ _ _ _ _ _ _ _ _ _ _ c.requires c.in_ok-push.ensures.ok c.find-place.ensures c.key_of-key.ensures c.in_ok-frame.ensures).here
+write-requires-clause-here g c = (store_stands _ g.given.outside _ _ _ _ _ _ _ _ _ _ _ _ _ _ c.requires c.in_ok-push.ensures.ok c.find-place.ensures c.key_of-key.ensures c.in_ok-frame.ensures).here
 
 pub write-requires-clause-inside : goal.write-requires-clause-inside
 write-requires-clause-inside g c =
-    let stands = store_stands _ _ _ _ _ _ _ _ _ _ _ _ _ _ _ c.requires c.in_ok-push.ensures.ok c.find-place.ensures c.key_of-key.ensures c.in_ok-frame.ensures in
-    at_fits _ _ _ _ _ (store_at _ _ _ _ _ _ _ _ _ _ c.requires c.find-place.ensures) (store_fits _ _ _ _ _ _ _ _ _ c.requires) (holds_of _ _ _ _ _ _ _ _ _ _ _ stands).whole
+    let stands = store_stands _ g.given.outside _ _ _ _ _ _ _ _ _ _ _ _ _ _ c.requires c.in_ok-push.ensures.ok c.find-place.ensures c.key_of-key.ensures c.in_ok-frame.ensures in
+    at_fits _ _ _ _ _ (store_at _ _ _ _ _ _ _ _ _ _ c.requires c.find-place.ensures) (store_fits _ _ _ _ _ _ _ _ _ c.requires) (holds_of _ _ _ _ _ _ _ _ _ _ _ _ stands).whole
 
 pub returns : goal.returns
 returns g c =
-    let stands = store_stands _ _ _ _ _ _ _ _ _ _ _ _ _ _ _ c.requires c.in_ok-push.ensures.ok c.find-place.ensures c.key_of-key.ensures c.in_ok-frame.ensures in
+    let stands = store_stands _ g.given.outside _ _ _ _ _ _ _ _ _ _ _ _ _ _ c.requires c.in_ok-push.ensures.ok c.find-place.ensures c.key_of-key.ensures c.in_ok-frame.ensures in
     let at = store_at _ _ _ _ _ _ _ _ _ _ c.requires c.find-place.ensures in
     on_ok c.push-2.result _ _
-    (λ told. subst (λ (z : List Event). Began g.given.header (command.Store c.args.task c.args.address c.args.size c.args.value) g.given.past c.write.new.self c.args.ids.now z)
+    (λ told. subst (λ (z : List Event). Began g.given.header g.given.outside (command.Store c.args.task c.args.address c.args.size c.args.value) g.given.past c.write.new.self c.args.ids.now z)
     (sym (told ∙ ap (λ z. event.Stored c.args.task c.key_of-key.result.object c.key_of-key.result.page z c.args.size c.args.value ∷ c.fault.new.log.items) at))
-    (access_stored _ _ _ _ _ _ _ _ _ c.write.new.self _ _ stands
+    (access_stored _ _ _ _ _ _ _ _ _ _ c.write.new.self _ _ stands
     (subst (λ z. Wrote c.key_of-key.result c.in_ok-frame.frame (with_bytes z (little_endian_bytes c.args.size c.args.value) (page_in c.fault.new.self.frames c.in_ok-frame.frame.0)) c.fault.new.self c.write.new.self) at c.write.ensures)))
     c.push-2.ensures.ok

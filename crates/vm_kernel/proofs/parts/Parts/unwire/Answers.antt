@@ -5,5 +5,5 @@ use Rattle.vm_kernel.proofs.parts.Parts.unwire.Goals as goal
 pub returns : goal.returns
 returns g c =
     on_ok c.tell_wired.result _ _
-    (began_unwire g.given.header c.args.count g.given.past c.args.self.now c.args.ids.now c.args.log.now.items _ c.unwire.new.self c.unwire.result c.requires c.unwire.ensures.enough c.unwire.ensures.wired)
+    (began_unwire g.given.header g.given.outside c.args.count g.given.past c.args.self.now c.args.ids.now c.args.log.now.items _ c.unwire.new.self c.unwire.result c.requires c.unwire.ensures.enough c.unwire.ensures.wired)
     c.tell_wired.ensures
