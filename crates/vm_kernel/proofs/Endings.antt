@@ -10,10 +10,14 @@ use Rattle.vm_model.specs.declared.event.Event.TheVariants as event
 use Rattle.vm_model.specs.declared.command.Command.{Command}
 use Rattle.vm_model.specs.declared.command.Command.TheVariants as command
 use Rattle.vm_model.specs.declared.script.Header.{Header}
-use Rattle.vm_legal.specs.Follows.{IsDone}
+use Rattle.vm_model.specs.Controls.{last_control, live_control}
 use Rattle.vm_model.specs.Rows.{AllRows, rows_cut, rows_flat, rows_known, rows_map, rows_rewritten}
 use Rattle.vm_model.specs.Tasks.{entries_of, has_entry, host_of}
 use Rattle.vm_model.specs.Waiting.{Access, waiting}
+use Rattle.vm_legal.specs.Follows.{IsDone}
+use Rattle.vm_legal.specs.Licences.{created}
+use Rattle.vm_legal.specs.Outside.{Outside}
+use Rattle.vm_legal.specs.Used.{in_use}
 use Rattle.vm_maps.specs.declared.change.MapChange.{MapChange}
 use Rattle.vm_maps.specs.Maps.{ChangesOnly, Mapped, entries_in, parts_for, rows_in}
 use Rattle.vm_shadow.specs.Chains.{ChainTable}
@@ -25,13 +29,14 @@ use Rattle.vm_kernel.specs.Matches.{AllInside, HasEntries, HasTasks, IsInside, R
 use Rattle.vm_kernel.specs.Places.{has_region, region_entries}
 use Rattle.vm_kernel.specs.Sweeping.{Lowered, Raised, Sweeps}
 use Rattle.vm_kernel.specs.declared.parts.Parts.{Parts as KernelParts}
-use Rattle.vm_kernel.proofs.Changing.{Cuts, IsOwn, changed_by, counted, lives_as, own_parts, recounted, spans}
+use Rattle.vm_kernel.proofs.Changing.{Cuts, IsOwn, changed_by, counted, lives_as, own_parts, recounted, spans, uses_fewer}
 use Rattle.vm_kernel.proofs.Counts.{on_few}
-use Rattle.vm_kernel.proofs.Growing.{suffices}
+use Rattle.vm_kernel.proofs.Growing.{paid_of, suffices}
 use Rattle.vm_kernel.proofs.Heads.{grows_one}
 use Rattle.vm_kernel.proofs.Prompting.{prompt_of}
 use Rattle.vm_kernel.proofs.Recounts.{Recounts, entries_are, entries_most, lowered_recounts, raised_recounts, recounts_as, recounts_same, recounts_twice}
 use Rattle.vm_kernel.proofs.Rewrites.{on_removed, parts_few, recount_known, tasks_changed}
+use Rattle.vm_kernel.proofs.Uses.{still, uses_cut}
 
 -- a task ends
 
@@ -67,31 +72,36 @@ ended_cuts size chains rows gone all same =
       kept = λ r. omega arith;
     })
 
-pub sweeps_exit : (header : Header) (task : TaskId) (past events : List Event) (k : KernelParts) (ids : Ids) (maps : Mapped) (gone : List Entry) → Starts header (command.Exit task) past k ids events
+pub sweeps_exit : (header : Header) (outside : Outside) (task : TaskId) (past events : List Event) (k : KernelParts) (ids : Ids) (maps : Mapped) (gone : List Entry) → Starts header (command.Exit task) past k ids events
     → entries_in task.0 k.maps ≡ Some gone → ChangesOnly k.maps maps task.0 None → Sweeps header outside (command.Exit task) past (record k { maps = maps }) ids gone (event.TaskEnded task ∷ [])
-sweeps_exit header task past events k ids maps gone s value changes =
+sweeps_exit header outside task past events k ids maps gone s value changes =
     let m = s.rests.matches in
     let live = lives_as task.0 k.maps gone value in
     let rows = rows_in task.0 k.maps in
     let cuts = ended_cuts header.size k.chains rows gone (m.entries.inside task.0) live.0 in
     let c = changed_by header past k ids maps k.chains task.0 None gone (region_entries k.chains) s.rests changes live.1 cuts (recounts_same k.chains)
     (λ r there. let same = ap (count_on r) live.0 in omega arith) in
+    let shown_tasks : HasTasks header.size maps (λ t. host_of t (event.TaskEnded task ∷ past)) (λ t. entries_of header.size t (event.TaskEnded task ∷ past)) (λ t. waiting t (event.TaskEnded task ∷ past)) =
+    tasks_ended header.size task.0 k.maps maps (λ t. host_of t past) (λ t. entries_of header.size t past) (λ t. waiting t past) m.tasks changes in
     record {
       runs = record {
+        begins = s.begins;
         matches = record {
           plain = m.plain;
           size = m.size;
           host = m.host;
           fits = m.fits;
-          tasks = tasks_ended header.size task.0 k.maps maps (λ t. host_of t past) (λ t. entries_of header.size t past) (λ t. waiting t past) m.tasks changes;
+          tasks = shown_tasks;
           regions = c.regions;
           entries = c.entries;
           pages = c.pages;
-__FLAT__
+          uses = uses_cut header k.maps maps (λ r. in_use header 0 r past) (event.TaskEnded task ∷ past) task.0 None m.plain m.uses changes live.1 (λ r some. uses_fewer header.size task.0 r k.maps maps k.chains None m.entries changes live.1 cuts.own some)
+              (record { rows = shown_tasks.rows; none = shown_tasks.none }) c.entries.most;
+          controls = still (λ o. last_control 0 o past) (λ o. live_control 0 o past) (created past) m.controls;
           stores = m.stores;
           frames = m.frames;
         };
-        grows = grows_one header outside (command.Exit task) past (event.TaskEnded task) refl tt tt (suffices header k.frames (event.TaskEnded task ∷ past) m.frames) tt;
+        grows = grows_one header outside (command.Exit task) past (event.TaskEnded task) refl (record { quiet = m.controls.created; cause = tt; own_bytes = tt; copies = tt; frames = suffices header k.frames (event.TaskEnded task ∷ past) m.frames; inner = tt });
       };
       used = c.used;
     }
@@ -142,12 +152,12 @@ gone_there size old mid high rows made lost cuts down up =
     recount_known (λ r. region_entries mid r + count_on r made) mid high (raised_recounts made mid high up) lost
     (recount_known (λ r. region_entries old r - count_on r rows) old mid (lowered_recounts rows old mid down) lost cuts.known)
 
-pub sweeps_removed : (header : Header) (task : TaskId) (address bytes : ℕ) (past events : List Event) (k : KernelParts) (ids : Ids) (maps : Mapped) (mid high chains : ChainTable) (change : MapChange) (one two gone : List Entry)
+pub sweeps_removed : (header : Header) (outside : Outside) (task : TaskId) (address bytes : ℕ) (past events : List Event) (k : KernelParts) (ids : Ids) (maps : Mapped) (mid high chains : ChainTable) (change : MapChange) (one two gone : List Entry)
     → Starts header (command.Deallocate task address bytes) past k ids events → change ≡ removal address bytes
     → ChangesOnly k.maps maps task.0 (Some (removed k.maps.size change.address change.bytes (rows_in task.0 k.maps))) → gone ≡ parts_for k.maps task.0 change
     → entries_in task.0 k.maps ≡ Some one → entries_in task.0 maps ≡ Some two → length two ≤ most_entries → Lowered one k.chains mid → Raised two mid high → Raised gone high chains
     → Sweeps header outside (command.Deallocate task address bytes) past (record k { maps = maps; chains = chains }) ids gone (event.Removed task address bytes ∷ [])
-sweeps_removed header task address bytes past events k ids maps mid high chains change one two gone s is changes taken value now few down up more =
+sweeps_removed header outside task address bytes past events k ids maps mid high chains change one two gone s is changes taken value now few down up more =
     let m = s.rests.matches in
     let live = lives_as task.0 k.maps one value in
     let rows = rows_in task.0 k.maps in
@@ -164,28 +174,40 @@ sweeps_removed header task address bytes past events k ids maps mid high chains 
     (λ r there. let most = counted header.size task.0 k.maps old [] m.entries live.1 r there in omega arith) in
     let same : ChangesOnly k.maps maps task.0 (Some (removed header.size address bytes rows)) =
     record { size = changes.size; changed = changes.changed ∙ ap Some (ap (λ z. removed k.maps.size z.address z.bytes rows) is ∙ ap (λ z. removed z address bytes rows) m.tasks.sized); others = changes.others } in
+    let cut_to : ChangesOnly k.maps maps task.0 (Some two) = record { size = changes.size; changed = now; others = changes.others } in
+    let shown_tasks : HasTasks header.size maps (λ t. host_of t (event.Removed task address bytes ∷ past)) (λ t. entries_of header.size t (event.Removed task address bytes ∷ past)) (λ t. waiting t (event.Removed task address bytes ∷ past)) =
+    tasks_changed header.size task.0 k.maps maps (λ t. host_of t past) (λ t. entries_of header.size t past) (λ t. waiting t past) (removed header.size address bytes) m.tasks same live.1 in
     record {
       runs = record {
+        begins = s.begins;
         matches = record {
           plain = m.plain;
           size = m.size;
           host = m.host;
           fits = m.fits;
-          tasks = tasks_changed header.size task.0 k.maps maps (λ t. host_of t past) (λ t. entries_of header.size t past) (λ t. waiting t past) (removed header.size address bytes) m.tasks same live.1;
+          tasks = shown_tasks;
           regions = c.regions;
           entries = c.entries;
           pages = c.pages;
-__FLAT__
+          uses = uses_cut header k.maps maps (λ r. in_use header 0 r past) (event.Removed task address bytes ∷ past) task.0 (Some two) m.plain m.uses cut_to live.1 (λ r some. uses_fewer header.size task.0 r k.maps maps k.chains (Some two) m.entries cut_to live.1 cuts.own some)
+              (record { rows = shown_tasks.rows; none = shown_tasks.none }) c.entries.most;
+          controls = still (λ o. last_control 0 o past) (λ o. live_control 0 o past) (created past) m.controls;
           stores = m.stores;
           frames = m.frames;
         };
-        grows = grows_one header outside (command.Deallocate task address bytes) past (event.Removed task address bytes) refl tt tt (suffices header k.frames (event.Removed task address bytes ∷ past) m.frames) tt;
+        grows = grows_one header outside (command.Deallocate task address bytes) past (event.Removed task address bytes) refl (record { quiet = m.controls.created; cause = tt; own_bytes = tt; copies = tt; frames = suffices header k.frames (event.Removed task address bytes ∷ past) m.frames; inner = tt });
       };
       used = c.used;
     }
 
 -- once all that has gone is swept
-pub began_swept : (header : Header) (doing : Command) (past events : List Event) (k : KernelParts) (ids : Ids) → Sweeps header outside doing past k ids [] events → IsDone header doing (events ++ past) → Began header outside doing past k ids events
-began_swept header doing past events k ids s done =
+pub began_swept : (header : Header) (outside : Outside) (doing : Command) (past events : List Event) (k : KernelParts) (ids : Ids) → Sweeps header outside doing past k ids [] events → IsDone header doing events past → Began header outside doing past k ids events
+began_swept header outside doing past events k ids s done =
     let rests : Rests header k ids (events ++ past) = record { matches = s.runs.matches; used = s.used } in
-    record { rests = rests; grows = s.runs.grows; done = done; prompt = prompt_of header k ids (events ++ past) rests }
+    record {
+      rests = rests;
+      grows = s.runs.grows;
+      done = done;
+      prompt = prompt_of header k ids (events ++ past) rests;
+      paid = paid_of header past events s.runs.begins s.runs.grows.inner rests.matches.controls.created;
+    }

@@ -9,10 +9,11 @@ use Rattle.vm_model.specs.declared.event.Event.{Event}
 use Rattle.vm_model.specs.declared.event.Event.TheVariants as event
 use Rattle.vm_model.specs.declared.command.Command.{Command}
 use Rattle.vm_model.specs.declared.script.Header.{Header}
-use Rattle.vm_model.specs.Chains.{IsUnreachable}
-use Rattle.vm_model.specs.Flat.{flat_page}
+use Rattle.vm_model.specs.Controls.{last_control, live_control}
 use Rattle.vm_legal.specs.Frames.{frames_held, frames_wired}
-use Rattle.vm_model.specs.Licences.{Licensed, Unreached}
+use Rattle.vm_legal.specs.Licences.{Caused, Unreached, created}
+use Rattle.vm_legal.specs.Outside.{Outside}
+use Rattle.vm_legal.specs.Used.{in_use}
 use Rattle.vm_model.specs.Local.{local}
 use Rattle.vm_model.specs.Regions.{backing_of, next_object, next_region, region_of}
 use Rattle.vm_model.specs.Rows.{AllRows, Inside}
@@ -29,18 +30,19 @@ use Rattle.vm_kernel.specs.Begun.{Runs}
 use Rattle.vm_kernel.specs.Changes.{Lost}
 use Rattle.vm_kernel.specs.Counts.{count_by, count_on, most_tasks}
 use Rattle.vm_kernel.specs.Fits.{Fit}
-use Rattle.vm_kernel.specs.Matches.{AllInside, AllUsed, HasEntries, HasFlat, HasFrames, HasPages, Matches, object_under, the_host}
+use Rattle.vm_kernel.specs.Matches.{AllInside, AllUsed, HasEntries, HasFrames, HasPages, Matches, object_under, the_host}
 use Rattle.vm_kernel.specs.Places.{entries_in_row, has_region, object_pages, pages_in, pages_kept, place_of, region_entries, shown}
 use Rattle.vm_kernel.specs.Sweeping.{Ends, PutsEntries, Sweeps}
 use Rattle.vm_kernel.specs.declared.parts.Parts.{Parts}
 use Rattle.vm_kernel.proofs.Counts.{by_zero, on_zero}
 use Rattle.vm_kernel.proofs.Growing.{grows_more, suffices}
-use Rattle.vm_kernel.proofs.Pages.{flat_lost, frames_lost, pages_lost, stores_lost}
+use Rattle.vm_kernel.proofs.Pages.{frames_lost, pages_lost, stores_lost}
 use Rattle.vm_kernel.proofs.Prompting.{region_row}
 use Rattle.vm_kernel.proofs.Recounts.{Recounts, entries_are, has_same, next_row, recounts_put, row_before}
-use Rattle.vm_kernel.proofs.Rewrites.{recount_flat, recount_inside, recount_known, recount_pages, recount_regions}
+use Rattle.vm_kernel.proofs.Rewrites.{recount_inside, recount_known, recount_pages, recount_regions}
 use Rattle.vm_kernel.proofs.Rows.{one_case, region_cases}
-use Rattle.vm_kernel.proofs.Walking.{unreachable_of}
+use Rattle.vm_kernel.proofs.Uses.{still}
+use Rattle.vm_kernel.proofs.Walking.{unreached}
 
 -- no entry leads to a region that counts none
 
@@ -61,11 +63,12 @@ no_entry size maps cs rest r has there none task = by_test (nat_lt task most_tas
         ap (λ z. has_entry r (unwrap_or z [])) (has.most task le)
 
 -- a page of such a region goes
-pub ends_lost : (header : Header) (doing : Command) (past : List Event) (k k2 : Parts) (ids : Ids) (rest : List Entry) (region : ℕ) (key : PageKey) (events after : List Event)
+pub ends_lost : (header : Header) (outside : Outside) (doing : Command) (past : List Event) (k k2 : Parts) (ids : Ids) (rest : List Entry) (region : ℕ) (key : PageKey) (events after : List Event)
     → Ends header outside doing past k ids rest region events → key.object.0 ≡ region → Lost key k k2 events after → Ends header outside doing past k2 ids rest region after
-ends_lost header doing past k k2 ids rest region key events after e same lost =
+ends_lost header outside doing past k k2 ids rest region key events after e same lost =
     subst (λ (z : List Event). Ends header outside doing past k2 ids rest region z) (ap (λ z. event.Dropped z key.object key.page ∷ events) (sym m.host) ∙ sym lost.told) (record {
       runs = record {
+        begins = e.runs.begins;
         matches = record {
           plain = m.plain;
           size = lost.plan.size ∙ m.size;
@@ -75,11 +78,12 @@ ends_lost header doing past k k2 ids rest region key events after e same lost =
           regions = rw (lost.plan.chains, lost.plan.objects) m.regions;
           entries = rw (lost.plan.chains, lost.plan.maps) m.entries;
           pages = rw (lost.plan.chains, lost.plan.objects) pages2;
-          flat = rw lost.plan.chains flat2;
+          uses = rw lost.plan.maps m.uses;
+          controls = still (λ o. last_control 0 o h) (λ o. live_control 0 o h) (created h) m.controls;
           stores = stores_lost k.resident k2.resident o p (has_stored (events ++ past)) m.stores lost.put;
           frames = frames2;
         };
-        grows = grows_more header doing past events gone e.runs.grows cause tt tt (suffices header k2.frames (gone ∷ h) frames2) tt;
+        grows = grows_more header outside doing past events gone e.runs.grows m.controls.created (record { consequence = tt; cause = cause; own_bytes = tt; copies = tt; frames = suffices header k2.frames (gone ∷ h) frames2; inner = tt });
       };
       there = rw lost.plan.chains e.there;
       none = rw lost.plan.chains e.none;
@@ -107,21 +111,17 @@ ends_lost header doing past k k2 ids rest region key events after e same lost =
     there : has_region k.chains o ≡ true
     there = subst (λ (z : ℕ). has_region k.chains z ≡ true) (sym same) e.there
 
-    unreachable : IsUnreachable header o (events ++ past)
-    unreachable = unreachable_of header o (events ++ past) m.regions.tops m.regions.unbacked
-        (λ task. ap (has_entry o) (m.tasks.rows task) ∙ no_entry header.size k.maps k.chains rest o m.entries there unused task)
+    unused_now : in_use header 0 o (events ++ past) ≡ false
+    unused_now = m.uses.used o ∙ ap (nat_lt 0) (none_left header.size k.maps k.chains rest o m.entries there unused).0
 
     here : (local header.size 0 (place_of o p) (events ++ past)).here ≡ true
     here = ap (λ z. z.here) (m.pages.shown o p ∙ ap (λ z. shown k.frames z (absent_at k.objects o p)) lost.found) ∙ (m.fits.plain o p lost.row lost.found).here
 
-    cause : Licensed header doing (event.Dropped the_host key.object key.page) (events ++ past)
-    cause = (here, Unreached (let none = ap length m.plain.objects in omega arith) unreachable)
+    cause : Caused header outside doing (event.Dropped the_host key.object key.page) (events ++ past)
+    cause = λ paged. record { here = here; why = Unreached (let none = ap length m.plain.objects in omega arith) (unreached header o (events ++ past) m.regions.tops m.regions.unbacked unused_now) }
 
     pages2 : HasPages k2.frames k2.resident k.objects k.chains (λ o2 p2. local header.size 0 (place_of o2 p2) (event.Dropped the_host key.object key.page ∷ (events ++ past)))
     pages2 = pages_lost header.size k.frames k2.frames k.resident k2.resident k.objects k.chains (λ o2 p2. local header.size 0 (place_of o2 p2) (events ++ past)) o p lost.row lost.found (m.fits.plain o p lost.row lost.found) m.pages lost.pages lost.put
-
-    flat2 : HasFlat header.size k2.frames k2.resident k.chains (λ r2 p2. flat_page header.size r2 p2 (event.Dropped the_host key.object key.page ∷ (events ++ past)))
-    flat2 = flat_lost header.size k.frames k2.frames k.resident k2.resident k.chains (λ r2 p2. flat_page header.size r2 p2 (events ++ past)) o p lost.row m.flat lost.found (inl unused) lost.pages lost.put
 
     frames2 : HasFrames (slice_get (reverse header.frames.items) 0) k2.frames (frames_held header.size 0 (event.Dropped the_host key.object key.page ∷ (events ++ past))) (frames_wired 0 (event.Dropped the_host key.object key.page ∷ (events ++ past)))
     frames2 = frames_lost (slice_get (reverse header.frames.items) 0) k.frames k2.frames (frames_held header.size 0 (events ++ past)) (frames_wired 0 (events ++ past)) m.frames lost.claims lost.wired lost.count
@@ -182,12 +182,13 @@ pages_as r was now os os2 found same put o = elim (one_case r o (Some now) (obje
   | inr other ↦ ap pages_kept other.1
 ]
 
-pub sweeps_ended : (header : Header) (doing : Command) (past : List Event) (k : Parts) (ids : Ids) (rest : List Entry) (r : ℕ) (events : List Event) (chains : ChainTable) (objects : ObjectTable) (now : ObjectRow) (row : RegionRow)
+pub sweeps_ended : (header : Header) (outside : Outside) (doing : Command) (past : List Event) (k : Parts) (ids : Ids) (rest : List Entry) (r : ℕ) (events : List Event) (chains : ChainTable) (objects : ObjectTable) (now : ObjectRow) (row : RegionRow)
     → Ends header outside doing past k ids rest r events → ((p : ℕ) → row_at k.resident r p ≡ None) → region_at k.chains r ≡ Some row → PutsRegion r None k.chains chains
     → PutsObject r (Some now) k.objects objects → SameMarks k.objects objects → now.pages ≡ row.pages → Sweeps header outside doing past (record k { chains = chains; objects = objects }) ids rest events
-sweeps_ended header doing past k ids rest r events chains objects now row e bare found put put_object marks same =
+sweeps_ended header outside doing past k ids rest r events chains objects now row e bare found put put_object marks same =
     record {
       runs = record {
+        begins = e.runs.begins;
         matches = record {
           plain = m.plain;
           size = m.size;
@@ -228,13 +229,8 @@ sweeps_ended header doing past k ids rest r events chains objects now row e bare
               | inr other ↦ ap is_some other.1 ∙ m.pages.live o p page is
             ];
           };
-          flat = record {
-            flat = λ r2 p used. elim (region_cases r None k.chains chains put r2) [
-              | inl this ↦ absurd (let none = ap entries_in_row this.1 in omega arith)
-              | inr other ↦ m.flat.flat r2 p (let had = ap entries_in_row other.1 in omega arith)
-            ];
-            clean = m.flat.clean;
-          };
+          uses = m.uses;
+          controls = m.controls;
           stores = m.stores;
           frames = m.frames;
         };
@@ -262,17 +258,17 @@ sweeps_ended header doing past k ids rest r events chains objects now row e bare
     }
 
 -- the same, with what the region's object was told to lose
-pub sweeps_region : (header : Header) (doing : Command) (past : List Event) (k : Parts) (ids : Ids) (rest : List Entry) (r left : ℕ) (events : List Event) (chains : ChainTable) (objects : ObjectTable) (object : ObjectId)
+pub sweeps_region : (header : Header) (outside : Outside) (doing : Command) (past : List Event) (k : Parts) (ids : Ids) (rest : List Entry) (r left : ℕ) (events : List Event) (chains : ChainTable) (objects : ObjectTable) (object : ObjectId)
     → Ends header outside doing past k ids rest r events → ((p : ℕ) → row_at k.resident r p ≡ None) → IfSome (region_at k.chains r) (λ row. object ≡ row.top) → PutsRegion r None k.chains chains
     → IfSome (object_at k.objects object.0) (λ row. PutsObject object.0 (Some (record row { references = left })) k.objects objects) → SameMarks k.objects objects → Sweeps header outside doing past (record k { chains = chains; objects = objects }) ids rest events
-sweeps_region header doing past k ids rest r left events chains objects object e bare top put put_object marks =
+sweeps_region header outside doing past k ids rest r left events chains objects object e bare top put put_object marks =
     let row = region_row k.chains r e.there in
     let under = top_object header k ids rest (events ++ past) r row.0 e.runs.matches row.1 in
     let is : object ≡ row.0.top = if_some (region_at k.chains r) (λ row. object ≡ row.top) row.0 row.1 top in
     let same : object.0 ≡ r = ap (λ z. z.0) is ∙ under.top in
     let found : object_at k.objects object.0 ≡ Some (object_under row.0) = ap (λ z. object_at k.objects z.0) is ∙ under.object in
     let now = if_some (object_at k.objects object.0) (λ row. PutsObject object.0 (Some (record row { references = left })) k.objects objects) (object_under row.0) found put_object in
-    sweeps_ended header doing past k ids rest r events chains objects (record (object_under row.0) { references = left }) row.0 e bare row.1 put
+    sweeps_ended header outside doing past k ids rest r events chains objects (record (object_under row.0) { references = left }) row.0 e bare row.1 put
     (subst (λ (z : ℕ). PutsObject z (Some (record (object_under row.0) { references = left })) k.objects objects) same now) marks refl
 
 -- an entry leaves the counts
@@ -284,21 +280,12 @@ itself n = elim (eqb_tells n n) [ inl same ↦ same.0 | inr apart ↦ absurd (ap
 abbrev pub count_less : ChainTable → ℕ → ℕ → ℕ
 count_less cs region r = if region == r then region_entries cs region - 1 else region_entries cs r
 
-pub some_left : (header : Header) (doing : Command) (past : List Event) (k : Parts) (ids : Ids) (entry : Entry) (rest : List Entry) (events : List Event) → Sweeps header outside doing past k ids (entry ∷ rest) events → 1 ≤ region_entries k.chains entry.region.0
-some_left header doing past k ids entry rest events s =
+pub some_left : (header : Header) (outside : Outside) (doing : Command) (past : List Event) (k : Parts) (ids : Ids) (entry : Entry) (rest : List Entry) (events : List Event) → Sweeps header outside doing past k ids (entry ∷ rest) events → 1 ≤ region_entries k.chains entry.region.0
+some_left header outside doing past k ids entry rest events s =
     let row = region_row k.chains entry.region.0 s.runs.matches.entries.known.0 in
     let some = s.used entry.region.0 row.0 row.1 in
     let is = ap entries_in_row row.1 in
     omega arith
-
--- a count that is less by one is not more
-less_had : (cs : ChainTable) (region r : ℕ) → 0 < count_less cs region r → 0 < region_entries cs r
-less_had cs region r some = elim (eqb_tells region r) [
-  | inl same ↦
-      let now : 0 < region_entries cs region - 1 = subst (λ b. 0 < (if b then region_entries cs region - 1 else region_entries cs r)) same.0 some in
-      subst (λ (z : ℕ). 0 < region_entries cs z) same.1 (omega arith)
-  | inr apart ↦ subst (λ b. 0 < (if b then region_entries cs region - 1 else region_entries cs r)) apart.0 some
-]
 
 counts_less : (size : ℕ) (maps : Mapped) (cs cs2 : ChainTable) (entry : Entry) (rest : List Entry) → Recounts (count_less cs entry.region.0) cs cs2 → HasEntries size maps cs (entry ∷ rest) → HasEntries size maps cs2 rest
 counts_less size maps cs cs2 entry rest is has =
@@ -325,14 +312,15 @@ counts_less size maps cs cs2 entry rest is has =
           ];
     }
 
-pub runs_less : (header : Header) (doing : Command) (past : List Event) (k : Parts) (ids : Ids) (entry : Entry) (rest : List Entry) (events : List Event) (chains : ChainTable) → Runs header outside doing past k ids (entry ∷ rest) events
+pub runs_less : (header : Header) (outside : Outside) (doing : Command) (past : List Event) (k : Parts) (ids : Ids) (entry : Entry) (rest : List Entry) (events : List Event) (chains : ChainTable) → Runs header outside doing past k ids (entry ∷ rest) events
     → PutsEntries entry.region.0 (region_entries k.chains entry.region.0 - 1) k.chains chains → Runs header outside doing past (record k { chains = chains }) ids rest events
-runs_less header doing past k ids entry rest events chains s put =
+runs_less header outside doing past k ids entry rest events chains s put =
     let m = s.matches in
     let h = events ++ past in
     let count = count_less k.chains entry.region.0 in
     let is : Recounts count k.chains chains = recounts_put entry.region.0 (region_entries k.chains entry.region.0 - 1) k.chains chains put in
     record {
+      begins = s.begins;
       matches = record {
         plain = m.plain;
         size = m.size;
@@ -342,7 +330,8 @@ runs_less header doing past k ids entry rest events chains s put =
         regions = recount_regions count k.chains chains k.objects ids (λ r. region_of header r h) (λ o. backing_of header o h) (next_region header h) (next_object header h) is m.regions;
         entries = counts_less header.size k.maps k.chains chains entry rest is m.entries;
         pages = recount_pages count k.frames k.resident k.objects k.chains chains (λ o p. local header.size 0 (place_of o p) h) is m.pages;
-        flat = recount_flat count header.size k.frames k.resident k.chains chains (λ r p. flat_page header.size r p h) is (λ r there some. less_had k.chains entry.region.0 r some) m.flat;
+        uses = m.uses;
+        controls = m.controls;
         stores = m.stores;
         frames = m.frames;
       };
@@ -357,17 +346,17 @@ others_less cs cs2 region put used r row apart found = elim (region_cases region
 ]
 
 -- the region has others
-pub sweeps_less : (header : Header) (doing : Command) (past : List Event) (k : Parts) (ids : Ids) (entry : Entry) (rest : List Entry) (events : List Event) (chains : ChainTable) → Sweeps header outside doing past k ids (entry ∷ rest) events
+pub sweeps_less : (header : Header) (outside : Outside) (doing : Command) (past : List Event) (k : Parts) (ids : Ids) (entry : Entry) (rest : List Entry) (events : List Event) (chains : ChainTable) → Sweeps header outside doing past k ids (entry ∷ rest) events
     → PutsEntries entry.region.0 (region_entries k.chains entry.region.0 - 1) k.chains chains → (region_entries k.chains entry.region.0 ≡ 1 → ⊥) → Sweeps header outside doing past (record k { chains = chains }) ids rest events
-sweeps_less header doing past k ids entry rest events chains s put more =
+sweeps_less header outside doing past k ids entry rest events chains s put more =
     record {
-      runs = runs_less header doing past k ids entry rest events chains s.runs put;
+      runs = runs_less header outside doing past k ids entry rest events chains s.runs put;
       used = λ r row found. elim (eqb_tells r entry.region.0) [
         | inl same ↦
             let b = row_before (count_less k.chains entry.region.0) k.chains chains (recounts_put entry.region.0 (region_entries k.chains entry.region.0 - 1) k.chains chains put) r row found in
             let now = ap (λ z. z.entries) b.is in
             let less : count_less k.chains entry.region.0 r ≡ region_entries k.chains entry.region.0 - 1 = subst (λ (z : ℕ). count_less k.chains entry.region.0 z ≡ region_entries k.chains entry.region.0 - 1) (sym same.1) (rw (itself entry.region.0) refl) in
-            let some = some_left header doing past k ids entry rest events s in
+            let some = some_left header outside doing past k ids entry rest events s in
             by_count (region_entries k.chains entry.region.0) row.entries more some (omega arith)
         | inr apart ↦ others_less k.chains chains entry.region.0 put s.used r row apart.1 found
       ];
@@ -379,23 +368,23 @@ sweeps_less header doing past k ids entry rest events chains s put more =
     by_count (suc (suc n)) m more some is = omega arith
 
 -- it was the last of its region
-pub ends_less : (header : Header) (doing : Command) (past : List Event) (k : Parts) (ids : Ids) (entry : Entry) (rest : List Entry) (events : List Event) (chains : ChainTable) → Sweeps header outside doing past k ids (entry ∷ rest) events
+pub ends_less : (header : Header) (outside : Outside) (doing : Command) (past : List Event) (k : Parts) (ids : Ids) (entry : Entry) (rest : List Entry) (events : List Event) (chains : ChainTable) → Sweeps header outside doing past k ids (entry ∷ rest) events
     → PutsEntries entry.region.0 (region_entries k.chains entry.region.0 - 1) k.chains chains → region_entries k.chains entry.region.0 ≡ 1 → Ends header outside doing past (record k { chains = chains }) ids rest entry.region.0 events
-ends_less header doing past k ids entry rest events chains s put last =
+ends_less header outside doing past k ids entry rest events chains s put last =
     let count = count_less k.chains entry.region.0 in
     let is : Recounts count k.chains chains = recounts_put entry.region.0 (region_entries k.chains entry.region.0 - 1) k.chains chains put in
     let there = has_same count k.chains chains is entry.region.0 ∙ s.runs.matches.entries.known.0 in
     let are = entries_are count k.chains chains is entry.region.0 s.runs.matches.entries.known.0 in
     let less : count entry.region.0 ≡ region_entries k.chains entry.region.0 - 1 = rw (itself entry.region.0) refl in
     record {
-      runs = runs_less header doing past k ids entry rest events chains s.runs put;
+      runs = runs_less header outside doing past k ids entry rest events chains s.runs put;
       there = there;
       none = omega arith;
       others = others_less k.chains chains entry.region.0 put s.used;
     }
 
 -- the entry at an index is the next
-pub sweeps_next : (header : Header) (doing : Command) (past : List Event) (k : Parts) (ids : Ids) (rows rest : List Entry) (i : ℕ) (entry : Entry) (events : List Event) → slice_get rows i ≡ Some entry → rest ≡ drop (i + 1) rows
+pub sweeps_next : (header : Header) (outside : Outside) (doing : Command) (past : List Event) (k : Parts) (ids : Ids) (rows rest : List Entry) (i : ℕ) (entry : Entry) (events : List Event) → slice_get rows i ≡ Some entry → rest ≡ drop (i + 1) rows
     → Sweeps header outside doing past k ids (drop i rows) events → Sweeps header outside doing past k ids (entry ∷ rest) events
-sweeps_next header doing past k ids rows rest i entry events found is s =
+sweeps_next header outside doing past k ids rows rest i entry events found is s =
     subst (λ (z : List Entry). Sweeps header outside doing past k ids z events) (next_row rows i entry found ∙ ap (λ z. entry ∷ z) (sym is)) s

@@ -3,7 +3,7 @@ use Rattle.vm_kernel.specs.Sweeping.{Ends}
 use Rattle.vm_kernel.proofs.parts.Parts.drop_pages.Given as goal
 
 abbrev pub invariant-pages : goal.invariant-pages
-invariant-pages g l = Ends g.given.header g.given.command g.given.past l.self l.ids g.given.rest l.object.0 l.log.items
+invariant-pages g l = Ends g.given.header g.given.outside g.given.command g.given.past l.self l.ids g.given.rest l.object.0 l.log.items
 
 abbrev pub decreases-pages : goal.decreases-pages
 decreases-pages g l = claimed l.self.frames

@@ -7,4 +7,4 @@ abbrev pub ghost-release : goal.ghost-release
 ghost-release g a = record { header = g.given.header; outside = g.given.outside; past = g.given.past; command = g.given.command; rest = drop (a.i + 1) (by_address a.gone.now) }
 
 abbrev pub invariant-all : goal.invariant-all
-invariant-all g l = Sweeps g.given.header g.given.command g.given.past l.self l.ids (drop l.i (by_address l.gone)) l.log.items
+invariant-all g l = Sweeps g.given.header g.given.outside g.given.command g.given.past l.self l.ids (drop l.i (by_address l.gone)) l.log.items
