@@ -1,16 +1,20 @@
 -- The kernel before anything has happened.
 use Rattle.std.proofs.Common.{◌≡◌, ℕ, zero, suc, ◌<◌, true, false, [], get_or, length, replicate, refl, ap, sym, ◌∙◌, arith, Some, None, Option}
 use Rattle.std.proofs.lemmas.List.{length-replicate}
-use Rattle.std.specs.Prelude.{reverse, slice_get}
+use Rattle.std.proofs.lemmas.Bool.Decides.{nat_tests}
+use Rattle.std.specs.Prelude.{nat_lt, reverse, slice_get}
 use Rattle.vm_model.specs.declared.script.Header.{Header}
+use Rattle.vm_model.specs.Named.{named}
+use Rattle.vm_legal.specs.Used.{in_use}
 use Rattle.vm_frames.specs.Frames.{claimed, count_claims, frame_count, is_claimed}
 use Rattle.vm_objects.specs.Objects.{absent_at, object_at}
 use Rattle.vm_queues.specs.Queues.{IsEmpty}
 use Rattle.vm_resident.specs.Resident.{IsOwned, owner_of, row_at}
 use Rattle.vm_shadow.specs.Chains.{region_at}
 use Rattle.vm_kernel.specs.Matches.{IsPlain, Rests, first_ids, the_host}
-use Rattle.vm_kernel.specs.Places.{region_entries}
+use Rattle.vm_kernel.specs.Counts.{count_by, most_tasks}
 use Rattle.vm_kernel.specs.declared.parts.Parts.{Parts}
+use Rattle.vm_kernel.proofs.Counts.{by_none}
 
 none_of : {A B : Type 0} (x : Option A) (y : A) → x ≡ None → x ≡ Some y → B
 none_of x y none some = absurd (let bad : None ≡ Some y = sym none ∙ some in cc)
@@ -28,6 +32,14 @@ not_claimed : (n i : ℕ) → get_or (replicate n false) i false ≡ false
 not_claimed zero i = refl
 not_claimed (suc n) zero = refl
 not_claimed (suc n) (suc i) = not_claimed n i
+
+-- no region is in use yet
+unused : (header : Header) (r : ℕ) → IsPlain header → in_use header 0 r [] ≡ nat_lt 0 (count_by most_tasks r (record { size = header.size; tasks = [] }))
+unused header r plain =
+    let none : named header ≡ 0 = ap length plain.objects in
+    let new : nat_lt r (named header) ≡ false = grind (arith, nat_tests) in
+    let nothing : count_by most_tasks r (record { size = header.size; tasks = [] }) ≡ 0 = by_none most_tasks r (record { size = header.size; tasks = [] }) (λ task. refl) in
+    rw (new, nothing) refl
 
 pub first_rests : (header : Header) (k : Parts) (count : ℕ) → IsPlain header → k.size ≡ header.size → k.host ≡ the_host → slice_get (reverse header.frames.items) 0 ≡ Some count
     → k.frames ≡ record { pages = replicate count (replicate header.size 0); claims = replicate count false; wired = 0 } → k.queues.frames ≡ count → IsEmpty k.queues
@@ -68,7 +80,7 @@ first_rests header k count plain size host hosts frames queues empty rows owners
                   equal = refl;
                   marks = refl;
                   rows = λ r row is. none_of (region_at k.chains r) row (regions r) is;
-                  tops = λ r. record { top = refl; shift = refl };
+                  tops = λ r. record { unmarked = refl; top = refl; shift = refl };
                   unbacked = λ o. refl;
                   unmade = λ r le. regions r;
                   unknown = λ o le. objects o;
@@ -76,7 +88,8 @@ first_rests header k count plain size host hosts frames queues empty rows owners
                 };
             entries = rw maps (record { inside = λ task. tt; known = tt; most = λ task le. refl; few = λ task. omega arith; counts = λ r row is. none_of (region_at k.chains r) row (regions r) is });
             pages = record { shown = λ o p. rw (rows o p, marks o p) refl; live = λ o p row is. none_of (row_at k.resident o p) row (rows o p) is };
-            flat = record { flat = λ r p some. absurd (let none : region_entries k.chains r ≡ 0 = rw (regions r) refl in omega arith); clean = λ o p row is clean. none_of (row_at k.resident o p) row (rows o p) is };
+            uses = rw maps (record { used = λ r. unused header r plain; among = λ task rows is. none_of None rows refl is });
+            controls = record { last = λ o. refl; live = λ o. refl; created = refl };
             stores = record { clean = λ none o p row is. none_of (row_at k.resident o p) row (rows o p) is };
             frames = record { total = hosts ∙ ap Some (sym counted); held = sym nothing; wired = sym (ap (λ z. z.wired) frames); fits = let none = ap (λ z. z.wired) frames in omega (arith, nothing, none) };
           };

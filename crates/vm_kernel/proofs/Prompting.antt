@@ -33,7 +33,7 @@ here_row fs None lacked bad = absurd (let no : false ≡ true = bad in cc)
 here_row fs (Some row) lacked is = (row, refl)
 
 -- no access waits
-no_wait : {B : Type 0} (x : Option Access) (access : Access) → x ≡ None → x ≡ Some access → B
+pub no_wait : {B : Type 0} (x : Option Access) (access : Access) → x ≡ None → x ≡ Some access → B
 no_wait x access none some = absurd (let bad : None ≡ Some access = sym none ∙ some in cc)
 
 pub prompt_of : (header : Header) (k : Parts) (ids : Ids) (past : List Event) → Rests header k ids past → Prompt header past

@@ -1,7 +1,7 @@
 -- A range is allocated: a region over a new object, and an entry on the whole of it.
 use Rattle.std.proofs.Common.{◌≡◌, nat_le, nat_lt, ℕ, ◌+◌, ◌-◌, ◌/◌, ◌%◌, ◌<◌, ◌≤◌, ◌^◌, ◌==◌, ◌||◌, not, Bool, true, false, List, [], ◌∷◌, ◌++◌, length, replicate, refl, ap, sym, ◌∙◌, subst, arith, Some, None, Option, inl, inr}
 use Rattle.std.proofs.lemmas.Bool.Decides.{eqb_tells, nat_tests}
-use Rattle.std.specs.Prelude.{if◌then◌else◌, is_none, is_some, IfSome}
+use Rattle.std.specs.Prelude.{if◌then◌else◌, is_none, is_some, IfSome, ◌≢◌}
 use Rattle.vm_base.specs.declared.code.Code.TheVariants as code
 use Rattle.vm_base.specs.declared.entry.Entry.{Entry}
 use Rattle.vm_base.specs.declared.ids.ObjectId.{ObjectId}
@@ -12,15 +12,19 @@ use Rattle.vm_model.specs.declared.event.Event.{Event}
 use Rattle.vm_model.specs.declared.event.Event.TheVariants as event
 use Rattle.vm_model.specs.declared.command.Command.TheVariants as command
 use Rattle.vm_model.specs.declared.script.Header.{Header}
-use Rattle.vm_model.specs.Flat.{flat_page}
+use Rattle.vm_model.specs.Controls.{last_control, live_control}
 use Rattle.vm_legal.specs.Follows.{head}
-use Rattle.vm_model.specs.Local.{Local, local}
+use Rattle.vm_model.specs.Local.{Local, is_on, local}
 use Rattle.vm_legal.specs.Refusal.{where_true}
 use Rattle.vm_model.specs.Regions as R
 use Rattle.vm_model.specs.Regions.{Region, backing_of, next_object, next_region, region_of}
 use Rattle.vm_model.specs.Rows.{AllRows, page_below, rows_entered, rows_map}
 use Rattle.vm_model.specs.Tasks.{entries_of, has_entry, host_of}
 use Rattle.vm_model.specs.Waiting.{waiting}
+use Rattle.vm_legal.specs.Licences.{AllLicensed, Enters, created}
+use Rattle.vm_legal.specs.Living.{lives_on, tasks}
+use Rattle.vm_legal.specs.Outside.{Outside}
+use Rattle.vm_legal.specs.Used.{in_use, made_here}
 use Rattle.vm_frames.specs.Frames.{FrameTable}
 use Rattle.vm_maps.specs.declared.change.MapChange.{MapChange}
 use Rattle.vm_maps.specs.Maps.{ChangesOnly, Mapped, entries_in, rows_in}
@@ -33,19 +37,20 @@ use Rattle.vm_resident.specs.declared.page_row.PageRow.{PageRow}
 use Rattle.vm_shadow.specs.Chains.{ChainTable, PutsRegion, region_at}
 use Rattle.vm_shadow.specs.declared.ids.Ids.{Ids}
 use Rattle.vm_shadow.specs.declared.region_row.RegionRow.{RegionRow}
-use Rattle.vm_kernel.specs.Begun.{Began, Starts}
+use Rattle.vm_kernel.specs.Begun.{Began, IsLined, Starts}
 use Rattle.vm_kernel.specs.Changes.{MadeRange, entering, whole_entry}
 use Rattle.vm_kernel.specs.Counts.{count_by, most_tasks}
 use Rattle.vm_kernel.specs.Fits.{Fit}
 use Rattle.vm_kernel.specs.Forking.{got}
-use Rattle.vm_kernel.specs.Matches.{AllUsed, HasEntries, HasFlat, HasPages, HasRegions, IsInside, IsOwn, Rests, object_under}
-use Rattle.vm_kernel.specs.Places.{bytes_behind, entries_in_row, has_region, pages_in, pages_kept, place_of, region_pages, shown}
+use Rattle.vm_kernel.specs.Matches.{AllUsed, HasEntries, HasPages, HasRegions, HasUse, IsInside, IsOwn, Rests, host_for, object_under}
+use Rattle.vm_kernel.specs.Places.{has_region, pages_in, pages_kept, place_of, region_pages, shown}
 use Rattle.vm_kernel.specs.declared.parts.Parts.{Parts}
 use Rattle.vm_kernel.proofs.Counts.{by_none, most_is, on_entered}
-use Rattle.vm_kernel.proofs.Growing.{suffices}
+use Rattle.vm_kernel.proofs.Growing.{licensed, suffices}
 use Rattle.vm_kernel.proofs.Heads.{began_head, passed}
 use Rattle.vm_kernel.proofs.Rows.{one_case, region_cases, some_is}
 use Rattle.vm_kernel.proofs.Tasks.{Keeps, entries_changed, inside_kept, length_entered, lives_of, tasks_entered}
+use Rattle.vm_kernel.proofs.Uses.{still, unfilled, uses_entered}
 
 -- what an allocation that isn't refused has
 pub record MayRange (size : ℕ) (k : Parts) (ids : Ids) (task address bytes : ℕ) : Type 0 where
@@ -137,8 +142,8 @@ keeps_new old new n row none put =
 
 -- a region that is made over the object with its number
 own_made : (b : Bool) (object pages region : ℕ) (was : Region) → (b ≡ true → object ≡ region) → IsOwn was region → IsOwn (R.made b object pages was) region
-own_made true object pages region was is own = record { top = is refl; shift = refl }
-own_made false object pages region was is own = record { top = own.top; shift = own.shift }
+own_made true object pages region was is own = record { unmarked = refl; top = is refl; shift = refl }
+own_made false object pages region was is own = record { unmarked = own.unmarked; top = own.top; shift = own.shift }
 
 eqb_means : (a b : ℕ) → (a == b) ≡ true → b ≡ a
 eqb_means a b same_number = elim (eqb_tells a b) [ inl same ↦ sym same.1 | inr apart ↦ absurd (let bad : false ≡ true = sym apart.0 ∙ same_number in cc) ]
@@ -245,31 +250,6 @@ entries_range size maps new chains chains2 task n address bytes object has none 
 pub pages_range : (fs : FrameTable) (rs : ResidentTable) (os os2 : ObjectTable) (chains chains2 : ChainTable) (local_at : ℕ → ℕ → Local) → HasPages fs rs os chains local_at → SameMarks os os2 → Keeps chains chains2 → HasPages fs rs os2 chains2 local_at
 pages_range fs rs os os2 chains chains2 local_at has marks keeps = record { shown = λ o p. has.shown o p ∙ ap (shown fs (row_at rs o p)) (sym (marks.at o p)); live = λ o p row found. keeps.there o (has.live o p row found) }
 
--- a page of a region that isn't there isn't here
-no_page : (fs : FrameTable) (rs : ResidentTable) (os : ObjectTable) (chains : ChainTable) (local_at : ℕ → ℕ → Local) (n r p : ℕ) → HasPages fs rs os chains local_at → region_at chains n ≡ None → n ≡ r → row_at rs r p ≡ None
-no_page fs rs os chains local_at n r p has none same = go (row_at rs r p) refl
-  where
-    go : (x : Option PageRow) → row_at rs r p ≡ x → row_at rs r p ≡ None
-    go None is = is
-    go (Some row) is = absurd (not_there chains n r none same (has.live r p row is))
-
-flat_range : (size : ℕ) (fs : FrameTable) (rs : ResidentTable) (os : ObjectTable) (chains chains2 : ChainTable) (local_at : ℕ → ℕ → Local) (flat_at : ℕ → ℕ → List ℕ) (n : ℕ) (row : RegionRow) → HasFlat size fs rs chains flat_at → HasPages fs rs os chains local_at → region_at chains n ≡ None
-    → PutsRegion n (Some row) chains chains2 → HasFlat size fs rs chains2 (λ r p. if n == r then replicate size 0 else flat_at r p)
-flat_range size fs rs os chains chains2 local_at flat_at n row has pages none put =
-    record {
-      flat = λ r p used. elim (region_cases n (Some row) chains chains2 put r) [
-        | inl same ↦ yes r p same.0 ∙ sym (ap (bytes_behind size fs) (no_page fs rs os chains local_at n r p pages none same.0))
-        | inr apart ↦ others r p apart.0 ∙ has.flat r p (subst (λ (z : ℕ). 0 < z) (ap entries_in_row apart.1) used)
-      ];
-      clean = has.clean;
-    }
-  where
-    yes : (r p : ℕ) → n ≡ r → (if n == r then replicate size 0 else flat_at r p) ≡ replicate size 0
-    yes r p same = elim (eqb_tells n r) [ inl is ↦ ap (λ b. if b then replicate size 0 else flat_at r p) is.0 | inr apart ↦ absurd (apart.1 same) ]
-
-    others : (r p : ℕ) → (n ≡ r → ⊥) → (if n == r then replicate size 0 else flat_at r p) ≡ flat_at r p
-    others r p apart = elim (eqb_tells n r) [ inl is ↦ absurd (apart is.1) | inr other ↦ ap (λ b. if b then replicate size 0 else flat_at r p) other.0 ]
-
 used_range : (chains chains2 : ChainTable) (n : ℕ) (object : ObjectId) (pages : ℕ) → AllUsed chains → PutsRegion n (Some (new_region object pages)) chains chains2 → AllUsed chains2
 used_range chains chains2 n object pages used put r row found = elim (region_cases n (Some (new_region object pages)) chains chains2 put r) [
   | inl same ↦ let count : 1 ≡ row.entries = ap (λ z. z.entries) (some_is (new_region object pages) row (sym same.1 ∙ found)) in omega arith
@@ -323,10 +303,59 @@ with_range k k2 maps =
       chains = k2.chains;
     }
 
-rests_range : (header : Header) (task : TaskId) (address bytes : ℕ) (past : List Event) (k k2 : Parts) (ids : Ids) (maps : Mapped) → Rests header k ids past → MayRange header.size k ids task.0 address bytes → task.0 < 1024
+-- a region that was made may be used, up to its first entry
+made_use : (header : Header) (n r pages : ℕ) (object : ObjectId) (past : List Event) → IsLined past → n ≡ r → in_use header 0 r (event.RegionMade (record { 0 = n }) object pages ∷ past) ≡ true
+made_use header n r pages object past lined same = elim (eqb_tells r n) [
+  | inl is ↦ ap (λ b. if b then made_here 0 past else in_use header 0 r past) is.0 ∙ ap (made_here 0) lined.is
+  | inr apart ↦ absurd (apart.1 (sym same))
+]
+
+other_use : (header : Header) (n r pages : ℕ) (object : ObjectId) (past : List Event) → r ≢ n → in_use header 0 r (event.RegionMade (record { 0 = n }) object pages ∷ past) ≡ in_use header 0 r past
+other_use header n r pages object past apart = elim (eqb_tells r n) [
+  | inl is ↦ absurd (apart is.1)
+  | inr other ↦ ap (λ b. if b then made_here 0 past else in_use header 0 r past) other.0
+]
+
+range_uses : (header : Header) (task : TaskId) (address bytes : ℕ) (past : List Event) (k : Parts) (ids : Ids) (maps : Mapped) (object : ObjectId) (pages : ℕ) → IsLined past → Rests header k ids past → MayRange header.size k ids task.0 address bytes → task.0 < most_tasks
+    → ChangesOnly k.maps maps task.0 (Some (entered (whole_entry address bytes (record { 0 = ids.next_region })) (rows_in task.0 k.maps)))
+    → HasUse maps (λ r. in_use header 0 r (got task (whole_entry address bytes (record { 0 = ids.next_region })) ∷ event.RegionMade (record { 0 = ids.next_region }) object pages ∷ past)) (tasks past)
+range_uses header task address bytes past k ids maps object pages lined rests may below changes =
+    let m = rests.matches in
+    let n = ids.next_region in
+    let made : Event = event.RegionMade (record { 0 = n }) object pages in
+    uses_entered k.maps maps (λ r. in_use header 0 r (made ∷ past)) (tasks past) task.0 (whole_entry address bytes (record { 0 = n })) (lives_on 0 task.0 (made ∷ past))
+    (λ r apart. other_use header n r pages object past apart ∙ m.uses.used r) (made_use header n n pages object past lined refl) m.uses.among changes may.lives below
+    (ap (is_on 0) (m.tasks.hosts task.0 ∙ ap host_for may.lives))
+
+range_licensed : (header : Header) (outside : Outside) (task : TaskId) (address bytes : ℕ) (past : List Event) (k : Parts) (ids : Ids) → IsLined past → Rests header k ids past → MayRange header.size k ids task.0 address bytes
+    → AllLicensed header outside (command.Allocate task address bytes) (ranged task ids address bytes (bytes / header.size)) past
+range_licensed header outside task address bytes past k ids lined rests may =
+    let m = rests.matches in
+    let n = ids.next_region in
+    let pages = bytes / header.size in
+    let object : ObjectId = record { 0 = ids.next_object } in
+    let made : Event = event.RegionMade (record { 0 = n }) object pages in
+    let numbers : (n ≡ next_region header past) × (ids.next_object ≡ next_object header past) = (m.regions.region, m.regions.object) in
+    let sized : (region_of header n (made ∷ past)).pages ≡ pages = ap (λ z. z.pages) (made_test n n ids.next_object pages (region_of header n past) refl) in
+    let own = made_use header n n pages object past lined refl in
+    let enters : Enters header task.0 bytes n 0 (made ∷ past) =
+    record {
+      host = 0;
+      lives = m.tasks.hosts task.0 ∙ ap host_for may.lives;
+      whole = may.whole;
+      inside = omega (arith, sized);
+      made = let number = m.regions.region in omega arith;
+      used = λ temporary. own;
+      file = λ is. own;
+      unfilled = unfilled n (tasks past) (made ∷ past) m.tasks.none;
+    } in
+    (licensed header outside (command.Allocate task address bytes) (got task (whole_entry address bytes (record { 0 = n }))) (made ∷ past) refl enters,
+    (licensed header outside (command.Allocate task address bytes) made past m.controls.created numbers, tt))
+
+rests_range : (header : Header) (task : TaskId) (address bytes : ℕ) (past : List Event) (k k2 : Parts) (ids : Ids) (maps : Mapped) → IsLined past → Rests header k ids past → MayRange header.size k ids task.0 address bytes → task.0 < 1024
     → MadeRange (record { 0 = ids.next_region }) (record { 0 = ids.next_object }) (bytes / header.size) k k2 → ChangesOnly k.maps maps task.0 (Some (entered (whole_entry address bytes (record { 0 = ids.next_region })) (rows_in task.0 k.maps)))
     → Rests header (with_range k k2 maps) (ids_after ids) (ranged task ids address bytes (bytes / header.size) ++ past)
-rests_range header task address bytes past k k2 ids maps rests may below made changes =
+rests_range header task address bytes past k k2 ids maps lined rests may below made changes =
     let m = rests.matches in
     let pages = bytes / header.size in
     let n = ids.next_region in
@@ -346,31 +375,32 @@ rests_range header task address bytes past k k2 ids maps rests may below made ch
             regions = regions_made k.chains k2.chains k.objects k2.objects ids (λ r. region_of header r past) (λ o. backing_of header o past) (next_region header past) (next_object header past) pages m.regions made.region_row made.object_row;
             entries = entries_range header.size k.maps maps k.chains k2.chains task.0 n address bytes object m.entries none made.region_row changes below may.whole may.some may.below may.room;
             pages = pages_range k.frames k.resident k.objects k2.objects k.chains k2.chains local_at m.pages made.marks keeps;
-            flat = flat_range header.size k.frames k.resident k.objects k.chains k2.chains local_at (λ r p. flat_page header.size r p past) n (new_region object pages) m.flat m.pages none made.region_row;
+            uses = range_uses header task address bytes past k ids maps object (bytes / header.size) lined rests may (rw most_is below) changes;
+            controls = still (λ o. last_control 0 o past) (λ o. live_control 0 o past) (created past) m.controls;
             stores = m.stores;
             frames = m.frames;
           };
       used = used_range k.chains k2.chains n object pages rests.used made.region_row;
     }
 
-pub began_range : (header : Header) (task : TaskId) (address bytes pages : ℕ) (past : List Event) (k k2 : Parts) (ids : Ids) (before after : List Event) (maps : Mapped) → Starts header (command.Allocate task address bytes) past k ids before → pages ≡ bytes / k.size
+pub began_range : (header : Header) (outside : Outside) (task : TaskId) (address bytes pages : ℕ) (past : List Event) (k k2 : Parts) (ids : Ids) (before after : List Event) (maps : Mapped) → Starts header (command.Allocate task address bytes) past k ids before → pages ≡ bytes / k.size
     → MadeRange (record { 0 = ids.next_region }) (record { 0 = ids.next_object }) pages k k2
     → ChangesOnly k2.maps maps task.0 (Some (entered (whole_entry address bytes (record { 0 = ids.next_region })) (rows_in task.0 k2.maps))) → after ≡ ranged task ids address bytes pages ++ before
     → Began header outside (command.Allocate task address bytes) past (record k2 { maps = maps }) (ids_after ids) after
-began_range header task address bytes pages past k k2 ids before after maps s count made changes told =
+began_range header outside task address bytes pages past k k2 ids before after maps s count made changes told =
     let m = s.rests.matches in
     let whole : pages ≡ bytes / header.size = count ∙ ap (λ z. bytes / z) m.size in
     let events = ranged task ids address bytes (bytes / header.size) in
     let log : after ≡ events = told ∙ (ap (λ z. ranged task ids address bytes z ++ before) whole ∙ ap (λ z. events ++ z) s.nothing) in
     let made_whole = subst (λ (z : ℕ). MadeRange (record { 0 = ids.next_region }) (record { 0 = ids.next_object }) z k k2) whole made in
     let changed = subst (λ (z : Mapped). ChangesOnly z maps task.0 (Some (entered (whole_entry address bytes (record { 0 = ids.next_region })) (rows_in task.0 z)))) made.maps changes in
-    let rests = rests_range header task address bytes past k k2 ids maps s.rests (may_range header task address bytes past k ids before s) s.range.task made_whole changed in
+    let rests = rests_range header task address bytes past k k2 ids maps s.begins s.rests (may_range header task address bytes past k ids before s) s.range.task made_whole changed in
     let first = event.RegionMade (record { 0 = ids.next_region }) (record { 0 = ids.next_object }) (bytes / header.size) ∷ got task (whole_entry address bytes (record { 0 = ids.next_region })) ∷ [] in
     let is : head header past (command.Allocate task address bytes) ≡ Some first = rw (← m.regions.region, ← m.regions.object) refl in
     let fine = suffices header k.frames past m.frames in
     let began : Began header outside (command.Allocate task address bytes) past (with_range k k2 maps) (ids_after ids) events =
-    began_head header outside (command.Allocate task address bytes) past (with_range k k2 maps) (ids_after ids) events first is refl
-    (record { own_bytes = (tt, (tt, tt)); flat_bytes = (tt, (tt, tt)); frames = (fine, (fine, tt)); inner = (tt, (tt, tt)) })
+    began_head header outside (command.Allocate task address bytes) past (with_range k k2 maps) (ids_after ids) events first s.begins is refl
+    (record { licensed = range_licensed header outside task address bytes past k ids s.begins s.rests (may_range header task address bytes past k ids before s); own_bytes = (tt, (tt, tt)); copies = (tt, (tt, tt)); frames = (fine, (fine, tt)); inner = (tt, (tt, tt)) })
     tt rests in
     let same : record k2 { maps = maps } ≡ with_range k k2 maps =
     λ i. record { alloc = k2.alloc; host = made.host i; size = made.size i; frames = made.frames i; resident = made.resident i; queues = made.queues i; objects = k2.objects; maps = maps; chains = k2.chains } in

@@ -1,5 +1,5 @@
 -- A fork makes a child, and gives it what is shared, one entry after another.
-use Rattle.std.proofs.Common.{◌≡◌, nat_lt, ℕ, ◌+◌, ◌*◌, ◌<◌, ◌≤◌, ◌^◌, ◌==◌, not, Bool, true, false, List, [], ◌∷◌, ◌++◌, length, take, drop, reverse, slice_get, refl, ap, sym, ◌∙◌, subst, arith, Some, None, Option, inl, inr, length-append}
+use Rattle.std.proofs.Common.{◌≡◌, nat_lt, ℕ, ◌+◌, ◌*◌, ◌%◌, ◌<◌, ◌≤◌, ◌^◌, ◌==◌, not, Bool, true, false, List, [], ◌∷◌, ◌++◌, length, take, drop, reverse, slice_get, refl, ap, sym, ◌∙◌, subst, arith, Some, None, Option, inl, inr, length-append}
 use Rattle.std.proofs.lemmas.Bool.Decides.{eqb_tells, nat_tests}
 use Rattle.std.proofs.lemmas.List.{reverse-append}
 use Rattle.std.specs.Prelude.{if◌then◌else◌, is_none, is_some, unwrap_or, IfSome, IsSome, ◌≢◌}
@@ -9,35 +9,41 @@ use Rattle.vm_base.specs.declared.ids.TaskId.{TaskId}
 use Rattle.vm_base.specs.Entries.{AreEntries, HasWholePages, entered, is_range, most_entries}
 use Rattle.vm_model.specs.declared.event.Event.{Event}
 use Rattle.vm_model.specs.declared.event.Event.TheVariants as event
+use Rattle.vm_model.specs.declared.command.Command.{Command}
 use Rattle.vm_model.specs.declared.command.Command.TheVariants as command
 use Rattle.vm_model.specs.declared.script.Header.{Header}
-use Rattle.vm_model.specs.Bytes.{FlatBytes, OwnBytes}
-use Rattle.vm_model.specs.Flat.{flat_page}
+use Rattle.vm_model.specs.Controls.{last_control, live_control}
 use Rattle.vm_legal.specs.Follows.{gets, head}
 use Rattle.vm_legal.specs.Frames.{Suffice, frames_used}
-use Rattle.vm_model.specs.Local.{local}
+use Rattle.vm_model.specs.Local.{is_on, local}
 use Rattle.vm_legal.specs.Refusal.{is_fork_full, where_true}
 use Rattle.vm_model.specs.Regions.{backing_of, next_object, next_region, region_of}
 use Rattle.vm_model.specs.Rows.{AllRows, rows_entered}
 use Rattle.vm_model.specs.Tasks.{copies, entries_of, host_of, is_shared, shared}
 use Rattle.vm_model.specs.Waiting.{waiting}
+use Rattle.vm_legal.specs.Bytes.{CopiesCurrent, OwnBytes}
+use Rattle.vm_legal.specs.Licences.{AllLicensed, Enters, created}
+use Rattle.vm_legal.specs.Living.{lives_on, tasks}
+use Rattle.vm_legal.specs.Outside.{Outside}
+use Rattle.vm_legal.specs.Used.{in_use}
 use Rattle.vm_maps.specs.Maps.{ChangesOnly, Mapped, entries_in, rows_in}
-use Rattle.vm_shadow.specs.Chains.{ChainTable}
+use Rattle.vm_shadow.specs.Chains.{ChainTable, region_at}
 use Rattle.vm_shadow.specs.declared.ids.Ids.{Ids}
 use Rattle.vm_kernel.specs.Begun.{Began, IsInner, Starts}
 use Rattle.vm_kernel.specs.Counts.{count_by, most_tasks}
 use Rattle.vm_kernel.specs.Forking.{CanShare, HasForked, Shares, got, with_child}
 use Rattle.vm_kernel.specs.Matches.{HasEntries, IsInside, Matches, host_for, the_host}
-use Rattle.vm_kernel.specs.Places.{entries_in_row, has_region, place_of, region_entries}
+use Rattle.vm_kernel.specs.Places.{entries_in_row, has_region, pages_in, place_of, region_entries, region_pages}
 use Rattle.vm_kernel.specs.declared.parts.Parts.{Parts}
 use Rattle.vm_kernel.proofs.Counts.{by_few, most_is, on_entered}
 use Rattle.vm_kernel.proofs.Forks.{behind, entered_behind, few_shared, free_behind, gets_more, row_among, rows_shared, shared_more, shared_one, shared_other, split_at, take_all, whole_among}
-use Rattle.vm_kernel.proofs.Growing.{suffices}
+use Rattle.vm_kernel.proofs.Growing.{licensed, suffices}
 use Rattle.vm_kernel.proofs.Heads.{Heads, began_head, passed}
 use Rattle.vm_kernel.proofs.Prompting.{region_row}
 use Rattle.vm_kernel.proofs.Recounts.{Recounts, more_taken, recounts_put}
-use Rattle.vm_kernel.proofs.Rewrites.{entries_changed, recount_flat, recount_pages, recount_regions, recount_used}
+use Rattle.vm_kernel.proofs.Rewrites.{entries_changed, lives_below, recount_pages, recount_regions, recount_used}
 use Rattle.vm_kernel.proofs.Tasks.{entries_made, free_task, length_entered, lives_of, tasks_entered, tasks_made}
+use Rattle.vm_kernel.proofs.Uses.{still, unfilled, uses_entered, uses_made}
 
 -- a task that can be forked lives, its child doesn't, and nothing is copied
 pub record MayFork (k : Parts) (task child : ℕ) : Type 0 where
@@ -71,9 +77,9 @@ pub same_rows : (a b : List Entry) (o : Option (List Entry)) → o ≡ Some a �
 same_rows a b o one two = let both : ◌≡◌ {A = Option (List Entry)} (Some a) (Some b) = sym one ∙ two in cc
 
 -- nothing has been shared yet
-pub fork_start : (header : Header) (task child : TaskId) (past : List Event) (k : Parts) (ids : Ids) (before after : List Event) (maps : Mapped) → Starts header (command.Fork task child) past k ids before
+pub fork_start : (header : Header) (outside : Outside) (task child : TaskId) (past : List Event) (k : Parts) (ids : Ids) (before after : List Event) (maps : Mapped) → Starts header (command.Fork task child) past k ids before
     → ChangesOnly k.maps maps child.0 (Some []) → after ≡ event.TaskMade child k.host ∷ before → HasForked header outside task child (rows_in task.0 k.maps) 0 past (record k { maps = maps }) ids after
-fork_start header task child past k ids before after maps s changes told =
+fork_start header outside task child past k ids before after maps s changes told =
     let m = s.rests.matches in
     let may = may_fork header task child past k ids before s in
     let apart : task.0 ≢ child.0 = λ e. (let bad : None ≡ Some (rows_in task.0 k.maps) = sym may.free ∙ (ap (λ z. entries_in z k.maps) (sym e) ∙ may.lives) in cc) in
@@ -91,7 +97,8 @@ fork_start header task child past k ids before after maps s changes told =
             regions = m.regions;
             entries = entries_made header.size k.maps maps k.chains child.0 m.entries changes may.free s.range.1;
             pages = m.pages;
-__FLATM__
+            uses = uses_made k.maps maps (λ r. in_use header 0 r past) (tasks past) child.0 m.uses changes may.free (rw most_is s.range.1);
+            controls = still (λ o. last_control 0 o past) (λ o. live_control 0 o past) (created past) m.controls;
             stores = m.stores;
             frames = m.frames;
           });
@@ -99,6 +106,7 @@ __FLATM__
       others = changes.others task.0 apart ∙ may.lives;
       own = changes.changed;
       told = log;
+      licensed = subst (λ (z : List Event). AllLicensed header outside (command.Fork task child) z past) (sym log) (licensed header outside (command.Fork task child) (event.TaskMade child the_host) past m.controls.created tt, tt);
     }
 
 -- the number of a region's entries is far below its limit
@@ -110,9 +118,9 @@ few_entries size maps chains r has there =
     omega (arith, same, has.counts r row.0 row.1, most)
 
 -- an entry of the task can be shared
-pub can_share : (header : Header) (task child : TaskId) (rows : List Entry) (i : ℕ) (row : Entry) (past : List Event) (k : Parts) (ids : Ids) (events : List Event) → HasForked header outside task child rows i past k ids events → AreEntries k.maps.size rows → slice_get rows i ≡ Some row
+pub can_share : (header : Header) (outside : Outside) (task child : TaskId) (rows : List Entry) (i : ℕ) (row : Entry) (past : List Event) (k : Parts) (ids : Ids) (events : List Event) → HasForked header outside task child rows i past k ids events → AreEntries k.maps.size rows → slice_get rows i ≡ Some row
     → CanShare child.0 row k
-can_share header task child rows i row past k ids events f sound found =
+can_share header outside task child rows i row past k ids events f sound found =
     let front = take i rows in
     let left = drop (i + 1) rows in
     let is = split_at rows i row found in
@@ -142,9 +150,9 @@ can_share header task child rows i row past k ids events f sound found =
     }
 
 -- an entry more was shared
-pub fork_shared : (header : Header) (task child : TaskId) (rows : List Entry) (i : ℕ) (row : Entry) (past : List Event) (k k2 : Parts) (ids : Ids) (events after : List Event) → HasForked header outside task child rows i past k ids events → AreEntries k.maps.size rows → slice_get rows i ≡ Some row
+pub fork_shared : (header : Header) (outside : Outside) (task child : TaskId) (rows : List Entry) (i : ℕ) (row : Entry) (past : List Event) (k k2 : Parts) (ids : Ids) (events after : List Event) → HasForked header outside task child rows i past k ids events → AreEntries k.maps.size rows → slice_get rows i ≡ Some row
     → is_shared row.inherit ≡ true → Shares child row k k2 events after → HasForked header outside task child rows (i + 1) past k2 ids after
-fork_shared header task child rows i row past k k2 ids events after f sound found is_here s =
+fork_shared header outside task child rows i row past k k2 ids events after f sound found is_here s =
     let m = f.matches in
     let front = take i rows in
     let left = drop (i + 1) rows in
@@ -170,6 +178,25 @@ fork_shared header task child rows i row past k k2 ids events after f sound foun
     entries_changed size child.0 k.maps k2.maps k.chains k2.chains count_at (Some (entered row (rows_in child.0 k.maps))) [] m.entries s.maps lives recounts
     (λ q there. omega (arith, on_entered q row (rows_in child.0 k.maps), step q)) entered_all tt (omega (arith, length_entered row (rows_in child.0 k.maps), ap length own, count, fewer, most)) in
     let e = got child row in
+    let below = lives_below size child.0 k.maps k.chains [] m.entries lives in
+    let home : host_of child.0 (events ++ past) ≡ Some 0 = m.tasks.hosts child.0 ∙ ap host_for lives in
+    let lives_here : lives_on 0 child.0 (events ++ past) ≡ true = ap (is_on 0) home in
+    let there = region_row k.chains r one.region in
+    let used : in_use header 0 r (events ++ past) ≡ true = m.uses.used r ∙ some_use (count_by most_tasks r k.maps) (let counts = m.entries.counts r there.0 there.1 in let some = f.used r there.0 there.1 in omega arith) in
+    let pages : (region_of header r (events ++ past)).pages ≡ region_pages k.chains r = ap (λ z. z.pages) (m.regions.rows r there.0 there.1) ∙ sym (ap pages_in there.1) in
+    let inside = one.inside.whole in
+    let whole_pages = whole_among k.maps.size front row left order.whole in
+    let enters : Enters header child.0 row.bytes r row.offset (events ++ past) =
+    record {
+      host = 0;
+      lives = home;
+      whole = subst (λ (z : ℕ). row.bytes % z ≡ 0) m.tasks.sized whole_pages.bytes;
+      inside = omega (arith, inside, pages);
+      made = by_number (nat_lt r (next_region header (events ++ past))) refl;
+      used = λ temporary. used;
+      file = λ is. used;
+      unfilled = unfilled r (tasks (events ++ past)) (events ++ past) m.tasks.none;
+    } in
     record {
       apart = f.apart;
       matches =
@@ -183,7 +210,8 @@ fork_shared header task child rows i row past k k2 ids events after f sound foun
             regions = rw s.objects (recount_regions count_at k.chains k2.chains k.objects ids (λ q. region_of header q (events ++ past)) (λ o. backing_of header o (events ++ past)) (next_region header (events ++ past)) (next_object header (events ++ past)) recounts m.regions);
             entries = entries;
             pages = rw (s.frames, s.resident, s.objects) (recount_pages count_at k.frames k.resident k.objects k.chains k2.chains (λ o p. local size 0 (place_of o p) (events ++ past)) recounts m.pages);
-            flat = rw (s.frames, s.resident) (recount_flat count_at size k.frames k.resident k.chains k2.chains (λ q p. flat_page size q p (events ++ past)) recounts (λ q there some. had q there) m.flat);
+            uses = uses_entered k.maps k2.maps (λ q. in_use header 0 q (events ++ past)) (tasks (events ++ past)) child.0 row (lives_on 0 child.0 (events ++ past)) (λ q apart. m.uses.used q) used m.uses.among s.maps lives below lives_here;
+            controls = still (λ o. last_control 0 o (events ++ past)) (λ o. live_control 0 o (events ++ past)) (created (events ++ past)) m.controls;
             stores = rw s.resident m.stores;
             frames = rw s.frames m.frames;
           });
@@ -191,8 +219,22 @@ fork_shared header task child rows i row past k k2 ids events after f sound foun
       others = s.maps.others task.0 f.apart ∙ f.others;
       own = s.maps.changed ∙ ap Some (ap (entered row) own ∙ (last ∙ sym more));
       told = s.told ∙ (ap (λ z. e ∷ z) f.told ∙ sym (with_one (shared front) (shared (take (i + 1) rows)) more));
+      licensed = subst (λ (z : List Event). AllLicensed header outside (command.Fork task child) z past) (sym s.told) (licensed header outside (command.Fork task child) e (events ++ past) m.controls.created enters, f.licensed);
     }
   where
+    some_use : (n : ℕ) → 0 < n → nat_lt 0 n ≡ true
+    some_use n some = grind (arith, nat_tests)
+
+    by_number : (b : Bool) → nat_lt row.region.0 (next_region header (events ++ past)) ≡ b → row.region.0 < next_region header (events ++ past)
+    by_number true is = grind (arith, nat_tests)
+    by_number false is =
+        let m = f.matches in
+        let high : next_region header (events ++ past) ≤ row.region.0 = grind (arith, nat_tests) in
+        let none : region_at k.chains row.region.0 ≡ None = m.regions.unmade row.region.0 high in
+        let all = subst (λ (z : List Entry). AllRows (IsInside header.size k.chains) z) (ap (λ z. unwrap_or z []) f.others ∙ split_at rows i row found) (m.entries.inside task.0) in
+        let inside : IsInside header.size k.chains row = row_among (IsInside header.size k.chains) (take i rows) row (drop (i + 1) rows) all in
+        absurd (let bad : false ≡ true = sym (ap is_some none) ∙ inside.region in cc)
+
     with_one : (before now : List Entry) → now ≡ before ++ row ∷ [] → with_child child now ≡ got child row ∷ with_child child before
     with_one before now is = ap (with_child child) is
         ∙ (ap (λ z. reverse z ++ event.TaskMade child the_host ∷ []) (gets_more child before (row ∷ []))
@@ -212,9 +254,9 @@ fork_shared header task child rows i row past k k2 ids events after f sound foun
         omega arith
 
 -- an entry isn't shared
-pub fork_other : (header : Header) (task child : TaskId) (rows : List Entry) (i : ℕ) (row : Entry) (past : List Event) (k : Parts) (ids : Ids) (events : List Event) → HasForked header outside task child rows i past k ids events → slice_get rows i ≡ Some row → is_shared row.inherit ≡ false
+pub fork_other : (header : Header) (outside : Outside) (task child : TaskId) (rows : List Entry) (i : ℕ) (row : Entry) (past : List Event) (k : Parts) (ids : Ids) (events : List Event) → HasForked header outside task child rows i past k ids events → slice_get rows i ≡ Some row → is_shared row.inherit ≡ false
     → HasForked header outside task child rows (i + 1) past k ids events
-fork_other header task child rows i row past k ids events f found isnt =
+fork_other header outside task child rows i row past k ids events f found isnt =
     let none : shared (take i rows) ++ shared (row ∷ []) ≡ shared (take i rows) = ap (λ z. shared (take i rows) ++ z) (shared_other row isnt) ∙ nothing (shared (take i rows)) in
     let same : shared (take (i + 1) rows) ≡ shared (take i rows) = ap shared (more_taken rows i row found) ∙ (shared_more (take i rows) (row ∷ []) ∙ none) in
     record {
@@ -224,6 +266,7 @@ fork_other header task child rows i row past k ids events f found isnt =
       others = f.others;
       own = f.own ∙ ap Some (sym same);
       told = f.told ∙ ap (with_child child) (sym same);
+      licensed = f.licensed;
     }
   where
     nothing : (rows : List Entry) → rows ++ [] ≡ rows
@@ -233,7 +276,7 @@ fork_other header task child rows i row past k ids events f found isnt =
 -- an event that carries no bytes, and takes no frame
 record Quiet (header : Header) (e : Event) : Type 0 where
   own : (past : List Event) → OwnBytes header e past
-  flat : (past : List Event) → FlatBytes header e past
+  copies : (outside : Outside) (past : List Event) → CopiesCurrent header outside e past
   frames : (past : List Event) → frames_used header.size 0 (e ∷ past) ≡ frames_used header.size 0 past
   inner : IsInner e
 
@@ -242,10 +285,10 @@ AllQuiet header [] = Unit {0}
 AllQuiet header (e ∷ events) = Quiet header e × AllQuiet header events
 
 quiet_made : (header : Header) (child : TaskId) → Quiet header (event.TaskMade child the_host)
-quiet_made header child = record { own = λ past. tt; flat = λ past. tt; frames = λ past. refl; inner = tt }
+quiet_made header child = record { own = λ past. tt; copies = λ outside past. tt; frames = λ past. refl; inner = tt }
 
 quiet_got : (header : Header) (child : TaskId) (row : Entry) → Quiet header (got child row)
-quiet_got header child row = record { own = λ past. tt; flat = λ past. tt; frames = λ past. refl; inner = tt }
+quiet_got header child row = record { own = λ past. tt; copies = λ outside past. tt; frames = λ past. refl; inner = tt }
 
 quiet_append : (header : Header) (group more : List Event) → AllQuiet header group → AllQuiet header more → AllQuiet header (group ++ more)
 quiet_append header [] more one two = two
@@ -260,21 +303,22 @@ quiet_used : (header : Header) (events past : List Event) → AllQuiet header ev
 quiet_used header [] past all = refl
 quiet_used header (e ∷ events) past all = all.0.frames (events ++ past) ∙ quiet_used header events past all.1
 
-heads_quiet : (header : Header) (events past : List Event) → AllQuiet header events → Suffice header 0 past → Heads header past events
-heads_quiet header [] past all fine = record { own_bytes = tt; flat_bytes = tt; frames = tt; inner = tt }
-heads_quiet header (e ∷ events) past all fine =
-    let later = heads_quiet header events past all.1 fine in
+heads_quiet : (header : Header) (outside : Outside) (doing : Command) (events past : List Event) → AllLicensed header outside doing events past → AllQuiet header events → Suffice header 0 past → Heads header outside doing past events
+heads_quiet header outside doing [] past causes all fine = record { licensed = tt; own_bytes = tt; copies = tt; frames = tt; inner = tt }
+heads_quiet header outside doing (e ∷ events) past causes all fine =
+    let later = heads_quiet header outside doing events past causes.1 all.1 fine in
     record {
+      licensed = causes;
       own_bytes = (all.0.own (events ++ past), later.own_bytes);
-      flat_bytes = (all.0.flat (events ++ past), later.flat_bytes);
+      copies = (all.0.copies outside (events ++ past), later.copies);
       frames = (subst (λ (z : ℕ). IfSome (slice_get (reverse header.frames.items) 0) (λ frames. z ≤ frames)) (sym (quiet_used header (e ∷ events) past all)) fine, later.frames);
       inner = (all.0.inner, later.inner);
     }
 
 -- all that is shared was given
-pub began_fork : (header : Header) (task child : TaskId) (i : ℕ) (past : List Event) (k k2 : Parts) (ids : Ids) (before events : List Event) → Starts header (command.Fork task child) past k ids before → HasForked header outside task child (rows_in task.0 k.maps) i past k2 ids events → length (rows_in task.0 k.maps) ≤ i
+pub began_fork : (header : Header) (outside : Outside) (task child : TaskId) (i : ℕ) (past : List Event) (k k2 : Parts) (ids : Ids) (before events : List Event) → Starts header (command.Fork task child) past k ids before → HasForked header outside task child (rows_in task.0 k.maps) i past k2 ids events → length (rows_in task.0 k.maps) ≤ i
     → Began header outside (command.Fork task child) past k2 ids events
-began_fork header task child i past k k2 ids before events s f end =
+began_fork header outside task child i past k k2 ids before events s f end =
     let m = s.rests.matches in
     let may = may_fork header task child past k ids before s in
     let rows = rows_in task.0 k.maps in
@@ -283,4 +327,4 @@ began_fork header task child i past k k2 ids before events s f end =
     let whole : events ≡ reverse first = f.told ∙ (ap (λ z. with_child child (shared z)) (take_all rows i end) ∙ sym turned) in
     let quiet : AllQuiet header events = subst (AllQuiet header) (sym (whole ∙ turned)) (quiet_append header (reverse (gets child (shared rows))) (event.TaskMade child the_host ∷ []) (quiet_gets header child (shared rows)) (quiet_made header child, tt)) in
     let is : head header past (command.Fork task child) ≡ Some first = rw (m.tasks.hosts task.0, m.tasks.rows task.0, ap host_for may.lives, may.shares) refl in
-    began_head header outside (command.Fork task child) past k2 ids events first is whole (heads_quiet header events past quiet (suffices header k.frames past m.frames)) tt (record { matches = f.matches; used = f.used })
+    began_head header outside (command.Fork task child) past k2 ids events first s.begins is whole (heads_quiet header outside (command.Fork task child) events past f.licensed quiet (suffices header k.frames past m.frames)) tt (record { matches = f.matches; used = f.used })

@@ -8,7 +8,7 @@ use Rattle.vm_kernel.proofs.parts.Parts.fork.Goals as goal
 use Rattle.vm_kernel.proofs.parts.Parts.fork.Goals.{then-is_shared+in_ok-share, else-is_shared}
 
 pub all-init : goal.all-init
-all-init g c = fork_start g.given.header c.args.task c.args.child g.given.past c.args.self.now c.args.ids.now c.args.log.now.items _ c.add_task.new.self c.requires c.in_ok-add_task.ensures.ok c.in_ok-push.ensures.ok
+all-init g c = fork_start g.given.header g.given.outside c.args.task c.args.child g.given.past c.args.self.now c.args.ids.now c.args.log.now.items _ c.add_task.new.self c.requires c.in_ok-add_task.ensures.ok c.in_ok-push.ensures.ok
 
 pub entries-requires-in-all : goal.entries-requires-in-all
 entries-requires-in-all g c = lives_some _ _ c.all.invariant.others
@@ -20,7 +20,7 @@ share-requires g c =
     let same = same_rows _ _ _ c.entries-in-all.ensures.value f.others in
     let sound = subst (AreEntries c.all.self.maps.size) same c.entries-in-all.ensures.sound in
     let found = subst (λ (z : List Entry). slice_get z c.all.i ≡ Some c.at-entry.result.now) same c.at-entry.ensures in
-    can_share g.given.header c.args.task c.args.child rows c.all.i c.at-entry.result.now g.given.past c.all.self c.args.ids.now c.all.log.items f sound found
+    can_share g.given.header g.given.outside c.args.task c.args.child rows c.all.i c.at-entry.result.now g.given.past c.all.self c.args.ids.now c.all.log.items f sound found
 
 pub all-preserved : goal.all-preserved
 all-preserved g c =
@@ -32,15 +32,15 @@ all-preserved g c =
     elim c.if-is_shared.branch [
       | then-is_shared+in_ok-share w ↦
           rw (w.self-is, w.log-is)
-          (fork_shared g.given.header c.args.task c.args.child rows c.all.i c.at-entry.result.now g.given.past c.all.self _ c.args.ids.now c.all.log.items _ f sound found (sym c.is_shared.ensures ∙ w.if-is_shared.true) w.in_ok-share.ensures)
+          (fork_shared g.given.header g.given.outside c.args.task c.args.child rows c.all.i c.at-entry.result.now g.given.past c.all.self _ c.args.ids.now c.all.log.items _ f sound found (sym c.is_shared.ensures ∙ w.if-is_shared.true) w.in_ok-share.ensures)
       | else-is_shared w ↦
           rw (w.self-is, w.log-is)
-          (fork_other g.given.header c.args.task c.args.child rows c.all.i c.at-entry.result.now g.given.past c.all.self c.args.ids.now c.all.log.items f found (sym c.is_shared.ensures ∙ w.if-is_shared.false))
+          (fork_other g.given.header g.given.outside c.args.task c.args.child rows c.all.i c.at-entry.result.now g.given.past c.all.self c.args.ids.now c.all.log.items f found (sym c.is_shared.ensures ∙ w.if-is_shared.false))
     ]
 
 pub returns : goal.returns
 returns g c =
     let may = may_fork g.given.header c.args.task c.args.child g.given.past c.args.self.now c.args.ids.now c.args.log.now.items c.requires in
     let same = same_rows _ _ _ c.entries.ensures.value (c.in_ok-add_task.ensures.ok.others c.args.task.0 c.all.invariant.apart ∙ may.lives) in
-    began_fork g.given.header c.args.task c.args.child c.all.i g.given.past c.args.self.now c.all.self c.args.ids.now c.args.log.now.items c.all.log.items c.requires c.all.invariant
+    began_fork g.given.header g.given.outside c.args.task c.args.child c.all.i g.given.past c.args.self.now c.all.self c.args.ids.now c.args.log.now.items c.all.log.items c.requires c.all.invariant
     (omega (arith, ap length same, length-reverse c.entries.result.now.items, c.len-i-end.ensures, c.all-test.false))

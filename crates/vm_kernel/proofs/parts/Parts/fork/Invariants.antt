@@ -3,4 +3,4 @@ use Rattle.vm_kernel.specs.Forking.{HasForked}
 use Rattle.vm_kernel.proofs.parts.Parts.fork.Given as goal
 
 abbrev pub invariant-all : goal.invariant-all
-invariant-all g l = HasForked g.given.header l.task l.child (rows_in l.task.0 l.fn.self.maps) l.i g.given.past l.self l.ids l.log.items
+invariant-all g l = HasForked g.given.header g.given.outside l.task l.child (rows_in l.task.0 l.fn.self.maps) l.i g.given.past l.self l.ids l.log.items
