@@ -1,0 +1,125 @@
+-- What the answers of a pager come to, and what each does to a host.
+use Rattle.std.specs.Prelude.{ℕ, ◌<◌, ◌≡◌, ◌==◌, ◌&&◌, Bool, true, false, List, ◌∷◌, Option, Some, None, if◌then◌else◌, is_some, length, replicate}
+use Rattle.vm_base.specs.declared.ids.HostId.{HostId}
+use Rattle.vm_base.specs.declared.ids.ObjectId.{ObjectId}
+use Rattle.vm_base.specs.declared.ids.ObjectKind.{ObjectKind}
+use Rattle.vm_base.specs.declared.ids.ObjectKind.TheVariants as kind
+use Rattle.vm_base.specs.declared.ids.PageKey.{PageKey}
+use Rattle.vm_base.specs.declared.ids.PageNo.{PageNo}
+use Rattle.vm_model.specs.declared.event.Event.TheVariants as event
+use Rattle.vm_model.specs.declared.message.Message.{Message}
+use Rattle.vm_model.specs.declared.message.Message.TheVariants as message
+use Rattle.vm_objects.specs.Objects.{PutsAbsent, PutsObject, SameMarks, SameObjects, SameRooms, object_at}
+use Rattle.vm_objects.specs.declared.row.ObjectRow.{ObjectRow}
+use Rattle.vm_objects.specs.declared.row.PagerState.{PagerState}
+use Rattle.vm_objects.specs.declared.row.PagerState.TheVariants as state
+use Rattle.vm_resident.specs.Resident.{row_at}
+use Rattle.vm_resident.specs.declared.page_row.PageRow.{PageRow}
+use Rattle.vm_supply.specs.Pages.{Comes, Ends, HostParts, asked_row, lock_of, unlocked}
+use Rattle.vm_supply.specs.declared.woken.Woken.{Woken}
+use Rattle.vm_supply.specs.declared.woken.Woken.TheVariants as woken
+
+-- an answer of a pager, where a page has so many bytes
+abbrev pub IsAnswer : ℕ → Message → Type 0
+IsAnswer size (message.Ready cache strategy) = Unit {0}
+IsAnswer size (message.Supply page lock precious bytes) = (lock < 4) × (length bytes ≡ size)
+IsAnswer size (message.Unavailable page) = Unit {0}
+IsAnswer size (message.Error page reason) = Unit {0}
+IsAnswer size other = ⊥
+
+-- what an answer comes to
+pub data Outcome : Type 0 where
+  -- nothing
+  Discarded : Outcome
+  -- the pager is ready
+  Readied : Outcome
+  -- a page has come with these bytes
+  Supplied : (page : PageNo) → (lock : ℕ) → (precious : Bool) → (bytes : List ℕ) → Outcome
+  -- a page has come as zeros
+  Zeroed : (page : PageNo) → Outcome
+  -- the pager is known not to have a page
+  Lacked : (page : PageNo) → Outcome
+  -- the pager can't give a page
+  Failed : (page : PageNo) → Outcome
+
+-- a second ready comes to nothing
+abbrev pub ready_outcome : PagerState → Outcome
+ready_outcome state.Without = Readied
+ready_outcome state.Sent = Readied
+ready_outcome state.Ready = Discarded
+
+-- what the default pager doesn't have is noted; what another pager doesn't have is zeros
+abbrev pub unavailable_outcome : ObjectKind → PageNo → Outcome
+unavailable_outcome kind.Temp page = Lacked page
+unavailable_outcome kind.File page = Zeroed page
+unavailable_outcome kind.Shared page = Zeroed page
+unavailable_outcome kind.Wild page = Zeroed page
+
+-- an answer of a page counts only where the page is asked
+abbrev pub where_asked : Option PageRow → Outcome → Outcome
+where_asked row outcome = if is_some (asked_row row) then outcome else Discarded
+
+-- what an answer of a live control comes to, where the object's pages have these rows
+abbrev pub live_outcome : ObjectRow → (ℕ → Option PageRow) → Message → Outcome
+live_outcome known rows (message.Ready cache strategy) = ready_outcome known.state
+live_outcome known rows (message.Supply page lock precious bytes) = where_asked (rows page.0) (Supplied page lock precious bytes)
+live_outcome known rows (message.Unavailable page) = where_asked (rows page.0) (unavailable_outcome known.kind page)
+live_outcome known rows (message.Error page reason) = where_asked (rows page.0) (Failed page)
+live_outcome known rows other = Discarded
+
+-- a control is live where it is the latest of an object that the host knows, and in use
+abbrev pub outcome_of : Option ObjectRow → ℕ → (ℕ → Option PageRow) → Message → Outcome
+outcome_of None control rows message = Discarded
+outcome_of (Some known) control rows message = if known.live && known.control == control then live_outcome known rows message else Discarded
+
+-- what an answer for a control comes to on a host
+abbrev pub outcome_on : HostParts → ObjectId → ℕ → Message → Outcome
+outcome_on parts object control message = outcome_of (object_at parts.objects object.0) control (row_at parts.resident object.0) message
+
+-- the pager of an object is ready now
+pub record Readies (object : ObjectId) (who : Woken) (old new : HostParts) : Type 0 where
+  pub woken : who ≡ woken.ReadyOf object
+  pub known : ObjectRow
+  pub found : object_at old.objects object.0 ≡ Some known
+  pub ready : PutsObject object.0 (Some (record known { state = state.Ready })) old.objects new.objects
+  pub marks : SameMarks old.objects new.objects
+  pub rooms : SameRooms old.objects new.objects
+  pub rest : new ≡ record old { objects = new.objects }
+
+-- a page has come, as its pager supplied it
+pub record Supplies (key : PageKey) (lock : ℕ) (precious : Bool) (bytes : List ℕ) (who : Woken) (old new : HostParts) : Type 0 where
+  pub woken : who ≡ woken.Page key
+  pub page : Comes key (lock_of lock) precious bytes old new
+  pub events : new.events ≡ old.events
+
+-- a page that its pager doesn't have has come as zeros, and that was told
+pub record Zeroes (size : ℕ) (host : HostId) (key : PageKey) (who : Woken) (old new : HostParts) : Type 0 where
+  pub woken : who ≡ woken.Page key
+  pub page : Comes key unlocked false (replicate size 0) old new
+  pub events : new.events ≡ event.Zeroed host key.object key.page ∷ old.events
+
+-- a page of temporary memory is known not to be with its pager
+pub record Lacks (key : PageKey) (who : Woken) (old new : HostParts) : Type 0 where
+  pub woken : who ≡ woken.Page key
+  pub page : Ends key old new
+  pub absent : PutsAbsent key.object.0 key.page.0 true old.objects new.objects
+  pub objects : SameObjects old.objects new.objects
+  pub rooms : SameRooms old.objects new.objects
+
+-- a page couldn't be given
+pub record Fails (key : PageKey) (who : Woken) (old new : HostParts) : Type 0 where
+  pub woken : who ≡ woken.Fails key
+  pub page : Ends key old new
+  pub objects : new.objects ≡ old.objects
+
+abbrev pub key_of : ObjectId → PageNo → PageKey
+key_of object page = record { object = object; page = page }
+
+-- whom an answer wakes, and what it changes
+abbrev pub Answered : ℕ → HostId → ObjectId → Outcome → Woken → HostParts → HostParts → Type 0
+Answered size host object Discarded who old new = (who ≡ woken.Nobody) × (new ≡ old)
+Answered size host object Readied who old new = Readies object who old new
+Answered size host object (Supplied page lock precious bytes) who old new = Supplies (key_of object page) lock precious bytes who old new
+Answered size host object (Zeroed page) who old new = Zeroes size host (key_of object page) who old new
+Answered size host object (Lacked page) who old new = Lacks (key_of object page) who old new
+Answered size host object (Failed page) who old new = Fails (key_of object page) who old new

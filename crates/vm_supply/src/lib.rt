@@ -1,0 +1,13 @@
+//! What a host does with the answers of a pager: it is ready, it supplies a page, it has none, or it
+//! can't give it.
+#![tactic(auto)]
+
+mod answers;
+mod pages;
+mod woken;
+
+pub use answers::answer;
+pub use woken::Woken;
+
+#[cfg(test)]
+mod tests;
