@@ -1,4 +1,5 @@
 -- For callers: the rows of tasks after a call, and what the two counts say of them.
+pub use Rattle.vm_waits.proofs.Rows.{entry_task}
 use Rattle.std.proofs.Common.{ℕ, ◌≡◌, ◌≢◌, ◌==◌, Bool, true, false, List, Option, Some, None, refl, sym, ◌∙◌, ap, ⊎_elim, arith}
 use Rattle.std.proofs.lemmas.Bool.{cases_Bool}
 use Rattle.std.proofs.lemmas.Bool.Decides.{nat_tests}

@@ -1,5 +1,5 @@
 pub mod Entries
 mod Lines
 mod Places
-pub mod Rows
+mod Rows
 mod Tables
