@@ -1,14 +1,16 @@
 -- The parts of a host fit each other still, once one of them has changed.
-use Rattle.std.proofs.Common.{◌≡◌, ℕ, suc, ◌<◌, ◌==◌, Bool, true, false, List, [], get_or, set, length, refl, ap, sym, ◌∙◌, subst, arith, Some, None, inl, inr, length-set}
+use Rattle.std.proofs.Common.{◌≡◌, ℕ, ◌<◌, ◌==◌, Bool, true, false, List, [], get_or, set, length, ap, sym, ◌∙◌, subst, Some, None, inl, inr, length-set}
+use Rattle.std.proofs.lemmas.List.{get_or-set_same}
 use Rattle.std.specs.Prelude.{if◌then◌else◌, ◌⊎◌}
 use Rattle.vm_base.specs.declared.ids.PageKey.{PageKey}
-use Rattle.vm_frames.specs.Frames.{Claims, FrameTable, Releases, claimed, frame_count, is_claimed, page_in}
+use Rattle.vm_frames.specs.Frames.{Claims, FrameTable, Releases, frame_count, is_claimed, page_in}
 use Rattle.vm_frames.specs.Lending.{with_page}
-use Rattle.vm_objects.specs.Objects.{ObjectTable}
+use Rattle.vm_objects.specs.Objects.{ObjectTable, PutsObject, object_at}
+use Rattle.vm_objects.specs.declared.row.ObjectRow.{ObjectRow}
 use Rattle.vm_queues.specs.Queues.{KeepsPages, LosesPage, Queues, is_queued}
 use Rattle.vm_resident.specs.Resident.{IsOwned, PutsOwner, PutsRow, ResidentTable, owner_of, page_key, row_at}
 use Rattle.vm_resident.specs.declared.page_row.PageRow.{PageRow}
-use Rattle.vm_parts.specs.Fits.{Fit, object_pages}
+use Rattle.vm_parts.specs.Fits.{Fit, object_pages, pages_kept}
 use Rattle.vm_parts.proofs.Rows.{IsOther, IsPut, claimed_inside, if_true, one_case, row_cases, set_cases, some_is}
 
 -- the frame that a page has
@@ -20,6 +22,9 @@ owner_is size fs rs qs os key row fit found = fit.owned.at key.object.0 key.page
 pub listed_owned : (size : ℕ) (fs : FrameTable) (rs : ResidentTable) (qs : Queues) (os : ObjectTable) (f : ℕ)
     → Fit size fs rs qs os → is_queued qs f ≡ true → owner_of rs f ≡ None → ⊥
 listed_owned size fs rs qs os f fit listed none = let bad : false ≡ true = sym (fit.unlisted f none) ∙ listed in cc
+
+pub claims_it : (fs fs2 : FrameTable) (f : ℕ) → Claims f fs fs2 → is_claimed fs2 f ≡ true
+claims_it fs fs2 f claims = ap (λ z. is_claimed z f) claims.is ∙ get_or-set_same fs.claims f true false claims.inside
 
 -- the lists hold the same pages
 pub fit_touched : (size : ℕ) (fs : FrameTable) (rs : ResidentTable) (qs qs2 : Queues) (os : ObjectTable)
@@ -52,6 +57,14 @@ fit_objects size fs rs qs os os2 fit same =
       count = fit.count;
       pages = fit.pages;
     }
+
+-- an object's row has changed, but not its number of pages
+pub same_pages : (os os2 : ObjectTable) (id : ℕ) (row row2 : ObjectRow) → object_at os id ≡ Some row → row2.pages ≡ row.pages
+    → PutsObject id (Some row2) os os2 → (o : ℕ) → object_pages os2 o ≡ object_pages os o
+same_pages os os2 id row row2 found same put o = elim (one_case id o (Some row2) (object_at os o) (object_at os2 o) (put.at o)) [
+  | inl now ↦ ap pages_kept now.1 ∙ (same ∙ sym (ap pages_kept (sym (ap (object_at os) now.0) ∙ found)))
+  | inr that ↦ ap pages_kept that.1
+]
 
 -- a page has left; its frame stays claimed
 pub fit_returned : (size : ℕ) (fs : FrameTable) (rs rs2 : ResidentTable) (qs qs2 : Queues) (os : ObjectTable) (key : PageKey) (row : PageRow)

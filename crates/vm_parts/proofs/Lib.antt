@@ -1,2 +1,4 @@
 pub mod Fitting
+pub mod Numbering
 pub mod Rows
+pub mod Starting
