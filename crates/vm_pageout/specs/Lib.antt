@@ -1,1 +1,2 @@
 pub mod Laundry
+pub mod Reclaims

@@ -1,0 +1,2 @@
+mod Hosting
+mod Returning
