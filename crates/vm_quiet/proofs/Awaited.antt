@@ -1,0 +1,336 @@
+-- Each page that is asked, and each control that is not ready, has something on its way.
+use Rattle.std.proofs.Common.{inl, inr, ℕ, ◌≡◌, ◌∙◌, List, [], ◌∷◌, Bool, true, false, refl, sym, ap, subst, arith, Option, Some, None, if◌then◌else◌}
+use Rattle.std.proofs.lemmas.Bool.Decides.{nat_tests}
+use Rattle.std.specs.Prelude.{◌==◌, ◌&&◌, ◌||◌, ◌⊎◌}
+use Rattle.vm_base.specs.Pages.{little_endian_bytes}
+use Rattle.vm_base.specs.declared.ids.HostId.{HostId}
+use Rattle.vm_base.specs.declared.ids.ObjectId.{ObjectId}
+use Rattle.vm_model.specs.declared.command.Command.{Command}
+use Rattle.vm_model.specs.declared.event.Event.{Event}
+use Rattle.vm_model.specs.declared.event.Event.TheVariants as event
+use Rattle.vm_model.specs.declared.message.Channel.TheVariants.{Up, Down}
+use Rattle.vm_model.specs.declared.message.Message.{Message}
+use Rattle.vm_model.specs.declared.message.Message.TheVariants as message
+use Rattle.vm_model.specs.declared.script.Header.{Header}
+use Rattle.vm_model.specs.Channels.{is_channel, queue, up_port, down_port}
+use Rattle.vm_model.specs.Controls.{is_control, without_control, live_control}
+use Rattle.vm_model.specs.Local.{Effect, Local, Zeroes, Raises, Stores, Drops, Returns, Asks, TakesPage, TakesNothing, TakesError, TakesLock, Begins, Ends, Elsewhere, is_on, moved, taken_effect}
+use Rattle.vm_model.specs.Moments.{BeforeSteps, EachEvent}
+use Rattle.vm_model.specs.Server.{first}
+use Rattle.vm_model.specs.Tasks.{host_of}
+use Rattle.vm_model.specs.Words.{in_range}
+use Rattle.vm_legal.specs.Accesses.{is_ready}
+use Rattle.vm_legal.specs.Debts.{IsPaid}
+use Rattle.vm_legal.specs.Licences.{Answers, HasCause, MaySendDown, MaySendUp}
+use Rattle.vm_legal.specs.Outside.{Outside}
+use Rattle.vm_legal.specs.Steps.{answers, is_answer, is_ready as says_ready, readies, since, taken}
+use Rattle.vm_legal.specs.Walks.{page_on}
+use Rattle.vm_quiet.specs.Places.{AllPaged}
+use Rattle.vm_quiet.proofs.Letters.{never, passed}
+use Rattle.vm_quiet.proofs.Sane.{paged, there_two, left, right, control_of}
+use Rattle.vm_quiet.proofs.Ways.{IsDone, OnTheWay, same_taken, some_last, way_line, way_sent, way_taken}
+
+abbrev pub is_request : ℕ → ℕ → Message → Bool
+is_request k p (message.Request control page access) = control == k && page.0 == p
+is_request k p other = false
+
+abbrev pub opens : ℕ → Message → Bool
+opens k (message.Init control size) = control == k
+opens k (message.Create control size) = control == k
+opens k other = false
+
+pub done_request : (header : Header) (past : List Event) → AllPaged header → IsPaid header past → (h o k p : ℕ) → IsDone (is_request k p) (answers o p) h o past
+done_request header past all paid h o k p (message.Request control page access) is test =
+    subst (λ q. since (answers o q) past ≡ true) (page_is control k page.0 p test) (paid.request h o control page.0 access (paged header all o) is)
+  where
+    page_is : (a b c d : ℕ) → (a == b && c == d) ≡ true → c ≡ d
+    page_is a b c d e = grind (arith, nat_tests)
+done_request header past all paid h o k p m is test = never test
+
+pub done_opening : (header : Header) (past : List Event) → AllPaged header → IsPaid header past → (h o k : ℕ) → IsDone (opens k) (readies o) h o past
+done_opening header past all paid h o k (message.Init control size) is test = paid.init h o control size (paged header all o) is
+done_opening header past all paid h o k (message.Create control size) is test = paid.create h o control size (paged header all o) is
+done_opening header past all paid h o k m is test = never test
+
+-- a page that is asked
+
+abbrev pub Asking : ℕ → ℕ → ℕ → List Event → Type 0
+Asking host o p past = (k : ℕ) × (live_control host o past ≡ Some k) × OnTheWay (is_request k p) (is_answer p) (answers o p) host o k past
+
+abbrev pub AllAsking : Header → ℕ → List Event → Type 0
+AllAsking header host past = (o p : ℕ) → (page_on header host o p past).asked ≡ true → Asking host o p past
+
+asked_if : (size : ℕ) (t : Bool) (e : Effect) (page : Local) → (moved size e page).asked ≡ page.asked → (moved size (if t then e else Elsewhere) page).asked ≡ page.asked
+asked_if size true e page is = is
+asked_if size false e page is = refl
+
+asked_two : (size : ℕ) (s t : Bool) (e : Effect) (page : Local) → (moved size e page).asked ≡ page.asked → (moved size (if s then (if t then e else Elsewhere) else Elsewhere) page).asked ≡ page.asked
+asked_two size true true e page is = is
+asked_two size true false e page is = refl
+asked_two size false t e page is = refl
+
+returned_asked : (size : ℕ) (keep : Bool) (page : Local) → (moved size (Returns keep) page).asked ≡ page.asked
+returned_asked size true page = refl
+returned_asked size false page = refl
+
+asking_sent : (host o p : ℕ) (at : HostId) (object : ObjectId) (m : Message) (past : List Event) → live_control host o (event.Sent (Up at object) m ∷ past) ≡ live_control host o past → Asking host o p past → Asking host o p (event.Sent (Up at object) m ∷ past)
+asking_sent host o p at object m past live a = (a.0, live ∙ a.1, way_sent (is_request a.0 p) (is_answer p) (answers o p) host o a.0 (Up at object) m past (λ e. never e) a.2)
+
+request_is : (k p q : ℕ) → (q == p) ≡ true → (k == k && q == p) ≡ true
+request_is k p q e = grind (arith, nat_tests)
+
+up_asks : (header : Header) (host : ℕ) (at : HostId) (object : ObjectId) (m : Message) (past : List Event) → ((doing : Command) × MaySendUp header doing at.0 object.0 m past) → AllAsking header host past → AllAsking header host (event.Sent (Up at object) m ∷ past)
+up_asks header host at object (message.Init control size) past c all o p = by (at.0 == host && object.0 == o) refl
+  where
+    by : (b : Bool) → (at.0 == host && object.0 == o) ≡ b → (moved header.size (if b then Begins else Elsewhere) (page_on header host o p past)).asked ≡ true → Asking host o p (event.Sent (Up at object) (message.Init control size) ∷ past)
+    by true own is = never is
+    by false own is = asking_sent host o p at object (message.Init control size) past (passed (at.0 == host && object.0 == o) (Some control) (live_control host o past) own) (all o p is)
+up_asks header host at object (message.Create control size) past c all o p = by (at.0 == host && object.0 == o) refl
+  where
+    by : (b : Bool) → (at.0 == host && object.0 == o) ≡ b → (moved header.size (if b then Begins else Elsewhere) (page_on header host o p past)).asked ≡ true → Asking host o p (event.Sent (Up at object) (message.Create control size) ∷ past)
+    by true own is = never is
+    by false own is = asking_sent host o p at object (message.Create control size) past (passed (at.0 == host && object.0 == o) (Some control) (live_control host o past) own) (all o p is)
+up_asks header host at object (message.Terminate control) past c all o p = by (at.0 == host && object.0 == o) (is_control control (live_control host o past)) refl refl
+  where
+    by : (b t : Bool) → (at.0 == host && object.0 == o) ≡ b → is_control control (live_control host o past) ≡ t → (moved header.size (if b then (if t then Ends else Elsewhere) else Elsewhere) (page_on header host o p past)).asked ≡ true
+        → Asking host o p (event.Sent (Up at object) (message.Terminate control) ∷ past)
+    by true true own live is = never is
+    by true false own live is = never (sym live ∙ control_of (live_control host o past) control (there_two (λ h k. live_control h k past ≡ Some control) at.0 object.0 host o own c.1.live))
+    by false t own live is = asking_sent host o p at object (message.Terminate control) past (passed (at.0 == host && object.0 == o) (without_control control (live_control host o past)) (live_control host o past) own) (all o p is)
+up_asks header host at object (message.Request control page access) past c all o p = by (at.0 == host && object.0 == o) (page.0 == p) (is_control control (live_control host o past)) refl refl
+  where
+    by : (b t l : Bool) → (at.0 == host && object.0 == o) ≡ b → (page.0 == p) ≡ t → (moved header.size (if b then (if t && l then Asks else Elsewhere) else Elsewhere) (page_on header host o p past)).asked ≡ true
+        → Asking host o p (event.Sent (Up at object) (message.Request control page access) ∷ past)
+    by true true true own its is = (
+      control,
+      there_two (λ h k. live_control h k past ≡ Some control) at.0 object.0 host o own c.1.live,
+      inl (some_last (at.0 == host && object.0 == o) (is_request control p) (queue (up_port host o) past) (message.Request control page access) own (request_is control p page.0 its)),
+    )
+    by true true false own its is = asking_sent host o p at object (message.Request control page access) past refl (all o p is)
+    by true false l own its is = asking_sent host o p at object (message.Request control page access) past refl (all o p is)
+    by false t l own its is = asking_sent host o p at object (message.Request control page access) past refl (all o p is)
+up_asks header host at object (message.Return control page dirty keep bytes) past c all o p = λ is.
+    asking_sent host o p at object (message.Return control page dirty keep bytes) past refl (all o p (sym (asked_two header.size (at.0 == host && object.0 == o) (page.0 == p) (Returns keep) (page_on header host o p past) (returned_asked header.size keep (page_on header host o p past))) ∙ is))
+up_asks header host at object (message.Completed control page count) past c all o p = λ is.
+    asking_sent host o p at object (message.Completed control page count) past refl (all o p (sym (asked_if header.size (at.0 == host && object.0 == o) Elsewhere (page_on header host o p past) refl) ∙ is))
+up_asks header host at object m past c all o p = absurd c.1
+
+answer_cause : (header : Header) (outside : Outside) (h o k p : ℕ) (m : Message) (past : List Event) → MaySendDown header outside h o k m past → is_answer p m ≡ true → Answers h o k p past
+answer_cause header outside h o k p (message.Supply page lock precious bytes) past c is = subst (λ q. Answers h o k q past) (page_is page.0 p is) c.0
+  where
+    page_is : (a b : ℕ) → (a == b) ≡ true → a ≡ b
+    page_is a b e = grind (arith, nat_tests)
+answer_cause header outside h o k p (message.Unavailable page) past c is = subst (λ q. Answers h o k q past) (page_is page.0 p is) c.0
+  where
+    page_is : (a b : ℕ) → (a == b) ≡ true → a ≡ b
+    page_is a b e = grind (arith, nat_tests)
+answer_cause header outside h o k p (message.Error page reason) past c is = subst (λ q. Answers h o k q past) (page_is page.0 p is) c.0
+  where
+    page_is : (a b : ℕ) → (a == b) ≡ true → a ≡ b
+    page_is a b e = grind (arith, nat_tests)
+answer_cause header outside h o k p m past c is = never is
+
+-- an answer goes down to the control that asked
+port_is : (a b n h o k : ℕ) → a ≡ h → b ≡ o → (n == k) ≡ true → (a == h && (b == o && n == k)) ≡ true
+port_is a b n h o k e f g = grind (arith, nat_tests)
+
+answered_there : (header : Header) (outside : Outside) (host o p k : ℕ) (at : HostId) (object : ObjectId) (n : ℕ) (m : Message) (past : List Event) → MaySendDown header outside at.0 object.0 n m past → (object.0 == o && is_answer p m) ≡ true
+    → (r : Message) → taken past ≡ Some (record { channel = up_port host o; message = r }) → is_request k p r ≡ true → (is_channel (down_port host o k) (Down at object n) ≡ true) × (is_answer p m ≡ true)
+answered_there header outside host o p k at object n m past c is r was test =
+    let a : Answers at.0 object.0 n p past = answer_cause header outside at.0 object.0 n p m past c (right (object.0 == o) (is_answer p m) is) in
+    let s = same_taken host o at.0 object.0 r (message.Request n (record { 0 = p }) a.access) (is_request k p) past was a.taken test in
+    (port_is at.0 object.0 n host o k s.0 s.1 (left (n == k) (p == p) s.2), right (object.0 == o) (is_answer p m) is)
+
+asked_before : (size : ℕ) (s : Bool) (p : ℕ) (m : Message) (page : Local) → (moved size (if s then taken_effect p m else Elsewhere) page).asked ≡ true → page.asked ≡ true
+asked_before size false p m page is = is
+asked_before size true p (message.Supply at lock precious bytes) page is = by (at.0 == p) page.asked refl is
+  where
+    by : (t b : Bool) → page.asked ≡ b → (moved size (if t then TakesPage lock precious bytes else Elsewhere) page).asked ≡ true → page.asked ≡ true
+    by t true e is = e
+    by true false e is = subst (λ b. (if b then record page { here = true; bytes = bytes; lock = lock; dirty = false; precious = precious; unlocking = false; asked = false } else page).asked ≡ true) e is
+    by false false e is = is
+asked_before size true p (message.Unavailable at) page is = by (at.0 == p) page.asked refl is
+  where
+    by : (t b : Bool) → page.asked ≡ b → (moved size (if t then TakesNothing else Elsewhere) page).asked ≡ true → page.asked ≡ true
+    by t true e is = e
+    by true false e is = subst (λ b. (if b then record page { asked = false; absent = true } else page).asked ≡ true) e is
+    by false false e is = is
+asked_before size true p (message.Error at reason) page is = by (at.0 == p) is
+  where
+    by : (t : Bool) → (moved size (if t then TakesError else Elsewhere) page).asked ≡ true → page.asked ≡ true
+    by true is = never is
+    by false is = is
+asked_before size true p (message.Lock at count returns flush lock reply) page is = by (in_range p at.0 count) page.here is
+  where
+    by : (t b : Bool) → (moved size (if t then TakesLock lock flush else Elsewhere) page).asked ≡ true → page.asked ≡ true
+    by true b is = sym (same page.here) ∙ is
+      where
+        same : (b : Bool) → (if b then record page { lock = if flush || lock == 8 then page.lock else lock; unlocking = false } else page).asked ≡ page.asked
+        same true = refl
+        same false = refl
+    by false b is = is
+asked_before size true p m page is = is
+
+answered_after : (size : ℕ) (s : Bool) (p : ℕ) (m : Message) (page : Local) → s ≡ true → is_answer p m ≡ true → (moved size (if s then taken_effect p m else Elsewhere) page).asked ≡ false
+answered_after size false p m page e is = never e
+answered_after size true p (message.Supply at lock precious bytes) page e is = by (at.0 == p) is
+  where
+    pick : (b : Bool) → page.asked ≡ b → (if b then record page { here = true; bytes = bytes; lock = lock; dirty = false; precious = precious; unlocking = false; asked = false } else page).asked ≡ false
+    pick true e = refl
+    pick false e = e
+
+    by : (t : Bool) → t ≡ true → (moved size (if t then TakesPage lock precious bytes else Elsewhere) page).asked ≡ false
+    by true e = pick page.asked refl
+    by false e = never e
+answered_after size true p (message.Unavailable at) page e is = by (at.0 == p) is
+  where
+    pick : (b : Bool) → page.asked ≡ b → (if b then record page { asked = false; absent = true } else page).asked ≡ false
+    pick true e = refl
+    pick false e = e
+
+    by : (t : Bool) → t ≡ true → (moved size (if t then TakesNothing else Elsewhere) page).asked ≡ false
+    by true e = pick page.asked refl
+    by false e = never e
+answered_after size true p (message.Error at reason) page e is = by (at.0 == p) is
+  where
+    by : (t : Bool) → t ≡ true → (moved size (if t then TakesError else Elsewhere) page).asked ≡ false
+    by true e = refl
+    by false e = never e
+answered_after size true p m page e is = never is
+
+-- what is taken down from a control is taken by the live one
+live_port : (a b n h o k : ℕ) (live : Option ℕ) → live ≡ Some k → (a == h && (b == o && n == k)) ≡ true → (a == h && (b == o && is_control n live)) ≡ true
+live_port a b n h o k live e is = ap (λ (l : Option ℕ). a == h && (b == o && is_control n l)) e ∙ turned a b n h o k is
+  where
+    turned : (a b n h o k : ℕ) → (a == h && (b == o && n == k)) ≡ true → (a == h && (b == o && k == n)) ≡ true
+    turned a b n h o k is = grind (arith, nat_tests)
+
+-- a step that ends here has paid
+abbrev pub StepPaid : Header → Event → List Event → Type 0
+StepPaid header (event.Line line) past = IsPaid header past
+StepPaid header (event.Taken channel m) past = IsPaid header past
+StepPaid header e past = Unit {0}
+
+pub paid_before : (header : Header) (e : Event) (past : List Event) → BeforeSteps (IsPaid header) (e ∷ past) → StepPaid header e past × BeforeSteps (IsPaid header) past
+paid_before header (event.Line line) past b = (b.0, b.1)
+paid_before header (event.Taken channel m) past b = (b.0, b.1)
+paid_before header e past b = (tt, b)
+
+asks_next : (header : Header) (outside : Outside) (host : ℕ) (e : Event) (past : List Event) → AllPaged header → HasCause header outside e past → StepPaid header e past → AllAsking header host past → AllAsking header host (e ∷ past)
+asks_next header outside host (event.Zeroed at object page) past paged_all c paid all = λ o p is. all o p (sym (asked_if header.size (at.0 == host && (object.0 == o && page.0 == p)) Zeroes (page_on header host o p past) refl) ∙ is)
+asks_next header outside host (event.Raised at lower lower_page upper upper_page) past paged_all c paid all = λ o p is.
+    all o p (sym (asked_if header.size (at.0 == host && (upper.0 == o && upper_page.0 == p)) (Raises (page_on header host lower.0 lower_page.0 past).bytes) (page_on header host o p past) refl) ∙ is)
+asks_next header outside host (event.CopiedPage task page object object_page target) past paged_all c paid all = λ o p is.
+    all o p (sym (asked_if header.size (is_on host (host_of task.0 past) && (target.0 == o && page.0 == p)) (Raises (page_on header host object.0 object_page.0 past).bytes) (page_on header host o p past) refl) ∙ is)
+asks_next header outside host (event.Stored task object page at size value) past paged_all c paid all = λ o p is.
+    all o p (sym (asked_if header.size (is_on host (host_of task.0 past) && (object.0 == o && page.0 == p)) (Stores at (little_endian_bytes size value)) (page_on header host o p past) refl) ∙ is)
+asks_next header outside host (event.Dropped at object page) past paged_all c paid all = λ o p is. all o p (sym (asked_if header.size (at.0 == host && (object.0 == o && page.0 == p)) Drops (page_on header host o p past) refl) ∙ is)
+asks_next header outside host (event.Sent (Up at object) m) past paged_all c paid all = up_asks header host at object m past (c.0, c.1 (paged header paged_all object.0)) all
+asks_next header outside host (event.Sent (Down at object n) m) past paged_all c paid all = λ o p is.
+    let a = all o p is in (
+      a.0,
+      a.1,
+      way_sent (is_request a.0 p) (is_answer p) (answers o p) host o a.0 (Down at object n) m past
+          (λ e r was test. answered_there header outside host o p a.0 at object n m past (c.1 (paged header paged_all object.0)) e r was test) a.2,
+    )
+asks_next header outside host (event.Taken (Up at object) m) past paged_all c paid all = λ o p is.
+    let a = all o p is in
+    (a.0, a.1, way_taken (is_request a.0 p) (is_answer p) (answers o p) host o a.0 (Up at object) m past c.1.0 (done_request header past paged_all paid host o a.0 p) (λ e. never e) a.2)
+asks_next header outside host (event.Taken (Down at object n) m) past paged_all c paid all = λ o p is.
+    let a = all o p (asked_before header.size (at.0 == host && (object.0 == o && is_control n (live_control host o past))) p m (page_on header host o p past) is) in (
+      a.0,
+      a.1,
+      way_taken (is_request a.0 p) (is_answer p) (answers o p) host o a.0 (Down at object n) m past c.1.0 (done_request header past paged_all paid host o a.0 p)
+          (λ e test. never (sym (answered_after header.size (at.0 == host && (object.0 == o && is_control n (live_control host o past))) p m (page_on header host o p past) (live_port at.0 object.0 n host o a.0 (live_control host o past) a.1 e) test) ∙ is)) a.2,
+    )
+asks_next header outside host (event.Line line) past paged_all c paid all = λ o p is.
+    let a = all o p is in
+    (a.0, a.1, way_line (is_request a.0 p) (is_answer p) (answers o p) host o a.0 line past (done_request header past paged_all paid host o a.0 p) a.2)
+asks_next header outside host e past paged_all c paid all = all
+
+pub asks_of : (header : Header) (outside : Outside) (host : ℕ) (history : List Event) → AllPaged header → EachEvent (HasCause header outside) history → BeforeSteps (IsPaid header) history → AllAsking header host history
+asks_of header outside host [] paged_all c b = λ o p is. never is
+asks_of header outside host (e ∷ past) paged_all c b =
+    let paid = paid_before header e past b in
+    asks_next header outside host e past paged_all c.0 paid.0 (asks_of header outside host past paged_all c.1 paid.1)
+
+-- a control that is not ready
+
+abbrev pub AllOpening : ℕ → List Event → Type 0
+AllOpening host past = (o k : ℕ) → live_control host o past ≡ Some k → is_ready host o past ≡ false → OnTheWay (opens k) says_ready (readies o) host o k past
+
+opening_sent : (host o k : ℕ) (at : HostId) (object : ObjectId) (m : Message) (past : List Event) → OnTheWay (opens k) says_ready (readies o) host o k past → OnTheWay (opens k) says_ready (readies o) host o k (event.Sent (Up at object) m ∷ past)
+opening_sent host o k at object m past w = way_sent (opens k) says_ready (readies o) host o k (Up at object) m past (λ e. never e) w
+
+control_is : (control k : ℕ) → Some control ≡ Some k → (control == k) ≡ true
+control_is control k e = same control k (inner control k e)
+  where
+    inner : (a b : ℕ) → Some a ≡ Some b → a ≡ b
+    inner a b e = cc
+
+    same : (a b : ℕ) → a ≡ b → (a == b) ≡ true
+    same a b e = grind (arith, nat_tests)
+
+was_live : (b : Bool) (control k : ℕ) (live : Option ℕ) → (if b then without_control control live else live) ≡ Some k → live ≡ Some k
+was_live false control k live e = e
+was_live true control k None e = e
+was_live true control k (Some n) e = by (n == control) e
+  where
+    by : (b : Bool) → (if b then None else Some n) ≡ Some k → Some n ≡ Some k
+    by true e = absurd (cc)
+    by false e = e
+
+up_opens : (host : ℕ) (at : HostId) (object : ObjectId) (m : Message) (past : List Event) → AllOpening host past → AllOpening host (event.Sent (Up at object) m ∷ past)
+up_opens host at object (message.Init control size) past all o k = by (at.0 == host && object.0 == o) refl
+  where
+    by : (b : Bool) → (at.0 == host && object.0 == o) ≡ b → (if b then Some control else live_control host o past) ≡ Some k → (if b then false else is_ready host o past) ≡ false
+        → OnTheWay (opens k) says_ready (readies o) host o k (event.Sent (Up at object) (message.Init control size) ∷ past)
+    by true own live is = inl (some_last (at.0 == host && object.0 == o) (opens k) (queue (up_port host o) past) (message.Init control size) own (control_is control k live))
+    by false own live is = opening_sent host o k at object (message.Init control size) past (all o k live is)
+up_opens host at object (message.Create control size) past all o k = by (at.0 == host && object.0 == o) refl
+  where
+    by : (b : Bool) → (at.0 == host && object.0 == o) ≡ b → (if b then Some control else live_control host o past) ≡ Some k → (if b then false else is_ready host o past) ≡ false
+        → OnTheWay (opens k) says_ready (readies o) host o k (event.Sent (Up at object) (message.Create control size) ∷ past)
+    by true own live is = inl (some_last (at.0 == host && object.0 == o) (opens k) (queue (up_port host o) past) (message.Create control size) own (control_is control k live))
+    by false own live is = opening_sent host o k at object (message.Create control size) past (all o k live is)
+up_opens host at object (message.Terminate control) past all o k = λ live is.
+    opening_sent host o k at object (message.Terminate control) past (all o k (was_live (at.0 == host && object.0 == o) control k (live_control host o past) live) is)
+up_opens host at object m past all o k = λ live is. opening_sent host o k at object m past (all o k live is)
+
+ready_there : (header : Header) (outside : Outside) (host o k : ℕ) (at : HostId) (object : ObjectId) (n : ℕ) (m : Message) (past : List Event) → MaySendDown header outside at.0 object.0 n m past → (object.0 == o && says_ready m) ≡ true
+    → (r : Message) → taken past ≡ Some (record { channel = up_port host o; message = r }) → opens k r ≡ true → (is_channel (down_port host o k) (Down at object n) ≡ true) × (says_ready m ≡ true)
+ready_there header outside host o k at object n (message.Ready cache strategy) past c is r was test = by c.3
+  where
+    by : ((taken past ≡ Some (record { channel = up_port at.0 object.0; message = message.Create n c.0 })) × (strategy ≡ 3)) ⊎ ((taken past ≡ Some (record { channel = up_port at.0 object.0; message = message.Init n c.0 })) × (strategy ≡ 0))
+        → (is_channel (down_port host o k) (Down at object n) ≡ true) × (true ≡ true)
+    by (inl t) = let s = same_taken host o at.0 object.0 r (message.Create n c.0) (opens k) past was t.0 test in (port_is at.0 object.0 n host o k s.0 s.1 s.2, refl)
+    by (inr t) = let s = same_taken host o at.0 object.0 r (message.Init n c.0) (opens k) past was t.0 test in (port_is at.0 object.0 n host o k s.0 s.1 s.2, refl)
+ready_there header outside host o k at object n m past c is r was test = never (right (object.0 == o) false is)
+
+unready : (b r : Bool) → (if b then true else r) ≡ false → (b ≡ false) × (r ≡ false)
+unready true r is = never (sym is)
+unready false r is = (refl, is)
+
+down_opens : (header : Header) (outside : Outside) (host : ℕ) (at : HostId) (object : ObjectId) (n : ℕ) (m : Message) (past : List Event) → first (queue (Down at object n) past) ≡ Some m → AllPaged header → IsPaid header past → AllOpening host past → AllOpening host (event.Taken (Down at object n) m ∷ past)
+down_opens header outside host at object n (message.Ready cache strategy) past head paged_all paid all o k live is =
+    let not_it = unready (at.0 == host && (object.0 == o && is_control n (live_control host o past))) (is_ready host o past) is in
+    way_taken (opens k) says_ready (readies o) host o k (Down at object n) (message.Ready cache strategy) past head (done_opening header past paged_all paid host o k)
+    (λ e test. never (sym not_it.0 ∙ live_port at.0 object.0 n host o k (live_control host o past) live e)) (all o k live not_it.1)
+down_opens header outside host at object n m past head paged_all paid all o k live is =
+    way_taken (opens k) says_ready (readies o) host o k (Down at object n) m past head (done_opening header past paged_all paid host o k) (λ e test. never test) (all o k live is)
+
+opens_next : (header : Header) (outside : Outside) (host : ℕ) (e : Event) (past : List Event) → AllPaged header → HasCause header outside e past → StepPaid header e past → AllOpening host past → AllOpening host (e ∷ past)
+opens_next header outside host (event.Sent (Up at object) m) past paged_all c paid all = up_opens host at object m past all
+opens_next header outside host (event.Sent (Down at object n) m) past paged_all c paid all = λ o k live is.
+    way_sent (opens k) says_ready (readies o) host o k (Down at object n) m past (λ e r was test. ready_there header outside host o k at object n m past (c.1 (paged header paged_all object.0)) e r was test) (all o k live is)
+opens_next header outside host (event.Taken (Up at object) m) past paged_all c paid all = λ o k live is.
+    way_taken (opens k) says_ready (readies o) host o k (Up at object) m past c.1.0 (done_opening header past paged_all paid host o k) (λ e. never e) (all o k live is)
+opens_next header outside host (event.Taken (Down at object n) m) past paged_all c paid all = down_opens header outside host at object n m past c.1.0 paged_all paid all
+opens_next header outside host (event.Line line) past paged_all c paid all = λ o k live is. way_line (opens k) says_ready (readies o) host o k line past (done_opening header past paged_all paid host o k) (all o k live is)
+opens_next header outside host e past paged_all c paid all = all
+
+pub opens_of : (header : Header) (outside : Outside) (host : ℕ) (history : List Event) → AllPaged header → EachEvent (HasCause header outside) history → BeforeSteps (IsPaid header) history → AllOpening host history
+opens_of header outside host [] paged_all c b = λ o k live is. absurd (cc)
+opens_of header outside host (e ∷ past) paged_all c b =
+    let paid = paid_before header e past b in
+    opens_next header outside host e past paged_all c.0 paid.0 (opens_of header outside host past paged_all c.1 paid.1)

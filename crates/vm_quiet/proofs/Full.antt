@@ -1,0 +1,76 @@
+-- The worked history meets the premises, and its load waits.
+use Rattle.std.proofs.Common.{inr, ℕ, ◌≡◌, List, [], true, refl, subst, arith, None}
+use Rattle.vm_base.specs.declared.ids.Inherit.TheVariants.{Copy}
+use Rattle.vm_model.specs.declared.command.Command.TheVariants as command
+use Rattle.vm_model.specs.declared.event.Event.{Event}
+use Rattle.vm_model.specs.Moments.{BeforeSteps, EachEvent}
+use Rattle.vm_model.specs.Waiting.{Loading}
+use Rattle.vm_legal.specs.Accesses.{Waits}
+use Rattle.vm_legal.specs.Debts.{IsPaid}
+use Rattle.vm_legal.specs.Licences.{HasCause, created}
+use Rattle.vm_legal.specs.Prompt.{NoneInVain, Prompt}
+use Rattle.vm_legal.specs.Steps.{absence_taken, error_taken, taken}
+use Rattle.vm_legal.specs.Undelivered.{undelivered}
+use Rattle.vm_quiet.specs.Full.{header, history, outside, region}
+use Rattle.vm_quiet.specs.Places.{AllPaged}
+use Rattle.vm_quiet.proofs.Letters.{never}
+
+pub full_paged : AllPaged header
+full_paged o below = absurd (omega (arith, below))
+
+-- a step that took nothing owes nothing
+idle : (past : List Event) → created past ≡ None → taken past ≡ None → error_taken header.size past ≡ None → absence_taken header.size past ≡ None → IsPaid header past
+idle past made took failed lacked =
+    record {
+      returned = made;
+      init = λ h o k size ours is. absurd (cc);
+      create = λ h o k size ours is. absurd (cc);
+      request = λ h o k p access ours is. absurd (cc);
+      error = λ h o p is. absurd (cc);
+      absence = λ h o p ours is. absurd (cc);
+      slot = λ h o k p dirty keep bytes ours is lacks. absurd (cc);
+    }
+
+pub full_paid : IsPaid header history
+full_paid = idle history refl refl refl refl
+
+pub full_steps : BeforeSteps (IsPaid header) history
+full_steps = (idle _ refl refl refl refl, (idle _ refl refl refl refl, (idle _ refl refl refl refl, (idle _ refl refl refl refl, tt))))
+
+pub full_causes : EachEvent (HasCause header outside) history
+full_causes = (
+  (command.Settle 0, tt),
+  (
+    (command.Settle 0, tt),
+    (
+      (command.Settle 0, tt),
+      (
+        (command.Settle 0, tt),
+        (
+          (command.Settle 0, record { host = 0; lives = refl; whole = refl; inside = omega arith; made = omega arith; used = λ is. refl; file = λ is. never is; unfilled = refl }),
+          ((command.Settle 0, (refl, refl)), ((command.Settle 0, tt), ((command.Settle 0, tt), ((command.Settle 0, tt), tt)))),
+        ),
+      ),
+    ),
+  ),
+)
+
+full_none : NoneInVain header 0 history
+full_none t access waits on = inr (record { none = refl; why = inr (record { held = λ o p is. never is; one = λ o p q r is also no_wait none_waits. never is }) })
+
+pub full_prompt : Prompt header history
+full_prompt =
+    record {
+      waits = λ h below. let first : 0 ≡ h = omega (arith, below) in subst (λ (k : ℕ). NoneInVain header k history) first full_none;
+      swept = λ h below. record { pages = λ o p ours unreached. refl; controls = λ o ours unreached. refl };
+    }
+
+pub full_delivered : undelivered history ≡ []
+full_delivered = refl
+
+pub full_waits : Waits header 0 (Loading 0 1) history
+full_waits =
+    record {
+      waits = refl;
+      at = record { host = 0; entry = record { address = 0; bytes = 16; region = region; offset = 0; prot = record { read = true; write = true }; inherit = Copy }; lives = refl; found = refl };
+    }

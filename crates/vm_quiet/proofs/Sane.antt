@@ -1,0 +1,362 @@
+-- What holds of each place, control and channel of a host at every moment of a caused history.
+use Rattle.std.proofs.Common.{inl, inr, ℕ, zero, suc, ◌≡◌, ◌∙◌, List, [], ◌∷◌, ◌++◌, Bool, true, false, refl, sym, ap, subst, arith, Option, Some, None, if◌then◌else◌}
+use Rattle.std.proofs.lemmas.Bool.Decides.{nat_tests}
+use Rattle.std.specs.Prelude.{◌==◌, ◌&&◌, ◌||◌, ◌<◌, ◌≤◌, ◌⊎◌, not, nat_lt, is_some}
+use Rattle.vm_base.specs.Pages.{little_endian_bytes}
+use Rattle.vm_base.specs.declared.ids.HostId.{HostId}
+use Rattle.vm_base.specs.declared.ids.ObjectId.{ObjectId}
+use Rattle.vm_model.specs.declared.event.Event.{Event}
+use Rattle.vm_model.specs.declared.event.Event.TheVariants as event
+use Rattle.vm_model.specs.declared.message.Channel.TheVariants.{Up, Down}
+use Rattle.vm_model.specs.declared.message.Message.{Message}
+use Rattle.vm_model.specs.declared.message.Message.TheVariants as message
+use Rattle.vm_model.specs.declared.command.Command.{Command}
+use Rattle.vm_model.specs.declared.script.Header.{Header}
+use Rattle.vm_model.specs.Channels.{queue, down_port}
+use Rattle.vm_model.specs.Controls.{is_control, without_control, last_control, live_control}
+use Rattle.vm_model.specs.Local.{Effect, Local, Zeroes, Raises, Stores, Drops, Returns, Asks, Unlocks, TakesPage, TakesNothing, TakesError, TakesLock, Begins, Ends, Elsewhere, effect, is_on, local, moved}
+use Rattle.vm_model.specs.Moments.{EachEvent}
+use Rattle.vm_model.specs.Named.{named}
+use Rattle.vm_model.specs.Server.{first}
+use Rattle.vm_model.specs.Side.{rest}
+use Rattle.vm_model.specs.Tasks.{host_of}
+use Rattle.vm_model.specs.Words.{in_range}
+use Rattle.vm_legal.specs.Frames.{returns_out}
+use Rattle.vm_legal.specs.Licences.{Bottoms, CopiesPage, Fills, HasCause, MaySendDown, MaySendUp, Raises as RaisesPage, is_paged}
+use Rattle.vm_legal.specs.Outside.{Outside, is_file}
+use Rattle.vm_legal.specs.Undelivered.{undelivered}
+use Rattle.vm_legal.specs.Walks.{Sinks, page_on, sight}
+use Rattle.vm_model.specs.Regions.{backing_of}
+use Rattle.vm_quiet.specs.Places.{AllPaged}
+use Rattle.vm_quiet.proofs.Letters.{never, outs, outs_sent, outs_taken}
+
+-- each object is temporary or a file
+pub paged : (header : Header) → AllPaged header → (o : ℕ) → is_paged header o ≡ true
+paged header all o = by (nat_lt o (named header)) refl
+  where
+    below : (a b : ℕ) → nat_lt a b ≡ true → a < b
+    below a b is = grind (arith, nat_tests)
+
+    by : (b : Bool) → nat_lt o (named header) ≡ b → (not b || is_file header o) ≡ true
+    by true is = all o (below o (named header) is)
+    by false is = refl
+
+pub not_true : (b : Bool) → (b ≡ true → ⊥) → b ≡ false
+not_true true isnt = absurd (isnt refl)
+not_true false isnt = refl
+
+-- three numbers that are tested to be others
+pub there : (P : ℕ → ℕ → ℕ → Type 0) (a b c h o p : ℕ) → (a == h && (b == o && c == p)) ≡ true → P a b c → P h o p
+there P a b c h o p is holds =
+    subst (λ x. P h o x) (third a b c h o p is) (subst (λ x. P h x c) (second a b c h o p is) (subst (λ x. P x b c) (only a b c h o p is) holds))
+  where
+    only : (a b c h o p : ℕ) → (a == h && (b == o && c == p)) ≡ true → a ≡ h
+    only a b c h o p is = grind (arith, nat_tests)
+
+    second : (a b c h o p : ℕ) → (a == h && (b == o && c == p)) ≡ true → b ≡ o
+    second a b c h o p is = grind (arith, nat_tests)
+
+    third : (a b c h o p : ℕ) → (a == h && (b == o && c == p)) ≡ true → c ≡ p
+    third a b c h o p is = grind (arith, nat_tests)
+
+pub there_two : (P : ℕ → ℕ → Type 0) (a b h o : ℕ) → (a == h && b == o) ≡ true → P a b → P h o
+there_two P a b h o is holds = subst (λ x. P h x) (second a b h o is) (subst (λ x. P x b) (only a b h o is) holds)
+  where
+    only : (a b h o : ℕ) → (a == h && b == o) ≡ true → a ≡ h
+    only a b h o is = grind (arith, nat_tests)
+
+    second : (a b h o : ℕ) → (a == h && b == o) ≡ true → b ≡ o
+    second a b h o is = grind (arith, nat_tests)
+
+-- a page that is not here, nor asked
+pub record IsVacant (page : Local) : Type 0 where
+  pub away : page.here ≡ false
+  pub unasked : page.asked ≡ false
+
+pub vacant_zeroed : (header : Header) (host o p : ℕ) (past : List Event) → Fills header host o p past ⊎ Bottoms header host o p past → IsVacant (page_on header host o p past)
+vacant_zeroed header host o p past (inl c) = record { away = c.away; unasked = c.unasked }
+vacant_zeroed header host o p past (inr c) = by c.steps c.sinks
+  where
+    by : (n : ℕ) → Sinks (λ k q. sight header host k q past) (λ k. backing_of header k past) n o p → IsVacant (page_on header host o p past)
+    by zero s = record { away = s.0.away; unasked = s.0.unasked }
+    by (suc n) s = record { away = s.0.away; unasked = s.0.unasked }
+
+pub vacant_raised : (header : Header) (host lower lower_page o p : ℕ) (past : List Event) → RaisesPage header host lower lower_page o p past → IsVacant (page_on header host o p past)
+vacant_raised header host lower lower_page o p past c = record { away = c.walks.0.away; unasked = c.walks.0.unasked }
+
+pub vacant_copied : (header : Header) (host task index object page target : ℕ) (past : List Event) → CopiesPage header task index object page target past → is_on host (host_of task past) ≡ true → IsVacant (page_on header host target index past)
+vacant_copied header host task index object page target past c on =
+    let same : is_on host (Some c.waits.at.host) ≡ true = subst (λ (h : Option ℕ). is_on host h ≡ true) c.waits.at.lives on in
+    subst (λ h. IsVacant (page_on header h target index past)) (is c.waits.at.host host same) (record { away = c.away; unasked = c.unasked })
+  where
+    is : (a b : ℕ) → (a == b) ≡ true → a ≡ b
+    is a b e = grind (arith, nat_tests)
+
+-- a place and the live control
+pub record Sane (page : Local) (live : Option ℕ) : Type 0 where
+  pub apart : page.here ≡ true → page.asked ≡ false
+  pub living : page.asked ≡ true → is_some live ≡ true
+  pub unlocked : page.lock ≡ 0
+
+abbrev pub Lives : Option ℕ → Option ℕ → Type 0
+Lives live after = is_some live ≡ true → is_some after ≡ true
+
+-- what an effect needs, with the live control before and after it
+abbrev pub Allowed : Effect → Local → Option ℕ → Option ℕ → Type 0
+Allowed Zeroes was live after = IsVacant was
+Allowed (Raises bytes) was live after = IsVacant was
+Allowed (Stores at bytes) was live after = Lives live after
+Allowed Drops was live after = was.here ≡ true
+Allowed (Returns keep) was live after = was.here ≡ true
+Allowed Asks was live after = IsVacant was × (is_some after ≡ true)
+Allowed Unlocks was live after = ⊥
+Allowed (TakesPage lock precious bytes) was live after = lock ≡ 0
+Allowed TakesNothing was live after = Unit {0}
+Allowed TakesError was live after = Unit {0}
+Allowed (TakesLock lock flush) was live after = (lock ≡ 8) × Lives live after
+Allowed Begins was live after = Unit {0}
+Allowed Ends was live after = Unit {0}
+Allowed Elsewhere was live after = Lives live after
+
+lock_kept : (flush : Bool) (lock was : ℕ) → lock ≡ 8 → was ≡ 0 → (if flush || lock == 8 then was else lock) ≡ 0
+lock_kept true lock was is open_ = open_
+lock_kept false lock was is open_ = by (lock == 8) (eight lock is)
+  where
+    eight : (l : ℕ) → l ≡ 8 → (l == 8) ≡ true
+    eight l e = grind (arith, nat_tests)
+
+    by : (b : Bool) → b ≡ true → (if b then was else lock) ≡ 0
+    by true e = open_
+    by false e = never e
+
+sane_moved : (size : ℕ) (e : Effect) (was : Local) (live after : Option ℕ) → Allowed e was live after → Sane was live → Sane (moved size e was) after
+sane_moved size Zeroes was live after c s = record { apart = λ is. c.unasked; living = λ is. never (sym c.unasked ∙ is); unlocked = refl }
+sane_moved size (Raises bytes) was live after c s = record { apart = λ is. c.unasked; living = λ is. never (sym c.unasked ∙ is); unlocked = refl }
+sane_moved size (Stores at bytes) was live after c s = record { apart = s.apart; living = λ is. c (s.living is); unlocked = s.unlocked }
+sane_moved size Drops was live after c s = record { apart = λ is. s.apart c; living = λ is. never (sym (s.apart c) ∙ is); unlocked = refl }
+sane_moved size (Returns true) was live after c s = record { apart = s.apart; living = λ is. never (sym (s.apart c) ∙ is); unlocked = s.unlocked }
+sane_moved size (Returns false) was live after c s = record { apart = λ is. s.apart c; living = λ is. never (sym (s.apart c) ∙ is); unlocked = refl }
+sane_moved size Asks was live after c s = record { apart = λ is. never (sym c.0.away ∙ is); living = λ is. c.1; unlocked = s.unlocked }
+sane_moved size Unlocks was live after c s = absurd c
+sane_moved size (TakesPage lock precious bytes) was live after c s = by was.asked refl
+  where
+    by : (b : Bool) → was.asked ≡ b → Sane (if b then record was { here = true; bytes = bytes; lock = lock; dirty = false; precious = precious; unlocking = false; asked = false } else was) after
+    by true is = record { apart = λ x. refl; living = λ x. never x; unlocked = c }
+    by false is = record { apart = s.apart; living = λ x. never (sym is ∙ x); unlocked = s.unlocked }
+sane_moved size TakesNothing was live after c s = by was.asked refl
+  where
+    by : (b : Bool) → was.asked ≡ b → Sane (if b then record was { asked = false; absent = true } else was) after
+    by true is = record { apart = λ x. refl; living = λ x. never x; unlocked = s.unlocked }
+    by false is = record { apart = s.apart; living = λ x. never (sym is ∙ x); unlocked = s.unlocked }
+sane_moved size TakesError was live after c s = record { apart = λ x. refl; living = λ x. never x; unlocked = s.unlocked }
+sane_moved size (TakesLock lock flush) was live after c s = by was.here
+  where
+    by : (b : Bool) → Sane (if b then record was { lock = if flush || lock == 8 then was.lock else lock; unlocking = false } else was) after
+    by true = record { apart = s.apart; living = λ is. c.1 (s.living is); unlocked = lock_kept flush lock was.lock c.0 s.unlocked }
+    by false = record { apart = s.apart; living = λ is. c.1 (s.living is); unlocked = s.unlocked }
+sane_moved size Begins was live after c s = record { apart = λ x. refl; living = λ x. never x; unlocked = s.unlocked }
+sane_moved size Ends was live after c s = record { apart = λ x. refl; living = λ x. never x; unlocked = s.unlocked }
+sane_moved size Elsewhere was live after c s = record { apart = s.apart; living = λ is. c (s.living is); unlocked = s.unlocked }
+
+-- the messages down have no lock
+abbrev pub IsPlain : Message → Type 0
+IsPlain (message.Supply page lock precious bytes) = lock ≡ 0
+IsPlain (message.Lock page count returns flush lock reply) = lock ≡ 8
+IsPlain other = Unit {0}
+
+abbrev pub ArePlain : List Message → Type 0
+ArePlain [] = Unit {0}
+ArePlain (m ∷ q) = IsPlain m × ArePlain q
+
+plain_if : (b : Bool) (q : List Message) (m : Message) → IsPlain m → ArePlain q → ArePlain (if b then q ++ m ∷ [] else q)
+plain_if false q m one all = all
+plain_if true q m one all = end q all
+  where
+    end : (q : List Message) → ArePlain q → ArePlain (q ++ m ∷ [])
+    end [] all = (one, tt)
+    end (x ∷ q) all = (all.0, end q all.1)
+
+plain_rest : (b : Bool) (q : List Message) → ArePlain q → ArePlain (if b then rest q else q)
+plain_rest false q all = all
+plain_rest true [] all = tt
+plain_rest true (x ∷ q) all = all.1
+
+plain_first : (q : List Message) (m : Message) → first q ≡ Some m → ArePlain q → IsPlain m
+plain_first [] m is all = absurd (cc)
+plain_first (x ∷ q) m is all = let same : x ≡ m = cc in subst (λ (y : Message). IsPlain y) same all.0
+
+pub record Base (header : Header) (host : ℕ) (past : List Event) : Type 0 where
+  pub sane : (o p : ℕ) → Sane (page_on header host o p past) (live_control host o past)
+  pub numbered : (o : ℕ) → last_control host o past ≡ 0 → is_some (live_control host o past) ≡ false
+  pub plain : (o k : ℕ) → ArePlain (queue (down_port host o k) past)
+  pub returns : returns_out host past ≡ outs host (undelivered past)
+
+allowed_if : (t : Bool) (e : Effect) (was : Local) (live after : Option ℕ) → (t ≡ true → Allowed e was live after) → Lives live after → Allowed (if t then e else Elsewhere) was live after
+allowed_if true e was live after c keeps = c refl
+allowed_if false e was live after c keeps = keeps
+
+allowed_two : (s t : Bool) (e : Effect) (was : Local) (live after : Option ℕ) → (s ≡ true → t ≡ true → Allowed e was live after) → Lives live after → Allowed (if s then (if t then e else Elsewhere) else Elsewhere) was live after
+allowed_two true true e was live after c keeps = c refl refl
+allowed_two true false e was live after c keeps = keeps
+allowed_two false t e was live after c keeps = keeps
+
+pub join : (a b c : Bool) → (a && b) ≡ true → c ≡ true → (a && (b && c)) ≡ true
+join true true true e f = refl
+join true true false e f = never f
+join true false c e f = never e
+join false b c e f = never e
+
+pub left : (a b : Bool) → (a && b) ≡ true → a ≡ true
+left true b e = refl
+left false b e = never e
+
+pub right : (a b : Bool) → (a && b) ≡ true → b ≡ true
+right true b e = e
+right false b e = never e
+
+is_some_of : (live : Option ℕ) (k : ℕ) → live ≡ Some k → is_some live ≡ true
+is_some_of live k e = ap (λ (l : Option ℕ). is_some l) e
+
+pub control_of : (live : Option ℕ) (k : ℕ) → live ≡ Some k → is_control k live ≡ true
+control_of live k e = ap (λ (l : Option ℕ). is_control k l) e ∙ own k
+  where
+    own : (k : ℕ) → (k == k) ≡ true
+    own k = grind (arith, nat_tests)
+
+up_allowed : (header : Header) (host : ℕ) (at : HostId) (object : ObjectId) (m : Message) (past : List Event) (o p : ℕ) → ((doing : Command) × MaySendUp header doing at.0 object.0 m past) → Allowed (effect host (record { object = o; page = p }) (λ source. local header.size host source past) (event.Sent (Up at object) m) past) (page_on header host o p past) (live_control host o past) (live_control host o (event.Sent (Up at object) m ∷ past))
+up_allowed header host at object (message.Init control size) past o p c = by (at.0 == host && object.0 == o)
+  where
+    by : (b : Bool) → Allowed (if b then Begins else Elsewhere) (page_on header host o p past) (live_control host o past) (if b then Some control else live_control host o past)
+    by true = tt
+    by false = λ is. is
+up_allowed header host at object (message.Create control size) past o p c = by (at.0 == host && object.0 == o)
+  where
+    by : (b : Bool) → Allowed (if b then Begins else Elsewhere) (page_on header host o p past) (live_control host o past) (if b then Some control else live_control host o past)
+    by true = tt
+    by false = λ is. is
+up_allowed header host at object (message.Terminate control) past o p c = by (at.0 == host && object.0 == o) (is_control control (live_control host o past)) (λ is. control_of (live_control host o past) control (there_two (λ h k. live_control h k past ≡ Some control) at.0 object.0 host o is c.1.live))
+  where
+    by : (b t : Bool) → (b ≡ true → t ≡ true) → Allowed (if b then (if t then Ends else Elsewhere) else Elsewhere) (page_on header host o p past) (live_control host o past) (if b then without_control control (live_control host o past) else live_control host o past)
+    by true true is = tt
+    by true false is = never (is refl)
+    by false t is = λ x. x
+up_allowed header host at object (message.Request control page access) past o p c =
+    allowed_two (at.0 == host && object.0 == o) (page.0 == p && is_control control (live_control host o past)) Asks (page_on header host o p past) (live_control host o past) (live_control host o past)
+    (λ s t. (
+      there (λ h k q. IsVacant (page_on header h k q past)) at.0 object.0 page.0 host o p (join (at.0 == host) (object.0 == o) (page.0 == p) s (left (page.0 == p) (is_control control (live_control host o past)) t)) (record { away = c.1.away; unasked = c.1.unasked }),
+      is_some_of (live_control host o past) control (there_two (λ h k. live_control h k past ≡ Some control) at.0 object.0 host o s c.1.live),
+    ))
+    (λ is. is)
+up_allowed header host at object (message.Return control page dirty keep bytes) past o p c =
+    allowed_two (at.0 == host && object.0 == o) (page.0 == p) (Returns keep) (page_on header host o p past) (live_control host o past) (live_control host o past)
+    (λ s t. there (λ h k q. (page_on header h k q past).here ≡ true) at.0 object.0 page.0 host o p (join (at.0 == host) (object.0 == o) (page.0 == p) s t) c.1.here)
+    (λ is. is)
+up_allowed header host at object (message.Completed control page count) past o p c = by (at.0 == host && object.0 == o)
+  where
+    by : (b : Bool) → Allowed (if b then Elsewhere else Elsewhere) (page_on header host o p past) (live_control host o past) (live_control host o past)
+    by true = λ is. is
+    by false = λ is. is
+up_allowed header host at object m past o p c = absurd c.1
+
+port_there : (header : Header) (host : ℕ) (past : List Event) (at : HostId) (object : ObjectId) (control o : ℕ) (m : Message) → Base header host past → first (queue (Down at object control) past) ≡ Some m → (at.0 == host && object.0 == o) ≡ true → IsPlain m
+port_there header host past at object control o m base head is =
+    plain_first (queue (down_port host o control) past) m (there_two (λ h k. first (queue (down_port h k control) past) ≡ Some m) at.0 object.0 host o is head) (base.plain o control)
+
+pair : (a b c : Bool) → (a && (b && c)) ≡ true → (a && b) ≡ true
+pair true true c e = refl
+pair true false c e = never e
+pair false b c e = never e
+
+down_allowed : (header : Header) (host : ℕ) (at : HostId) (object : ObjectId) (control : ℕ) (m : Message) (past : List Event) (o p : ℕ) → Base header host past → first (queue (Down at object control) past) ≡ Some m
+    → Allowed (effect host (record { object = o; page = p }) (λ source. local header.size host source past) (event.Taken (Down at object control) m) past) (page_on header host o p past) (live_control host o past) (live_control host o past)
+down_allowed header host at object control (message.Supply page lock precious bytes) past o p base head =
+    allowed_two (at.0 == host && (object.0 == o && is_control control (live_control host o past))) (page.0 == p) (TakesPage lock precious bytes) (page_on header host o p past) (live_control host o past) (live_control host o past)
+    (λ s t. port_there header host past at object control o (message.Supply page lock precious bytes) base head (pair (at.0 == host) (object.0 == o) (is_control control (live_control host o past)) s))
+    (λ is. is)
+down_allowed header host at object control (message.Unavailable page) past o p base head =
+    allowed_two (at.0 == host && (object.0 == o && is_control control (live_control host o past))) (page.0 == p) TakesNothing (page_on header host o p past) (live_control host o past) (live_control host o past) (λ s t. tt) (λ is. is)
+down_allowed header host at object control (message.Error page reason) past o p base head =
+    allowed_two (at.0 == host && (object.0 == o && is_control control (live_control host o past))) (page.0 == p) TakesError (page_on header host o p past) (live_control host o past) (live_control host o past) (λ s t. tt) (λ is. is)
+down_allowed header host at object control (message.Lock page count returns flush lock reply) past o p base head =
+    allowed_two (at.0 == host && (object.0 == o && is_control control (live_control host o past))) (in_range p page.0 count) (TakesLock lock flush) (page_on header host o p past) (live_control host o past) (live_control host o past)
+    (λ s t. (port_there header host past at object control o (message.Lock page count returns flush lock reply) base head (pair (at.0 == host) (object.0 == o) (is_control control (live_control host o past)) s), λ is. is))
+    (λ is. is)
+down_allowed header host at object control m past o p base head = by (at.0 == host && (object.0 == o && is_control control (live_control host o past)))
+  where
+    by : (b : Bool) → Allowed (if b then Elsewhere else Elsewhere) (page_on header host o p past) (live_control host o past) (live_control host o past)
+    by true = λ is. is
+    by false = λ is. is
+
+allowed_next : (header : Header) (outside : Outside) (host : ℕ) (e : Event) (past : List Event) → AllPaged header → Base header host past → HasCause header outside e past → (o p : ℕ)
+    → Allowed (effect host (record { object = o; page = p }) (λ source. local header.size host source past) e past) (page_on header host o p past) (live_control host o past) (live_control host o (e ∷ past))
+allowed_next header outside host (event.Zeroed at object page) past all base c o p =
+    allowed_if (at.0 == host && (object.0 == o && page.0 == p)) Zeroes (page_on header host o p past) (live_control host o past) (live_control host o past)
+    (λ is. there (λ h k q. IsVacant (page_on header h k q past)) at.0 object.0 page.0 host o p is (vacant_zeroed header at.0 object.0 page.0 past (c.1 (paged header all object.0))))
+    (λ is. is)
+allowed_next header outside host (event.Raised at lower lower_page upper upper_page) past all base c o p =
+    allowed_if (at.0 == host && (upper.0 == o && upper_page.0 == p)) (Raises (page_on header host lower.0 lower_page.0 past).bytes) (page_on header host o p past) (live_control host o past) (live_control host o past)
+    (λ is. there (λ h k q. IsVacant (page_on header h k q past)) at.0 upper.0 upper_page.0 host o p is (vacant_raised header at.0 lower.0 lower_page.0 upper.0 upper_page.0 past c.1))
+    (λ is. is)
+allowed_next header outside host (event.CopiedPage task page object object_page target) past all base c o p =
+    allowed_if (is_on host (host_of task.0 past) && (target.0 == o && page.0 == p)) (Raises (page_on header host object.0 object_page.0 past).bytes) (page_on header host o p past) (live_control host o past) (live_control host o past)
+    (λ is. there_two (λ k q. IsVacant (page_on header host k q past)) target.0 page.0 o p (right (is_on host (host_of task.0 past)) (target.0 == o && page.0 == p) is)
+    (vacant_copied header host task.0 page.0 object.0 object_page.0 target.0 past c.1 (left (is_on host (host_of task.0 past)) (target.0 == o && page.0 == p) is)))
+    (λ is. is)
+allowed_next header outside host (event.Stored task object page at size value) past all base c o p =
+    allowed_if (is_on host (host_of task.0 past) && (object.0 == o && page.0 == p)) (Stores at (little_endian_bytes size value)) (page_on header host o p past) (live_control host o past) (live_control host o past) (λ is. λ x. x) (λ is. is)
+allowed_next header outside host (event.Dropped at object page) past all base c o p =
+    allowed_if (at.0 == host && (object.0 == o && page.0 == p)) Drops (page_on header host o p past) (live_control host o past) (live_control host o past)
+    (λ is. there (λ h k q. (page_on header h k q past).here ≡ true) at.0 object.0 page.0 host o p is (c.1 (paged header all object.0)).here)
+    (λ is. is)
+allowed_next header outside host (event.Sent (Up at object) m) past all base c o p = up_allowed header host at object m past o p (c.0, c.1 (paged header all object.0))
+allowed_next header outside host (event.Sent (Down at object control) m) past all base c o p = λ is. is
+allowed_next header outside host (event.Taken (Up at object) m) past all base c o p = λ is. is
+allowed_next header outside host (event.Taken (Down at object control) m) past all base c o p = down_allowed header host at object control m past o p base c.1.0
+allowed_next header outside host e past all base c o p = λ is. is
+
+-- a number of a control is never 0
+numbered_if : (b : Bool) (control last : ℕ) (live : Option ℕ) → 1 ≤ control → (last ≡ 0 → is_some live ≡ false) → (if b then control else last) ≡ 0 → is_some (if b then Some control else live) ≡ false
+numbered_if true control last live some was none = absurd (omega (arith, some, none))
+numbered_if false control last live some was none = was none
+
+none_without : (b : Bool) (control : ℕ) (live : Option ℕ) → is_some live ≡ false → is_some (if b then without_control control live else live) ≡ false
+none_without true control None is = refl
+none_without true control (Some n) is = never (sym is)
+none_without false control live is = is
+
+numbered_next : (header : Header) (outside : Outside) (host : ℕ) (e : Event) (past : List Event) → AllPaged header → Base header host past → HasCause header outside e past → (o : ℕ) → last_control host o (e ∷ past) ≡ 0 → is_some (live_control host o (e ∷ past)) ≡ false
+numbered_next header outside host (event.Sent (Up at object) (message.Init control size)) past all base c o =
+    numbered_if (at.0 == host && object.0 == o) control (last_control host o past) (live_control host o past) (omega (arith, (c.1 (paged header all object.0)).number)) (base.numbered o)
+numbered_next header outside host (event.Sent (Up at object) (message.Create control size)) past all base c o =
+    numbered_if (at.0 == host && object.0 == o) control (last_control host o past) (live_control host o past) (omega (arith, (c.1 (paged header all object.0)).number)) (base.numbered o)
+numbered_next header outside host (event.Sent (Up at object) (message.Terminate control)) past all base c o = λ none. none_without (at.0 == host && object.0 == o) control (live_control host o past) (base.numbered o none)
+numbered_next header outside host e past all base c o = base.numbered o
+
+down_plain : (header : Header) (outside : Outside) (h o k : ℕ) (m : Message) (past : List Event) → MaySendDown header outside h o k m past → IsPlain m
+down_plain header outside h o k (message.Supply page lock precious bytes) past c = c.2
+down_plain header outside h o k (message.Lock page count returns flush lock reply) past c = c.2
+down_plain header outside h o k m past c = tt
+
+plain_next : (header : Header) (outside : Outside) (host : ℕ) (e : Event) (past : List Event) → AllPaged header → Base header host past → HasCause header outside e past → (o k : ℕ) → ArePlain (queue (down_port host o k) (e ∷ past))
+plain_next header outside host (event.Sent (Down at object n) m) past all base c o k =
+    plain_if (at.0 == host && (object.0 == o && n == k)) (queue (down_port host o k) past) m (down_plain header outside at.0 object.0 n m past (c.1 (paged header all object.0))) (base.plain o k)
+plain_next header outside host (event.Taken (Down at object n) m) past all base c o k = plain_rest (at.0 == host && (object.0 == o && n == k)) (queue (down_port host o k) past) (base.plain o k)
+plain_next header outside host e past all base c o k = base.plain o k
+
+returns_next : (header : Header) (outside : Outside) (host : ℕ) (e : Event) (past : List Event) → Base header host past → HasCause header outside e past → returns_out host (e ∷ past) ≡ outs host (undelivered (e ∷ past))
+returns_next header outside host (event.Sent d m) past base c = outs_sent host d m past base.returns
+returns_next header outside host (event.Taken d m) past base c = outs_taken host d m past c.1.0 base.returns
+returns_next header outside host e past base c = base.returns
+
+pub base_next : (header : Header) (outside : Outside) (host : ℕ) (e : Event) (past : List Event) → AllPaged header → Base header host past → HasCause header outside e past → Base header host (e ∷ past)
+base_next header outside host e past all base c =
+    record {
+      sane = λ o p. sane_moved header.size (effect host (record { object = o; page = p }) (λ source. local header.size host source past) e past) (page_on header host o p past) (live_control host o past) (live_control host o (e ∷ past)) (allowed_next header outside host e past all base c o p) (base.sane o p);
+      numbered = numbered_next header outside host e past all base c;
+      plain = plain_next header outside host e past all base c;
+      returns = returns_next header outside host e past base c;
+    }
+
+pub base_of : (header : Header) (outside : Outside) (host : ℕ) (history : List Event) → AllPaged header → EachEvent (HasCause header outside) history → Base header host history
+base_of header outside host [] all c = record { sane = λ o p. record { apart = λ is. refl; living = λ is. never is; unlocked = refl }; numbered = λ o is. refl; plain = λ o k. tt; returns = refl }
+base_of header outside host (e ∷ past) all c = base_next header outside host e past all (base_of header outside host past all c.1) c.0

@@ -1,0 +1,4 @@
+pub mod Full
+pub mod Letters
+pub mod Places
+pub mod Quiet

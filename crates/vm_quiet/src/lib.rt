@@ -1,0 +1,70 @@
+//! Who waits once nothing is on its way, of temporary and file memory: laws of event lists.
+//!
+//! They are about lists of events alone, the newest first, whatever program they come from. Their
+//! premise is that each event has its cause. They hold where each declared object is a file: shared
+//! memory has a law of its own, and nothing is known of wild objects.
+#![tactic(auto)]
+
+ghost use Rattle.std.specs.Prelude.{ℕ, ◌≡◌, true, false, List, [], Some};
+ghost use Rattle.vm_model.specs.declared.event.Event.{Event};
+ghost use Rattle.vm_model.specs.declared.message.Channel.{Channel};
+ghost use Rattle.vm_model.specs.declared.message.Message.{Message};
+ghost use Rattle.vm_model.specs.declared.script.Header.{Header};
+ghost use Rattle.vm_model.specs.Channels.{queue};
+ghost use Rattle.vm_model.specs.Moments.{BeforeSteps, EachEvent};
+ghost use Rattle.vm_model.specs.Server.{first};
+ghost use Rattle.vm_model.specs.Waiting.{Loading};
+ghost use Rattle.vm_legal.specs.Accesses.{Waits};
+ghost use Rattle.vm_legal.specs.Debts.{IsPaid};
+ghost use Rattle.vm_legal.specs.Licences.{HasCause};
+ghost use Rattle.vm_legal.specs.Outside.{Outside};
+ghost use Rattle.vm_legal.specs.Prompt.{Prompt};
+ghost use Rattle.vm_legal.specs.Undelivered.{undelivered};
+ghost use Rattle.vm_legal.specs.Walks.{page_on};
+ghost use Rattle.vm_quiet.specs.Full as full;
+ghost use Rattle.vm_quiet.specs.Letters.{messages_on};
+ghost use Rattle.vm_quiet.specs.Places.{AllPaged, FramesAreCounted};
+ghost use Rattle.vm_quiet.specs.Quiet.{NobodyWaitsInVain};
+
+/// The queue of a channel is the channel's undelivered messages, in the order in which they were
+/// sent: whether one asks the channel or all letters together, the next message is the same.
+#[tactic(auto, using(crate::proofs::Letters::queue_is, crate::proofs::Letters::first_is, crate::proofs::Letters::is_first))]
+pub fn channels_are_letters()
+    ensures queue { (channel : Channel) (past : List Event) → queue channel past ≡ messages_on channel (undelivered past) }
+    ensures first { (channel : Channel) (m : Message) (past : List Event) → first (queue channel past) ≡ Some m → first (messages_on channel (undelivered past)) ≡ Some m }
+    ensures is_first { (channel : Channel) (m : Message) (past : List Event) → first (messages_on channel (undelivered past)) ≡ Some m → first (queue channel past) ≡ Some m }
+{}
+
+/// The frames that a host holds, as its events count them up and down, are one for each place that is
+/// here or asked, and one for each return without a copy that its pager did not take yet. So the
+/// count never falls below zero, and there is no frame of which nobody knows what stands in it.
+///
+/// A page that is here is never asked.
+#[tactic(auto, using(crate::proofs::Counting::frames_counted, crate::proofs::Counting::never_both))]
+pub fn frames_are_counted()
+    ensures counted { (header : Header) (outside : Outside) (host : ℕ) (history : List Event) → AllPaged header → EachEvent (HasCause header outside) history → FramesAreCounted header host history }
+    ensures apart { (header : Header) (outside : Outside) (host o p : ℕ) (history : List Event) → AllPaged header → EachEvent (HasCause header outside) history → (page_on header host o p history).here ≡ true → (page_on header host o p history).asked ≡ false }
+{}
+
+/// Where nothing is undelivered, and each step has done what it owes, whoever still waits does so for
+/// want of frames: its host has fewer than two that are not wired, and none of them is free. So on a
+/// host that leaves two frames unwired every access ends once all messages are taken.
+///
+/// Two are what an access can need at one moment: the page that it copies, and the page that it copies to.
+#[tactic(auto, using(crate::proofs::Quiet::quiet))]
+pub fn nobody_waits_in_vain()
+    ensures quiet { (header : Header) (outside : Outside) (history : List Event) → AllPaged header → EachEvent (HasCause header outside) history → BeforeSteps (IsPaid header) history → IsPaid header history → Prompt header history → undelivered history ≡ [] → NobodyWaitsInVain header history }
+{}
+
+/// A worked history that meets all of that with an access that waits: the host's two frames are both
+/// wired, so a load of fresh memory waits, and nothing is on its way.
+#[tactic(auto, using(crate::proofs::Full::full_paged, crate::proofs::Full::full_causes, crate::proofs::Full::full_steps, crate::proofs::Full::full_paid, crate::proofs::Full::full_prompt, crate::proofs::Full::full_delivered, crate::proofs::Full::full_waits))]
+pub fn full_run()
+    ensures paged { AllPaged full.header }
+    ensures causes { EachEvent (HasCause full.header full.outside) full.history }
+    ensures steps { BeforeSteps (IsPaid full.header) full.history }
+    ensures paid { IsPaid full.header full.history }
+    ensures prompt { Prompt full.header full.history }
+    ensures delivered { undelivered full.history ≡ [] }
+    ensures waits { Waits full.header 0 (Loading 0 1) full.history }
+{}
