@@ -1,4 +1,4 @@
--- A licensed event is a deed that has its cause, on each host.
+-- A sustained event is a deed that has its cause, on each host.
 use Rattle.std.proofs.Common.{ℕ, suc, ◌≡◌, ◌≢◌, ◌+◌, ◌*◌, ◌%◌, ◌/◌, ◌<◌, ◌≤◌, List, ◌∷◌, Bool, true, false, refl, sym, ap, subst, ◌∙◌, arith, Option, Some, if◌then◌else◌, ⊎_elim, inl, inr}
 use Rattle.std.proofs.lemmas.Bool.{cases_lt}
 use Rattle.std.proofs.lemmas.Bool.Decides.{nat_tests}
@@ -15,12 +15,13 @@ use Rattle.vm_model.specs.declared.script.Header.{Header}
 use Rattle.vm_model.specs.Tasks.{host_of, entries_of}
 use Rattle.vm_base.specs.Entries.{page_at}
 use Rattle.vm_model.specs.Named.{named}
-use Rattle.vm_flat.specs.Declared.{Outside, is_private, is_file, is_said, are_untold, zeros}
+use Rattle.vm_legal.specs.Outside.{Outside, is_private, is_file, is_said, are_untold, zeros}
 use Rattle.vm_model.specs.Local.{is_on}
-use Rattle.vm_flat.specs.Tasks.{lives_on}
+use Rattle.vm_legal.specs.Living.{lives_on}
 use Rattle.vm_model.specs.Waiting.{Storing, next_page, address_of}
 use Rattle.vm_model.specs.Regions.{next_region, region_of, backing_of}
-use Rattle.vm_flat.specs.Regions.{made_here, in_use}
+use Rattle.vm_legal.specs.Used.{made_here}
+use Rattle.vm_flat.proofs.Uses.{in_use}
 use Rattle.vm_model.specs.Channels.{queue}
 use Rattle.vm_flat.specs.Words.{UpWord, Requesting, Returning, DownWord, Supplying, Unavailing, Erring, TakesRequest, TakesReturn, Answers, Takes}
 use Rattle.vm_model.specs.Side.{rest}
@@ -30,12 +31,17 @@ use Rattle.vm_flat.proofs.Allowed.{May}
 use Rattle.vm_model.specs.Controls.{is_control, last_control, live_control}
 use Rattle.vm_flat.proofs.Lives.{control_counts, has_control}
 use Rattle.vm_flat.proofs.Locals.{spot_is_local, known_absent}
-use Rattle.vm_flat.specs.Places.{page_on, spot, control}
-use Rattle.vm_flat.specs.Walks.{IsTop}
-use Rattle.vm_flat.specs.Flat.{Change, change_by, change_in, change_of, made_over, flat_page}
-use Rattle.vm_flat.specs.Licences as L
-use Rattle.vm_flat.specs.Licences.{Licensed, Waits, MaySendUp, MaySendDown}
-use Rattle.vm_flat.specs.Bytes.{CopiesCurrent}
+use Rattle.vm_flat.specs.Places.{spot}
+use Rattle.vm_legal.specs.Walks.{page_on}
+use Rattle.vm_flat.proofs.Sustained.{control}
+use Rattle.vm_legal.specs.Walks.{IsTop}
+use Rattle.vm_legal.specs.Flat.{Change, change_by, change_in, change_of, made_over, flat_page}
+use Rattle.vm_legal.specs.Licences as L
+use Rattle.vm_legal.specs.Accesses as A
+use Rattle.vm_flat.proofs.Sustained as S
+use Rattle.vm_legal.specs.Accesses.{Waits}
+use Rattle.vm_flat.proofs.Sustained.{Sustained, MaySendUp, MaySendDown}
+use Rattle.vm_legal.specs.Bytes.{CopiesCurrent}
 use Rattle.vm_flat.proofs.Deeds as D
 use Rattle.vm_flat.proofs.Causes as C
 use Rattle.vm_flat.proofs.Causes.{Cause, Ours}
@@ -108,17 +114,17 @@ pub bytes_are : (header : Header) (outside : Outside) (host o p : ℕ) (past : L
 bytes_are header outside host o p past = ap (λ (s : Spot). s.bytes) (spot_is header outside host o p past) ∙ (spot_is_local header outside past host o p).bytes
 
 zeroed_cause : (header : Header) (outside : Outside) (host : ℕ) (at : HostId) (object page : ℕ) (past : List Event) → Holds header outside past
-    → (is_private header outside object ≡ true → ((object < named header) × L.Fills (spot header outside at.0 object page past) (page_on header at.0 object page past)) ⊎ L.Bottoms header outside at.0 object page past)
+    → (is_private header outside object ≡ true → ((object < named header) × S.Fills (spot header outside at.0 object page past) (page_on header at.0 object page past)) ⊎ L.Bottoms header at.0 object page past)
     → Cause (ground header outside) (D.Zeroed (at.0 == host) object page) (deeds header outside host past)
 zeroed_cause header outside host at object page past h c ours = by (c ours.covered)
   where
     is : at.0 ≡ host
     is = number_is at.0 host ours.on_host
 
-    by : ((object < named header) × L.Fills (spot header outside at.0 object page past) (page_on header at.0 object page past)) ⊎ L.Bottoms header outside at.0 object page past
+    by : ((object < named header) × S.Fills (spot header outside at.0 object page past) (page_on header at.0 object page past)) ⊎ L.Bottoms header at.0 object page past
         → ((D.is_file (ground header outside) object ≡ true) × C.Void (D.spot (ground header outside) object page (deeds header outside host past))) ⊎ C.Bottoms (ground header outside) object page (deeds header outside host past)
     by (inl fills) =
-        let f : L.Fills (spot header outside host object page past) (page_on header host object page past) = subst (λ (k : ℕ). L.Fills (spot header outside k object page past) (page_on header k object page past)) is fills.1 in
+        let f : S.Fills (spot header outside host object page past) (page_on header host object page past) = subst (λ (k : ℕ). S.Fills (spot header outside k object page past) (page_on header k object page past)) is fills.1 in
         let same : D.spot (ground header outside) object page (deeds header outside host past) ≡ spot header outside host object page past = spot_is header outside host object page past in
         inl (file_below header outside object fills.0 ours.covered, record { void = ap (λ (s : Spot). s.void) same ∙ f.void; away = here_is header outside host object page false past f.away; unasked = asked_is header outside host object page false past f.unasked })
       where
@@ -137,7 +143,7 @@ zeroed_cause header outside host at object page past h c ours = by (c ours.cover
           sinks = subst (λ (k : ℕ). C.Sinks (ground header outside) b.steps object page (deeds header outside k past)) is (sinks header outside at.0 past h.numbered b.steps object page b.temporary b.sinks);
         })
 
-raised_cause : (header : Header) (outside : Outside) (host : ℕ) (at : HostId) (lower lower_page upper upper_page : ℕ) (past : List Event) → Holds header outside past → L.Raises header outside at.0 lower lower_page upper upper_page past
+raised_cause : (header : Header) (outside : Outside) (host : ℕ) (at : HostId) (lower lower_page upper upper_page : ℕ) (past : List Event) → Holds header outside past → L.Raises header at.0 lower lower_page upper upper_page past
     → Cause (ground header outside) (D.Raised (at.0 == host) lower lower_page upper upper_page) (deeds header outside host past)
 raised_cause header outside host at lower lower_page upper upper_page past h c ours =
     let is : at.0 ≡ host = number_is at.0 host ours.on_host in
@@ -168,7 +174,7 @@ unused_where header outside host r i o p past h top isnt = by (in_use header out
         absurd (clash (is_private header outside o) isnt (subst (λ (k : ℕ). is_private header outside k ≡ true) (ap (λ (w : D.Row). w.top) same ∙ top.object) covers))
     by false used = refl
 
-stored_cause : (header : Header) (outside : Outside) (host : ℕ) (task object page at size value : ℕ) (past : List Event) → Holds header outside past → L.Stores header outside task object page at size value past
+stored_cause : (header : Header) (outside : Outside) (host : ℕ) (task object page at size value : ℕ) (past : List Event) → Holds header outside past → L.Stores header task object page at size value past
     → Cause (ground header outside) (D.Stored (lives_on host task past) (region_in (change_of header.size task past)) (page_in (change_of header.size task past)) object page at (little_endian_bytes size value)) (deeds header outside host past)
 stored_cause header outside host task object page at size value past h c =
     subst (λ (o : Option Change). Cause (ground header outside) (D.Stored (lives_on host task past) (region_in o) (page_in o) object page at (little_endian_bytes size value)) (deeds header outside host past)) (sym (change_is header task c.address size value past c.waits))
@@ -216,7 +222,7 @@ stored_cause header outside host task object page at size value past h c =
                 let e : (backing_of header v past).under ≡ object = sym (ap (λ (x : D.Link). x.under) same) ∙ under in
                 clash (is_file header object) (not_file header object (omega (arith, above, e))) file
 
-copied_cause : (header : Header) (outside : Outside) (host task index object page target : ℕ) (past : List Event) → Holds header outside past → L.CopiesPage header outside task index object page target past
+copied_cause : (header : Header) (outside : Outside) (host task index object page target : ℕ) (past : List Event) → Holds header outside past → L.CopiesPage header task index object page target past
     → (is_private header outside object ≡ false → (host : ℕ) → lives_on host task past ≡ true → (page_on header host object page past).bytes ≡ flat_page header outside object page past)
     → Cause (ground header outside) (D.Copied (lives_on host task past) object page object page (number_or_zero (made_over target past)) index target index) (deeds header outside host past)
 copied_cause header outside host task index object page target past h c current =
@@ -274,10 +280,10 @@ copied_cause header outside host task index object page target past h c current 
               },
             )
 
-dropped_cause : (header : Header) (outside : Outside) (host : ℕ) (at : HostId) (object page : ℕ) (past : List Event) → Holds header outside past → (is_private header outside object ≡ true → L.Drops header outside at.0 object page past)
+dropped_cause : (header : Header) (outside : Outside) (host : ℕ) (at : HostId) (object page : ℕ) (past : List Event) → Holds header outside past → (is_private header outside object ≡ true → S.Drops header outside at.0 object page past)
     → Cause (ground header outside) (D.Dropped (at.0 == host) object page) (deeds header outside host past)
 dropped_cause header outside host at object page past h c ours =
-    let drops : L.Drops header outside host object page past = subst (λ (k : ℕ). L.Drops header outside k object page past) (number_is at.0 host ours.on_host) (c ours.covered) in
+    let drops : S.Drops header outside host object page past = subst (λ (k : ℕ). S.Drops header outside k object page past) (number_is at.0 host ours.on_host) (c ours.covered) in
     (here_is header outside host object page true past drops.here, leaves drops.why)
   where
     clean : (page_on header host object page past).dirty ≡ false → (D.spot (ground header outside) object page (deeds header outside host past)).dirty ≡ false
@@ -286,10 +292,10 @@ dropped_cause header outside host at object page past h c ours =
     spared : (returns : ℕ) (b : Bool) → returns ≡ 2 → L.gives_back returns b ≡ false → b ≡ false
     spared returns b two is = grind (arith, nat_tests)
 
-    leaves : L.Leaves header outside host object page (page_on header host object page past).dirty past → ((D.spot (ground header outside) object page (deeds header outside host past)).dirty ≡ false) ⊎ (C.Reach (ground header outside) object (deeds header outside host past) → ⊥)
-    leaves (L.Clean is) = inl (clean is)
-    leaves (L.Unreached above gone) = inr (λ reached. gone (reach header outside host object past reached))
-    leaves (L.Flushed f) =
+    leaves : S.Leaves header outside host object page (page_on header host object page past).dirty past → ((D.spot (ground header outside) object page (deeds header outside host past)).dirty ≡ false) ⊎ (C.Reach (ground header outside) object (deeds header outside host past) → ⊥)
+    leaves (S.Clean is) = inl (clean is)
+    leaves (S.Unreached above gone) = inr (λ reached. gone (reach header outside host object past reached))
+    leaves (S.Flushed f) =
         let two : f.returns ≡ 2 = h.locks.taken (record { host = host; object = object; page = f.first; count = f.count; returns = f.returns; flush = true }) ours.covered f.taken in
         inl (clean (spared f.returns (page_on header host object page past).dirty two f.spared))
 
@@ -318,7 +324,7 @@ up_cause header outside host at object (message.Create number size) past h c = �
     let may_send : MaySendUp header outside host object (message.Create number size) past = subst (λ (k : ℕ). MaySendUp header outside k object (message.Create number size) past) (number_is at.0 host ours.on_host) (c ours.covered) in
     (born header outside host object may_send.3 past h ours.covered may_send.4, control_tie header outside host object past ∙ may_send.2)
 up_cause header outside host at object (message.Request number page access) past h c = λ ours.
-    let asks : L.Asks header outside host number object page.0 past = subst (λ (k : ℕ). L.Asks header outside k number object page.0 past) (number_is at.0 host ours.on_host) (c ours.covered) in (
+    let asks : L.Asks header host number object page.0 access past = subst (λ (k : ℕ). L.Asks header k number object page.0 access past) (number_is at.0 host ours.on_host) (c ours.covered) in (
       control_here header outside host object page.0 1 past (has_control header host object number past asks.live),
       here_is header outside host object page.0 false past asks.away,
       asked_is header outside host object page.0 false past asks.unasked,
@@ -326,20 +332,20 @@ up_cause header outside host at object (message.Request number page access) past
       control_counts host object number past asks.live,
     )
 up_cause header outside host at object (message.Return number page dirty keep bytes) past h c = λ ours.
-    let back : L.GivesBack header outside host number object page.0 dirty bytes past = subst (λ (k : ℕ). L.GivesBack header outside k number object page.0 dirty bytes past) (number_is at.0 host ours.on_host) (c ours.covered) in (
+    let back : S.GivesBack header outside host number object page.0 dirty bytes past = subst (λ (k : ℕ). S.GivesBack header outside k number object page.0 dirty bytes past) (number_is at.0 host ours.on_host) (c ours.covered) in (
       control_here header outside host object page.0 1 past (has_control header host object number past back.live),
       here_is header outside host object page.0 true past back.here,
       dirty_is header outside host object page.0 true past back.dirty,
       back.same ∙ sym (bytes_are header outside host object page.0 past),
     )
 up_cause header outside host at object (message.Terminate number) past h c = λ ours.
-    let ends : L.Ends header outside host number object past = subst (λ (k : ℕ). L.Ends header outside k number object past) (number_is at.0 host (both_hold (at.0 == host) (is_control number (live_control host object past)) ours.on_host).0) (c ours.covered) in (
+    let ends : S.Ends header outside host number object past = subst (λ (k : ℕ). S.Ends header outside k number object past) (number_is at.0 host (both_hold (at.0 == host) (is_control number (live_control host object past)) ours.on_host).0) (c ours.covered) in (
       kind ends ours,
       control_tie header outside host object past ∙ has_control header host object number past ends.live,
       λ p. (here_is header outside host object p false past (ends.away p), asked_is header outside host object p false past (ends.unasked p)),
     )
   where
-    kind : L.Ends header outside host number object past → Ours (ground header outside) (at.0 == host && is_control number (live_control host object past)) object → (C.Reach (ground header outside) object (deeds header outside host past) → ⊥) ⊎ (D.is_file (ground header outside) object ≡ true)
+    kind : S.Ends header outside host number object past → Ours (ground header outside) (at.0 == host && is_control number (live_control host object past)) object → (C.Reach (ground header outside) object (deeds header outside host past) → ⊥) ⊎ (D.is_file (ground header outside) object ≡ true)
     kind ends ours = by (D.is_file (ground header outside) object) refl
       where
         by : (b : Bool) → D.is_file (ground header outside) object ≡ b → (C.Reach (ground header outside) object (deeds header outside host past) → ⊥) ⊎ (b ≡ true)
@@ -351,7 +357,7 @@ up_cause header outside host at object (message.Terminate number) past h c = λ 
 up_cause header outside host at object m past h c = tt
 
 -- a file is mapped on one host alone, and its region is its own
-tells_cause : (header : Header) (outside : Outside) (host : ℕ) (at : HostId) (object n page : ℕ) (past : List Event) → Holds header outside past → is_file header object ≡ true → L.Answers header outside at.0 object n page past
+tells_cause : (header : Header) (outside : Outside) (host : ℕ) (at : HostId) (object n page : ℕ) (past : List Event) → Holds header outside past → is_file header object ≡ true → S.Answers header outside at.0 object n page past
     → (Ours (ground header outside) (at.0 == host && n == last_control host object past) object × C.OwnRegion (ground header outside) object (deeds header outside host past)) ⊎ C.Foreign (ground header outside) (at.0 == host && n == last_control host object past) object object (deeds header outside host past)
 tells_cause header outside host at object n page past h file a = by (at.0 == host) refl
   where
@@ -414,13 +420,13 @@ file_private header outside o file = grind (arith, nat_tests)
 
 -- the pager's answer
 answer_cause : (header : Header) (outside : Outside) (host : ℕ) (at : HostId) (object n page : ℕ) (word : DownWord) (past : List Event) (b : Bool) → is_said header outside object ≡ b → Holds header outside past
-    → (is_private header outside object ≡ true → L.Answers header outside at.0 object n page past) → (Ours (ground header outside) (at.0 == host && n == last_control host object past) object → b ≡ false → May (zeros header) (spot header outside host object page past) (Answers false word))
+    → (is_private header outside object ≡ true → S.Answers header outside at.0 object n page past) → (Ours (ground header outside) (at.0 == host && n == last_control host object past) object → b ≡ false → May (zeros header) (spot header outside host object page past) (Answers false word))
     → Cause (ground header outside) (D.Answered (at.0 == host && n == last_control host object past) b object page word) (deeds header outside host past)
 answer_cause header outside host at object n page word past false is h answers says = (λ ours. may header outside host object page past (λ s. May (zeros header) s (Answers false word)) (says ours refl), λ e. absurd (clash false refl e))
 answer_cause header outside host at object n page word past true is h answers says =
     let file : is_file header object ≡ true = said_file (are_untold outside.files) (is_file header object) is in (
       λ ours.
-          let a : L.Answers header outside host object n page past = subst (λ (k : ℕ). L.Answers header outside k object n page past) (number_is at.0 host (both_hold (at.0 == host) (n == last_control host object past) ours.on_host).0) (answers ours.covered) in
+          let a : S.Answers header outside host object n page past = subst (λ (k : ℕ). S.Answers header outside k object n page past) (number_is at.0 host (both_hold (at.0 == host) (n == last_control host object past) ours.on_host).0) (answers ours.covered) in
           (ap (λ (s : Spot). s.step) (spot_is header outside host object page past) ∙ a.unanswered, file_is (ground header outside) object page (deeds header outside host past) ∙ file),
       λ e. tells_cause header outside host at object n page past h file (answers (file_private header outside object file)),
     )
@@ -496,7 +502,7 @@ taken_down_cause header outside host at object n (message.Error page reason) pas
     (same_page page.0 (Erring ∷ down_words page.0 (rest (queue (Down at object n) past))) (down_words page.0 (rest (queue (Down at object n) past)))))
 taken_down_cause header outside host at object n m past h head = tt
 
-pub cause : (header : Header) (outside : Outside) (host : ℕ) (e : Event) (past : List Event) → Holds header outside past → Licensed header outside e past → CopiesCurrent header outside e past → Cause (ground header outside) (deed header outside host e past) (deeds header outside host past)
+pub cause : (header : Header) (outside : Outside) (host : ℕ) (e : Event) (past : List Event) → Holds header outside past → Sustained header outside e past → CopiesCurrent header outside e past → Cause (ground header outside) (deed header outside host e past) (deeds header outside host past)
 cause header outside host (event.RegionMade region object pages) past h c current = (c.0 ∙ sym (regions_is header outside host past), c.1 ∙ sym (objects_is header outside host past), λ own. told_private header outside object.0 (omega (arith, c.1, h.numbered.later_objects)) (second (made_here host past) outside.paging own))
 cause header outside host (event.RegionCopied region source offset pages) past h c current = cow_cause header outside host region.0 source.0 offset pages past h c
 cause header outside host (event.Shadowed region new old) past h c current = shadow_cause header outside host region.0 new.0 old.0 past h c

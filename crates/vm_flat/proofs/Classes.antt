@@ -9,13 +9,13 @@ use Rattle.vm_model.specs.declared.message.Message.{Message}
 use Rattle.vm_model.specs.declared.message.Message.TheVariants as message
 use Rattle.vm_model.specs.declared.script.Header.{Header}
 use Rattle.vm_model.specs.Named.{named, declared, declared_pages}
-use Rattle.vm_flat.specs.Declared.{is_file_kept, zeros, is_said, start_page}
-use Rattle.vm_flat.specs.Tasks.{lives_on}
-use Rattle.vm_flat.specs.Regions.{is_kept, made_here}
+use Rattle.vm_legal.specs.Outside.{is_file_kept, zeros, is_said, start_page}
+use Rattle.vm_legal.specs.Living.{lives_on}
+use Rattle.vm_legal.specs.Used.{is_kept, made_here}
 use Rattle.vm_model.specs.Controls.{is_control, last_control, live_control}
-use Rattle.vm_flat.specs.Flat.{Change, change_of, made_over}
+use Rattle.vm_legal.specs.Flat.{Change, change_of, made_over}
 use Rattle.vm_flat.specs.Words.{DownWord, Supplying, Unavailing, Erring}
-use Rattle.vm_flat.specs.Declared.{Outside}
+use Rattle.vm_legal.specs.Outside.{Outside}
 use Rattle.vm_flat.proofs.Deeds.{Ground, Deed, Line, Region, Cow, Kept, Shadowed, Zeroed, Raised, Stored, Dropped, Created, Asked, Copied, Returned, TookRequest, TookReturn, Answered, Took, Terminated, Elsewhere}
 
 abbrev pub ground : Header → Outside → Ground

@@ -16,12 +16,13 @@ use Rattle.vm_model.specs.declared.event.Event.{Event}
 use Rattle.vm_model.specs.declared.event.Event.TheVariants as event
 use Rattle.vm_model.specs.declared.script.Header.{Header}
 use Rattle.vm_model.specs.Tasks.{host_of, entries_of, has_entry}
-use Rattle.vm_flat.specs.Declared.{Outside, is_private}
+use Rattle.vm_legal.specs.Outside.{Outside, is_private}
 use Rattle.vm_model.specs.Local.{is_on}
-use Rattle.vm_flat.specs.Tasks.{lives_on}
+use Rattle.vm_legal.specs.Living.{lives_on}
 use Rattle.vm_model.specs.Regions.{next_region, region_of}
-use Rattle.vm_flat.specs.Regions.{made_here, in_use, is_kept}
-use Rattle.vm_flat.specs.Licences.{Enters}
+use Rattle.vm_legal.specs.Used.{made_here, is_kept}
+use Rattle.vm_flat.proofs.Uses.{in_use}
+use Rattle.vm_flat.proofs.Sustained.{Enters}
 use Rattle.vm_flat.proofs.Regions.{if_no}
 use Rattle.vm_model.specs.Rows.{AllRows, rows_map, rows_rewritten, rows_entered, rows_known, Parts, Inside, inside_part, page_below}
 use Rattle.vm_flat.proofs.Held.{kept}

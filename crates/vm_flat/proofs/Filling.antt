@@ -11,15 +11,18 @@ use Rattle.vm_model.specs.declared.event.Event.TheVariants as event
 use Rattle.vm_model.specs.declared.script.Header.{Header}
 use Rattle.vm_model.specs.Tasks.{host_of, entries_of}
 use Rattle.vm_model.specs.Named.{named}
-use Rattle.vm_flat.specs.Declared.{Outside}
+use Rattle.vm_legal.specs.Outside.{Outside}
 use Rattle.vm_model.specs.Local.{is_on}
-use Rattle.vm_flat.specs.Tasks.{lives_on, tasks}
+use Rattle.vm_legal.specs.Living.{lives_on, tasks}
 use Rattle.vm_model.specs.Waiting.{Access, Loading, Storing, Copying, waiting, begins_copy, Target, copy_target, fills}
 use Rattle.vm_model.specs.Regions.{next_region, next_object, Region, region_of}
-use Rattle.vm_flat.specs.Regions.{made_here, in_use, is_kept, is_filled}
-use Rattle.vm_flat.specs.Flat.{made_over}
-use Rattle.vm_flat.specs.Licences as L
-use Rattle.vm_flat.specs.Licences.{Licensed}
+use Rattle.vm_legal.specs.Used.{made_here, is_kept, is_filled}
+use Rattle.vm_flat.proofs.Uses.{in_use}
+use Rattle.vm_legal.specs.Flat.{made_over}
+use Rattle.vm_legal.specs.Licences as L
+use Rattle.vm_legal.specs.Accesses as A
+use Rattle.vm_flat.proofs.Sustained as S
+use Rattle.vm_flat.proofs.Sustained.{Sustained}
 use Rattle.vm_flat.proofs.Regions.{if_no, if_yes}
 use Rattle.vm_model.specs.Rows.{AllRows, rows_map, rows_rewritten, rows_entered, found_row}
 use Rattle.vm_flat.proofs.Entries.{Entries, OwnedAt}
@@ -109,7 +112,7 @@ with_entries header outside past host t hosts entries f none =
     record { later = f.later; made = f.made; object_made = f.object_made; is_over = f.is_over; top = f.top; shift = f.shift; mark = f.mark; used_here = f.used_here; alone = f.alone; no_entry = none }
 
 -- the region of an entry is filled by nobody
-entry_apart : (header : Header) (task address : ℕ) (past : List Event) (at : L.At header task address past) (r : ℕ) → NoEntry (λ task. host_of task past) (λ task. entries_of header.size task past) r → at.entry.region.0 ≢ r
+entry_apart : (header : Header) (task address : ℕ) (past : List Event) (at : A.At header task address past) (r : ℕ) → NoEntry (λ task. host_of task past) (λ task. entries_of header.size task past) r → at.entry.region.0 ≢ r
 entry_apart header task address past at r none = (found_row (λ row. row.region.0 ≢ r) address (entries_of header.size task past) at.entry (none task at.host at.lives) at.found).is
 
 -- a region that is made for a slow copy
@@ -214,7 +217,7 @@ rows_if : (P : Entry → Type 0) (b : Bool) (some none : List Entry) → AllRows
 rows_if P true some none yes_ no_ = yes_
 rows_if P false some none yes_ no_ = no_
 
-pub filling_next : (header : Header) (outside : Outside) (e : Event) (past : List Event) → NumberedAt header past → Entries header outside past → Licensed header outside e past → Filling header outside past → Filling header outside (e ∷ past)
+pub filling_next : (header : Header) (outside : Outside) (e : Event) (past : List Event) → NumberedAt header past → Entries header outside past → Sustained header outside e past → Filling header outside past → Filling header outside (e ∷ past)
 filling_next header outside (event.RegionMade region object pages) past n entries c filling task host address bytes to t lives waits target = made_filling header outside region object pages past n entries c.0 c.1 filling task host address bytes to t lives waits target
 filling_next header outside (event.RegionCopied region source offset pages) past n entries c filling task host address bytes to t lives waits target = copied_filling header outside region source offset pages past c filling task host address bytes to t lives waits target
 filling_next header outside (event.Shadowed region new old) past n entries c filling task host address bytes to t lives waits target = shadowed_filling header outside region new old past c filling task host address bytes to t lives waits target

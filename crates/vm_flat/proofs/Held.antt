@@ -7,9 +7,9 @@ use Rattle.vm_model.specs.declared.event.Event.TheVariants as event
 use Rattle.vm_model.specs.declared.script.Header.{Header}
 use Rattle.vm_model.specs.Tasks.{host_of, entries_of, has_entry}
 use Rattle.vm_model.specs.Named.{named}
-use Rattle.vm_flat.specs.Tasks.{tasks}
+use Rattle.vm_legal.specs.Living.{tasks}
 use Rattle.vm_model.specs.Waiting.{waiting, copy_target, fills}
-use Rattle.vm_flat.specs.Regions.{is_held, is_filled, is_kept}
+use Rattle.vm_legal.specs.Used.{is_held, is_filled, is_kept}
 
 abbrev pub is_among : ℕ → List ℕ → Bool
 is_among task [] = false

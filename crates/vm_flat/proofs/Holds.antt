@@ -1,4 +1,4 @@
--- What holds at every moment of a licensed history, and how its facts are those of one host's memory.
+-- What holds at every moment of a sustained history, and how its facts are those of one host's memory.
 use Rattle.std.proofs.Common.{ℕ, suc, zero, ◌≡◌, ◌+◌, ◌<◌, ◌≤◌, List, Bool, true, false, refl, sym, ap, subst, ◌∙◌, arith, ⊎_elim, Option, Some, None, if◌then◌else◌}
 use Rattle.std.specs.Prelude.{not, nat_lt, is_some, ◌&&◌, ◌==◌}
 use Rattle.std.proofs.lemmas.Bool.{cases_lt}
@@ -6,19 +6,20 @@ use Rattle.std.proofs.lemmas.Bool.Decides.{nat_tests}
 use Rattle.vm_model.specs.declared.event.Event.{Event}
 use Rattle.vm_model.specs.declared.script.Header.{Header}
 use Rattle.vm_model.specs.Named.{named}
-use Rattle.vm_flat.specs.Declared.{Outside, is_private, is_file}
+use Rattle.vm_legal.specs.Outside.{Outside, is_private, is_file}
 use Rattle.vm_model.specs.Regions.{next_region, region_of, backing_of}
-use Rattle.vm_flat.specs.Regions.{in_use}
+use Rattle.vm_flat.proofs.Uses.{in_use}
 use Rattle.vm_flat.specs.Spot.{Spot}
 use Rattle.vm_flat.proofs.Allowed.{Passed}
 use Rattle.vm_model.specs.Controls.{last_control, live_control}
 use Rattle.vm_flat.specs.Locals.{SpotIsLocal}
-use Rattle.vm_flat.specs.Places.{page_on, sight, spot, control}
-use Rattle.vm_model.specs.Chains as M
-use Rattle.vm_flat.specs.Walks as W
-use Rattle.vm_flat.specs.Walks.{IsTop, Passes}
-use Rattle.vm_flat.specs.Flat.{flat_page}
-use Rattle.vm_flat.specs.Licences.{At, Reach}
+use Rattle.vm_flat.specs.Places.{spot}
+use Rattle.vm_flat.proofs.Sustained.{control}
+use Rattle.vm_legal.specs.Walks as W
+use Rattle.vm_legal.specs.Walks.{IsTop, Passes, page_on, sight}
+use Rattle.vm_legal.specs.Flat.{flat_page}
+use Rattle.vm_legal.specs.Accesses.{At}
+use Rattle.vm_flat.proofs.Sustained.{Reach}
 use Rattle.vm_flat.proofs.Deeds as D
 use Rattle.vm_flat.proofs.Causes as C
 use Rattle.vm_flat.proofs.File.{file_is}
@@ -139,7 +140,7 @@ sinks header outside host past num (suc n) o p above walk =
 
 -- chains
 
-below : (header : Header) (outside : Outside) (host : ℕ) (past : List Event) (n o u : ℕ) → C.Below (λ k. D.link (ground header outside) k (deeds header outside host past)) n o u → M.Below (λ k. backing_of header k past) n o u
+below : (header : Header) (outside : Outside) (host : ℕ) (past : List Event) (n o u : ℕ) → C.Below (λ k. D.link (ground header outside) k (deeds header outside host past)) n o u → W.Below (λ k. backing_of header k past) n o u
 below header outside host past zero o u is = is
 below header outside host past (suc n) o u is =
     let same : D.link (ground header outside) o (deeds header outside host past) ≡ as_link (backing_of header o past) = link_is header outside host o past in (

@@ -1,4 +1,4 @@
--- Every load of a licensed history answers the flat map.
+-- Every load of a sustained history answers the flat map.
 use Rattle.std.proofs.Common.{ℕ, ◌≡◌, ◌+◌, ◌%◌, List, [], ◌∷◌, Bool, true, false, refl, sym, ap, subst, ◌∙◌, arith, Option, Some, None, if◌then◌else◌}
 use Rattle.std.proofs.lemmas.Bool.Decides.{nat_tests}
 use Rattle.std.specs.Prelude.{◌==◌, ◌&&◌, ◌||◌, not}
@@ -14,15 +14,21 @@ use Rattle.vm_model.specs.declared.script.Header.{Header}
 use Rattle.vm_model.specs.Moments.{EachEvent}
 use Rattle.vm_base.specs.Entries.{page_at}
 use Rattle.vm_model.specs.Bytes.{number_in}
-use Rattle.vm_flat.specs.Declared.{Outside, is_private, is_file, is_said}
-use Rattle.vm_flat.specs.Tasks.{lives_on}
-use Rattle.vm_flat.specs.Regions.{is_kept, made_here, in_use}
+use Rattle.vm_model.specs.Tasks.{host_of}
+use Rattle.vm_model.specs.Waiting.{Access, Loading, waiting}
+use Rattle.vm_legal.specs.Outside.{Outside, is_private, is_file, is_said}
+use Rattle.vm_legal.specs.Living.{lives_on}
+use Rattle.vm_legal.specs.Used.{is_kept, made_here}
+use Rattle.vm_flat.proofs.Uses.{in_use}
 use Rattle.vm_model.specs.Controls.{is_control, last_control, live_control}
-use Rattle.vm_flat.specs.Places.{page_on, control}
-use Rattle.vm_flat.specs.Flat.{Change, change_of, changed, made_over, is_number, answered, flat_page}
-use Rattle.vm_flat.specs.Licences as L
-use Rattle.vm_flat.specs.Licences.{Licensed, AllLicensed}
-use Rattle.vm_flat.specs.Bytes.{FlatBytes, CopiesCurrent}
+use Rattle.vm_legal.specs.Walks.{page_on}
+use Rattle.vm_flat.proofs.Sustained.{control}
+use Rattle.vm_legal.specs.Flat.{Change, change_of, changed, made_over, is_number, answered, flat_page}
+use Rattle.vm_legal.specs.Licences as L
+use Rattle.vm_legal.specs.Accesses as A
+use Rattle.vm_flat.proofs.Sustained as S
+use Rattle.vm_flat.proofs.Sustained.{Sustained, AllSustained}
+use Rattle.vm_legal.specs.Bytes.{OwnBytes, CopiesCurrent, FlatBytes}
 use Rattle.vm_flat.proofs.Deeds as D
 use Rattle.vm_flat.proofs.Causes as C
 use Rattle.vm_flat.proofs.Regions.{if_no}
@@ -53,7 +59,7 @@ said_same header outside host r i own says object (message.Error page reason) pa
     either false x = refl
 said_same header outside host r i own says object m past flats = flats host r i
 
-flat_stored : (header : Header) (outside : Outside) (host r i : ℕ) (own : Bool) (task object page at size value : ℕ) (past : List Event) → Flats header outside past → L.Stores header outside task object page at size value past
+flat_stored : (header : Header) (outside : Outside) (host r i : ℕ) (own : Bool) (task object page at size value : ℕ) (past : List Event) → Flats header outside past → L.Stores header task object page at size value past
     → D.flat (ground header outside) r i (D.Stored own (region_in (change_of header.size task past)) (page_in (change_of header.size task past)) object page at (little_endian_bytes size value) ∷ deeds header outside host past)
     ≡ changed r i (change_of header.size task past) (flat_page header outside r i past)
 flat_stored header outside host r i own task object page at size value past flats c =
@@ -71,7 +77,7 @@ flat_copied header outside host r i own region index object page target past fla
     (sym is)
     (two (r == region && i == index) _ _ _ _ (flats host object page) (flats host r i))
 
-flats_next : (header : Header) (outside : Outside) (e : Event) (past : List Event) → Filling header outside past → Flats header outside past → Licensed header outside e past → Flats header outside (e ∷ past)
+flats_next : (header : Header) (outside : Outside) (e : Event) (past : List Event) → Filling header outside past → Flats header outside past → Sustained header outside e past → Flats header outside (e ∷ past)
 flats_next header outside (event.RegionMade region object pages) past filling flats c host r i = two (r == region.0) _ _ _ _ refl (flats host r i)
 flats_next header outside (event.RegionCopied region source offset pages) past filling flats c host r i = two (r == region.0) _ _ _ _ (flats host source.0 (offset + i)) (flats host r i)
 flats_next header outside (event.Stored task object page at size value) past filling flats c host r i = flat_stored header outside host r i (lives_on host task.0 past) task.0 object.0 page.0 at size value past flats c
@@ -101,7 +107,7 @@ new_private header outside r region a b now was used = by (r == region) refl use
     by true is e = let r_is : r ≡ region = grind (arith, nat_tests) in subst (λ (k : ℕ). is_private header outside k ≡ true) (sym r_is) (now e)
     by false is e = was e
 
-private_next : (header : Header) (outside : Outside) (e : Event) (past : List Event) → Holds header outside past → Licensed header outside e past → PrivateUsed header outside (e ∷ past)
+private_next : (header : Header) (outside : Outside) (e : Event) (past : List Event) → Holds header outside past → Sustained header outside e past → PrivateUsed header outside (e ∷ past)
 private_next header outside (event.RegionMade region object pages) past h c host r used =
     new_private header outside r region.0 (made_here host past && outside.paging) (in_use header outside host r past) (λ e. told_private header outside region.0 (omega (arith, c.0, h.numbered.later_regions)) (second (made_here host past) outside.paging e)) (h.private_used host r) used
 private_next header outside (event.RegionCopied region source offset pages) past h c host r used =
@@ -116,7 +122,7 @@ private_next header outside e past h c host r used = h.private_used host r used
 private_start : (header : Header) (outside : Outside) → PrivateUsed header outside []
 private_start header outside host r used = grind (arith, nat_tests)
 
-entries_next : (header : Header) (outside : Outside) (e : Event) (past : List Event) → Holds header outside past → Licensed header outside e past → Entries header outside (e ∷ past)
+entries_next : (header : Header) (outside : Outside) (e : Event) (past : List Event) → Holds header outside past → Sustained header outside e past → Entries header outside (e ∷ past)
 entries_next header outside (event.TaskMade made at) past h c task host lives = entries_task_made header outside made at past h.entries task host lives
 entries_next header outside (event.TaskEnded gone) past h c task host lives = entries_task_ended header outside gone past h.entries task host lives
 entries_next header outside (event.Failed owner object page) past h c task host lives = entries_failed header outside owner object page past h.entries task host lives
@@ -138,7 +144,7 @@ zero_one : (f : Bool) → ◌≡◌ {A = ℕ} (if f then 0 else 2) 1 → ⊥
 zero_one true e = omega (arith, e)
 zero_one false e = omega (arith, e)
 
-opened_home : (header : Header) (outside : Outside) (at object g o h : ℕ) (past : List Event) → Holds header outside past → (at == g && object == o) ≡ true → L.Opens header at object past → (h ≡ g → ⊥) → in_use header outside h o past ≡ false
+opened_home : (header : Header) (outside : Outside) (at object g o h : ℕ) (past : List Event) → Holds header outside past → (at == g && object == o) ≡ true → S.Opens header at object past → (h ≡ g → ⊥) → in_use header outside h o past ≡ false
 opened_home header outside at object g o h past w is c apart =
     let row = led header outside c.task c.address past w.entries c.at in
     let host_is : at ≡ g = grind (arith, nat_tests) in
@@ -146,7 +152,7 @@ opened_home header outside at object g o h past w is c apart =
     let off : in_use header outside h c.at.entry.region.0 past ≡ false = row.is.alone h (λ e. apart (e ∙ c.on_host ∙ host_is)) in
     subst (λ (k : ℕ). in_use header outside h k past ≡ false) (c.region ∙ sym object_is) off
 
-homes_sent : (header : Header) (outside : Outside) (at : HostId) (object : ObjectId) (m : Message) (past : List Event) → Holds header outside past → (is_private header outside object.0 ≡ true → L.MaySendUp header outside at.0 object.0 m past) → Homes header outside (event.Sent (Up at object) m ∷ past)
+homes_sent : (header : Header) (outside : Outside) (at : HostId) (object : ObjectId) (m : Message) (past : List Event) → Holds header outside past → (is_private header outside object.0 ≡ true → S.MaySendUp header outside at.0 object.0 m past) → Homes header outside (event.Sent (Up at object) m ∷ past)
 homes_sent header outside at object (message.Init number size) past w c g o less ours live h apart = by (at.0 == g && object.0 == o) refl live
   where
     by : (b : Bool) → (at.0 == g && object.0 == o) ≡ b → (if b then 1 else control header g o past) ≡ 1 → in_use header outside h o past ≡ false
@@ -164,7 +170,7 @@ homes_sent header outside at object (message.Terminate number) past w c g o less
     by false e = w.homes g o less ours e h apart
 homes_sent header outside at object m past w c g o less ours live h apart = w.homes g o less ours live h apart
 
-homes_next : (header : Header) (outside : Outside) (e : Event) (past : List Event) → Holds header outside past → Licensed header outside e past → Homes header outside (e ∷ past)
+homes_next : (header : Header) (outside : Outside) (e : Event) (past : List Event) → Holds header outside past → Sustained header outside e past → Homes header outside (e ∷ past)
 homes_next header outside (event.RegionMade region object pages) past w c g o less ours live h apart =
     if_no o region.0 (made_here h past && outside.paging) (in_use header outside h o past) (λ e. omega (arith, less, e, c.0, w.numbered.later_regions)) ∙ w.homes g o less ours live h apart
 homes_next header outside (event.RegionCopied region source offset pages) past w c g o less ours live h apart =
@@ -180,14 +186,14 @@ homes_next header outside e past w c g o less ours live h apart = w.homes g o le
 no_host : (h : ℕ) → ◌≡◌ {A = Option ℕ} None (Some h) → ⊥
 no_host h e = cc
 
-numbered_next : (header : Header) (outside : Outside) (e : Event) (past : List Event) → Holds header outside past → Licensed header outside e past → NumberedAt header (e ∷ past)
+numbered_next : (header : Header) (outside : Outside) (e : Event) (past : List Event) → Holds header outside past → Sustained header outside e past → NumberedAt header (e ∷ past)
 numbered_next header outside (event.RegionMade region object pages) past h c = numbered_region_made header region object pages past h.numbered c.0 c.1
 numbered_next header outside (event.RegionCopied region source offset pages) past h c = numbered_region_copied header region source offset pages past h.numbered c.next c.temporary (source_made header outside region.0 source.0 offset pages past h c)
 numbered_next header outside (event.Shadowed region new old) past h c = numbered_shadowed header region new old past h.numbered c.next c.marked (shadowed_made header outside region.0 new.0 old.0 past h c)
 numbered_next header outside e past h c = h.numbered
 
-pub holds : (header : Header) (outside : Outside) (past : List Event) → AllLicensed header outside past → EachEvent (CopiesCurrent header outside) past → Holds header outside past
-holds header outside [] licensed current =
+pub holds : (header : Header) (outside : Outside) (past : List Event) → AllSustained header outside past → EachEvent (CopiesCurrent header outside) past → Holds header outside past
+holds header outside [] sustained current =
     record {
       worlds = λ host. start (ground header outside);
       flats = λ host r i. refl;
@@ -202,27 +208,55 @@ holds header outside [] licensed current =
       locks = locks_start header outside;
       homes = λ g o less ours live h apart. absurd (omega (arith, live));
     }
-holds header outside (e ∷ past) licensed current =
-    let h : Holds header outside past = holds header outside past licensed.1 current.1 in
+holds header outside (e ∷ past) sustained current =
+    let h : Holds header outside past = holds header outside past sustained.1 current.1 in
     record {
-      worlds = λ host. after (ground header outside) (deed header outside host e past) (deeds header outside host past) (h.worlds host) (cause header outside host e past h licensed.0 current.0);
-      flats = flats_next header outside e past h.filling h.flats licensed.0;
-      numbered = numbered_next header outside e past h licensed.0;
-      private_used = private_next header outside e past h licensed.0;
-      entries = entries_next header outside e past h licensed.0;
-      filling = filling_next header outside e past h.numbered h.entries licensed.0 h.filling;
-      ups = ups_next header outside e past h.ups licensed.0;
-      up_numbers = numbers_next header outside e past h.worlds h.ups h.up_numbers licensed.0;
-      asked = asked_next header outside e past h.worlds h.up_numbers h.asked licensed.0;
-      downs = downs_next header outside e past h.worlds h.asked h.downs licensed.0;
-      locks = locks_next header outside e past h.locks licensed.0;
-      homes = homes_next header outside e past h licensed.0;
+      worlds = λ host. after (ground header outside) (deed header outside host e past) (deeds header outside host past) (h.worlds host) (cause header outside host e past h sustained.0 current.0);
+      flats = flats_next header outside e past h.filling h.flats sustained.0;
+      numbered = numbered_next header outside e past h sustained.0;
+      private_used = private_next header outside e past h sustained.0;
+      entries = entries_next header outside e past h sustained.0;
+      filling = filling_next header outside e past h.numbered h.entries sustained.0 h.filling;
+      ups = ups_next header outside e past h.ups sustained.0;
+      up_numbers = numbers_next header outside e past h.worlds h.ups h.up_numbers sustained.0;
+      asked = asked_next header outside e past h.worlds h.up_numbers h.asked sustained.0;
+      downs = downs_next header outside e past h.worlds h.asked h.downs sustained.0;
+      locks = locks_next header outside e past h.locks sustained.0;
+      homes = homes_next header outside e past h sustained.0;
     }
 
-loaded : (header : Header) (outside : Outside) (e : Event) (past : List Event) → Holds header outside past → Licensed header outside e past → FlatBytes header outside e past
-loaded header outside (event.Loaded task object page value) past h c =
-    record { address = c.address; bytes = c.bytes; waits = c.waits; number = λ ours. c.number ∙ ap (λ x. number_in x header.size c.address c.bytes) (same ours) }
+-- a load waits at one address, on one host
+
+record SameLoad (at count other_at other_count : ℕ) : Type 0 where
+  pub address : other_at ≡ at
+  pub bytes : other_count ≡ count
+
+same_load : (task address bytes other_address other_bytes : ℕ) (past : List Event) → waiting task past ≡ Some (Loading address bytes) → waiting task past ≡ Some (Loading other_address other_bytes) → SameLoad address bytes other_address other_bytes
+same_load task address bytes other_address other_bytes past one two =
+    let is : Some (Loading other_address other_bytes) ≡ Some (Loading address bytes) = sym two ∙ one in
+    record { address = ap (λ a. address_in a) is; bytes = ap (λ a. bytes_in a) is }
   where
+    address_in : Option Access → ℕ
+    address_in (Some (Loading address bytes)) = address
+    address_in other = 0
+    bytes_in : Option Access → ℕ
+    bytes_in (Some (Loading address bytes)) = bytes
+    bytes_in other = 0
+
+same_host : (task host other : ℕ) (past : List Event) → host_of task past ≡ Some host → host_of task past ≡ Some other → other ≡ host
+same_host task host other past one two = ap (λ (h : Option ℕ). number_or_zero h) (sym two ∙ one)
+
+loaded : (header : Header) (outside : Outside) (e : Event) (past : List Event) → Holds header outside past → Sustained header outside e past → OwnBytes header e past → FlatBytes header outside e past
+loaded header outside (event.Loaded task object page value) past h c own =
+    record { address = c.address; bytes = c.bytes; waits = c.waits; number = λ ours. number ∙ ap (λ x. number_in x header.size c.address c.bytes) (same ours) }
+  where
+    alike : SameLoad c.address c.bytes own.address own.bytes
+    alike = same_load task.0 c.address c.bytes own.address own.bytes past c.waits.waits own.waits.waits
+    number : value ≡ number_in (page_on header c.waits.at.host object.0 page.0 past).bytes header.size c.address c.bytes
+    number =
+        own.number ∙ ap (λ (host : ℕ). number_in (page_on header host object.0 page.0 past).bytes header.size own.address own.bytes) (same_host task.0 c.waits.at.host own.waits.at.host past c.waits.at.lives own.waits.at.lives)
+        ∙ ap (λ (a : ℕ). number_in (page_on header c.waits.at.host object.0 page.0 past).bytes header.size a own.bytes) alike.address
+        ∙ ap (λ (b : ℕ). number_in (page_on header c.waits.at.host object.0 page.0 past).bytes header.size c.address b) alike.bytes
     same : is_private header outside c.waits.at.entry.region.0 ≡ true → (page_on header c.waits.at.host object.0 page.0 past).bytes ≡ flat_page header outside c.waits.at.entry.region.0 (page_at header.size c.address c.waits.at.entry) past
     same ours =
         let row = led header outside task.0 c.address past h.entries c.waits.at in
@@ -232,8 +266,8 @@ loaded header outside (event.Loaded task object page value) past h c =
         (walks header outside c.waits.at.host past h.numbered c.comes.steps c.comes.top c.comes.top_page object.0 page.0 c.comes.walks)
         (here_is header outside c.waits.at.host object.0 page.0 true past c.here) in
         sym (bytes_are header outside c.waits.at.host object.0 page.0 past) ∙ got ∙ h.flats c.waits.at.host c.waits.at.entry.region.0 (page_at header.size c.address c.waits.at.entry)
-loaded header outside e past h c = tt
+loaded header outside e past h c own = tt
 
-pub law : (header : Header) (outside : Outside) (history : List Event) → AllLicensed header outside history → EachEvent (CopiesCurrent header outside) history → EachEvent (FlatBytes header outside) history
-law header outside [] licensed current = tt
-law header outside (e ∷ past) licensed current = (loaded header outside e past (holds header outside past licensed.1 current.1) licensed.0, law header outside past licensed.1 current.1)
+pub law : (header : Header) (outside : Outside) (history : List Event) → AllSustained header outside history → EachEvent (OwnBytes header) history → EachEvent (CopiesCurrent header outside) history → EachEvent (FlatBytes header outside) history
+law header outside [] sustained own current = tt
+law header outside (e ∷ past) sustained own current = (loaded header outside e past (holds header outside past sustained.1 current.1) sustained.0 own.0, law header outside past sustained.1 own.1 current.1)

@@ -8,8 +8,8 @@ use Rattle.vm_model.specs.declared.message.Channel.TheVariants.{Up}
 use Rattle.vm_model.specs.declared.message.Message.TheVariants as message
 use Rattle.vm_model.specs.declared.script.Header.{Header}
 use Rattle.vm_model.specs.Controls.{is_control, without_control, last_control, live_control}
-use Rattle.vm_flat.specs.Declared.{is_file}
-use Rattle.vm_flat.specs.Places.{control}
+use Rattle.vm_legal.specs.Outside.{is_file}
+use Rattle.vm_flat.proofs.Sustained.{control}
 
 abbrev pub living : ℕ → ℕ → Option ℕ
 living n last = if n == 1 then Some last else None

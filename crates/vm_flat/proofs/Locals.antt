@@ -19,11 +19,11 @@ use Rattle.vm_model.specs.Local.{Local, Place, Elsewhere, is_known_absent, is_on
 use Rattle.vm_model.specs.Moments.{EachEvent}
 use Rattle.vm_model.specs.Words.{in_range}
 use Rattle.vm_model.specs.Named.{declared, named}
-use Rattle.vm_flat.specs.Declared.{Outside, is_file, is_file_kept, is_private, is_said, zeros}
-use Rattle.vm_flat.specs.Tasks.{lives_on}
+use Rattle.vm_legal.specs.Outside.{Outside, is_file, is_file_kept, is_private, is_said, zeros}
+use Rattle.vm_legal.specs.Living.{lives_on}
 use Rattle.vm_flat.specs.Words.{DownWord, Supplying, Unavailing, Erring, Effect, Creates, Requests, Returns, TakesRequest, TakesReturn, Answers, Takes, Zeroes, Raises, Stores, Drops, Ends, StepEnds, Nothing}
 use Rattle.vm_flat.specs.Spot.{Spot, move}
-use Rattle.vm_flat.specs.Licences.{AllLicensed, Licensed, MaySendUp}
+use Rattle.vm_flat.proofs.Sustained.{AllSustained, Sustained, MaySendUp}
 use Rattle.vm_flat.specs.Locals.{SpotIsLocal, OthersFounded}
 use Rattle.vm_flat.proofs.Regions.{eq_yes, eq_no}
 use Rattle.vm_flat.specs.Places.{sent_up, taken_up, sent_down, taken_down, spot}
@@ -251,7 +251,7 @@ flip : (a b : ℕ) → (a == b) ≡ (b == a)
 flip a b = elim (ℕ_discrete a b) [ yes e ↦ eq_yes a b e ∙ sym (eq_yes b a (sym e)) | no apart ↦ eq_no a b apart ∙ sym (eq_no b a (λ e. apart (sym e))) ]
 
 -- the control that takes is the live one where it is the newest and lives
-is_live : (last : ℕ) (live : Option ℕ) (s : Spot) (number : ℕ) → (if s.control == 1 then Some last else None) ≡ live → is_control number live ≡ (s.control == 1 && number == last)
+pub is_live : (last : ℕ) (live : Option ℕ) (s : Spot) (number : ℕ) → (if s.control == 1 then Some last else None) ≡ live → is_control number live ≡ (s.control == 1 && number == last)
 is_live last live s number is = ap (is_control number) (sym is) ∙ by_live (s.control == 1)
   where
     by_live : (b : Bool) → is_control number (if b then Some last else None) ≡ (b && number == last)
@@ -325,7 +325,7 @@ by_private : (header : Header) (outside : Outside) (at : HostId) (object : Objec
 by_private header outside at object m past true is c other = sent_founded header outside at object m past (c is)
 by_private header outside at object m past false is c other = other is
 
-event_founded : (header : Header) (outside : Outside) (e : Event) (past : List Event) → Licensed header outside e past → OthersFounded header outside e past → IsFounded header.size e past
+event_founded : (header : Header) (outside : Outside) (e : Event) (past : List Event) → Sustained header outside e past → OthersFounded header outside e past → IsFounded header.size e past
 event_founded header outside (event.Raised at lower lower_page upper upper_page) past c other = c.here
 event_founded header outside (event.CopiedPage task page object object_page target) past c other =
     (c.waits.at.host, c.waits.at.lives, c.here)
@@ -334,10 +334,10 @@ event_founded header outside (event.Sent (Up at object) m) past c other = by_pri
 event_founded header outside (event.Sent (Down at object number) m) past c other = tt
 event_founded header outside e past c other = tt
 
--- each event of a licensed history is founded, as far as other objects' are
-pub each_founded : (header : Header) (outside : Outside) (past : List Event) → AllLicensed header outside past → EachEvent (OthersFounded header outside) past → EachEvent (IsFounded header.size) past
-each_founded header outside [] licensed other = tt
-each_founded header outside (e ∷ past) licensed other = (event_founded header outside e past licensed.0 other.0, each_founded header outside past licensed.1 other.1)
+-- each event of a sustained history is founded, as far as other objects' are
+pub each_founded : (header : Header) (outside : Outside) (past : List Event) → AllSustained header outside past → EachEvent (OthersFounded header outside) past → EachEvent (IsFounded header.size) past
+each_founded header outside [] sustained other = tt
+each_founded header outside (e ∷ past) sustained other = (event_founded header outside e past sustained.0 other.0, each_founded header outside past sustained.1 other.1)
 
 -- of a private object a page is known absent where the host knows that
 pub known_absent : (header : Header) (outside : Outside) (past : List Event) (host o p : ℕ) → is_private header outside o ≡ true

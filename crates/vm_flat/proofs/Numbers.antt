@@ -9,7 +9,7 @@ use Rattle.vm_model.specs.declared.event.Event.{Event}
 use Rattle.vm_model.specs.declared.event.Event.TheVariants as event
 use Rattle.vm_model.specs.declared.script.Header.{Header}
 use Rattle.vm_model.specs.Named.{named}
-use Rattle.vm_flat.specs.Declared.{Outside, is_private}
+use Rattle.vm_legal.specs.Outside.{Outside, is_private}
 use Rattle.vm_model.specs.Regions.{next_region, next_object, Region, region_of, Backing, backing_of}
 use Rattle.vm_flat.proofs.Regions.{if_no, if_yes}
 

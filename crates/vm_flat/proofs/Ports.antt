@@ -13,16 +13,18 @@ use Rattle.vm_model.specs.declared.message.Channel.TheVariants.{Up, Down}
 use Rattle.vm_model.specs.declared.message.Message.{Message}
 use Rattle.vm_model.specs.declared.message.Message.TheVariants as message
 use Rattle.vm_model.specs.declared.script.Header.{Header}
-use Rattle.vm_flat.specs.Declared.{Outside, is_private, is_said, zeros}
-use Rattle.vm_flat.specs.Tasks.{lives_on}
+use Rattle.vm_legal.specs.Outside.{Outside, is_private, is_said, zeros}
+use Rattle.vm_legal.specs.Living.{lives_on}
 use Rattle.vm_model.specs.Channels.{queue, up_port, down_port}
 use Rattle.vm_flat.specs.Words.{UpWord, Requesting, Returning, DownWord, Supplying, Unavailing, Erring, Effect, Creates, Requests, Returns, Answers, Zeroes, Raises, Stores, Drops, Ends, Nothing}
 use Rattle.vm_model.specs.Side.{rest}
 use Rattle.vm_model.specs.Server.{first}
 use Rattle.vm_flat.specs.Spot.{Spot, move}
 use Rattle.vm_model.specs.Controls.{is_control, last_control, live_control}
-use Rattle.vm_flat.specs.Places.{at_place, sent_up, sent_down, spot, control}
-use Rattle.vm_flat.specs.Licences.{Licensed, Request, request_taken, LockRequest, lock_taken, MaySendUp, MaySendDown}
+use Rattle.vm_flat.specs.Places.{at_place, sent_up, sent_down, spot}
+use Rattle.vm_flat.proofs.Sustained.{control}
+use Rattle.vm_legal.specs.Licences.{LockRequest, lock_taken}
+use Rattle.vm_flat.proofs.Sustained.{Sustained, Request, request_taken, MaySendUp, MaySendDown}
 use Rattle.vm_flat.proofs.Lives.{is_newest}
 use Rattle.vm_flat.proofs.Queues.{requests}
 use Rattle.vm_flat.proofs.Sound.{Sound, count}
@@ -80,7 +82,7 @@ head_down at object n m past h o k head is = subst (λ (c : Channel). first (que
 pub ups_start : (header : Header) (outside : Outside) → Ups header outside []
 ups_start header outside h o p = refl
 
-pub ups_next : (header : Header) (outside : Outside) (e : Event) (past : List Event) → Ups header outside past → Licensed header outside e past → Ups header outside (e ∷ past)
+pub ups_next : (header : Header) (outside : Outside) (e : Event) (past : List Event) → Ups header outside past → Sustained header outside e past → Ups header outside (e ∷ past)
 ups_next header outside (event.Zeroed at object page) past ups c h o p = up_place (zeros header) (spot header outside h o p past) o p (at.0 == h) object.0 page.0 Zeroes Nothing refl refl ∙ ups h o p
 ups_next header outside (event.Raised at lower lower_page upper upper_page) past ups c h o p = up_place (zeros header) (spot header outside h o p past) o p (at.0 == h) upper.0 upper_page.0 (Raises (spot header outside h lower.0 lower_page.0 past).bytes) Nothing refl refl ∙ ups h o p
 ups_next header outside (event.Stored task object page at size value) past ups c h o p = up_place (zeros header) (spot header outside h o p past) o p (lives_on h task.0 past) object.0 page.0 (Stores at (little_endian_bytes size value)) Nothing refl refl ∙ ups h o p
@@ -168,7 +170,7 @@ numbers_sent header outside at object (message.Request number page access) past 
     (λ is. (sym (number_there past at.0 object.0 h o number is (is_newest header at.0 object.0 number past (c (private_there header outside at.0 object.0 h o is ours)).live)), tt))
 numbers_sent header outside at object m past w ups all c h o ours = from_if (at.0 == h && object.0 == o) (last_control h o past) (queue (up_port h o) past) m (all h o ours) (λ is. tt)
 
-pub numbers_next : (header : Header) (outside : Outside) (e : Event) (past : List Event) → Worlds header outside past → Ups header outside past → UpNumbers header outside past → Licensed header outside e past → UpNumbers header outside (e ∷ past)
+pub numbers_next : (header : Header) (outside : Outside) (e : Event) (past : List Event) → Worlds header outside past → Ups header outside past → UpNumbers header outside past → Sustained header outside e past → UpNumbers header outside (e ∷ past)
 numbers_next header outside (event.Sent (Up at object) m) past w ups all c h o ours = numbers_sent header outside at object m past w ups all c h o ours
 numbers_next header outside (event.Sent (Down at object n) m) past w ups all c h o ours = all h o ours
 numbers_next header outside (event.Taken (Up at object) m) past w ups all c h o ours = from_rest_if (at.0 == h && object.0 == o) (last_control h o past) (queue (up_port h o) past) (all h o ours)
@@ -253,7 +255,7 @@ asked_taken header outside at object (message.Request k page access) past number
     (subst (λ (c : Channel). first (queue c past) ≡ Some (message.Request k page access)) (port_is at object h o host_is object_is) head)
 asked_taken header outside at object m past numbers head h o n p ours taken step = absurd (none_request _ taken)
 
-pub asked_next : (header : Header) (outside : Outside) (e : Event) (past : List Event) → Worlds header outside past → UpNumbers header outside past → AskedBy header outside past → Licensed header outside e past → AskedBy header outside (e ∷ past)
+pub asked_next : (header : Header) (outside : Outside) (e : Event) (past : List Event) → Worlds header outside past → UpNumbers header outside past → AskedBy header outside past → Sustained header outside e past → AskedBy header outside (e ∷ past)
 asked_next header outside (event.Line line) past w numbers all c h o n p ours taken step = absurd (none_request _ taken)
 asked_next header outside (event.Zeroed at object page) past w numbers all c h o n p ours taken step = all h o n p ours taken (step_place (zeros header) (spot header outside h o p past) o p (at.0 == h) object.0 page.0 Zeroes Nothing (λ e. e) (λ e. e) step)
 asked_next header outside (event.Raised at lower lower_page upper upper_page) past w numbers all c h o n p ours taken step = all h o n p ours taken (step_place (zeros header) (spot header outside h o p past) o p (at.0 == h) upper.0 upper_page.0 (Raises (spot header outside h lower.0 lower_page.0 past).bytes) Nothing (λ e. e) (λ e. e) step)
@@ -324,7 +326,7 @@ test_same k n number is = let e : k ≡ n = grind (arith, nat_tests) in ap (λ x
 test_only : (k n number : ℕ) → (k == number) ≡ true → (n == number) ≡ true → (n == k) ≡ true
 test_only k n number one two = grind (arith, nat_tests)
 
-pub downs_next : (header : Header) (outside : Outside) (e : Event) (past : List Event) → Worlds header outside past → AskedBy header outside past → Downs header outside past → Licensed header outside e past → Downs header outside (e ∷ past)
+pub downs_next : (header : Header) (outside : Outside) (e : Event) (past : List Event) → Worlds header outside past → AskedBy header outside past → Downs header outside past → Sustained header outside e past → Downs header outside (e ∷ past)
 downs_next header outside (event.Zeroed at object page) past w asked downs c h o ours k p =
     downs h o ours k p ∙ move_down_of (k == last_control h o past) (spot header outside h o p past) (spot header outside h o p (event.Zeroed at object page ∷ past)) (down_place (zeros header) (spot header outside h o p past) o p (at.0 == h) object.0 page.0 Zeroes Nothing refl refl)
 downs_next header outside (event.Raised at lower lower_page upper upper_page) past w asked downs c h o ours k p =
@@ -416,7 +418,7 @@ taken_lock header outside at object n (message.Lock page count returns flush loc
     sym (ap (λ (x : LockRequest). x.returns) same) ∙ (subst (λ (q : List Message). AllBack q) (first_rest (queue (Down at object n) past) (message.Lock page count returns flush lock reply) head) all).0
 taken_lock header outside at object n m past locks head l ours e = absurd (none_lock l e)
 
-pub locks_next : (header : Header) (outside : Outside) (e : Event) (past : List Event) → Locks header outside past → Licensed header outside e past → Locks header outside (e ∷ past)
+pub locks_next : (header : Header) (outside : Outside) (e : Event) (past : List Event) → Locks header outside past → Sustained header outside e past → Locks header outside (e ∷ past)
 locks_next header outside (event.Line line) past locks c = record { queued = locks.queued; taken = λ l ours e. absurd (none_lock l e) }
 locks_next header outside (event.Sent (Up at object) m) past locks c = record { queued = locks.queued; taken = locks.taken }
 locks_next header outside (event.Sent (Down at object n) m) past locks c =

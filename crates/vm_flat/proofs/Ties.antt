@@ -7,15 +7,17 @@ use Rattle.vm_model.specs.declared.message.Channel.TheVariants.{Up, Down}
 use Rattle.vm_model.specs.declared.message.Message.{Message}
 use Rattle.vm_model.specs.declared.message.Message.TheVariants as message
 use Rattle.vm_model.specs.declared.script.Header.{Header}
-use Rattle.vm_flat.specs.Declared.{zeros, is_said}
-use Rattle.vm_flat.specs.Tasks.{lives_on}
+use Rattle.vm_legal.specs.Outside.{zeros, is_said}
+use Rattle.vm_legal.specs.Living.{lives_on}
 use Rattle.vm_model.specs.Regions.{next_region, next_object, Region, region_of, Backing, backing_of}
-use Rattle.vm_flat.specs.Regions.{made_here, in_use}
+use Rattle.vm_legal.specs.Used.{made_here}
+use Rattle.vm_flat.proofs.Uses.{in_use}
 use Rattle.vm_flat.specs.Words.{Effect, Raises, Nothing}
 use Rattle.vm_flat.specs.Spot.{Spot, move}
 use Rattle.vm_model.specs.Controls.{is_control, last_control, live_control}
-use Rattle.vm_flat.specs.Places.{sent_up, taken_up, sent_down, taken_down, effect_of, at_place, spot, control}
-use Rattle.vm_flat.specs.Declared.{Outside}
+use Rattle.vm_flat.specs.Places.{sent_up, taken_up, sent_down, taken_down, effect_of, at_place, spot}
+use Rattle.vm_flat.proofs.Sustained.{control}
+use Rattle.vm_legal.specs.Outside.{Outside}
 use Rattle.vm_flat.proofs.Deeds as D
 use Rattle.vm_flat.proofs.Classes.{ground, up_deed, taken_up_deed, down_deed, taken_down_deed, deed, deeds, up_case, taken_up_case, down_case, taken_down_case}
 

@@ -1,11 +1,4 @@
-pub mod Bytes
-pub mod Declared
-pub mod Flat
-pub mod Licences
 pub mod Locals
 pub mod Places
-pub mod Regions
 pub mod Spot
-pub mod Tasks
-pub mod Walks
 pub mod Words

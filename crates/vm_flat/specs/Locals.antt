@@ -6,7 +6,7 @@ use Rattle.vm_model.specs.declared.message.Channel.TheVariants.{Up}
 use Rattle.vm_model.specs.declared.script.Header.{Header}
 use Rattle.vm_model.specs.Founded.{IsFounded}
 use Rattle.vm_model.specs.Local.{Local}
-use Rattle.vm_flat.specs.Declared.{Outside, is_private}
+use Rattle.vm_legal.specs.Outside.{Outside, is_private}
 use Rattle.vm_flat.specs.Spot.{Spot}
 
 -- a place is the host's page, but that no page of a file is known absent; its control lives where the host's newest does

@@ -1,6 +1,6 @@
 -- What a host has of a page of an object, what is on the way about it, and what the host's pager has:
 -- each event is classified once, and moves one record.
-use Rattle.std.specs.Prelude.{ℕ, List, [], ◌∷◌, if◌then◌else◌, ◌==◌, ◌&&◌, Bool, not, Option, is_some}
+use Rattle.std.specs.Prelude.{ℕ, List, [], ◌∷◌, if◌then◌else◌, ◌==◌, ◌&&◌, Bool, Option}
 use Rattle.vm_base.specs.Pages.{little_endian_bytes}
 use Rattle.vm_model.specs.declared.event.Event.{Event}
 use Rattle.vm_model.specs.declared.event.Event.TheVariants as event
@@ -9,12 +9,10 @@ use Rattle.vm_model.specs.declared.message.Message.{Message}
 use Rattle.vm_model.specs.declared.message.Message.TheVariants as message
 use Rattle.vm_model.specs.declared.script.Header.{Header}
 use Rattle.vm_model.specs.Controls.{is_control, last_control, live_control}
-use Rattle.vm_model.specs.Local.{Local, is_known_absent, local}
-use Rattle.vm_flat.specs.Declared.{Outside, is_file, is_said, start_page, zeros}
-use Rattle.vm_flat.specs.Tasks.{lives_on}
+use Rattle.vm_legal.specs.Outside.{Outside, is_file, is_said, start_page, zeros}
+use Rattle.vm_legal.specs.Living.{lives_on}
 use Rattle.vm_flat.specs.Words.{Supplying, Unavailing, Erring, Effect, Creates, Requests, Returns, TakesRequest, TakesReturn, Answers, Takes, Zeroes, Raises, Stores, Drops, Ends, StepEnds, Nothing}
 use Rattle.vm_flat.specs.Spot.{Spot, first_spot, move}
-use Rattle.vm_flat.specs.Walks.{Sight}
 
 -- the effect of what is about page `page` of `object`, on page p of o; on all others that of `other`
 abbrev pub at_place : ℕ → ℕ → Bool → ℕ → ℕ → Effect → Effect → Effect
@@ -64,21 +62,3 @@ effect_of says host o p e past spots = Nothing
 abbrev pub spot : Header → Outside → ℕ → ℕ → ℕ → List Event → Spot
 spot header outside host o p [] = first_spot (is_file header o) (start_page header outside o p)
 spot header outside host o p (e ∷ past) = move (zeros header) (spot header outside host o p past) (effect_of (λ k. is_said header outside k) host o p e past (λ k q. spot header outside host k q past))
-
--- what the host has of the page: the place says the same of it
-abbrev pub page_on : Header → ℕ → ℕ → ℕ → List Event → Local
-page_on header host o p past = local header.size host (record { object = o; page = p }) past
-
--- what a walk sees of it: a pager may have a page that is not known absent, where the host has a live control
-abbrev pub sight : Header → ℕ → ℕ → ℕ → List Event → Sight
-sight header host o p past =
-    record { page = page_on header host o p past; may_have = is_some (live_control host o past) && not (is_known_absent header (record { object = o; page = p }) (page_on header host o p past)) }
-
--- the host's control of an object: 0 none, 1 live, 2 ended for ever
-abbrev pub control : Header → ℕ → ℕ → List Event → ℕ
-control header host object [] = 0
-control header host object (event.Sent (Up at to) (message.Init number size) ∷ past) = if at.0 == host && to.0 == object then 1 else control header host object past
-control header host object (event.Sent (Up at to) (message.Create number size) ∷ past) = if at.0 == host && to.0 == object then 1 else control header host object past
-control header host object (event.Sent (Up at to) (message.Terminate number) ∷ past) =
-    if (at.0 == host && is_control number (live_control host to.0 past)) && to.0 == object then (if is_file header object then 0 else 2) else control header host object past
-control header host object (e ∷ past) = control header host object past
