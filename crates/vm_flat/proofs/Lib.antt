@@ -2,12 +2,14 @@ pub mod Allowed
 pub mod Answered
 pub mod Caused
 pub mod Causes
+pub mod ChainRun
 pub mod Classes
 pub mod Control
 pub mod Copies
 pub mod Deeds
 pub mod Entries
 pub mod File
+pub mod FileRun
 pub mod Filling
 pub mod Good
 pub mod Held
@@ -24,6 +26,7 @@ pub mod Ports
 pub mod Queues
 pub mod Regions
 pub mod Slow
+pub mod SlowRun
 pub mod Sound
 pub mod Stored
 pub mod Sustained

@@ -1,0 +1,390 @@
+-- A run with a slow copy of a file's page, and with pages that the file pager wants back or away; the file is not told.
+use Rattle.std.proofs.Common.{ℕ, subst, List, [], ◌∷◌, true, false, refl, arith, inl, inr, ◌≡◌}
+use Rattle.std.proofs.lemmas.Bool.Decides.{nat_tests}
+use Rattle.std.specs.Prelude.{◌==◌}
+use Rattle.vm_base.specs.declared.entry.Entry.{Entry}
+use Rattle.vm_base.specs.declared.ids.Prot.{Prot}
+use Rattle.vm_base.specs.declared.ids.Inherit.TheVariants.{Share, Copy}
+use Rattle.vm_base.specs.declared.ids.ObjectKind.TheVariants.{File}
+use Rattle.vm_model.specs.declared.command.Command.{Command}
+use Rattle.vm_model.specs.declared.command.Command.TheVariants as command
+use Rattle.vm_model.specs.declared.event.Event.{Event}
+use Rattle.vm_model.specs.declared.event.Event.TheVariants as event
+use Rattle.vm_model.specs.declared.message.Channel.TheVariants.{Up, Down}
+use Rattle.vm_model.specs.declared.message.Message.TheVariants as message
+use Rattle.vm_model.specs.declared.script.Header.{Header}
+use Rattle.vm_model.specs.Local.{CanRead}
+use Rattle.vm_model.specs.Moments.{EachEvent}
+use Rattle.vm_model.specs.Waiting.{Loading}
+use Rattle.vm_legal.specs.Outside.{Outside, Untold}
+use Rattle.vm_legal.specs.Bytes.{OwnBytes, CopiesCurrent, FlatBytes}
+use Rattle.vm_legal.specs.Licences.{HasCause, Wanted, Flushed}
+use Rattle.vm_legal.specs.Walks.{page_on}
+use Rattle.vm_flat.proofs.Loads.{answers}
+
+abbrev header : Header
+header = record { size = 16; slots = 1; frames = record { items = 8 ∷ []; room = 0 }; objects = record { items = record { name = 102 ∷ []; kind = File; pages = 1 } ∷ []; room = 0 } }
+
+abbrev outside : Outside
+outside = record { files = Untold; paging = true }
+
+abbrev all : Prot
+all = record { read = true; write = true }
+
+abbrev mapped : Entry
+mapped = record { address = 64; bytes = 16; region = record { 0 = 0 }; offset = 0; prot = all; inherit = Share }
+
+abbrev copy : Entry
+copy = record { address = 128; bytes = 16; region = record { 0 = 1 }; offset = 0; prot = all; inherit = Copy }
+
+-- for these commands
+abbrev settling : Command
+settling = command.Settle 9
+
+abbrev past_0 : List Event
+past_0 = event.Line 1 ∷ []
+
+abbrev past_1 : List Event
+past_1 = event.TaskMade (record { 0 = 0 }) (record { 0 = 0 }) ∷ past_0
+
+abbrev past_2 : List Event
+past_2 = event.Line 2 ∷ past_1
+
+abbrev past_3 : List Event
+past_3 = event.Entered (record { 0 = 0 }) 64 16 (record { 0 = 0 }) 0 all Share ∷ past_2
+
+abbrev past_4 : List Event
+past_4 = event.Sent (Up (record { 0 = 0 }) (record { 0 = 0 })) (message.Init 1 16) ∷ past_3
+
+abbrev past_5 : List Event
+past_5 = event.Line 3 ∷ past_4
+
+abbrev past_6 : List Event
+past_6 = event.BegunLoad (record { 0 = 0 }) 64 2 ∷ past_5
+
+abbrev past_7 : List Event
+past_7 = event.Line 4 ∷ past_6
+
+abbrev past_8 : List Event
+past_8 = event.Taken (Up (record { 0 = 0 }) (record { 0 = 0 })) (message.Init 1 16) ∷ past_7
+
+abbrev past_9 : List Event
+past_9 = event.Sent (Down (record { 0 = 0 }) (record { 0 = 0 }) 1) (message.Ready false 0) ∷ past_8
+
+abbrev past_10 : List Event
+past_10 = event.Taken (Down (record { 0 = 0 }) (record { 0 = 0 }) 1) (message.Ready false 0) ∷ past_9
+
+abbrev past_11 : List Event
+past_11 = event.Sent (Up (record { 0 = 0 }) (record { 0 = 0 })) (message.Request 1 (record { 0 = 0 }) 1) ∷ past_10
+
+abbrev past_12 : List Event
+past_12 = event.Taken (Up (record { 0 = 0 }) (record { 0 = 0 })) (message.Request 1 (record { 0 = 0 }) 1) ∷ past_11
+
+abbrev past_13 : List Event
+past_13 = event.Sent (Down (record { 0 = 0 }) (record { 0 = 0 }) 1) (message.Supply (record { 0 = 0 }) 0 false (4 ∷ 5 ∷ 0 ∷ 0 ∷ 0 ∷ 0 ∷ 0 ∷ 0 ∷ 0 ∷ 0 ∷ 0 ∷ 0 ∷ 0 ∷ 0 ∷ 0 ∷ 0 ∷ [])) ∷ past_12
+
+abbrev past_14 : List Event
+past_14 = event.Taken (Down (record { 0 = 0 }) (record { 0 = 0 }) 1) (message.Supply (record { 0 = 0 }) 0 false (4 ∷ 5 ∷ 0 ∷ 0 ∷ 0 ∷ 0 ∷ 0 ∷ 0 ∷ 0 ∷ 0 ∷ 0 ∷ 0 ∷ 0 ∷ 0 ∷ 0 ∷ 0 ∷ [])) ∷ past_13
+
+abbrev past_15 : List Event
+past_15 = event.Loaded (record { 0 = 0 }) (record { 0 = 0 }) (record { 0 = 0 }) 1284 ∷ past_14
+
+abbrev past_16 : List Event
+past_16 = event.Line 5 ∷ past_15
+
+abbrev past_17 : List Event
+past_17 = event.BegunCopy (record { 0 = 0 }) 64 16 128 ∷ past_16
+
+abbrev past_18 : List Event
+past_18 = event.RegionMade (record { 0 = 1 }) (record { 0 = 1 }) 1 ∷ past_17
+
+abbrev past_19 : List Event
+past_19 = event.CopiedPage (record { 0 = 0 }) (record { 0 = 0 }) (record { 0 = 0 }) (record { 0 = 0 }) (record { 0 = 1 }) ∷ past_18
+
+abbrev past_20 : List Event
+past_20 = event.CopyEnded (record { 0 = 0 }) ∷ past_19
+
+abbrev past_21 : List Event
+past_21 = event.Entered (record { 0 = 0 }) 128 16 (record { 0 = 1 }) 0 all Copy ∷ past_20
+
+abbrev past_22 : List Event
+past_22 = event.Line 6 ∷ past_21
+
+abbrev past_23 : List Event
+past_23 = event.BegunStore (record { 0 = 0 }) 64 1 9 ∷ past_22
+
+abbrev past_24 : List Event
+past_24 = event.Stored (record { 0 = 0 }) (record { 0 = 0 }) (record { 0 = 0 }) 0 1 9 ∷ past_23
+
+abbrev past_25 : List Event
+past_25 = event.Line 7 ∷ past_24
+
+abbrev past_26 : List Event
+past_26 = event.BegunLoad (record { 0 = 0 }) 128 2 ∷ past_25
+
+abbrev past_27 : List Event
+past_27 = event.Loaded (record { 0 = 0 }) (record { 0 = 1 }) (record { 0 = 0 }) 1284 ∷ past_26
+
+abbrev past_28 : List Event
+past_28 = event.Line 8 ∷ past_27
+
+abbrev past_29 : List Event
+past_29 = event.BegunLoad (record { 0 = 0 }) 64 2 ∷ past_28
+
+abbrev past_30 : List Event
+past_30 = event.Loaded (record { 0 = 0 }) (record { 0 = 0 }) (record { 0 = 0 }) 1289 ∷ past_29
+
+abbrev past_31 : List Event
+past_31 = event.Line 9 ∷ past_30
+
+abbrev past_32 : List Event
+past_32 = event.Sent (Down (record { 0 = 0 }) (record { 0 = 0 }) 1) (message.Lock (record { 0 = 0 }) 1 2 true 8 true) ∷ past_31
+
+abbrev past_33 : List Event
+past_33 = event.Line 10 ∷ past_32
+
+abbrev past_34 : List Event
+past_34 = event.Taken (Down (record { 0 = 0 }) (record { 0 = 0 }) 1) (message.Lock (record { 0 = 0 }) 1 2 true 8 true) ∷ past_33
+
+abbrev past_35 : List Event
+past_35 = event.Sent (Up (record { 0 = 0 }) (record { 0 = 0 })) (message.Return 1 (record { 0 = 0 }) true false (9 ∷ 5 ∷ 0 ∷ 0 ∷ 0 ∷ 0 ∷ 0 ∷ 0 ∷ 0 ∷ 0 ∷ 0 ∷ 0 ∷ 0 ∷ 0 ∷ 0 ∷ 0 ∷ [])) ∷ past_34
+
+abbrev past_36 : List Event
+past_36 = event.Sent (Up (record { 0 = 0 }) (record { 0 = 0 })) (message.Completed 1 (record { 0 = 0 }) 1) ∷ past_35
+
+abbrev past_37 : List Event
+past_37 = event.Taken (Up (record { 0 = 0 }) (record { 0 = 0 })) (message.Return 1 (record { 0 = 0 }) true false (9 ∷ 5 ∷ 0 ∷ 0 ∷ 0 ∷ 0 ∷ 0 ∷ 0 ∷ 0 ∷ 0 ∷ 0 ∷ 0 ∷ 0 ∷ 0 ∷ 0 ∷ 0 ∷ [])) ∷ past_36
+
+abbrev past_38 : List Event
+past_38 = event.Taken (Up (record { 0 = 0 }) (record { 0 = 0 })) (message.Completed 1 (record { 0 = 0 }) 1) ∷ past_37
+
+abbrev past_39 : List Event
+past_39 = event.Line 11 ∷ past_38
+
+abbrev past_40 : List Event
+past_40 = event.BegunLoad (record { 0 = 0 }) 64 2 ∷ past_39
+
+abbrev past_41 : List Event
+past_41 = event.Sent (Up (record { 0 = 0 }) (record { 0 = 0 })) (message.Request 1 (record { 0 = 0 }) 1) ∷ past_40
+
+abbrev past_42 : List Event
+past_42 = event.Line 12 ∷ past_41
+
+abbrev past_43 : List Event
+past_43 = event.Taken (Up (record { 0 = 0 }) (record { 0 = 0 })) (message.Request 1 (record { 0 = 0 }) 1) ∷ past_42
+
+abbrev past_44 : List Event
+past_44 = event.Sent (Down (record { 0 = 0 }) (record { 0 = 0 }) 1) (message.Supply (record { 0 = 0 }) 0 false (9 ∷ 5 ∷ 0 ∷ 0 ∷ 0 ∷ 0 ∷ 0 ∷ 0 ∷ 0 ∷ 0 ∷ 0 ∷ 0 ∷ 0 ∷ 0 ∷ 0 ∷ 0 ∷ [])) ∷ past_43
+
+abbrev past_45 : List Event
+past_45 = event.Taken (Down (record { 0 = 0 }) (record { 0 = 0 }) 1) (message.Supply (record { 0 = 0 }) 0 false (9 ∷ 5 ∷ 0 ∷ 0 ∷ 0 ∷ 0 ∷ 0 ∷ 0 ∷ 0 ∷ 0 ∷ 0 ∷ 0 ∷ 0 ∷ 0 ∷ 0 ∷ 0 ∷ [])) ∷ past_44
+
+abbrev past_46 : List Event
+past_46 = event.Loaded (record { 0 = 0 }) (record { 0 = 0 }) (record { 0 = 0 }) 1289 ∷ past_45
+
+abbrev past_47 : List Event
+past_47 = event.Line 13 ∷ past_46
+
+abbrev past_48 : List Event
+past_48 = event.Sent (Down (record { 0 = 0 }) (record { 0 = 0 }) 1) (message.Lock (record { 0 = 0 }) 1 2 true 8 true) ∷ past_47
+
+abbrev past_49 : List Event
+past_49 = event.Line 14 ∷ past_48
+
+abbrev past_50 : List Event
+past_50 = event.Taken (Down (record { 0 = 0 }) (record { 0 = 0 }) 1) (message.Lock (record { 0 = 0 }) 1 2 true 8 true) ∷ past_49
+
+abbrev past_51 : List Event
+past_51 = event.Dropped (record { 0 = 0 }) (record { 0 = 0 }) (record { 0 = 0 }) ∷ past_50
+
+abbrev past_52 : List Event
+past_52 = event.Sent (Up (record { 0 = 0 }) (record { 0 = 0 })) (message.Completed 1 (record { 0 = 0 }) 1) ∷ past_51
+
+caused_0 : EachEvent (HasCause header outside) past_0
+caused_0 = ((settling, tt), tt)
+
+caused_1 : EachEvent (HasCause header outside) past_1
+caused_1 = ((settling, tt), caused_0)
+
+caused_2 : EachEvent (HasCause header outside) past_2
+caused_2 = ((settling, tt), caused_1)
+
+caused_3 : EachEvent (HasCause header outside) past_3
+caused_3 = ((settling, record { host = 0; lives = refl; whole = refl; inside = omega arith; made = omega arith; used = λ above. refl; file = λ is. refl; unfilled = refl }), caused_2)
+
+caused_4 : EachEvent (HasCause header outside) past_4
+caused_4 = ((settling, λ ours. record { number = refl; sized = refl; declared = omega arith; none = refl; task = 0; address = 64; at = record { host = 0; entry = mapped; lives = refl; found = refl }; on_host = refl; region = refl }), caused_3)
+
+caused_5 : EachEvent (HasCause header outside) past_5
+caused_5 = ((settling, tt), caused_4)
+
+caused_6 : EachEvent (HasCause header outside) past_6
+caused_6 = ((settling, tt), caused_5)
+
+caused_7 : EachEvent (HasCause header outside) past_7
+caused_7 = ((settling, tt), caused_6)
+
+caused_8 : EachEvent (HasCause header outside) past_8
+caused_8 = ((settling, (refl, (refl, omega arith))), caused_7)
+
+caused_9 : EachEvent (HasCause header outside) past_9
+caused_9 = ((settling, λ ours. (16, refl, refl, inr (refl, refl))), caused_8)
+
+caused_10 : EachEvent (HasCause header outside) past_10
+caused_10 = ((settling, (refl, (refl, omega arith))), caused_9)
+
+caused_11 : EachEvent (HasCause header outside) past_11
+caused_11 = ((settling, λ ours. record { task = 0; access = Loading 64 2; waits = record { waits = refl; at = record { host = 0; entry = mapped; lives = refl; found = refl } }; on_host = refl; unmarked = λ store. refl; comes = record { top = 0; top_page = 0; steps = 0; is_top = record { object = refl; page = refl }; walks = (refl, refl) }; number = refl; live = refl; ready = refl; away = refl; unasked = refl; known = refl }), caused_10)
+
+caused_12 : EachEvent (HasCause header outside) past_12
+caused_12 = ((settling, (refl, (refl, omega arith))), caused_11)
+
+caused_13 : EachEvent (HasCause header outside) past_13
+caused_13 = ((settling, λ ours. (record { access = 1; taken = refl; unanswered = refl }, record { kept = refl; read = refl }, refl, refl, λ temporary. absurd (cc), λ told. absurd (cc))), caused_12)
+
+caused_14 : EachEvent (HasCause header outside) past_14
+caused_14 = ((settling, (refl, (refl, omega arith))), caused_13)
+
+caused_15 : EachEvent (HasCause header outside) past_15
+caused_15 = ((settling, record { address = 64; bytes = 2; waits = record { waits = refl; at = record { host = 0; entry = mapped; lives = refl; found = refl } }; comes = record { top = 0; top_page = 0; steps = 0; is_top = record { object = refl; page = refl }; walks = (refl, refl) }; here = refl }), caused_14)
+
+caused_16 : EachEvent (HasCause header outside) past_16
+caused_16 = ((settling, tt), caused_15)
+
+caused_17 : EachEvent (HasCause header outside) past_17
+caused_17 = ((settling, tt), caused_16)
+
+caused_18 : EachEvent (HasCause header outside) past_18
+caused_18 = ((settling, (refl, refl)), caused_17)
+
+caused_19 : EachEvent (HasCause header outside) past_19
+caused_19 = ((settling, record { address = 64; bytes = 16; to = 128; waits = record { waits = refl; at = record { host = 0; entry = mapped; lives = refl; found = refl } }; next = refl; declared = omega arith; is_top = record { object = refl; page = refl }; here = refl; region = 1; filled = refl; inside = omega arith; away = refl; unasked = refl }), caused_18)
+
+caused_20 : EachEvent (HasCause header outside) past_20
+caused_20 = ((settling, record { address = 64; bytes = 16; to = 128; waits = refl; all = refl }), caused_19)
+
+caused_21 : EachEvent (HasCause header outside) past_21
+caused_21 = ((settling, record { host = 0; lives = refl; whole = refl; inside = omega arith; made = omega arith; used = λ above. refl; file = λ is. refl; unfilled = refl }), caused_20)
+
+caused_22 : EachEvent (HasCause header outside) past_22
+caused_22 = ((settling, tt), caused_21)
+
+caused_23 : EachEvent (HasCause header outside) past_23
+caused_23 = ((settling, tt), caused_22)
+
+caused_24 : EachEvent (HasCause header outside) past_24
+caused_24 = ((settling, record { address = 64; waits = record { waits = refl; at = record { host = 0; entry = mapped; lives = refl; found = refl } }; is_top = record { object = refl; page = refl }; unmarked = refl; here = refl; place = refl }), caused_23)
+
+caused_25 : EachEvent (HasCause header outside) past_25
+caused_25 = ((settling, tt), caused_24)
+
+caused_26 : EachEvent (HasCause header outside) past_26
+caused_26 = ((settling, tt), caused_25)
+
+caused_27 : EachEvent (HasCause header outside) past_27
+caused_27 = ((settling, record { address = 128; bytes = 2; waits = record { waits = refl; at = record { host = 0; entry = copy; lives = refl; found = refl } }; comes = record { top = 1; top_page = 0; steps = 0; is_top = record { object = refl; page = refl }; walks = (refl, refl) }; here = refl }), caused_26)
+
+caused_28 : EachEvent (HasCause header outside) past_28
+caused_28 = ((settling, tt), caused_27)
+
+caused_29 : EachEvent (HasCause header outside) past_29
+caused_29 = ((settling, tt), caused_28)
+
+caused_30 : EachEvent (HasCause header outside) past_30
+caused_30 = ((settling, record { address = 64; bytes = 2; waits = record { waits = refl; at = record { host = 0; entry = mapped; lives = refl; found = refl } }; comes = record { top = 0; top_page = 0; steps = 0; is_top = record { object = refl; page = refl }; walks = (refl, refl) }; here = refl }), caused_29)
+
+caused_31 : EachEvent (HasCause header outside) past_31
+caused_31 = ((settling, tt), caused_30)
+
+caused_32 : EachEvent (HasCause header outside) past_32
+caused_32 = ((settling, λ ours. (refl, refl, refl, refl)), caused_31)
+
+caused_33 : EachEvent (HasCause header outside) past_33
+caused_33 = ((settling, tt), caused_32)
+
+caused_34 : EachEvent (HasCause header outside) past_34
+caused_34 = ((settling, (refl, (refl, omega arith))), caused_33)
+
+caused_35 : EachEvent (HasCause header outside) past_35
+caused_35 = ((settling, λ ours. record { live = refl; here = refl; dirty = refl; same = refl; flag = refl; why = Wanted 2 true (record { first = 0; count = 1; taken = refl; from = omega arith; below = omega arith }) refl refl }), caused_34)
+
+caused_36 : EachEvent (HasCause header outside) past_36
+caused_36 = ((settling, λ ours. (0, 1, 2, true, refl, refl, refl)), caused_35)
+
+caused_37 : EachEvent (HasCause header outside) past_37
+caused_37 = ((settling, (refl, (refl, omega arith))), caused_36)
+
+caused_38 : EachEvent (HasCause header outside) past_38
+caused_38 = ((settling, (refl, (refl, omega arith))), caused_37)
+
+caused_39 : EachEvent (HasCause header outside) past_39
+caused_39 = ((settling, tt), caused_38)
+
+caused_40 : EachEvent (HasCause header outside) past_40
+caused_40 = ((settling, tt), caused_39)
+
+caused_41 : EachEvent (HasCause header outside) past_41
+caused_41 = ((settling, λ ours. record { task = 0; access = Loading 64 2; waits = record { waits = refl; at = record { host = 0; entry = mapped; lives = refl; found = refl } }; on_host = refl; unmarked = λ store. refl; comes = record { top = 0; top_page = 0; steps = 0; is_top = record { object = refl; page = refl }; walks = (refl, refl) }; number = refl; live = refl; ready = refl; away = refl; unasked = refl; known = refl }), caused_40)
+
+caused_42 : EachEvent (HasCause header outside) past_42
+caused_42 = ((settling, tt), caused_41)
+
+caused_43 : EachEvent (HasCause header outside) past_43
+caused_43 = ((settling, (refl, (refl, omega arith))), caused_42)
+
+caused_44 : EachEvent (HasCause header outside) past_44
+caused_44 = ((settling, λ ours. (record { access = 1; taken = refl; unanswered = refl }, record { kept = refl; read = refl }, refl, refl, λ temporary. absurd (cc), λ told. absurd (cc))), caused_43)
+
+caused_45 : EachEvent (HasCause header outside) past_45
+caused_45 = ((settling, (refl, (refl, omega arith))), caused_44)
+
+caused_46 : EachEvent (HasCause header outside) past_46
+caused_46 = ((settling, record { address = 64; bytes = 2; waits = record { waits = refl; at = record { host = 0; entry = mapped; lives = refl; found = refl } }; comes = record { top = 0; top_page = 0; steps = 0; is_top = record { object = refl; page = refl }; walks = (refl, refl) }; here = refl }), caused_45)
+
+caused_47 : EachEvent (HasCause header outside) past_47
+caused_47 = ((settling, tt), caused_46)
+
+caused_48 : EachEvent (HasCause header outside) past_48
+caused_48 = ((settling, λ ours. (refl, refl, refl, refl)), caused_47)
+
+caused_49 : EachEvent (HasCause header outside) past_49
+caused_49 = ((settling, tt), caused_48)
+
+caused_50 : EachEvent (HasCause header outside) past_50
+caused_50 = ((settling, (refl, (refl, omega arith))), caused_49)
+
+caused_51 : EachEvent (HasCause header outside) past_51
+caused_51 = ((settling, λ ours. record { here = refl; why = Flushed 2 (record { first = 0; count = 1; taken = refl; from = omega arith; below = omega arith }) refl }), caused_50)
+
+caused_52 : EachEvent (HasCause header outside) past_52
+caused_52 = ((settling, λ ours. (0, 1, 2, true, refl, refl, refl)), caused_51)
+
+own_15 : OwnBytes header (event.Loaded (record { 0 = 0 }) (record { 0 = 0 }) (record { 0 = 0 }) 1284) past_14
+own_15 = record { address = 64; bytes = 2; waits = record { waits = refl; at = record { host = 0; entry = mapped; lives = refl; found = refl } }; readable = record { here = refl; unlocked = inl refl }; number = refl }
+
+number_is : (a b : ℕ) → (a == b) ≡ true → a ≡ b
+number_is a b is = grind (arith, nat_tests)
+
+own_19 : OwnBytes header (event.CopiedPage (record { 0 = 0 }) (record { 0 = 0 }) (record { 0 = 0 }) (record { 0 = 0 }) (record { 0 = 1 })) past_18
+own_19 = λ host lives. subst (λ (h : ℕ). CanRead (page_on header h 0 0 past_18)) (number_is 0 host lives) (record { here = refl; unlocked = inl refl })
+
+own_24 : OwnBytes header (event.Stored (record { 0 = 0 }) (record { 0 = 0 }) (record { 0 = 0 }) 0 1 9) past_23
+own_24 = record { address = 64; waits = record { waits = refl; at = record { host = 0; entry = mapped; lives = refl; found = refl } }; writable = record { here = refl; unlocked = refl }; place = refl }
+
+own_27 : OwnBytes header (event.Loaded (record { 0 = 0 }) (record { 0 = 1 }) (record { 0 = 0 }) 1284) past_26
+own_27 = record { address = 128; bytes = 2; waits = record { waits = refl; at = record { host = 0; entry = copy; lives = refl; found = refl } }; readable = record { here = refl; unlocked = inl refl }; number = refl }
+
+own_30 : OwnBytes header (event.Loaded (record { 0 = 0 }) (record { 0 = 0 }) (record { 0 = 0 }) 1289) past_29
+own_30 = record { address = 64; bytes = 2; waits = record { waits = refl; at = record { host = 0; entry = mapped; lives = refl; found = refl } }; readable = record { here = refl; unlocked = inl refl }; number = refl }
+
+own_46 : OwnBytes header (event.Loaded (record { 0 = 0 }) (record { 0 = 0 }) (record { 0 = 0 }) 1289) past_45
+own_46 = record { address = 64; bytes = 2; waits = record { waits = refl; at = record { host = 0; entry = mapped; lives = refl; found = refl } }; readable = record { here = refl; unlocked = inl refl }; number = refl }
+
+own_bytes : EachEvent (OwnBytes header) past_52
+own_bytes = (tt, (tt, (tt, (tt, (tt, (tt, (own_46, (tt, (tt, (tt, (tt, (tt, (tt, (tt, (tt, (tt, (tt, (tt, (tt, (tt, (tt, (tt, (own_30, (tt, (tt, (own_27, (tt, (tt, (own_24, (tt, (tt, (tt, (tt, (own_19, (tt, (tt, (tt, (own_15, (tt, (tt, (tt, (tt, (tt, (tt, (tt, (tt, (tt, (tt, (tt, (tt, (tt, (tt, (tt, tt)))))))))))))))))))))))))))))))))))))))))))))))))))))
+
+current : EachEvent (CopiesCurrent header outside) past_52
+current = (tt, (tt, (tt, (tt, (tt, (tt, (tt, (tt, (tt, (tt, (tt, (tt, (tt, (tt, (tt, (tt, (tt, (tt, (tt, (tt, (tt, (tt, (tt, (tt, (tt, (tt, (tt, (tt, (tt, (tt, (tt, (tt, (tt, (λ shared. absurd (cc), (tt, (tt, (tt, (tt, (tt, (tt, (tt, (tt, (tt, (tt, (tt, (tt, (tt, (tt, (tt, (tt, (tt, (tt, (tt, tt)))))))))))))))))))))))))))))))))))))))))))))))))))))
+
+pub answered : EachEvent (FlatBytes header outside) past_52
+answered = answers header outside past_52 caused_52 own_bytes current
