@@ -37,7 +37,6 @@ use Rattle.vm_flat.proofs.Sustained.{control}
 use Rattle.vm_legal.specs.Walks.{IsTop}
 use Rattle.vm_legal.specs.Flat.{Change, change_by, change_in, change_of, made_over, flat_page}
 use Rattle.vm_legal.specs.Licences as L
-use Rattle.vm_legal.specs.Accesses as A
 use Rattle.vm_flat.proofs.Sustained as S
 use Rattle.vm_legal.specs.Accesses.{Waits}
 use Rattle.vm_flat.proofs.Sustained.{Sustained, MaySendUp, MaySendDown}
@@ -295,9 +294,9 @@ dropped_cause header outside host at object page past h c ours =
     leaves : S.Leaves header outside host object page (page_on header host object page past).dirty past → ((D.spot (ground header outside) object page (deeds header outside host past)).dirty ≡ false) ⊎ (C.Reach (ground header outside) object (deeds header outside host past) → ⊥)
     leaves (S.Clean is) = inl (clean is)
     leaves (S.Unreached above gone) = inr (λ reached. gone (reach header outside host object past reached))
-    leaves (S.Flushed f) =
-        let two : f.returns ≡ 2 = h.locks.taken (record { host = host; object = object; page = f.first; count = f.count; returns = f.returns; flush = true }) ours.covered f.taken in
-        inl (clean (spared f.returns (page_on header host object page past).dirty two f.spared))
+    leaves (S.Flushed returns f kept) =
+        let two : returns ≡ 2 = h.locks.taken (record { host = host; object = object; page = f.first; count = f.count; returns = returns; flush = true }) ours.covered f.taken in
+        inl (clean (spared returns (page_on header host object page past).dirty two kept))
 
 may : (header : Header) (outside : Outside) (host o p : ℕ) (past : List Event) (P : Spot → Type 0) → P (spot header outside host o p past) → P (D.spot (ground header outside) o p (deeds header outside host past))
 may header outside host o p past P is = subst P (sym (spot_is header outside host o p past)) is

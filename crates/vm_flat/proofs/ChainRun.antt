@@ -1,5 +1,5 @@
 -- A run with a chain of three objects: a load finds its page at the bottom.
-use Rattle.std.proofs.Common.{List, [], ◌∷◌, true, refl, arith, inr, inl, ◌≡◌, false}
+use Rattle.std.proofs.Common.{List, [], ◌∷◌, true, refl, arith, inr, inl}
 use Rattle.vm_base.specs.declared.entry.Entry.{Entry}
 use Rattle.vm_base.specs.declared.ids.Prot.{Prot}
 use Rattle.vm_base.specs.declared.ids.Inherit.TheVariants.{Copy}

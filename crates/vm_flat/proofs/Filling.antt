@@ -21,7 +21,6 @@ use Rattle.vm_flat.proofs.Uses.{in_use}
 use Rattle.vm_legal.specs.Flat.{made_over}
 use Rattle.vm_legal.specs.Licences as L
 use Rattle.vm_legal.specs.Accesses as A
-use Rattle.vm_flat.proofs.Sustained as S
 use Rattle.vm_flat.proofs.Sustained.{Sustained}
 use Rattle.vm_flat.proofs.Regions.{if_no, if_yes}
 use Rattle.vm_model.specs.Rows.{AllRows, rows_map, rows_rewritten, rows_entered, found_row}

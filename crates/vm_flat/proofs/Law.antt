@@ -25,7 +25,6 @@ use Rattle.vm_legal.specs.Walks.{page_on}
 use Rattle.vm_flat.proofs.Sustained.{control}
 use Rattle.vm_legal.specs.Flat.{Change, change_of, changed, made_over, is_number, answered, flat_page}
 use Rattle.vm_legal.specs.Licences as L
-use Rattle.vm_legal.specs.Accesses as A
 use Rattle.vm_flat.proofs.Sustained as S
 use Rattle.vm_flat.proofs.Sustained.{Sustained, AllSustained}
 use Rattle.vm_legal.specs.Bytes.{OwnBytes, CopiesCurrent, FlatBytes}
@@ -239,6 +238,7 @@ same_load task address bytes other_address other_bytes past one two =
     address_in : Option Access → ℕ
     address_in (Some (Loading address bytes)) = address
     address_in other = 0
+
     bytes_in : Option Access → ℕ
     bytes_in (Some (Loading address bytes)) = bytes
     bytes_in other = 0
@@ -252,11 +252,13 @@ loaded header outside (event.Loaded task object page value) past h c own =
   where
     alike : SameLoad c.address c.bytes own.address own.bytes
     alike = same_load task.0 c.address c.bytes own.address own.bytes past c.waits.waits own.waits.waits
+
     number : value ≡ number_in (page_on header c.waits.at.host object.0 page.0 past).bytes header.size c.address c.bytes
     number =
         own.number ∙ ap (λ (host : ℕ). number_in (page_on header host object.0 page.0 past).bytes header.size own.address own.bytes) (same_host task.0 c.waits.at.host own.waits.at.host past c.waits.at.lives own.waits.at.lives)
         ∙ ap (λ (a : ℕ). number_in (page_on header c.waits.at.host object.0 page.0 past).bytes header.size a own.bytes) alike.address
         ∙ ap (λ (b : ℕ). number_in (page_on header c.waits.at.host object.0 page.0 past).bytes header.size c.address b) alike.bytes
+
     same : is_private header outside c.waits.at.entry.region.0 ≡ true → (page_on header c.waits.at.host object.0 page.0 past).bytes ≡ flat_page header outside c.waits.at.entry.region.0 (page_at header.size c.address c.waits.at.entry) past
     same ours =
         let row = led header outside task.0 c.address past h.entries c.waits.at in

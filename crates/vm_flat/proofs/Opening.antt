@@ -1,5 +1,5 @@
 -- Where a host has no control of an object, the law's own count of it says so.
-use Rattle.std.proofs.Common.{ℕ, suc, ◌≡◌, ◌≤◌, ◌+◌, List, [], ◌∷◌, Bool, true, false, Option, Some, None, if◌then◌else◌, refl, sym, ap, ◌∙◌, arith}
+use Rattle.std.proofs.Common.{ℕ, suc, ◌≡◌, ◌≤◌, List, [], ◌∷◌, Bool, true, false, Option, Some, None, if◌then◌else◌, refl, ap, ◌∙◌, arith}
 use Rattle.std.proofs.lemmas.Bool.Decides.{nat_tests}
 use Rattle.std.specs.Prelude.{◌==◌, ◌&&◌}
 use Rattle.vm_base.specs.declared.ids.HostId.{HostId}
@@ -7,7 +7,6 @@ use Rattle.vm_base.specs.declared.ids.ObjectId.{ObjectId}
 use Rattle.vm_model.specs.declared.event.Event.{Event}
 use Rattle.vm_model.specs.declared.event.Event.TheVariants as event
 use Rattle.vm_model.specs.declared.message.Channel.TheVariants.{Up}
-use Rattle.vm_model.specs.declared.message.Message.{Message}
 use Rattle.vm_model.specs.declared.message.Message.TheVariants as message
 use Rattle.vm_model.specs.declared.script.Header.{Header}
 use Rattle.vm_model.specs.Controls.{is_control, without_control, last_control, live_control}
@@ -75,17 +74,21 @@ ended header host o at to number past never = record { control = by_object (at.0
     without true None is = refl
     without true (Some n) is = absurd (cc)
     without false live is = is
+
     gone : (live : Option ℕ) → live ≡ None → is_control number live ≡ false
     gone None is = refl
     gone (Some n) is = absurd (cc)
+
     off : (a b c : Bool) (x y : ℕ) → b ≡ false → (if (a && b) && c then x else y) ≡ y
     off true true c x y is = absurd (let bad : true ≡ false = is in cc)
     off true false c x y is = refl
     off false b c x y is = refl
+
     away : (a b : Bool) (x y : ℕ) → (if (a && b) && false then x else y) ≡ y
     away true true x y = refl
     away true false x y = refl
     away false b x y = refl
+
     by_object : (a c : Bool) → (to.0 == o) ≡ c → (if (a && is_control number (live_control host to.0 past)) && c then (if is_file header o then 0 else 2) else control header host o past) ≡ 0
     by_object a true same = off a (is_control number (live_control host to.0 past)) true _ (control header host o past) (ap (λ (k : ℕ). is_control number (live_control host k past)) (number_is to.0 o same) ∙ gone (live_control host o past) never.live) ∙ never.control
     by_object a false same = away a (is_control number (live_control host to.0 past)) _ (control header host o past) ∙ never.control
@@ -100,7 +103,7 @@ unmade header outside host o (event.Sent (Up at to) (message.Init number size) �
   where
     positive : (at.0 == host && to.0 == o) ≡ true → (k : ℕ) × (number ≡ suc k)
     positive mine = by_cause header outside (event.Sent (Up at to) (message.Init number size)) past caused.0
-      (λ doing c. (last_control at.0 to.0 past, (c (ap (λ (k : ℕ). is_paged header k) (number_is to.0 o (second (at.0 == host) (to.0 == o) mine)) ∙ ours)).number))
+        (λ doing c. (last_control at.0 to.0 past, (c (ap (λ (k : ℕ). is_paged header k) (number_is to.0 o (second (at.0 == host) (to.0 == o) mine)) ∙ ours)).number))
 unmade header outside host o (event.Sent (Up at to) (message.Create number size) ∷ past) caused ours none =
     let is : (control header host o (event.Sent (Up at to) (message.Create number size) ∷ past) ≡ 0) × (live_control host o (event.Sent (Up at to) (message.Create number size) ∷ past) ≡ None) =
     begun (at.0 == host && to.0 == o) number (last_control host o past) (control header host o past) (live_control host o past) positive none
@@ -109,7 +112,7 @@ unmade header outside host o (event.Sent (Up at to) (message.Create number size)
   where
     positive : (at.0 == host && to.0 == o) ≡ true → (k : ℕ) × (number ≡ suc k)
     positive mine = by_cause header outside (event.Sent (Up at to) (message.Create number size)) past caused.0
-      (λ doing c. (0, (c (ap (λ (k : ℕ). is_paged header k) (number_is to.0 o (second (at.0 == host) (to.0 == o) mine)) ∙ ours)).number))
+        (λ doing c. (0, (c (ap (λ (k : ℕ). is_paged header k) (number_is to.0 o (second (at.0 == host) (to.0 == o) mine)) ∙ ours)).number))
 unmade header outside host o (event.Sent (Up at to) (message.Terminate number) ∷ past) caused ours none = ended header host o at to number past (unmade header outside host o past caused.1 ours none)
 unmade header outside host o (event.Sent (Up at to) m ∷ past) caused ours none = let never : Never header host o past = unmade header outside host o past caused.1 ours none in record { control = never.control; live = never.live }
 unmade header outside host o (e ∷ past) caused ours none = let never : Never header host o past = unmade header outside host o past caused.1 ours none in record { control = never.control; live = never.live }

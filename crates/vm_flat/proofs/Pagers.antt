@@ -1,13 +1,10 @@
 -- What a place says of its pager and of the present step is what the history says.
 use Rattle.std.proofs.Common.{ℕ, ◌≡◌, List, [], ◌∷◌, Bool, true, false, Option, Some, None, if◌then◌else◌, refl, sym, ap, subst, ◌∙◌, arith}
 use Rattle.std.proofs.lemmas.Bool.Decides.{nat_tests}
-use Rattle.std.specs.Prelude.{◌==◌, ◌&&◌, ◌||◌, not}
+use Rattle.std.specs.Prelude.{◌==◌, ◌&&◌, ◌||◌}
 use Rattle.vm_base.specs.Pages.{little_endian_bytes}
-use Rattle.vm_base.specs.declared.ids.HostId.{HostId}
-use Rattle.vm_base.specs.declared.ids.ObjectId.{ObjectId}
 use Rattle.vm_model.specs.declared.event.Event.{Event}
 use Rattle.vm_model.specs.declared.event.Event.TheVariants as event
-use Rattle.vm_model.specs.declared.message.Channel.{Channel}
 use Rattle.vm_model.specs.declared.message.Channel.TheVariants.{Up, Down}
 use Rattle.vm_model.specs.declared.message.Message.{Message}
 use Rattle.vm_model.specs.declared.message.Message.TheVariants as message
@@ -20,7 +17,7 @@ use Rattle.vm_legal.specs.Pagers.{last_return, newer, returned_in}
 use Rattle.vm_legal.specs.Steps.{Letter, answers, is_answer, since, taken}
 use Rattle.vm_flat.specs.Places.{sent_up, taken_up, sent_down, taken_down, spot}
 use Rattle.vm_flat.specs.Spot.{Spot, move}
-use Rattle.vm_flat.specs.Words.{DownWord, Supplying, Unavailing, Erring, Effect, Creates, Requests, Returns, TakesRequest, TakesReturn, Answers, Takes, Zeroes, Raises, Stores, Drops, Ends, StepEnds, Nothing}
+use Rattle.vm_flat.specs.Words.{DownWord, Supplying, Unavailing, Erring, Effect, Creates, TakesRequest, TakesReturn, Answers, Takes, Zeroes, Raises, Stores, Drops, Ends, StepEnds, Nothing}
 use Rattle.vm_flat.proofs.Lives.{itself}
 use Rattle.vm_flat.proofs.Sustained.{request_taken}
 

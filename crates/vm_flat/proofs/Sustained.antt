@@ -15,7 +15,6 @@ use Rattle.vm_model.specs.Server.{first}
 use Rattle.vm_model.specs.Tasks.{host_of}
 use Rattle.vm_legal.specs.Accesses.{At}
 use Rattle.vm_legal.specs.Licences as L
-use Rattle.vm_legal.specs.Licences.{lock_taken, gives_back}
 use Rattle.vm_legal.specs.Living.{tasks}
 use Rattle.vm_legal.specs.Outside.{Outside, is_file, is_private, is_said, zeros}
 use Rattle.vm_legal.specs.Used.{is_filled}
@@ -127,24 +126,14 @@ pub record Enters (header : Header) (outside : Outside) (task bytes region offse
   pub used : is_private header outside region ≡ true → in_use header outside host region past ≡ true
   pub unfilled : is_filled region (tasks past) past ≡ false
 
--- the step took a lock_request that removes the page and does not give it back
-pub record Flushes (host object page : ℕ) (dirty : Bool) (past : List Event) : Type 0 where
-  pub first : ℕ
-  pub count : ℕ
-  pub returns : ℕ
-  pub taken : lock_taken past ≡ Some (record { host = host; object = object; page = first; count = count; returns = returns; flush = true })
-  pub from : first ≤ page
-  pub below : page < first + count
-  pub spared : gives_back returns dirty ≡ false
-
 -- why a page goes away without a word
 pub data Leaves (header : Header) (outside : Outside) (host object page : ℕ) (dirty : Bool) (past : List Event) : Type 0 where
   -- it is clean
   Clean : dirty ≡ false → Leaves header outside host object page dirty past
   -- no region leads to its temporary object
   Unreached : named header ≤ object → (Reach header outside host object past → ⊥) → Leaves header outside host object page dirty past
-  -- its pager flushes it
-  Flushed : Flushes host object page dirty past → Leaves header outside host object page dirty past
+  -- its pager flushes it, and doesn't want it back
+  Flushed : (returns : ℕ) → L.IsLocked host object page returns true past → L.gives_back returns dirty ≡ false → Leaves header outside host object page dirty past
 
 pub record Drops (header : Header) (outside : Outside) (host object page : ℕ) (past : List Event) : Type 0 where
   pub here : (page_on header host object page past).here ≡ true

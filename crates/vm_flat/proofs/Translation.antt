@@ -1,7 +1,7 @@
 -- An event that has its cause sustains the law.
-use Rattle.std.proofs.Common.{ℕ, suc, ◌≡◌, ◌<◌, ◌≤◌, List, [], ◌∷◌, Bool, true, false, Option, Some, None, if◌then◌else◌, refl, sym, ap, ◌∙◌, arith, inl, inr}
+use Rattle.std.proofs.Common.{ℕ, ◌≡◌, ◌<◌, ◌≤◌, List, [], ◌∷◌, Bool, true, false, Some, None, if◌then◌else◌, refl, sym, ap, ◌∙◌, arith, inl, inr}
 use Rattle.std.proofs.lemmas.Bool.Decides.{nat_tests}
-use Rattle.std.specs.Prelude.{◌⊎◌, ◌==◌, ◌&&◌, ◌||◌, not, nat_lt}
+use Rattle.std.specs.Prelude.{◌⊎◌, not, nat_lt}
 use Rattle.vm_model.specs.declared.command.Command.{Command}
 use Rattle.vm_model.specs.declared.event.Event.{Event}
 use Rattle.vm_model.specs.declared.event.Event.TheVariants as event
@@ -15,7 +15,7 @@ use Rattle.vm_model.specs.Named.{named}
 use Rattle.vm_legal.specs.Licences as L
 use Rattle.vm_legal.specs.Licences.{Caused, HasCause, is_paged, pager_has, tells}
 use Rattle.vm_legal.specs.Outside.{Outside, is_file, is_private, is_said, start_page, zeros}
-use Rattle.vm_legal.specs.Pagers.{last_return, newer}
+use Rattle.vm_legal.specs.Pagers.{newer}
 use Rattle.vm_legal.specs.Used as V
 use Rattle.vm_legal.specs.Walks.{page_on}
 use Rattle.vm_flat.specs.Places.{spot}
@@ -87,7 +87,7 @@ up header outside doing host o other past caused ours c = tt
 leaves : (header : Header) (outside : Outside) (doing : Command) (host o p : ℕ) (past : List Event) (page : Local) → L.Leaves header doing host o p page past → S.Leaves header outside host o p page.dirty past
 leaves header outside doing host o p past page (L.Reclaimed clean plain why) = S.Clean clean
 leaves header outside doing host o p past page (L.Unreached above gone) = S.Unreached above (λ reach. gone (reached header outside host o past reach))
-leaves header outside doing host o p past page (L.Flushed returns locked spared) = S.Flushed (record { first = locked.first; count = locked.count; returns = returns; taken = locked.taken; from = locked.from; below = locked.below; spared = spared })
+leaves header outside doing host o p past page (L.Flushed returns locked spared) = S.Flushed returns locked spared
 leaves header outside doing host o p past page (L.Ended clean plain below unmapped) = S.Clean clean
 
 filled : (header : Header) (outside : Outside) (host o p : ℕ) (past : List Event) → EachEvent (HasCause header outside) past → is_private header outside o ≡ true → (L.Fills header host o p past ⊎ L.Bottoms header host o p past)
@@ -117,8 +117,8 @@ sustains header outside doing (event.CopiedPage task page object object_page tar
 sustains header outside doing (event.Zeroed host object page) past caused c = λ ours. filled header outside host.0 object.0 page.0 past caused ours (c (private_paged header outside object.0 ours))
 sustains header outside doing (event.Raised host lower lower_page upper upper_page) past caused c = c
 sustains header outside doing (event.Dropped host object page) past caused c = λ ours.
-  (let drops : L.Drops header doing host.0 object.0 page.0 past = c (private_paged header outside object.0 ours) in
-  record { here = drops.here; why = leaves header outside doing host.0 object.0 page.0 past (page_on header host.0 object.0 page.0 past) drops.why })
+    (let drops : L.Drops header doing host.0 object.0 page.0 past = c (private_paged header outside object.0 ours) in
+    record { here = drops.here; why = leaves header outside doing host.0 object.0 page.0 past (page_on header host.0 object.0 page.0 past) drops.why })
 sustains header outside doing (event.Sent (Up host object) m) past caused c = λ ours. up header outside doing host.0 object.0 m past caused ours (c (private_paged header outside object.0 ours))
 sustains header outside doing (event.Sent (Down host object control) m) past caused c = λ ours. down header outside host.0 object.0 control m past ours (c (private_paged header outside object.0 ours))
 sustains header outside doing (event.Taken channel m) past caused c = c.0

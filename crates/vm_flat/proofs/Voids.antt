@@ -1,7 +1,7 @@
 -- Where the step took a file pager's word that there is no such page, the place says so until zeros come.
-use Rattle.std.proofs.Common.{ℕ, ◌≡◌, ◌<◌, List, [], ◌∷◌, Bool, true, false, Option, Some, None, if◌then◌else◌, refl, sym, ap, subst, ◌∙◌, arith}
+use Rattle.std.proofs.Common.{ℕ, ◌≡◌, List, [], ◌∷◌, Bool, true, false, Option, Some, None, if◌then◌else◌, refl, sym, ap, subst, ◌∙◌, arith}
 use Rattle.std.proofs.lemmas.Bool.Decides.{nat_tests}
-use Rattle.std.specs.Prelude.{◌==◌, ◌&&◌, ◌||◌, not, nat_lt}
+use Rattle.std.specs.Prelude.{◌==◌, ◌&&◌}
 use Rattle.vm_base.specs.Pages.{little_endian_bytes}
 use Rattle.vm_base.specs.declared.ids.HostId.{HostId}
 use Rattle.vm_base.specs.declared.ids.ObjectId.{ObjectId}
@@ -13,18 +13,16 @@ use Rattle.vm_model.specs.declared.message.Message.{Message}
 use Rattle.vm_model.specs.declared.message.Message.TheVariants as message
 use Rattle.vm_model.specs.declared.script.Header.{Header}
 use Rattle.vm_model.specs.Controls.{is_control, last_control, live_control}
-use Rattle.vm_model.specs.Local.{Local}
 use Rattle.vm_model.specs.Moments.{EachEvent}
-use Rattle.vm_model.specs.Named.{named}
-use Rattle.vm_legal.specs.Licences.{Caused, HasCause, MaySendDown, is_paged, zeroes}
+use Rattle.vm_legal.specs.Licences.{HasCause, MaySendDown, is_paged, zeroes}
 use Rattle.vm_legal.specs.Living.{lives_on}
 use Rattle.vm_legal.specs.Outside.{Outside, is_file, is_said, zeros}
-use Rattle.vm_legal.specs.Steps.{Asked, Letter, absence_of, absence_taken, since, taken}
+use Rattle.vm_legal.specs.Steps.{Asked, Letter, absence_taken, since, taken}
 use Rattle.vm_legal.specs.Walks.{page_on}
 use Rattle.vm_flat.specs.Locals.{SpotIsLocal}
 use Rattle.vm_flat.specs.Places.{sent_up, sent_down, taken_down, spot}
 use Rattle.vm_flat.specs.Spot.{Spot, move}
-use Rattle.vm_flat.specs.Words.{DownWord, Supplying, Unavailing, Erring, Effect, Creates, Requests, Returns, Answers, Takes, Zeroes, Raises, Stores, Drops, Ends, StepEnds, Nothing}
+use Rattle.vm_flat.specs.Words.{Supplying, Unavailing, Erring, Effect, Creates, Answers, Takes, Zeroes, Raises, Stores, Drops, Ends, StepEnds, Nothing}
 use Rattle.vm_flat.proofs.Lives.{itself}
 use Rattle.vm_flat.proofs.Locals.{is_live, spot_is_local}
 use Rattle.vm_flat.proofs.Pagers.{both_no}
@@ -128,10 +126,13 @@ took_void header outside host o p control past file counts =
   where
     i : SpotIsLocal (is_file header o) (last_control host o past) (live_control host o past) (spot header outside host o p past) (page_on header host o p past)
     i = spot_is_local header outside past host o p
+
     both : ((spot header outside host o p past).control == 1 && control == last_control host o past) ≡ true
     both = sym (is_live (last_control host o past) (live_control host o past) (spot header outside host o p past) control i.control) ∙ first (is_control control (live_control host o past)) (page_on header host o p past).asked counts
+
     lives : ((spot header outside host o p past).control == 1) ≡ true
     lives = first ((spot header outside host o p past).control == 1) (control == last_control host o past) both
+
     newest : (control == last_control host o past) ≡ true
     newest = second ((spot header outside host o p past).control == 1) (control == last_control host o past) both
 
