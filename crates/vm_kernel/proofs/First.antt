@@ -1,9 +1,13 @@
 -- The kernel before anything has happened.
-use Rattle.std.proofs.Common.{◌≡◌, ℕ, zero, suc, ◌<◌, true, false, [], get_or, length, replicate, refl, ap, sym, ◌∙◌, arith, Some, None, Option}
+use Rattle.std.proofs.Common.{◌≡◌, ℕ, zero, suc, ◌<◌, true, false, List, [], ◌∷◌, get_or, length, replicate, refl, ap, sym, ◌∙◌, arith, Some, None, Option}
 use Rattle.std.proofs.lemmas.List.{length-replicate}
 use Rattle.std.proofs.lemmas.Bool.Decides.{nat_tests}
 use Rattle.std.specs.Prelude.{nat_lt, reverse, slice_get}
+use Rattle.vm_model.specs.declared.event.Event.{Event}
+use Rattle.vm_model.specs.declared.event.Event.TheVariants as event
 use Rattle.vm_model.specs.declared.script.Header.{Header}
+use Rattle.vm_model.specs.Controls.{last_control, live_control}
+use Rattle.vm_legal.specs.Licences.{created}
 use Rattle.vm_model.specs.Named.{named}
 use Rattle.vm_legal.specs.Used.{in_use}
 use Rattle.vm_frames.specs.Frames.{claimed, count_claims, frame_count, is_claimed}
@@ -15,6 +19,7 @@ use Rattle.vm_kernel.specs.Matches.{IsPlain, Rests, first_ids, the_host}
 use Rattle.vm_kernel.specs.Counts.{count_by, most_tasks}
 use Rattle.vm_kernel.specs.declared.parts.Parts.{Parts}
 use Rattle.vm_kernel.proofs.Counts.{by_none}
+use Rattle.vm_kernel.proofs.Uses.{still}
 
 none_of : {A B : Type 0} (x : Option A) (y : A) → x ≡ None → x ≡ Some y → B
 none_of x y none some = absurd (let bad : None ≡ Some y = sym none ∙ some in cc)
@@ -94,4 +99,27 @@ first_rests header k count plain size host hosts frames queues empty rows owners
             frames = record { total = hosts ∙ ap Some (sym counted); held = sym nothing; wired = sym (ap (λ z. z.wired) frames); fits = let none = ap (λ z. z.wired) frames in omega (arith, nothing, none) };
           };
       used = λ r row is. none_of (region_at k.chains r) row (regions r) is;
+    }
+
+-- a line changes nothing
+pub rests_line : (header : Header) (k : Parts) (ids : Ids) (line : ℕ) (past : List Event) → Rests header k ids past → Rests header k ids (event.Line line ∷ past)
+rests_line header k ids line past rests =
+    let m = rests.matches in
+    record {
+      matches =
+          record {
+            plain = m.plain;
+            size = m.size;
+            host = m.host;
+            fits = m.fits;
+            tasks = m.tasks;
+            regions = m.regions;
+            entries = m.entries;
+            pages = m.pages;
+            uses = m.uses;
+            controls = still (λ o. last_control 0 o past) (λ o. live_control 0 o past) (created past) m.controls;
+            stores = m.stores;
+            frames = m.frames;
+          };
+      used = rests.used;
     }
