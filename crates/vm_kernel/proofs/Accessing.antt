@@ -1,5 +1,5 @@
 -- A load or store from its beginning to its end.
-use Rattle.std.proofs.Common.{◌≡◌, ℕ, ◌+◌, ◌%◌, ◌<◌, ◌==◌, ◌&&◌, Bool, true, false, List, [], ◌∷◌, ◌++◌, length, replicate, refl, ap, sym, ◌∙◌, subst, arith, Some, None, Option, cond, inl, inr}
+use Rattle.std.proofs.Common.{◌≡◌, ℕ, ◌+◌, ◌%◌, ◌==◌, Bool, true, false, List, [], ◌∷◌, ◌++◌, length, replicate, refl, ap, sym, ◌∙◌, subst, arith, Some, None, Option, cond, inl, inr}
 use Rattle.std.proofs.lemmas.Bool.Decides.{eqb_tells}
 use Rattle.std.specs.Prelude.{if◌then◌else◌, not, reverse, slice_get, slice_range}
 use Rattle.vm_base.specs.declared.entry.Entry.{Entry}
@@ -31,7 +31,6 @@ use Rattle.vm_frames.specs.Frames.{count_claims, is_claimed, page_in}
 use Rattle.vm_maps.specs.Maps.{entries_in, rows_in}
 use Rattle.vm_queues.specs.Queues.{KeepsPages, Queues, is_queued}
 use Rattle.vm_objects.specs.Objects.{absent_at}
-use Rattle.vm_resident.specs.Resident.{row_at}
 use Rattle.vm_shadow.specs.declared.ids.Ids.{Ids}
 use Rattle.vm_kernel.specs.Begun.{Began, Grows, IsLined, Starts}
 use Rattle.vm_kernel.specs.Built.{has_stored}

@@ -1,8 +1,10 @@
 -- The kernel before anything has happened.
-use Rattle.std.proofs.Common.{◌≡◌, ℕ, zero, suc, ◌<◌, true, false, List, [], ◌∷◌, get_or, length, replicate, refl, ap, sym, ◌∙◌, arith, Some, None, Option}
+use Rattle.std.proofs.Common.{◌≡◌, ℕ, zero, suc, ◌<◌, true, false, List, [], ◌∷◌, get_or, length, replicate, refl, ap, sym, ◌∙◌, subst, arith, Some, None, Option}
 use Rattle.std.proofs.lemmas.List.{length-replicate}
 use Rattle.std.proofs.lemmas.Bool.Decides.{nat_tests}
 use Rattle.std.specs.Prelude.{nat_lt, reverse, slice_get}
+use Rattle.vm_base.specs.declared.ids.TaskId.{TaskId}
+use Rattle.vm_model.specs.declared.command.Command.TheVariants as command
 use Rattle.vm_model.specs.declared.event.Event.{Event}
 use Rattle.vm_model.specs.declared.event.Event.TheVariants as event
 use Rattle.vm_model.specs.declared.script.Header.{Header}
@@ -16,6 +18,8 @@ use Rattle.vm_queues.specs.Queues.{IsEmpty}
 use Rattle.vm_resident.specs.Resident.{IsOwned, owner_of, row_at}
 use Rattle.vm_shadow.specs.Chains.{region_at}
 use Rattle.vm_kernel.specs.Matches.{IsPlain, Rests, first_ids, the_host}
+use Rattle.vm_shadow.specs.declared.ids.Ids.{Ids}
+use Rattle.vm_kernel.specs.Begun.{Starts}
 use Rattle.vm_kernel.specs.Counts.{count_by, most_tasks}
 use Rattle.vm_kernel.specs.declared.parts.Parts.{Parts}
 use Rattle.vm_kernel.proofs.Counts.{by_none}
@@ -123,3 +127,11 @@ rests_line header k ids line past rests =
           };
       used = rests.used;
     }
+
+-- a first command may make a task
+pub may_make : (header given : Header) (past : List Event) (task : TaskId) (line : ℕ) (k : Parts) (ids : Ids) → given ≡ header → past ≡ event.Line line ∷ [] → Rests header k ids [] → task.0 < 1024 → Starts given (command.Task task the_host) past k ids []
+may_make header given past task line k ids same is rests below =
+    let one : length header.frames.items ≡ 1 = ap length rests.matches.plain.hosts in
+    let starts : Starts header (command.Task task the_host) (event.Line line ∷ []) k ids [] =
+    record { rests = rests_line header k ids line [] rests; range = (below, omega (arith, one)); accepted = refl; enough = refl; begins = record { line = line; before = []; is = refl }; nothing = refl } in
+    subst (λ (z : Header). Starts z (command.Task task the_host) past k ids []) (sym same) (subst (λ (z : List Event). Starts header (command.Task task the_host) z k ids []) (sym is) starts)

@@ -10,7 +10,7 @@ use Rattle.vm_legal.specs.Bytes.{CopiesCurrent, OwnBytes}
 use Rattle.vm_legal.specs.Debts.{IsPaid}
 use Rattle.vm_legal.specs.Follows.{IsConsequence}
 use Rattle.vm_legal.specs.Frames.{Suffice, frames_free, frames_held, frames_used, frames_wired}
-use Rattle.vm_legal.specs.Licences.{Caused, IsBehind, Licensed, ReturnsOn, created}
+use Rattle.vm_legal.specs.Licences.{Caused, Licensed, ReturnsOn, created}
 use Rattle.vm_legal.specs.Outside.{Outside}
 use Rattle.vm_legal.specs.Steps.{Asked, Letter, absence_taken, error_taken, taken}
 use Rattle.vm_frames.specs.Frames.{FrameTable, free}
