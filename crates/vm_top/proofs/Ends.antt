@@ -1,6 +1,8 @@
 -- What was read is what the source had, and how a run ends tells the status.
 use Rattle.std.proofs.Common.{◌≡◌, ℕ, ◌<◌, ◌≤◌, ◌^◌, ◌⊎◌, inl, inr, List, [], ◌∷◌, ◌++◌, length, true, refl, ap, sym, ◌∙◌, subst, arith, Some, None, Option, Ok, Err, nat_lt, length-append, append-nil}
-use Rattle.std.specs.Prelude.{IfSome}
+use Rattle.std.specs.Prelude.{IfSome, IsErrOf, OnOk, Result}
+use Rattle.vm_base.specs.declared.failure.WriteStop.{WriteStop}
+use Rattle.vm_base.specs.declared.failure.WriteStop.TheVariants as stop
 use Rattle.std.specs.Io.KnownBytes.{Appends, Consumes, IsAtEnd}
 use Rattle.std.proofs.KnownBytes.{Consumes-all}
 use Rattle.std.proofs.lemmas.Bool.Decides.{nat_tests}
@@ -15,13 +17,13 @@ use Rattle.vm_text.specs.Unbuilt.{IsBuilt, unbuilt_of}
 use Rattle.vm_top.specs.declared.top.Status.{Status}
 use Rattle.vm_top.specs.declared.top.Status.TheVariants as status
 use Rattle.vm_top.specs.declared.words.Report.{Report}
-use Rattle.vm_top.specs.Ending.{EndsAs, HasEnded, Tells, WroteStuck}
+use Rattle.vm_top.specs.Ending.{EndsAs, HasEnded, Tells, WroteStuck, status_after}
 use Rattle.vm_top.specs.Reading.{ReadWhole}
-use Rattle.vm_top.specs.Run.{IsRunnable, IsStuck}
+use Rattle.vm_top.specs.Run.{IsRunnable, IsStuck, IsWhole, report_text}
 use Rattle.vm_kernel.specs.Matches.{IsPlain}
-use Rattle.vm_top.specs.Top.{IsReadFrom, IsBadFrom, IsUnbuiltFrom, IsDone, IsEventLimit, IsStopped, IsNotBuilt, IsOutputFault, IsNoMemory, WroteStopped, not_built_text, stopped_text}
+use Rattle.vm_top.specs.Top.{IsReadFrom, IsBadFrom, IsUnbuiltFrom, IsDone, IsEventLimit, IsStopped, IsNotBuilt, IsOutputFault, IsNoMemory, WroteCut, WroteStopped, not_built_text, stopped_text}
 use Rattle.vm_top.specs.Writing.{WroteStart}
-use Rattle.vm_top.proofs.Starts.{legal_start, part_legal}
+use Rattle.vm_top.proofs.Starts.{legal_start, part_legal, whole_legal}
 use Rattle.vm_top.proofs.Writings.{start_all}
 
 long_bad : (bytes : List ℕ) → 1048576 < length bytes → script_of bytes ≡ Err (0, fault.TooLong)
@@ -135,7 +137,7 @@ header_stops told run script h line read unbuilt held empty = record {
   run = run;
   held = record { held = held; read = read };
   stops = inl (unbuilt, empty);
-  legal = record { later = run.commands.items; run = []; order = sym (append-nil run.commands.items); legal = rw empty (legal_start run.header) };
+  legal = rw empty (record { later = run.commands.items; run = []; order = sym (append-nil run.commands.items); follows = refl; holds = (legal_start run.header).holds; rests = (legal_start run.header).rests });
 }
 
 -- whatever telling a text ends with, a first part of it was written
@@ -172,3 +174,11 @@ runnable script keeps built = record { plain = plain_of script.header.frames.ite
     plain_of [] is = absurd (omega (arith, ap length is, built.one_host))
     plain_of (f ∷ []) is = record { size = keeps.size; frames = f; hosts = is; few = few_of f is; objects = built.no_object }
     plain_of (f ∷ g ∷ more) is = absurd (omega (arith, ap length is, built.one_host))
+
+-- what was left of a whole run was written, or a write failed
+pub done_ends : (report : Report) (run : Script) (h : List Event) (start after : Option (List ℕ)) (wrote : Result (Unit {0}) WriteStop) → IsWhole run h
+    → OnOk wrote (Appends start after (report_text report h)) → (IsErrOf wrote stop.Failed → WroteCut report start after h)
+    → (IsErrOf wrote stop.NoMemory → WroteStart start after (report_text report h)) → EndsAs report run h start after (status_after wrote status.Done)
+done_ends report run h start after (Ok done) whole written failed memory = (whole, written)
+done_ends report run h start after (Err stop.Failed) whole written failed memory = inl (whole_legal run h whole, failed refl)
+done_ends report run h start after (Err stop.NoMemory) whole written failed memory = inl (whole_legal run h whole, memory refl)

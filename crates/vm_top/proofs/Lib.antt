@@ -2,6 +2,7 @@ pub mod Asking
 pub mod Copied
 pub mod Ends
 pub mod Grants
+pub mod Lines
 pub mod Refusals
 pub mod Starts
 pub mod Steps

@@ -14,7 +14,7 @@ use Rattle.vm_base.specs.declared.ids.TaskId.{TaskId}
 use Rattle.vm_base.specs.Entries.{allows, entry_at, inherited, is_mapped, is_range, meets_range, most_entries, protected, removed}
 use Rattle.vm_model.specs.declared.command.Command.TheVariants as command
 use Rattle.vm_model.specs.declared.script.Header.{Header}
-use Rattle.vm_model.specs.Refusal.{access_refusal, are_many, meets_declared, refusal, where_true}
+use Rattle.vm_legal.specs.Refusal.{access_refusal, are_many, meets_declared, refusal, where_true}
 use Rattle.vm_model.specs.Tasks.{copies, is_copied, sources}
 use Rattle.vm_frames.specs.Frames.{free}
 use Rattle.vm_maps.specs.declared.change.MapChange.{MapChange}

@@ -15,10 +15,13 @@ use Rattle.vm_model.specs.declared.script.Script.{Script}
 use Rattle.vm_model.specs.Moments.{before_last_line}
 use Rattle.vm_model.specs.Ranges.{InRange}
 use Rattle.vm_model.specs.Text.{text, line_of}
-use Rattle.vm_model.specs.Legal.{LegalFor, LegalSoFar}
+use Rattle.vm_legal.specs.Debts.{IsPaid}
+use Rattle.vm_legal.specs.Follows.{Follows, FollowsSoFar}
+use Rattle.vm_legal.specs.Legal.{LegalFor, LegalSoFar}
+use Rattle.vm_legal.specs.Prompt.{NoneInVain}
 use Rattle.vm_kernel.specs.Built.{is_built, is_held_up}
-use Rattle.vm_top.specs.Run.{IsFull, IsPart, IsRunnable, IsStuck, RanAs, MayStep, WroteButLast, shown, unbuilt_line}
-use Rattle.vm_top.specs.Runner.{KeepsLegal, event_limit}
+use Rattle.vm_top.specs.Run.{IsFull, IsPart, IsRunnable, IsStuck, IsWhole, RanAs, MayStep, WroteButLast, shown, unbuilt_line}
+use Rattle.vm_top.specs.Runner.{KeepsLegal, event_limit, the_outside}
 use Rattle.vm_top.specs.Writing.{oldest, WroteStart}
 use Rattle.vm_top.specs.declared.run.RunEnd.TheVariants as ends
 use Rattle.vm_top.specs.declared.words.Report.{Report}
@@ -29,14 +32,41 @@ some_frames : (frames : Option ℕ) → IfSome frames (λ count. 0 ≤ count)
 some_frames None = tt
 some_frames (Some count) = omega arith
 
-pub legal_start : (header : Header) → LegalFor header [] []
+-- nothing has happened
+start_waits : (header : Header) (host : ℕ) → NoneInVain header host []
+start_waits header host task access waits on = let bad : None ≡ Some access = waits.waits in cc
+
+start_paid : (header : Header) → IsPaid header []
+start_paid header = record {
+  returned = refl;
+  init = λ host object control size paged is. absurd (nothing is);
+  create = λ host object control size paged is. absurd (nothing is);
+  request = λ host object control page access paged is. absurd (nothing is);
+  error = λ host object page is. absurd (nothing is);
+  absence = λ host object page declared is. absurd (nothing is);
+  slot = λ host object control page dirty keep bytes temporary is lacks. absurd (nothing is);
+}
+  where
+    nothing : {A : Type 0} {x : A} → None ≡ Some x → ⊥
+    nothing is = cc
+
+pub legal_start : (header : Header) → LegalFor header the_outside [] []
 legal_start header = record {
   follows = refl;
-  own_bytes = tt;
-  flat_bytes = tt;
-  frames = λ host. some_frames (slice_get (reverse header.frames.items) host);
-  prompt = tt;
-  prompt_at_end = record { none = λ task. refl; swept = λ host object page below temporary away. refl };
+  holds = record {
+    own_bytes = tt;
+    flat_bytes = tt;
+    frames = λ host. some_frames (slice_get (reverse header.frames.items) host);
+    prompt = tt;
+    paid = tt;
+  };
+  rests = record {
+    prompt = record {
+      waits = λ host below. start_waits header host;
+      swept = λ host below. record { pages = λ object page temporary away. refl; controls = λ object temporary away. refl };
+    };
+    paid = start_paid header;
+  };
 }
 
 drop_whole : {A : Type 0} (items : List A) → drop (length items) items ≡ []
@@ -67,13 +97,20 @@ next_built n before none is = rw (none, is) refl
 pub next_unbuilt : (n : Numbered) (before : List Numbered) → unbuilt_line before ≡ None → is_built n.command ≡ false → unbuilt_line (n ∷ before) ≡ Some n.line
 next_unbuilt n before none is = rw (none, is) refl
 
+-- what follows its commands whole does so as far as it goes
+pub open_of : (header : Header) (run : List Numbered) (h : List Event) → Follows header the_outside run h → FollowsSoFar header the_outside run h
+open_of header [] h is = is
+open_of header (n ∷ before) h (past, group, is, made, whole, follows) = (past, group, is, made, follows)
+
 -- legal as far as it goes
-abbrev pub so_far : (script : Script) (i : ℕ) (h : List Event) → LegalFor script.header (oldest i script.commands.items) h → LegalSoFar script h
+abbrev pub so_far : (script : Script) (i : ℕ) (h : List Event) → LegalFor script.header the_outside (oldest i script.commands.items) h → LegalSoFar script the_outside h
 so_far script i h legal = record {
   later = take (length script.commands.items - i) script.commands.items;
   run = oldest i script.commands.items;
   order = sym (take-append-drop (length script.commands.items - i) script.commands.items);
-  legal = legal;
+  follows = open_of script.header (oldest i script.commands.items) h legal.follows;
+  holds = legal.holds;
+  rests = legal.rests;
 }
 
 -- the text of the steps in front is a first part of the text
@@ -100,12 +137,12 @@ shown_none written reports.Summary = Appends-nil written
 
 -- a run that stops in the turn of the command at i
 pub failed_at : (report : Report) (script : Script) (i : ℕ) (n : Numbered) (old new : List Event) (before after : Option (List ℕ))
-    → oldest (i + 1) script.commands.items ≡ n ∷ oldest i script.commands.items → LegalFor script.header (oldest i script.commands.items) old
+    → oldest (i + 1) script.commands.items ≡ n ∷ oldest i script.commands.items → LegalFor script.header the_outside (oldest i script.commands.items) old
     → KeepsLegal script.header n old new → (report ≡ reports.History) × WroteButLast before after new → RanAs report script new ends.Failed before after
 failed_at report script i n old new before after next legal keeps wrote = (wrote.0, so_far script (i + 1) new (rw next (keeps (oldest i script.commands.items) legal)), wrote.1)
 
 pub memory_at : (report : Report) (script : Script) (i : ℕ) (n : Numbered) (old new : List Event) (before after : Option (List ℕ))
-    → oldest (i + 1) script.commands.items ≡ n ∷ oldest i script.commands.items → LegalFor script.header (oldest i script.commands.items) old
+    → oldest (i + 1) script.commands.items ≡ n ∷ oldest i script.commands.items → LegalFor script.header the_outside (oldest i script.commands.items) old
     → MayStep script.header n old new → Appends before after (shown report old) → RanAs report script new ends.NoMemory before after
 memory_at report script i n old new before after next legal may kept = elim may [
   | inl same ↦ (so_far script i new (rw same legal), rw same (start_all before after (shown report old) kept))
@@ -117,7 +154,7 @@ abbrev later_than : (script : Script) (i : ℕ) → List Numbered
 later_than script i = take (length script.commands.items - (i + 1)) script.commands.items
 
 part_at : (script : Script) (i : ℕ) (n : Numbered) (h : List Event) → oldest (i + 1) script.commands.items ≡ n ∷ oldest i script.commands.items
-    → unbuilt_line (oldest i script.commands.items) ≡ None → LegalFor script.header (oldest i script.commands.items) h
+    → unbuilt_line (oldest i script.commands.items) ≡ None → LegalFor script.header the_outside (oldest i script.commands.items) h
     → IsPart script (later_than script i ++ n ∷ []) (oldest i script.commands.items) h
 part_at script i n h next built legal =
     let all = sym (take-append-drop (length script.commands.items - (i + 1)) script.commands.items) in
@@ -129,7 +166,7 @@ part_at script i n h next built legal =
 
 -- a run that stops in front of the command at i
 pub full_at : (script : Script) (i : ℕ) (n : Numbered) (h : List Event) → oldest (i + 1) script.commands.items ≡ n ∷ oldest i script.commands.items
-    → unbuilt_line (oldest i script.commands.items) ≡ None → LegalFor script.header (oldest i script.commands.items) h
+    → unbuilt_line (oldest i script.commands.items) ≡ None → LegalFor script.header the_outside (oldest i script.commands.items) h
     → unbuilt_line (n ∷ oldest i script.commands.items) ≡ None → event_limit ≤ length h → IsFull script h
 full_at script i n h next built legal more full = record {
   later = later_than script i;
@@ -141,7 +178,7 @@ full_at script i n h next built legal more full = record {
 }
 
 pub stuck_at : (script : Script) (i : ℕ) (n : Numbered) (h : List Event) → oldest (i + 1) script.commands.items ≡ n ∷ oldest i script.commands.items
-    → unbuilt_line (oldest i script.commands.items) ≡ None → LegalFor script.header (oldest i script.commands.items) h
+    → unbuilt_line (oldest i script.commands.items) ≡ None → LegalFor script.header the_outside (oldest i script.commands.items) h
     → unbuilt_line (n ∷ oldest i script.commands.items) ≡ Some n.line → IsStuck script n.line h
 stuck_at script i n h next built legal more = record {
   later = later_than script i;
@@ -153,7 +190,7 @@ stuck_at script i n h next built legal more = record {
 
 -- the command at i can't be run now
 pub held_at : (script : Script) (i : ℕ) (n : Numbered) (h : List Event) → oldest (i + 1) script.commands.items ≡ n ∷ oldest i script.commands.items
-    → unbuilt_line (oldest i script.commands.items) ≡ None → LegalFor script.header (oldest i script.commands.items) h
+    → unbuilt_line (oldest i script.commands.items) ≡ None → LegalFor script.header the_outside (oldest i script.commands.items) h
     → unbuilt_line (n ∷ oldest i script.commands.items) ≡ None → length h < event_limit → is_held_up script.header h n.command ≡ true → IsStuck script n.line h
 held_at script i n h next built legal more below held = record {
   later = later_than script i;
@@ -164,8 +201,16 @@ held_at script i n h next built legal more below held = record {
 }
 
 -- a run that was made of a part is legal as far as it goes
-pub part_legal : (script : Script) (later run : List Numbered) (h : List Event) → IsPart script later run h → LegalSoFar script h
-part_legal script later run h part = record { later = later; run = run; order = part.order; legal = part.legal }
+pub part_legal : (script : Script) (later run : List Numbered) (h : List Event) → IsPart script later run h → LegalSoFar script the_outside h
+part_legal script later run h part = record { later = later; run = run; order = part.order; follows = open_of script.header run h part.legal.follows; holds = part.legal.holds; rests = part.legal.rests }
+
+-- a run of the whole script is legal as far as it goes
+pub whole_legal : (script : Script) (h : List Event) → IsWhole script h → LegalSoFar script the_outside h
+whole_legal script h is = record { later = []; run = script.commands.items; order = refl; follows = open_of script.header script.commands.items h is.legal.follows; holds = is.legal.holds; rests = is.legal.rests }
+
+-- and so is a run that came to a full history
+pub full_legal : (script : Script) (h : List Event) → IsFull script h → LegalSoFar script the_outside h
+full_legal script h is = part_legal script (is.later ++ is.next ∷ []) is.run h is.part
 
 -- nothing was run
 pub nothing_ran : (report : Report) (script : Script) (written : Option (List ℕ)) → RanAs report script [] ends.NoMemory written written

@@ -9,58 +9,18 @@ use Rattle.vm_model.specs.declared.command.Numbered.{Numbered}
 use Rattle.vm_model.specs.declared.script.Header.{Header}
 use Rattle.vm_model.specs.Moments.{before_last_line}
 use Rattle.vm_model.specs.Ranges.{InRange}
-use Rattle.vm_model.specs.Refusal.{refusal}
-use Rattle.vm_shadow.specs.declared.ids.Ids.{Ids}
+use Rattle.vm_legal.specs.Refusal.{refusal}
 use Rattle.vm_kernel.specs.Begun.{Began, Starts}
 use Rattle.vm_kernel.specs.Built.{has_stored, is_held_up, needs_more}
-use Rattle.vm_kernel.specs.Matches.{Matches, Rests}
-use Rattle.vm_kernel.specs.declared.parts.Parts.{Parts}
-use Rattle.vm_top.specs.Runner.{Agrees, Stepped, event_limit, is_stored}
+use Rattle.vm_top.specs.Runner.{Agrees, Stepped, event_limit, is_stored, the_outside}
 use Rattle.vm_top.specs.declared.runner.Runner.{Runner}
-use Rattle.vm_top.proofs.Grants.{front_all, legal_began, legal_refused, refusal_line, steps_all}
+use Rattle.vm_top.proofs.Lines.{rests_code, rests_line}
+use Rattle.vm_top.proofs.Grants.{copies_all, front_all, legal_began, legal_refused, refusal_line, steps_all}
 
 -- whether a store has ended, with one event more
 pub stored_more : (e : Event) (h : List Event) → has_stored (e ∷ h) ≡ (is_stored e || has_stored h)
 stored_more (event.Stored task object page at bytes value) h = refl
 stored_more other h = refl
-
--- a line, and a code, change nothing that a kernel stands for
-
-matches_line : (header : Header) (k : Parts) (ids : Ids) (line : ℕ) (h : List Event) → Matches header k ids [] h → Matches header k ids [] (event.Line line ∷ h)
-matches_line header k ids line h m = record {
-  plain = m.plain;
-  size = m.size;
-  host = m.host;
-  fits = m.fits;
-  tasks = m.tasks;
-  regions = m.regions;
-  entries = m.entries;
-  pages = m.pages;
-  flat = m.flat;
-  stores = m.stores;
-  frames = m.frames;
-}
-
-pub rests_line : (header : Header) (k : Parts) (ids : Ids) (line : ℕ) (h : List Event) → Rests header k ids h → Rests header k ids (event.Line line ∷ h)
-rests_line header k ids line h rests = record { matches = matches_line header k ids line h rests.matches; used = rests.used }
-
-matches_code : (header : Header) (k : Parts) (ids : Ids) (why : Code) (h : List Event) → Matches header k ids [] h → Matches header k ids [] (event.Refused why ∷ h)
-matches_code header k ids why h m = record {
-  plain = m.plain;
-  size = m.size;
-  host = m.host;
-  fits = m.fits;
-  tasks = m.tasks;
-  regions = m.regions;
-  entries = m.entries;
-  pages = m.pages;
-  flat = m.flat;
-  stores = m.stores;
-  frames = m.frames;
-}
-
-rests_code : (header : Header) (k : Parts) (ids : Ids) (why : Code) (h : List Event) → Rests header k ids h → Rests header k ids (event.Refused why ∷ h)
-rests_code header k ids why h rests = record { matches = matches_code header k ids why h rests.matches; used = rests.used }
 
 -- a command that isn't held up and isn't refused needs nothing more
 enough_of : (header : Header) (h : List Event) (c : Command) → refusal header h c ≡ None → is_held_up header h c ≡ false → needs_more header h c ≡ false
@@ -81,7 +41,7 @@ starts_at header n runner agrees range free fine = record {
   range = range;
   accepted = refusal_line header n.line runner.history.items n.command ∙ fine;
   enough = needs_line header n.line runner.history.items n.command ∙ enough_of header runner.history.items n.command fine free;
-  begins = refl;
+  begins = record { line = n.line; before = runner.history.items; is = refl };
   nothing = refl;
 }
 
@@ -93,22 +53,23 @@ stepped_refused header n why old new agrees refused grown kernel ids stored =
       agrees = record {
         rests = rests_code header old.kernel old.ids why (event.Line n.line ∷ old.history.items) (rests_line header old.kernel old.ids n.line old.history.items agrees.rests);
         stored = agrees.stored;
+        copies = (tt, (tt, agrees.copies));
       };
-      legal = legal_refused header n why old.history.items refused;
+      legal = legal_refused header n why old.history.items old.kernel old.ids agrees.rests agrees.copies refused;
       step = record { more = event.Refused why ∷ event.Line n.line ∷ []; longer = refl; front = refl };
       limit = λ below limit. (below, limit);
     })
 
 -- the step of a command that was run
 pub stepped_ran : (header : Header) (n : Numbered) (events : List Event) (old new : Runner) → Agrees header old → refusal header old.history.items n.command ≡ None
-    → Began header n.command (event.Line n.line ∷ old.history.items) new.kernel new.ids events
+    → Began header the_outside n.command (event.Line n.line ∷ old.history.items) new.kernel new.ids events
     → new.history.items ≡ events ++ event.Line n.line ∷ old.history.items → new.stored ≡ has_stored new.history.items → Stepped header n old new
 stepped_ran header n events old new agrees fine began grown stored =
     let inner = began.grows.inner in
     let past = event.Line n.line ∷ old.history.items in
     record {
-      agrees = record { rests = rw grown began.rests; stored = stored };
-      legal = rw grown (legal_began header n old.history.items events new.kernel new.ids agrees.rests.matches.plain fine began);
+      agrees = record { rests = rw grown began.rests; stored = stored; copies = rw grown (copies_all header n.line old.history.items events began.grows.copies agrees.copies) };
+      legal = rw grown (legal_began header n old.history.items events new.kernel new.ids agrees.rests.matches.plain fine agrees.copies began);
       step = record {
         more = events ++ event.Line n.line ∷ [];
         longer = grown ∙ sym (append_assoc events (event.Line n.line ∷ []) old.history.items);

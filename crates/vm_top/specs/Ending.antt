@@ -5,8 +5,9 @@ use Rattle.vm_base.specs.declared.failure.WriteStop.{WriteStop}
 use Rattle.vm_base.specs.declared.failure.WriteStop.TheVariants as stop
 use Rattle.vm_model.specs.declared.event.Event.{Event}
 use Rattle.vm_model.specs.declared.script.Script.{Script}
-use Rattle.vm_model.specs.Legal.{LegalSoFar}
+use Rattle.vm_legal.specs.Legal.{LegalSoFar}
 use Rattle.vm_top.specs.Run.{IsFull, IsStuck, IsWhole, report_text}
+use Rattle.vm_top.specs.Runner.{the_outside}
 use Rattle.vm_top.specs.Top.{WroteCut, stopped_text}
 use Rattle.vm_top.specs.Writing.{WroteStart}
 use Rattle.vm_top.specs.declared.top.Status.{Status}
@@ -33,8 +34,8 @@ abbrev pub EndsAs : Report → Script → List Event → Option (List ℕ) → O
 EndsAs report run history before after Done = IsWhole run history × Appends before after (report_text report history)
 EndsAs report run history before after EventLimit = IsFull run history × Appends before after (report_text report history)
 EndsAs report run history before after (NotBuilt line) = IsStuck run line history × Appends before after (stopped_text history line)
-EndsAs report run history before after OutputFault = (LegalSoFar run history × WroteCut report before after history) ⊎ WroteStuck run history before after
-EndsAs report run history before after NoMemory = (LegalSoFar run history × WroteStart before after (report_text report history)) ⊎ WroteStuck run history before after
+EndsAs report run history before after OutputFault = (LegalSoFar run the_outside history × WroteCut report before after history) ⊎ WroteStuck run history before after
+EndsAs report run history before after NoMemory = (LegalSoFar run the_outside history × WroteStart before after (report_text report history)) ⊎ WroteStuck run history before after
 EndsAs report run history before after other = ⊥
 
 -- the script is held

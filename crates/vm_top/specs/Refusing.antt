@@ -5,7 +5,7 @@ use Rattle.vm_base.specs.declared.code.Code.TheVariants.{NoSuchName, NameTaken, 
 use Rattle.vm_base.specs.declared.entry.Entry.{Entry}
 use Rattle.vm_base.specs.declared.ids.Access.{Access}
 use Rattle.vm_base.specs.Entries.{entry_at, is_range, meets_range, most_entries}
-use Rattle.vm_model.specs.Refusal.{access_refusal, where_true}
+use Rattle.vm_legal.specs.Refusal.{access_refusal, where_true}
 use Rattle.vm_model.specs.Tasks.{copies, sources}
 use Rattle.vm_maps.specs.Judge.{judged}
 use Rattle.vm_maps.specs.Maps.{Mapped, entries_in}

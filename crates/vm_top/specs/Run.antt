@@ -10,10 +10,10 @@ use Rattle.vm_model.specs.Moments.{before_last_line}
 use Rattle.vm_model.specs.Ranges.{InRange}
 use Rattle.vm_model.specs.Summary.{summary_text}
 use Rattle.vm_model.specs.Text.{text}
-use Rattle.vm_model.specs.Legal.{Legal, LegalFor, LegalSoFar}
+use Rattle.vm_legal.specs.Legal.{Legal, LegalFor, LegalSoFar}
 use Rattle.vm_kernel.specs.Built.{is_built, is_held_up}
 use Rattle.vm_kernel.specs.Matches.{IsPlain}
-use Rattle.vm_top.specs.Runner.{KeepsLegal, event_limit}
+use Rattle.vm_top.specs.Runner.{KeepsLegal, event_limit, the_outside}
 use Rattle.vm_top.specs.Writing.{WroteStart, WroteBeyond}
 use Rattle.vm_top.specs.declared.run.RunEnd.{RunEnd}
 use Rattle.vm_top.specs.declared.run.RunEnd.TheVariants as end
@@ -37,12 +37,12 @@ unbuilt_line (numbered ∷ before) = elim (unbuilt_line before) [
 pub record IsPart (script : Script) (later run : List Numbered) (history : List Event) : Type 0 where
   pub order : script.commands.items ≡ later ++ run
   pub built : unbuilt_line run ≡ None
-  pub legal : LegalFor script.header run history
+  pub legal : LegalFor script.header the_outside run history
 
 -- the whole script was run
 pub record IsWhole (script : Script) (history : List Event) : Type 0 where
   pub built : unbuilt_line script.commands.items ≡ None
-  pub legal : Legal script history
+  pub legal : Legal script the_outside history
 
 -- a command is left that is built, but no step may begin
 pub record IsFull (script : Script) (history : List Event) : Type 0 where
@@ -86,8 +86,8 @@ report_text Summary history = summary_text history
 -- is full; or a command isn't built
 abbrev pub RanAs : Report → Script → List Event → RunEnd → Option (List ℕ) → Option (List ℕ) → Type 0
 RanAs report script history end.Done before after = IsWhole script history × Appends before after (shown report history)
-RanAs report script history end.Failed before after = (report ≡ History) × LegalSoFar script history × WroteButLast before after history
-RanAs report script history end.NoMemory before after = LegalSoFar script history × WroteStart before after (shown report history)
+RanAs report script history end.Failed before after = (report ≡ History) × LegalSoFar script the_outside history × WroteButLast before after history
+RanAs report script history end.NoMemory before after = LegalSoFar script the_outside history × WroteStart before after (shown report history)
 RanAs report script history end.EventLimit before after = IsFull script history × Appends before after (shown report history)
 RanAs report script history (end.NotBuilt line) before after = IsStuck script line history × Appends before after (shown report history)
 

@@ -4,16 +4,23 @@ use Rattle.vm_model.specs.declared.event.Event.{Event}
 use Rattle.vm_model.specs.declared.event.Event.TheVariants as event
 use Rattle.vm_model.specs.declared.command.Numbered.{Numbered}
 use Rattle.vm_model.specs.declared.script.Header.{Header}
-use Rattle.vm_model.specs.Moments.{BeforeSteps, before_last_line}
-use Rattle.vm_model.specs.Legal.{LegalFor}
+use Rattle.vm_model.specs.Moments.{BeforeSteps, EachEvent, before_last_line}
+use Rattle.vm_legal.specs.Bytes.{CopiesCurrent}
+use Rattle.vm_legal.specs.Legal.{LegalFor}
+use Rattle.vm_legal.specs.Outside.{Outside, Untold}
 use Rattle.vm_kernel.specs.Built.{has_stored}
 use Rattle.vm_kernel.specs.Matches.{Rests}
 use Rattle.vm_top.specs.declared.runner.Runner.{Runner}
+
+-- what is told of the outside: no file is declared, and no page goes to the paging area yet, which would give back what it got
+abbrev pub the_outside : Outside
+the_outside = record { files = Untold; paging = true }
 
 -- the kernel stands for the history, and it is known whether a store has ended
 pub record Agrees (header : Header) (runner : Runner) : Type 0 where
   pub rests : Rests header runner.kernel runner.ids runner.history.items
   pub stored : runner.stored ≡ has_stored runner.history.items
+  pub copies : EachEvent (CopiesCurrent header the_outside) runner.history.items
 
 -- no step begins once the history has so many events
 abbrev pub event_limit : ℕ
@@ -31,7 +38,7 @@ pub record IsStep (old new : List Event) : Type 0 where
 
 -- a history that is legal stays so with one command more
 abbrev pub KeepsLegal : Header → Numbered → List Event → List Event → Type 0
-KeepsLegal header numbered old new = (run : List Numbered) → LegalFor header run old → LegalFor header (numbered ∷ run) new
+KeepsLegal header numbered old new = (run : List Numbered) → LegalFor header the_outside run old → LegalFor header the_outside (numbered ∷ run) new
 
 -- a command's step was made
 pub record Stepped (header : Header) (numbered : Numbered) (old new : Runner) : Type 0 where

@@ -6,12 +6,13 @@ use Rattle.vm_model.specs.declared.fault.ScriptFault.{ScriptFault}
 use Rattle.vm_model.specs.declared.fault.ScriptFault.TheVariants as fault
 use Rattle.vm_model.specs.declared.script.Script.{Script}
 use Rattle.vm_model.specs.Fault.{number}
-use Rattle.vm_model.specs.Legal.{LegalSoFar}
+use Rattle.vm_legal.specs.Legal.{LegalSoFar}
 use Rattle.vm_model.specs.Text.{text, field}
 use Rattle.vm_text.specs.Script.{script_of, seen}
 use Rattle.vm_text.specs.Unbuilt.{unbuilt_of}
 use Rattle.vm_outside.specs.Arming.{Arming}
 use Rattle.vm_top.specs.Run.{IsFull, IsStuck, IsWhole, WroteButLast, report_text}
+use Rattle.vm_top.specs.Runner.{the_outside}
 use Rattle.vm_top.specs.Writing.{WroteStart}
 use Rattle.vm_top.specs.declared.words.Report.{Report}
 use Rattle.vm_top.specs.declared.words.Report.TheVariants.{History, Summary}
@@ -91,7 +92,7 @@ pub record IsStopped (told : Option (List ℕ)) (line : ℕ) (script : Option Sc
   pub run : Script
   pub held : IsHeld told run script
   pub stops : Stops told run line history
-  pub legal : LegalSoFar run history
+  pub legal : LegalSoFar run the_outside history
 
 -- the text of what was run, and then the line
 abbrev pub stopped_text : List Event → ℕ → List ℕ
@@ -112,7 +113,7 @@ pub record IsBad (told : Option (List ℕ)) (line : ℕ) (kind : ScriptFault) (s
 pub record IsCut (told : Option (List ℕ)) (script : Option Script) (history : List Event) : Type 0 where
   pub run : Script
   pub held : IsHeld told run script
-  pub legal : LegalSoFar run history
+  pub legal : LegalSoFar run the_outside history
 
 -- what a write that failed left: of events, all steps but the last whole; of a summary, a first part
 abbrev pub WroteCut : Report → Option (List ℕ) → Option (List ℕ) → List Event → Type 0

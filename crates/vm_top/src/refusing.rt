@@ -3,7 +3,7 @@ ghost use Rattle.std.specs.Prelude.{◌≡◌, ◌<◌, true, is_some, nat_lt, N
 ghost use Rattle.vm_base.specs.declared.code.Code.TheVariants as code;
 ghost use Rattle.vm_model.specs.declared.script.Header.{Header};
 ghost use Rattle.vm_model.specs.Ranges.{InRange};
-ghost use Rattle.vm_model.specs.Refusal.{refusal, where_true};
+ghost use Rattle.vm_legal.specs.Refusal.{refusal, where_true};
 ghost use Rattle.vm_model.specs.Tasks.{copies};
 ghost use Rattle.vm_frames.specs.Frames.{free};
 ghost use Rattle.vm_maps.specs.Maps.{entries_in, rows_in};

@@ -4,11 +4,11 @@ ghost use Rattle.vm_model.specs.declared.command.Command.TheVariants as command;
 ghost use Rattle.vm_model.specs.declared.event.Event.TheVariants as event;
 ghost use Rattle.vm_model.specs.declared.script.Header.{Header};
 ghost use Rattle.vm_model.specs.Ranges.{InRange};
-ghost use Rattle.vm_model.specs.Refusal.{refusal};
+ghost use Rattle.vm_legal.specs.Refusal.{refusal};
 ghost use Rattle.vm_kernel.specs.Begun.{Began, Given, Starts};
 ghost use Rattle.vm_kernel.specs.Built.{has_stored, is_built, is_held_up};
 ghost use Rattle.vm_kernel.specs.Matches.{IsPlain};
-ghost use Rattle.vm_top.specs.Runner.{Agrees, Stepped, is_stored};
+ghost use Rattle.vm_top.specs.Runner.{Agrees, Stepped, is_stored, the_outside};
 
 use std::alloc::Global;
 use vm_base::{HostId, NoMemory};
@@ -101,10 +101,10 @@ fn begin(
     numbered: &Numbered,
 ) -> Result<Events, NoMemory>
     ghost given: { Given }
-    requires past { given ≡ record { header = header.now; past = event.Line numbered.now.line ∷ history.now.items } }
+    requires past { given ≡ record { header = header.now; outside = the_outside; past = event.Line numbered.now.line ∷ history.now.items } }
     requires starts { Starts header.now numbered.now.command (event.Line numbered.now.line ∷ history.now.items) kernel.old ids.old [] }
     requires built { is_built numbered.now.command ≡ true }
-    ensures { IfOk result (λ events. Began header.now numbered.now.command (event.Line numbered.now.line ∷ history.now.items) kernel.new ids.new events.items) }
+    ensures { IfOk result (λ events. Began header.now the_outside numbered.now.command (event.Line numbered.now.line ∷ history.now.items) kernel.new ids.new events.items) }
 {
     kernel.begin(&numbered.command, ids)
 }

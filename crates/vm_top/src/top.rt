@@ -134,6 +134,7 @@ fn tell_bad<K: Sink>(alloc: Global, line: u32, kind: ScriptFault, out: &mut K) -
 }
 
 // Writes what is left to be written of a run.
+#[tactic(auto, using(crate::proofs::Starts::whole_legal, crate::proofs::Starts::full_legal))]
 fn finish<K: Sink>(alloc: Global, report: Report, ran: &Ran, out: &mut K) -> Status
     ensures ends { (run : Script) → (start : Option (List ℕ)) → RanAs report run ran.now.history.items ran.now.end start (K.written out.old)
         → EndsAs report run ran.now.history.items start (K.written out.new) result }
