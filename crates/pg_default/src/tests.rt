@@ -147,7 +147,7 @@ fn take(
     Ok(())
 }
 
-// Whether a new pager with one slot, or as many as are asked for, tells what the script says.
+// Whether a new pager with so many slots tells what the script says.
 fn tells(alloc: Global, slots: u32, script: &Script) -> Result<bool, NoMemory>
     requires { slots ≤ 65536 }
 {
