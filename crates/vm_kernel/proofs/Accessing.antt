@@ -44,7 +44,7 @@ use Rattle.vm_kernel.proofs.Growing.{Follows, grows_more, paid_of, suffices}
 use Rattle.vm_kernel.proofs.Heads.{grows_one}
 use Rattle.vm_kernel.proofs.Pages.{frames_brought, pages_brought, pages_wrote, stores_brought}
 use Rattle.vm_kernel.proofs.Prompting.{prompt_of}
-use Rattle.vm_kernel.proofs.Rows.{row_cases}
+use Rattle.vm_kernel.proofs.Rows.{claimed_inside, row_cases}
 use Rattle.vm_kernel.proofs.Uses.{still}
 use Rattle.vm_kernel.proofs.Walking.{comes_top, sinks_own, top_of}
 
@@ -243,12 +243,12 @@ pub holds_of : (header : Header) (outside : Outside) (doing : Command) (past : L
 holds_of header outside doing past task access address key frame k ids events s =
     let fits = s.accesses.fits in
     let row = s.here.row in
-    let held = fits.held key.object.0 key.page.0 row s.here.found in
-    let listed = fits.listed key.object.0 key.page.0 row s.here.found ∙ (fits.plain key.object.0 key.page.0 row s.here.found).here in
+    let held = fits.parts.held key.object.0 key.page.0 row s.here.found in
+    let listed = fits.parts.listed key.object.0 key.page.0 row s.here.found ∙ (fits.plain key.object.0 key.page.0 row s.here.found).here in
     record {
       claimed = subst (λ (z : FrameNo). is_claimed k.frames z.0 ≡ true) s.here.is held;
       listed = subst (λ (z : FrameNo). is_queued k.queues z.0 ≡ true) s.here.is listed;
-      whole = subst (λ (z : FrameNo). length (page_in k.frames z.0) ≡ k.size) s.here.is (fits.sized row.frame.0 held) ∙ s.accesses.size;
+      whole = subst (λ (z : FrameNo). length (page_in k.frames z.0) ≡ k.size) s.here.is (fits.parts.all_sized row.frame.0 (claimed_inside k.frames.claims row.frame.0 held)) ∙ s.accesses.size;
     }
 
 -- what the page shows

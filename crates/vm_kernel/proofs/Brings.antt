@@ -14,7 +14,8 @@ use Rattle.vm_resident.specs.Resident.{IsOwned, PutsOwner, PutsRow, ResidentTabl
 use Rattle.vm_resident.specs.declared.page_row.PageRow.{PageRow}
 use Rattle.vm_kernel.specs.Changes.{Brought, Lost, SamePlan, Wrote}
 use Rattle.vm_kernel.specs.Fits.{Fits}
-use Rattle.vm_kernel.specs.Places.{fresh_row, object_pages}
+use Rattle.vm_parts.specs.Fits.{object_pages}
+use Rattle.vm_kernel.specs.Places.{fresh_row}
 use Rattle.vm_kernel.specs.declared.parts.Parts.{Parts}
 use Rattle.vm_kernel.proofs.Fitting.{fit_brought, fit_lost, fit_wrote}
 use Rattle.vm_kernel.proofs.Rows.{claim_set, claimed_inside, page_with, pages_with}
@@ -34,10 +35,10 @@ pub brought : (k : Parts) (mid fs2 : FrameTable) (rs2 : ResidentTable) (qs2 : Qu
     → Brought key frame k (with_pages k fs2 rs2 qs2)
 brought k mid fs2 rs2 qs2 key frame fits absent inside some claims cleared row owner owned gains is =
     let f = frame.0 in
-    let size_is : length (page_in mid f) ≡ k.size = ap (λ z. length (page_in z f)) claims.is ∙ fits.all_sized f claims.inside in
+    let size_is : length (page_in mid f) ≡ k.size = ap (λ z. length (page_in z f)) claims.is ∙ fits.parts.all_sized f claims.inside in
     let zeros : fs2 ≡ with_page mid f (replicate k.size 0) = cleared ∙ ap (λ z. with_page mid f (replicate z 0)) size_is in
-    let nobody = fits.unowned f claims.fresh in
-    let below : f < length mid.pages = subst (λ (z : FrameTable). f < length z.pages) (sym claims.is) (let all = fits.pages in let less = claims.inside in omega arith) in
+    let nobody = fits.parts.unowned f claims.fresh in
+    let below : f < length mid.pages = subst (λ (z : FrameTable). f < length z.pages) (sym claims.is) (let all = fits.parts.pages in let less = claims.inside in omega arith) in
     let pages : (g : ℕ) → page_in fs2 g ≡ (if f == g then replicate k.size 0 else page_in k.frames g) =
     subst (λ (z : FrameTable). (g : ℕ) → page_in z g ≡ (if f == g then replicate k.size 0 else page_in k.frames g)) (sym zeros)
     (λ g. page_with mid f (replicate k.size 0) below g ∙ ap (λ z. if f == g then replicate k.size 0 else page_in z g) claims.is) in
@@ -50,7 +51,7 @@ brought k mid fs2 rs2 qs2 key frame fits absent inside some claims cleared row o
     let wired : fs2.wired ≡ k.frames.wired = ap (λ z. z.wired) zeros ∙ ap (λ z. z.wired) claims.is in
     record {
       plan = same_plan k fs2 rs2 qs2;
-      fits = fit_brought k.size k.frames fs2 k.resident rs2 k.queues qs2 k.objects frame key (replicate k.size 0) fits claims.fresh (length-replicate k.size 0) claimed_at pages count all inside row (owner nobody) (owned fits.owned nobody) gains (ap (λ z. z.frames) is);
+      fits = fit_brought k.size k.frames fs2 k.resident rs2 k.queues qs2 k.objects frame key (replicate k.size 0) fits claims.fresh (length-replicate k.size 0) claimed_at pages count all inside row (owner nobody) (owned fits.parts.owned nobody) gains (ap (λ z. z.frames) is);
       absent = absent;
       row = row;
       page = record { at = pages };
@@ -67,7 +68,7 @@ pub lost : (k : Parts) (fs2 : FrameTable) (rs2 : ResidentTable) (qs2 : Queues) (
     → Lost key k (with_pages k fs2 rs2 qs2) before after
 lost k fs2 rs2 qs2 key row before after fits found releases put owner owned loses is told =
     let f = row.frame.0 in
-    let below = claimed_inside k.frames.claims f (fits.held key.object.0 key.page.0 row found) in
+    let below = claimed_inside k.frames.claims f (fits.parts.held key.object.0 key.page.0 row found) in
     let count : frame_count fs2 ≡ frame_count k.frames = ap (λ z. length z.claims) releases.is ∙ length-set k.frames.claims f false in
     let pages : fs2.pages ≡ k.frames.pages = ap (λ z. z.pages) releases.is in
     record {
@@ -88,16 +89,16 @@ pub wrote : (k : Parts) (fs2 : FrameTable) (rs2 : ResidentTable) (qs2 : Queues) 
     → PutsRow key.object.0 key.page.0 (Some (record row { dirty = true })) k.resident rs2 → ((g : ℕ) → owner_of rs2 g ≡ owner_of k.resident g) → (IsOwned k.resident → IsOwned rs2) → KeepsPages k.queues qs2 → qs2 ≡ touched frame.0 k.queues
     → Wrote key frame bytes k (with_pages k fs2 rs2 qs2)
 wrote k fs2 rs2 qs2 key frame row bytes fits found is whole written put owners owned keeps queues =
-    let held : is_claimed k.frames row.frame.0 ≡ true = fits.held key.object.0 key.page.0 row found in
-    let below : frame.0 < length k.frames.pages = subst (λ (z : FrameNo). z.0 < length k.frames.pages) is (let inside = claimed_inside k.frames.claims row.frame.0 held in let all = fits.pages in omega arith) in
+    let held : is_claimed k.frames row.frame.0 ≡ true = fits.parts.held key.object.0 key.page.0 row found in
+    let below : frame.0 < length k.frames.pages = subst (λ (z : FrameNo). z.0 < length k.frames.pages) is (let inside = claimed_inside k.frames.claims row.frame.0 held in let all = fits.parts.pages in omega arith) in
     let pages : (g : ℕ) → page_in fs2 g ≡ (if frame.0 == g then bytes else page_in k.frames g) =
     subst (λ (z : FrameTable). (g : ℕ) → page_in z g ≡ (if frame.0 == g then bytes else page_in k.frames g)) (sym written) (page_with k.frames frame.0 bytes below) in
     let plain = fits.plain key.object.0 key.page.0 row found in
-    let sized : length bytes ≡ k.size = whole ∙ subst (λ (z : FrameNo). length (page_in k.frames z.0) ≡ k.size) is (fits.sized row.frame.0 held) in
+    let sized : length bytes ≡ k.size = whole ∙ subst (λ (z : FrameNo). length (page_in k.frames z.0) ≡ k.size) is (fits.parts.all_sized row.frame.0 (claimed_inside k.frames.claims row.frame.0 held)) in
     record {
       plan = same_plan k fs2 rs2 qs2;
       fits = fit_wrote k.size k.frames fs2 k.resident rs2 k.queues qs2 k.objects key row (record row { dirty = true }) bytes fits found refl (record { here = plain.here; lock = plain.lock; precious = plain.precious; unlock_sent = plain.unlock_sent }) sized
-          (ap (λ z. z.claims) written) (λ g. pages g ∙ ap (λ z. if z.0 == g then bytes else page_in k.frames g) (sym is)) (ap (λ z. length z.pages) written ∙ pages_with k.frames frame.0 bytes) put owners (owned fits.owned) keeps (ap (λ z. z.frames) queues);
+          (ap (λ z. z.claims) written) (λ g. pages g ∙ ap (λ z. if z.0 == g then bytes else page_in k.frames g) (sym is)) (ap (λ z. length z.pages) written ∙ pages_with k.frames frame.0 bytes) put owners (owned fits.parts.owned) keeps (ap (λ z. z.frames) queues);
       row = row;
       found = found;
       is = is;

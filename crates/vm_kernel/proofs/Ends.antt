@@ -29,9 +29,10 @@ use Rattle.vm_kernel.specs.Built.{has_stored}
 use Rattle.vm_kernel.specs.Begun.{Runs}
 use Rattle.vm_kernel.specs.Changes.{Lost}
 use Rattle.vm_kernel.specs.Counts.{count_by, count_on, most_tasks}
-use Rattle.vm_kernel.specs.Fits.{Fit}
+use Rattle.vm_kernel.specs.Fits.{PlainFit}
 use Rattle.vm_kernel.specs.Matches.{AllInside, AllUsed, HasEntries, HasFrames, HasPages, Matches, object_under, the_host}
-use Rattle.vm_kernel.specs.Places.{entries_in_row, has_region, object_pages, pages_in, pages_kept, place_of, region_entries, shown}
+use Rattle.vm_parts.specs.Fits.{object_pages, pages_kept}
+use Rattle.vm_kernel.specs.Places.{entries_in_row, has_region, pages_in, place_of, region_entries, shown}
 use Rattle.vm_kernel.specs.Sweeping.{Ends, PutsEntries, Sweeps}
 use Rattle.vm_kernel.specs.declared.parts.Parts.{Parts}
 use Rattle.vm_kernel.proofs.Counts.{by_zero, on_zero}
@@ -242,19 +243,21 @@ sweeps_ended header outside doing past k ids rest r events chains objects now ro
     m : Matches header k ids rest (events ++ past)
     m = e.runs.matches
 
-    fits2 : Fit k.size k.frames k.resident k.queues objects
+    fits2 : PlainFit k.size k.frames k.resident k.queues objects
     fits2 = record {
-      owned = m.fits.owned;
-      held = m.fits.held;
-      listed = m.fits.listed;
-      unlisted = m.fits.unlisted;
-      unowned = m.fits.unowned;
-      inside = λ o p page is. subst (λ (z : ℕ). p < z) (sym (pages_as r (object_under row) now k.objects objects (m.regions.under r row found) same put_object o)) (m.fits.inside o p page is);
+      parts =
+          record {
+            owned = m.fits.parts.owned;
+            held = m.fits.parts.held;
+            listed = m.fits.parts.listed;
+            unlisted = m.fits.parts.unlisted;
+            unowned = m.fits.parts.unowned;
+            inside = λ o p page is. subst (λ (z : ℕ). p < z) (sym (pages_as r (object_under row) now k.objects objects (m.regions.under r row found) same put_object o)) (m.fits.parts.inside o p page is);
+            all_sized = m.fits.parts.all_sized;
+            count = m.fits.parts.count;
+            pages = m.fits.parts.pages;
+          };
       plain = m.fits.plain;
-      sized = m.fits.sized;
-      all_sized = m.fits.all_sized;
-      count = m.fits.count;
-      pages = m.fits.pages;
     }
 
 -- the same, with what the region's object was told to lose

@@ -1,5 +1,5 @@
 -- The kernel before anything has happened.
-use Rattle.std.proofs.Common.{◌≡◌, ℕ, zero, suc, ◌<◌, true, false, List, [], ◌∷◌, get_or, length, replicate, refl, ap, sym, ◌∙◌, subst, arith, Some, None, Option}
+use Rattle.std.proofs.Common.{◌≡◌, ℕ, zero, suc, ◌<◌, false, List, [], ◌∷◌, get_or, length, replicate, refl, ap, sym, ◌∙◌, subst, arith, Some, None, Option}
 use Rattle.std.proofs.lemmas.List.{length-replicate}
 use Rattle.std.proofs.lemmas.Bool.Decides.{nat_tests}
 use Rattle.std.specs.Prelude.{nat_lt, reverse, slice_get}
@@ -69,17 +69,19 @@ first_rests header k count plain size host hosts frames queues empty rows owners
             host = host;
             fits =
                 record {
-                  owned = owned;
-                  held = λ o p row is. none_of (row_at k.resident o p) row (rows o p) is;
-                  listed = λ o p row is. none_of (row_at k.resident o p) row (rows o p) is;
-                  unlisted = λ f none. empty f;
-                  unowned = λ f none. owners f;
-                  inside = λ o p row is. none_of (row_at k.resident o p) row (rows o p) is;
+                  parts =
+                      record {
+                        owned = owned;
+                        held = λ o p row is. none_of (row_at k.resident o p) row (rows o p) is;
+                        listed = λ o p row is. none_of (row_at k.resident o p) row (rows o p) is;
+                        unlisted = λ f none. empty f;
+                        unowned = λ f none. owners f;
+                        inside = λ o p row is. none_of (row_at k.resident o p) row (rows o p) is;
+                        all_sized = λ f less. ap (λ z. length (get_or z f [])) pages ∙ (ap length (get_same count f (replicate header.size 0) [] (omega arith)) ∙ (length-replicate header.size 0 ∙ sym size));
+                        count = queues ∙ sym counted;
+                        pages = ap length pages ∙ (length-replicate count (replicate header.size 0) ∙ sym counted);
+                      };
                   plain = λ o p row is. none_of (row_at k.resident o p) row (rows o p) is;
-                  sized = λ f is. absurd (let bad : false ≡ true = sym (free f) ∙ is in cc);
-                  all_sized = λ f less. ap (λ z. length (get_or z f [])) pages ∙ (ap length (get_same count f (replicate header.size 0) [] (omega arith)) ∙ (length-replicate header.size 0 ∙ sym size));
-                  count = queues ∙ sym counted;
-                  pages = ap length pages ∙ (length-replicate count (replicate header.size 0) ∙ sym counted);
                 };
             tasks = rw maps (record { sized = refl; hosts = λ task. refl; rows = λ task. refl; none = λ task. refl });
             regions =

@@ -26,7 +26,8 @@ use Rattle.vm_shadow.specs.declared.region_row.RegionRow.{RegionRow}
 use Rattle.vm_kernel.specs.Built.{is_spent}
 use Rattle.vm_kernel.specs.Changes.{IsAllowed}
 use Rattle.vm_kernel.specs.Matches.{IsInside, Matches}
-use Rattle.vm_kernel.specs.Places.{has_region, object_pages, pages_in, pages_kept, region_pages}
+use Rattle.vm_parts.specs.Fits.{object_pages, pages_kept}
+use Rattle.vm_kernel.specs.Places.{has_region, pages_in, region_pages}
 use Rattle.vm_kernel.specs.declared.parts.Parts.{Parts}
 use Rattle.vm_kernel.proofs.Accessing.{Leads}
 use Rattle.vm_kernel.proofs.Growing.{free_is}

@@ -10,7 +10,7 @@ use Rattle.vm_queues.specs.Queues.{Queues}
 use Rattle.vm_resident.specs.Resident.{IsOwned, PutsRow, ResidentTable, page_key, owner_of, row_at}
 use Rattle.vm_resident.specs.declared.page_row.PageRow.{PageRow}
 use Rattle.vm_shadow.specs.Chains.{ChainTable}
-use Rattle.vm_kernel.specs.Fits.{Fit, IsPlainRow}
+use Rattle.vm_kernel.specs.Fits.{PlainFit, IsPlainRow}
 use Rattle.vm_kernel.specs.Matches.{HasFrames, HasPages, HasStores}
 use Rattle.vm_kernel.specs.Places.{fresh_row, has_region, lock_number, shown}
 use Rattle.vm_kernel.proofs.Rows.{one_case, row_cases, some_is}
@@ -25,8 +25,8 @@ apart_bytes : (fs fs2 : FrameTable) (f : ℕ) (bytes : List ℕ) (r : PageRow) �
 apart_bytes fs fs2 f bytes r pages apart = elim (one_case f r.frame.0 bytes (page_in fs r.frame.0) (page_in fs2 r.frame.0) (pages r.frame.0)) [ inl same ↦ absurd (apart same.0) | inr other ↦ other.1 ]
 
 -- a frame that was free is not that of a page
-pub not_fresh : (size : ℕ) (fs : FrameTable) (rs : ResidentTable) (qs : Queues) (os : ObjectTable) (f o p : ℕ) (r : PageRow) → Fit size fs rs qs os → is_claimed fs f ≡ false → row_at rs o p ≡ Some r → f ≡ r.frame.0 → ⊥
-not_fresh size fs rs qs os f o p r fit free is same = let bad : false ≡ true = sym free ∙ (ap (is_claimed fs) same ∙ fit.held o p r is) in cc
+pub not_fresh : (size : ℕ) (fs : FrameTable) (rs : ResidentTable) (qs : Queues) (os : ObjectTable) (f o p : ℕ) (r : PageRow) → PlainFit size fs rs qs os → is_claimed fs f ≡ false → row_at rs o p ≡ Some r → f ≡ r.frame.0 → ⊥
+not_fresh size fs rs qs os f o p r fit free is same = let bad : false ≡ true = sym free ∙ (ap (is_claimed fs) same ∙ fit.parts.held o p r is) in cc
 
 -- two pages don't share a frame
 pub not_shared : (rs : ResidentTable) (o p o2 p2 : ℕ) (r r2 : PageRow) → IsOwned rs → row_at rs o p ≡ Some r → row_at rs o2 p2 ≡ Some r2 → (o ≡ o2 → p ≡ p2 → ⊥) → r.frame.0 ≡ r2.frame.0 → ⊥
@@ -37,7 +37,7 @@ not_shared rs o p o2 p2 r r2 owned is is2 apart same =
 -- a page of zeros comes
 
 pub pages_brought : (size : ℕ) (fs fs2 : FrameTable) (rs rs2 : ResidentTable) (qs : Queues) (os : ObjectTable) (cs : ChainTable) (local_at : ℕ → ℕ → Local) (f : FrameNo) (o p : ℕ)
-    → Fit size fs rs qs os → HasPages fs rs os cs local_at → is_claimed fs f.0 ≡ false → row_at rs o p ≡ None → PutsRow o p (Some (fresh_row f)) rs rs2
+    → PlainFit size fs rs qs os → HasPages fs rs os cs local_at → is_claimed fs f.0 ≡ false → row_at rs o p ≡ None → PutsRow o p (Some (fresh_row f)) rs rs2
     → ((g : ℕ) → page_in fs2 g ≡ (if f.0 == g then replicate size 0 else page_in fs g)) → has_region cs o ≡ true
     → HasPages fs2 rs2 os cs (λ o2 p2. moved size (if o == o2 && p == p2 then Zeroes else Elsewhere) (local_at o2 p2))
 pages_brought size fs fs2 rs rs2 qs os cs local_at f o p fit has fresh absent put pages region =
@@ -110,7 +110,7 @@ frames_lost most fs fs2 held wired has claims same count =
 -- a page is written
 
 pub pages_wrote : (size : ℕ) (fs fs2 : FrameTable) (rs rs2 : ResidentTable) (qs : Queues) (os : ObjectTable) (cs : ChainTable) (local_at : ℕ → ℕ → Local) (o p at : ℕ) (put_there : List ℕ) (row : PageRow)
-    → Fit size fs rs qs os → HasPages fs rs os cs local_at → row_at rs o p ≡ Some row → PutsRow o p (Some (record row { dirty = true })) rs rs2
+    → PlainFit size fs rs qs os → HasPages fs rs os cs local_at → row_at rs o p ≡ Some row → PutsRow o p (Some (record row { dirty = true })) rs rs2
     → ((g : ℕ) → page_in fs2 g ≡ (if row.frame.0 == g then with_bytes at put_there (page_in fs row.frame.0) else page_in fs g))
     → HasPages fs2 rs2 os cs (λ o2 p2. moved size (if o == o2 && p == p2 then Stores at put_there else Elsewhere) (local_at o2 p2))
 pages_wrote size fs fs2 rs rs2 qs os cs local_at o p at put_there row fit has found put pages =
@@ -121,7 +121,7 @@ pages_wrote size fs fs2 rs rs2 qs os cs local_at o p at put_there row fit has fo
             ap (λ b. moved size (if b then Stores at put_there else Elsewhere) (local_at o2 p2)) now.test
             ∙ (ap (moved size (Stores at put_there)) had
             ∙ (ap (λ z. record { here = row.here; bytes = z; lock = lock_number row.lock; dirty = true; precious = row.precious; asked = not row.here; unlocking = row.unlock_sent; absent = absent_at os o2 p2 }) (sym written) ∙ sym (ap (λ z. shown fs2 z (absent_at os o2 p2)) now.is)))
-        | inr other ↦ ap (λ b. moved size (if b then Stores at put_there else Elsewhere) (local_at o2 p2)) other.test ∙ (has.shown o2 p2 ∙ (shown_same fs fs2 (row_at rs o2 p2) (absent_at os o2 p2) (λ r is. apart_bytes fs fs2 row.frame.0 new r pages (not_shared rs o p o2 p2 row r fit.owned found is other.apart)) ∙ sym (ap (λ z. shown fs2 z (absent_at os o2 p2)) other.is)))
+        | inr other ↦ ap (λ b. moved size (if b then Stores at put_there else Elsewhere) (local_at o2 p2)) other.test ∙ (has.shown o2 p2 ∙ (shown_same fs fs2 (row_at rs o2 p2) (absent_at os o2 p2) (λ r is. apart_bytes fs fs2 row.frame.0 new r pages (not_shared rs o p o2 p2 row r fit.parts.owned found is other.apart)) ∙ sym (ap (λ z. shown fs2 z (absent_at os o2 p2)) other.is)))
       ];
       live = λ o2 p2 r is. elim (row_cases o p (Some (record row { dirty = true })) rs rs2 put o2 p2) [
         | inl now ↦ subst (λ (z : ℕ). has_region cs z ≡ true) now.object (has.live o p row found)

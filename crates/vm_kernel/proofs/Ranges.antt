@@ -39,10 +39,11 @@ use Rattle.vm_shadow.specs.declared.region_row.RegionRow.{RegionRow}
 use Rattle.vm_kernel.specs.Begun.{Began, IsLined, Starts}
 use Rattle.vm_kernel.specs.Changes.{MadeRange, entering, whole_entry}
 use Rattle.vm_kernel.specs.Counts.{count_by, most_tasks}
-use Rattle.vm_kernel.specs.Fits.{Fit}
+use Rattle.vm_kernel.specs.Fits.{PlainFit}
 use Rattle.vm_kernel.specs.Forking.{got}
 use Rattle.vm_kernel.specs.Matches.{AllUsed, HasEntries, HasPages, HasRegions, HasUse, IsInside, IsOwn, Rests, host_for, object_under}
-use Rattle.vm_kernel.specs.Places.{has_region, pages_in, pages_kept, place_of, region_pages, shown}
+use Rattle.vm_parts.specs.Fits.{pages_kept}
+use Rattle.vm_kernel.specs.Places.{has_region, pages_in, place_of, region_pages, shown}
 use Rattle.vm_kernel.specs.declared.parts.Parts.{Parts}
 use Rattle.vm_kernel.proofs.Counts.{by_none, most_is, on_entered}
 use Rattle.vm_kernel.proofs.Growing.{licensed, suffices}
@@ -255,24 +256,26 @@ used_range chains chains2 n object pages used put r row found = elim (region_cas
   | inr apart ↦ used r row (sym apart.1 ∙ found)
 ]
 
-fit_range : (size : ℕ) (fs : FrameTable) (rs : ResidentTable) (qs : Queues) (os os2 : ObjectTable) (chains : ChainTable) (local_at : ℕ → ℕ → Local) (n o : ℕ) (row : ObjectRow) → Fit size fs rs qs os → HasPages fs rs os chains local_at → region_at chains n ≡ None → o ≡ n
-    → PutsObject o (Some row) os os2 → Fit size fs rs qs os2
+fit_range : (size : ℕ) (fs : FrameTable) (rs : ResidentTable) (qs : Queues) (os os2 : ObjectTable) (chains : ChainTable) (local_at : ℕ → ℕ → Local) (n o : ℕ) (row : ObjectRow) → PlainFit size fs rs qs os → HasPages fs rs os chains local_at → region_at chains n ≡ None → o ≡ n
+    → PutsObject o (Some row) os os2 → PlainFit size fs rs qs os2
 fit_range size fs rs qs os os2 chains local_at n o row fit pages none is put =
     record {
-      owned = fit.owned;
-      held = fit.held;
-      listed = fit.listed;
-      unlisted = fit.unlisted;
-      unowned = fit.unowned;
-      inside = λ o2 p r found. elim (one_case o o2 (Some row) (object_at os o2) (object_at os2 o2) (put.at o2)) [
-        | inl same ↦ absurd (not_there chains n o2 none (sym is ∙ same.0) (pages.live o2 p r found))
-        | inr apart ↦ subst (λ (z : ℕ). p < z) (sym (ap pages_kept apart.1)) (fit.inside o2 p r found)
-      ];
+      parts =
+          record {
+            owned = fit.parts.owned;
+            held = fit.parts.held;
+            listed = fit.parts.listed;
+            unlisted = fit.parts.unlisted;
+            unowned = fit.parts.unowned;
+            inside = λ o2 p r found. elim (one_case o o2 (Some row) (object_at os o2) (object_at os2 o2) (put.at o2)) [
+              | inl same ↦ absurd (not_there chains n o2 none (sym is ∙ same.0) (pages.live o2 p r found))
+              | inr apart ↦ subst (λ (z : ℕ). p < z) (sym (ap pages_kept apart.1)) (fit.parts.inside o2 p r found)
+            ];
+            all_sized = fit.parts.all_sized;
+            count = fit.parts.count;
+            pages = fit.parts.pages;
+          };
       plain = fit.plain;
-      sized = fit.sized;
-      all_sized = fit.all_sized;
-      count = fit.count;
-      pages = fit.pages;
     }
 
 -- the entry that was entered

@@ -167,7 +167,7 @@ began_bare header outside count done past k ids queues events r is keeps none =
     bare : (o p : ℕ) (x : Option PageRow) → row_at k.resident o p ≡ x → (local header.size 0 (place_of o p) (events ++ past)).here ≡ false
     bare o p None found = ap (λ z. z.here) (r.matches.pages.shown o p ∙ ap (λ z. shown k.frames z (absent_at k.objects o p)) found)
     bare o p (Some row) found =
-        let listed : is_queued k.queues row.frame.0 ≡ true = r.matches.fits.listed o p row found ∙ (r.matches.fits.plain o p row found).here in
+        let listed : is_queued k.queues row.frame.0 ≡ true = r.matches.fits.parts.listed o p row found ∙ (r.matches.fits.plain o p row found).here in
         absurd (let bad : false ≡ true = none row.frame.0 listed in cc)
 
     exhausted : IsExhausted header 0 past (events ++ past)

@@ -22,7 +22,7 @@ use Rattle.vm_resident.specs.declared.page_row.PageRow.{PageRow}
 use Rattle.vm_shadow.specs.Chains.{ChainTable}
 use Rattle.vm_shadow.specs.declared.ids.Ids.{Ids}
 use Rattle.vm_kernel.specs.Begun.{Began, IsLined, Starts}
-use Rattle.vm_kernel.specs.Fits.{Fit}
+use Rattle.vm_kernel.specs.Fits.{PlainFit}
 use Rattle.vm_kernel.specs.Matches.{HasFrames, HasPages, Rests, the_host}
 use Rattle.vm_kernel.specs.Places.{place_of, shown}
 use Rattle.vm_kernel.specs.declared.parts.Parts.{Parts}
@@ -34,20 +34,22 @@ use Rattle.vm_kernel.proofs.Uses.{still}
 abbrev pub with_wired : FrameTable → ℕ → FrameTable
 with_wired fs wired = record fs { wired = wired }
 
-fit_wired : (size : ℕ) (fs : FrameTable) (rs : ResidentTable) (qs : Queues) (os : ObjectTable) (wired : ℕ) → Fit size fs rs qs os → Fit size (with_wired fs wired) rs qs os
+fit_wired : (size : ℕ) (fs : FrameTable) (rs : ResidentTable) (qs : Queues) (os : ObjectTable) (wired : ℕ) → PlainFit size fs rs qs os → PlainFit size (with_wired fs wired) rs qs os
 fit_wired size fs rs qs os wired fit =
     record {
-      owned = fit.owned;
-      held = fit.held;
-      listed = fit.listed;
-      unlisted = fit.unlisted;
-      unowned = fit.unowned;
-      inside = fit.inside;
+      parts =
+          record {
+            owned = fit.parts.owned;
+            held = fit.parts.held;
+            listed = fit.parts.listed;
+            unlisted = fit.parts.unlisted;
+            unowned = fit.parts.unowned;
+            inside = fit.parts.inside;
+            all_sized = fit.parts.all_sized;
+            count = fit.parts.count;
+            pages = fit.parts.pages;
+          };
       plain = fit.plain;
-      sized = fit.sized;
-      all_sized = fit.all_sized;
-      count = fit.count;
-      pages = fit.pages;
     }
 
 shown_wired : (fs : FrameTable) (wired : ℕ) (x : Option PageRow) (lacked : Bool) → shown fs x lacked ≡ shown (with_wired fs wired) x lacked

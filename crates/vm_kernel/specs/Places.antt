@@ -4,8 +4,6 @@ use Rattle.vm_base.specs.declared.ids.Lock.{Lock}
 use Rattle.vm_base.specs.declared.ids.FrameNo.{FrameNo}
 use Rattle.vm_model.specs.Local.{Local, Place, away}
 use Rattle.vm_frames.specs.Frames.{FrameTable, page_in}
-use Rattle.vm_objects.specs.Objects.{ObjectTable, object_at}
-use Rattle.vm_objects.specs.declared.row.ObjectRow.{ObjectRow}
 use Rattle.vm_resident.specs.declared.page_row.PageRow.{PageRow}
 use Rattle.vm_shadow.specs.Chains.{ChainTable, region_at}
 use Rattle.vm_shadow.specs.declared.region_row.RegionRow.{RegionRow}
@@ -37,14 +35,6 @@ shown frames (Some row) lacked =
 -- the row of a page that has come as zeros
 abbrev pub fresh_row : FrameNo → PageRow
 fresh_row frame = record { frame = frame; lock = unlocked; dirty = false; precious = false; here = true; unlock_sent = false }
-
-abbrev pub pages_kept : Option ObjectRow → ℕ
-pages_kept None = 0
-pages_kept (Some row) = row.pages
-
--- the pages of an object, none where it isn't known
-abbrev pub object_pages : ObjectTable → ℕ → ℕ
-object_pages objects o = pages_kept (object_at objects o)
 
 abbrev pub has_region : ChainTable → ℕ → Bool
 has_region chains r = is_some (region_at chains r)

@@ -4,7 +4,7 @@ ghost use Rattle.vm_frames.specs.Frames.{free};
 ghost use Rattle.vm_resident.specs.Resident.{row_at};
 ghost use Rattle.vm_kernel.specs.Fits.{Fits};
 ghost use Rattle.vm_kernel.specs.Changes.{Brought, Faulted};
-ghost use Rattle.vm_kernel.specs.Places.{object_pages};
+ghost use Rattle.vm_parts.specs.Fits.{object_pages};
 
 use crate::framing::clear_frame;
 use crate::parts::Parts;

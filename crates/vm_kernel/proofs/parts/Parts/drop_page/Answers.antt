@@ -10,5 +10,5 @@ returns c =
     let found : row_at k.resident c.args.key.object.0 c.args.key.page.0 ≡ Some c.in-Some.row = sym c.remove.ensures.value ∙ c.in-Some.is in
     on_ok c.push.result _ _
     (λ told. lost k c.release.new.self c.remove.new.self c.remove-2.new.self c.args.key c.in-Some.row c.args.log.now.items c.push.new.self.items c.requires.fits found c.release.ensures c.in-Some.ensures.rows
-    (rw c.in-Some.is at c.remove.ensures.frames c.requires.fits.owned) (c.remove.ensures.owned c.requires.fits.owned) c.remove-2.ensures.pages c.remove-2.ensures.queues told)
+    (rw c.in-Some.is at c.remove.ensures.frames c.requires.fits.parts.owned) (c.remove.ensures.owned c.requires.fits.parts.owned) c.remove-2.ensures.pages c.remove-2.ensures.queues told)
     c.push.ensures.ok
