@@ -1,2 +1,3 @@
 pub mod Answers
+pub mod Stands
 pub mod Telling

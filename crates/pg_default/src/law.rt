@@ -1,0 +1,40 @@
+// That what a default pager answers is a step of a legal history.
+ghost use Rattle.std.specs.Prelude.{ℕ, ◌≡◌, ◌++◌, true, List, [], Ok};
+ghost use Rattle.pg_default.specs.Answers.{SuppliesStored, after_message};
+ghost use Rattle.pg_default.specs.Stands.{CarriesOver, Serves, Stands, content_of, taking};
+ghost use Rattle.pg_slots.specs.Contents.{Carries};
+ghost use Rattle.pg_slots.specs.Slots.{SlotTable};
+ghost use Rattle.vm_base.specs.Listing.{Listed};
+ghost use Rattle.vm_base.specs.declared.ids.ObjectId.{ObjectId};
+ghost use Rattle.vm_legal.specs.Debts.{IsPaid};
+ghost use Rattle.vm_legal.specs.Licences.{AllLicensed};
+ghost use Rattle.vm_legal.specs.Outside.{Outside};
+ghost use Rattle.vm_model.specs.declared.command.Command.{Command};
+ghost use Rattle.vm_model.specs.declared.event.Event.{Event};
+ghost use Rattle.vm_model.specs.declared.message.Message.{Message};
+ghost use Rattle.vm_model.specs.declared.script.Header.{Header};
+ghost use Rattle.vm_outside.specs.Areas.{Told};
+
+/// What a default pager answers is a step of a legal history: where its slots stand for the history
+/// in front of a message, they stand for the history behind its answer, each event of the answer has
+/// its cause, and the step owes nothing. So whatever `DefaultPager::answer` gives is as the
+/// definitions of legal histories want it.
+///
+/// It is of messages about temporary objects whose end the pager didn't take before. A new pager's
+/// slots stand for the empty history.
+#[tactic(auto, using(crate::proofs::Standing::start, crate::proofs::Standing::stands, crate::proofs::Causes::causes, crate::proofs::Carrying::carries))]
+pub fn answers_are_legal()
+    ensures start { (header : Header) (host : ℕ) → Stands header host (record { host = host; size = header.size; count = header.slots; rows = [] }) [] }
+    ensures stands { (header : Header) (host : ℕ) (past : List Event) (object : ObjectId) (m : Message) (old new : SlotTable) (events : List Event)
+        → Serves header host past object m old new events → Stands header host new (events ++ taking host object m past) }
+
+    // Where the paging area tells, a supply must have the bytes that were stored.
+    ensures causes { (header : Header) (outside : Outside) (doing : Command) (host : ℕ) (past : List Event) (object : ObjectId) (m : Message) (old new : SlotTable) (events : List Event)
+        → Serves header host past object m old new events → (outside.paging ≡ true → SuppliesStored object events (content_of header host past))
+        → AllLicensed header outside doing events (taking host object m past) }
+    ensures paid { (header : Header) (host : ℕ) (past : List Event) (object : ObjectId) (m : Message) (old new : SlotTable) (events : List Event)
+        → Serves header host past object m old new events → IsPaid header (events ++ taking host object m past) }
+    ensures carries { (header : Header) (host : ℕ) (past : List Event) (object : ObjectId) (m : Message) (old new : SlotTable) (events : Listed Event) (before after : List ℕ → Told)
+        → Serves header host past object m old new events.items → Carries before after old new (after_message m object (Ok events))
+        → CarriesOver before after old new (content_of header host past) (content_of header host (events.items ++ taking host object m past)) }
+{}
