@@ -44,6 +44,7 @@ both_same : (header : Header) (host : ℕ) (past middle now : List Event) → Sa
 both_same header host past middle now one two = record {
   rows = two.rows ∙ one.rows;
   ended = λ q. two.ended q ∙ one.ended q;
+  away = λ q. two.away q ∙ one.away q;
   last = λ q r. two.last q r ∙ one.last q r;
   lost = λ q r. two.lost q r ∙ one.lost q r;
 }

@@ -202,7 +202,7 @@ causes header outside doing host past object m old new events serves stored = by
     by (message.Create control size) a = subst (λ (es : List Event). AllLicensed header outside doing es (taking host object (message.Create control size) past)) (sym (at control _ a.1)) (ready_create header outside doing host past object control size)
     by (message.Request control page access) a =
         requested header outside doing host old.size past object control page access (held_at old object.0 page.0) events
-        (record { temporary = serves.temporary; unended = serves.unended; returned = serves.stands.returned object.0 page.0 serves.temporary serves.unended; slot = serves.stands.slot object.0 page.0 })
+        (record { temporary = serves.temporary; unended = serves.unended; returned = serves.stands.returned object.0 page.0 serves.temporary serves.unended serves.own; slot = serves.stands.slot object.0 page.0 })
         (subst (λ (h : ℕ). Requested old.size h object control page (held_at old object.0 page.0) events) serves.stands.host_is a.1) stored
     by (message.Return control page dirty keep bytes) a =
         subst (λ (es : List Event). AllLicensed header outside doing es (taking host object (message.Return control page dirty keep bytes) past)) (sym a.told) (returned header outside doing host past object control page dirty keep bytes old new (became events) serves.temporary serves.stands a.held a.no_slot.0)

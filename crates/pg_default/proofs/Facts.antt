@@ -9,7 +9,7 @@ use Rattle.vm_model.specs.declared.script.Header.{Header}
 use Rattle.vm_model.specs.Named.{named}
 use Rattle.vm_legal.specs.Licences.{up}
 use Rattle.vm_legal.specs.Pagers.{is_lost, last_return, newer, slot_of, slots, slots_after, slotted}
-use Rattle.pg_default.specs.Stands.{is_ended}
+use Rattle.pg_default.specs.Stands.{is_elsewhere, is_ended}
 use Rattle.pg_default.proofs.Rows.{itself, same_if}
 
 own_host : (header : Header) (host o : ℕ) → named header ≤ o → (host == host && not (nat_lt o (named header))) ≡ true
@@ -19,10 +19,15 @@ pub own_slots : (header : Header) (host o : ℕ) (m : Message) (past : List Even
     → slots header host (event.Taken (up host o) m ∷ past) ≡ slots_after header.slots o m (slots header host past)
 own_slots header host o m past temporary = rw (own_host header host o temporary) refl
 
+-- the host itself is no other host
+pub own_away : (host o q : ℕ) (past : List Event) → ((not (host == host) && o == q) || is_elsewhere host q past) ≡ is_elsewhere host q past
+own_away host o q past = rw (itself host) refl
+
 -- nothing of this is other than before
 pub record Same (header : Header) (host : ℕ) (past now : List Event) : Type 0 where
   pub rows : slots header host now ≡ slots header host past
   pub ended : (q : ℕ) → is_ended host q now ≡ is_ended host q past
+  pub away : (q : ℕ) → is_elsewhere host q now ≡ is_elsewhere host q past
   pub last : (q r : ℕ) → last_return host q r now ≡ last_return host q r past
   pub lost : (q r : ℕ) → is_lost q r now ≡ is_lost q r past
 
@@ -37,12 +42,12 @@ IsQuiet (message.Changed control cache strategy) = Unit {0}
 IsQuiet m = ⊥
 
 pub same_taken : (header : Header) (host o : ℕ) (m : Message) (past : List Event) → IsQuiet m → Same header host past (event.Taken (up host o) m ∷ past)
-same_taken header host o (message.Init control size) past quiet = record { rows = same_if _ _; ended = λ q. refl; last = λ q r. same_if _ _; lost = λ q r. refl }
-same_taken header host o (message.Create control size) past quiet = record { rows = same_if _ _; ended = λ q. refl; last = λ q r. same_if _ _; lost = λ q r. refl }
-same_taken header host o (message.Request control page access) past quiet = record { rows = same_if _ _; ended = λ q. refl; last = λ q r. same_if _ _; lost = λ q r. refl }
-same_taken header host o (message.Unlock control page access) past quiet = record { rows = same_if _ _; ended = λ q. refl; last = λ q r. same_if _ _; lost = λ q r. refl }
-same_taken header host o (message.Completed control page count) past quiet = record { rows = same_if _ _; ended = λ q. refl; last = λ q r. same_if _ _; lost = λ q r. refl }
-same_taken header host o (message.Changed control cache strategy) past quiet = record { rows = same_if _ _; ended = λ q. refl; last = λ q r. same_if _ _; lost = λ q r. refl }
+same_taken header host o (message.Init control size) past quiet = record { rows = same_if _ _; ended = λ q. refl; away = λ q. own_away host o q past; last = λ q r. same_if _ _; lost = λ q r. refl }
+same_taken header host o (message.Create control size) past quiet = record { rows = same_if _ _; ended = λ q. refl; away = λ q. own_away host o q past; last = λ q r. same_if _ _; lost = λ q r. refl }
+same_taken header host o (message.Request control page access) past quiet = record { rows = same_if _ _; ended = λ q. refl; away = λ q. own_away host o q past; last = λ q r. same_if _ _; lost = λ q r. refl }
+same_taken header host o (message.Unlock control page access) past quiet = record { rows = same_if _ _; ended = λ q. refl; away = λ q. own_away host o q past; last = λ q r. same_if _ _; lost = λ q r. refl }
+same_taken header host o (message.Completed control page count) past quiet = record { rows = same_if _ _; ended = λ q. refl; away = λ q. own_away host o q past; last = λ q r. same_if _ _; lost = λ q r. refl }
+same_taken header host o (message.Changed control cache strategy) past quiet = record { rows = same_if _ _; ended = λ q. refl; away = λ q. own_away host o q past; last = λ q r. same_if _ _; lost = λ q r. refl }
 same_taken header host o (message.Return control page dirty keep bytes) past quiet = elim quiet [ ]
 same_taken header host o (message.Terminate control) past quiet = elim quiet [ ]
 same_taken header host o (message.Ready cache strategy) past quiet = elim quiet [ ]
@@ -57,6 +62,7 @@ same_taken header host o (message.Destroy reason) past quiet = elim quiet [ ]
 pub record Put (header : Header) (host o p : ℕ) (bytes : List ℕ) (lost : Bool) (past now : List Event) : Type 0 where
   pub rows : slots header host now ≡ slotted header.slots o p (slot_of o p (slots header host past)) (slots header host past)
   pub ended : (q : ℕ) → is_ended host q now ≡ is_ended host q past
+  pub away : (q : ℕ) → is_elsewhere host q now ≡ is_elsewhere host q past
   pub last : (q r : ℕ) → last_return host q r now ≡ (if o == q && p == r then Some bytes else last_return host q r past)
   pub gone : (q r : ℕ) → is_lost q r now ≡ (if o == q && p == r then lost else is_lost q r past)
 
@@ -77,13 +83,14 @@ lost_put false was = refl
 pub record TellsLost (o p : ℕ) (e : Event) : Type 0 where
   pub rows : (header : Header) (host : ℕ) (past : List Event) → slots header host (e ∷ past) ≡ slots header host past
   pub ended : (host q : ℕ) (past : List Event) → is_ended host q (e ∷ past) ≡ is_ended host q past
+  pub away : (host q : ℕ) (past : List Event) → is_elsewhere host q (e ∷ past) ≡ is_elsewhere host q past
   pub last : (host q r : ℕ) (past : List Event) → last_return host q r (e ∷ past) ≡ last_return host q r past
   pub lost : (q r : ℕ) (past : List Event) → is_lost q r (e ∷ past) ≡ ((o == q && p == r) || is_lost q r past)
 
 pub put_kept : (header : Header) (host o p : ℕ) (control : ℕ) (dirty keep : Bool) (bytes : List ℕ) (past : List Event) → named header ≤ o
     → Put header host o p bytes false past (event.Taken (up host o) (message.Return control (record { 0 = p }) dirty keep bytes) ∷ past)
 put_kept header host o p control dirty keep bytes past temporary =
-    record { rows = own_slots header host o (message.Return control (record { 0 = p }) dirty keep bytes) past temporary; ended = λ q. refl; last = λ q r. last_put host o p q r bytes (last_return host q r past); gone = λ q r. refl }
+    record { rows = own_slots header host o (message.Return control (record { 0 = p }) dirty keep bytes) past temporary; ended = λ q. refl; away = λ q. own_away host o q past; last = λ q r. last_put host o p q r bytes (last_return host q r past); gone = λ q r. refl }
 
 pub put_lost : (header : Header) (host o p : ℕ) (control : ℕ) (dirty keep : Bool) (bytes : List ℕ) (e : Event) (past : List Event) → named header ≤ o → TellsLost o p e
     → Put header host o p bytes true past (e ∷ event.Taken (up host o) (message.Return control (record { 0 = p }) dirty keep bytes) ∷ past)
@@ -93,6 +100,7 @@ put_lost header host o p control dirty keep bytes e past temporary tells =
     record {
       rows = tells.rows header host first ∙ put.rows;
       ended = λ q. tells.ended host q first ∙ put.ended q;
+      away = λ q. tells.away host q first ∙ put.away q;
       last = λ q r. tells.last host q r first ∙ put.last q r;
       gone = λ q r. tells.lost q r first ∙ ap (λ (t : Bool). (o == q && p == r) || t) (put.gone q r) ∙ lost_put (o == q && p == r) (is_lost q r past);
     }

@@ -5,3 +5,4 @@ pub mod Standing
 pub mod Causes
 pub mod Debts
 pub mod Carrying
+pub mod Others

@@ -20,12 +20,12 @@ use Rattle.vm_model.specs.declared.script.Header.{Header}
 use Rattle.vm_model.specs.Named.{named}
 use Rattle.vm_legal.specs.Pagers.{Slotted, first_free, is_lost, is_taken, last_return, slot_of, slots, slotted}
 use Rattle.pg_default.specs.Answers.{Answered, Requested, became, device_failed, sent_to, told_of}
-use Rattle.pg_default.specs.Stands.{IsHeldOf, Serves, Stands, is_ended, taking}
+use Rattle.pg_default.specs.Stands.{IsHeldOf, Serves, Stands, is_elsewhere, is_ended, taking}
 use Rattle.pg_default.proofs.Rows.{first_is, full_is, full_of, itself, of_taken, once_slots, slot_other, slot_without, taken_of}
-use Rattle.pg_default.proofs.Facts.{IsQuiet, Put, Same, TellsLost, own_slots, put_kept, put_lost, same_taken}
+use Rattle.pg_default.proofs.Facts.{IsQuiet, Put, Same, TellsLost, own_away, own_slots, put_kept, put_lost, same_taken}
 
 pub start : (header : Header) (host : ℕ) → Stands header host (record { host = host; size = header.size; count = header.slots; rows = [] }) []
-start header host = record { host_is = refl; size = refl; count = refl; slot = λ o p. refl; declared = λ o p less. refl; ended = λ o p is. refl; returned = λ o p temporary unended. tt }
+start header host = record { host_is = refl; size = refl; count = refl; slot = λ o p. refl; declared = λ o p less. refl; ended = λ o p is. refl; returned = λ o p temporary unended own. tt }
 
 pub held_same : (has now : Option Held) (was is : Option (List ℕ)) (lost gone : Bool) → now ≡ has → is ≡ was → gone ≡ lost → IsHeldOf has was lost → IsHeldOf now is gone
 held_same has now was is lost gone one two three holds = rw (one, two, three) holds
@@ -38,7 +38,7 @@ stands_same header host old new past now same kept s = subst (λ (t : SlotTable)
   slot = λ o p. s.slot o p ∙ ap (slot_of o p) (sym same.rows);
   declared = s.declared;
   ended = λ o p is. s.ended o p (sym (same.ended o) ∙ is);
-  returned = λ o p temporary unended. held_same _ _ _ _ _ _ refl (same.last o p) (same.lost o p) (s.returned o p temporary (sym (same.ended o) ∙ unended));
+  returned = λ o p temporary unended own. held_same _ _ _ _ _ _ refl (same.last o p) (same.lost o p) (s.returned o p temporary (sym (same.ended o) ∙ unended) (sym (same.away o) ∙ own));
 })
 
 -- a slot is a page's in the table where it is in the history
@@ -96,7 +96,7 @@ stands_put header host o p has bytes lost old new past now temporary unended s f
   slot = λ q r. slot_if q r (o == q && p == r) refl;
   declared = λ q r less. declared_if q r less (o == q && p == r) refl;
   ended = λ q r is. ended_if q r (sym (facts.ended q) ∙ is) (o == q && p == r) refl;
-  returned = λ q r high is. returned_if q r high (sym (facts.ended q) ∙ is) (o == q && p == r) refl;
+  returned = λ q r high is own. returned_if q r high (sym (facts.ended q) ∙ is) (sym (facts.away q) ∙ own) (o == q && p == r) refl;
 }
   where
     object_is : (q r : ℕ) → (o == q && p == r) ≡ true → o ≡ q
@@ -124,15 +124,15 @@ stands_put header host o p has bytes lost old new past now temporary unended s f
     ended_if q r ended true is = absurd (false≢true (sym unended ∙ subst (λ (k : ℕ). is_ended host k past ≡ true) (sym (object_is q r is)) ended))
     ended_if q r ended false is = other q r is ∙ s.ended q r ended
 
-    returned_if : (q r : ℕ) → named header ≤ q → is_ended host q past ≡ false → (b : Bool) → (o == q && p == r) ≡ b → IsHeldOf (held_at new q r) (last_return host q r now) (is_lost q r now)
-    returned_if q r high alive true is = held_same _ _ _ _ _ _ (there q r is) (rw is at (facts.last q r)) (rw is at (facts.gone q r)) holds
-    returned_if q r high alive false is = held_same _ _ _ _ _ _ (other q r is) (rw is at (facts.last q r)) (rw is at (facts.gone q r)) (s.returned q r high alive)
+    returned_if : (q r : ℕ) → named header ≤ q → is_ended host q past ≡ false → is_elsewhere host q past ≡ false → (b : Bool) → (o == q && p == r) ≡ b → IsHeldOf (held_at new q r) (last_return host q r now) (is_lost q r now)
+    returned_if q r high alive own true is = held_same _ _ _ _ _ _ (there q r is) (rw is at (facts.last q r)) (rw is at (facts.gone q r)) holds
+    returned_if q r high alive own false is = held_same _ _ _ _ _ _ (other q r is) (rw is at (facts.last q r)) (rw is at (facts.gone q r)) (s.returned q r high alive own)
 
 pub tells_no_slot : (object : ObjectId) (page : PageNo) → TellsLost object.0 page.0 (event.NoSlot object page)
-tells_no_slot object page = record { rows = λ header host past. refl; ended = λ host q past. refl; last = λ host q r past. refl; lost = λ q r past. refl }
+tells_no_slot object page = record { rows = λ header host past. refl; ended = λ host q past. refl; away = λ host q past. refl; last = λ host q r past. refl; lost = λ q r past. refl }
 
 pub tells_failed : (object : ObjectId) (page : PageNo) → TellsLost object.0 page.0 (device_failed Write object page)
-tells_failed object page = record { rows = λ header host past. refl; ended = λ host q past. refl; last = λ host q r past. refl; lost = λ q r past. refl }
+tells_failed object page = record { rows = λ header host past. refl; ended = λ host q past. refl; away = λ host q past. refl; last = λ host q r past. refl; lost = λ q r past. refl }
 
 stands_return : (header : Header) (host : ℕ) (object : ObjectId) (page : PageNo) (control : ℕ) (dirty keep : Bool) (bytes : List ℕ) (old new : SlotTable) (past : List Event) (is : PutAnswer)
     → named header ≤ object.0 → is_ended host object.0 past ≡ false → Stands header host old past → Leaves is object.0 page.0 old new → (is ≡ put.NoSlot → HasNoSlot old object.0 page.0)
@@ -156,7 +156,7 @@ stands_end header host object control old new past temporary s drops = record {
   slot = λ q r. slot_if q r (object.0 == q) refl;
   declared = λ q r less. none_if q r (s.declared q r less) (object.0 == q) refl;
   ended = λ q r is. ended_if q r (object.0 == q) refl is;
-  returned = λ q r high is. returned_if q r high (object.0 == q) refl is;
+  returned = λ q r high is own. returned_if q r high (sym (own_away host object.0 q past) ∙ own) (object.0 == q) refl is;
 }
   where
     slot_if : (q r : ℕ) (b : Bool) → (object.0 == q) ≡ b → slot_at new q r ≡ slot_of q r (slots header host (taking host object (message.Terminate control) past))
@@ -174,10 +174,10 @@ stands_end header host object control old new past temporary s drops = record {
     ended_if q r true is e = rw is at (drops.at q r)
     ended_if q r false is e = rw is at (drops.at q r) ∙ s.ended q r (rw (itself host, is) at e)
 
-    returned_if : (q r : ℕ) → named header ≤ q → (b : Bool) → (object.0 == q) ≡ b → ((host == host && object.0 == q) || is_ended host q past) ≡ false
+    returned_if : (q r : ℕ) → named header ≤ q → is_elsewhere host q past ≡ false → (b : Bool) → (object.0 == q) ≡ b → ((host == host && object.0 == q) || is_ended host q past) ≡ false
         → IsHeldOf (held_at new q r) (last_return host q r (taking host object (message.Terminate control) past)) (is_lost q r past)
-    returned_if q r high true is e = absurd (false≢true (sym (rw (itself host, is) at e)))
-    returned_if q r high false is e = held_same _ _ _ _ _ _ (rw is at (drops.at q r)) (rw (itself host, is) refl) refl (s.returned q r high (rw (itself host, is) at e))
+    returned_if q r high own true is e = absurd (false≢true (sym (rw (itself host, is) at e)))
+    returned_if q r high own false is e = held_same _ _ _ _ _ _ (rw is at (drops.at q r)) (rw (itself host, is) refl) refl (s.returned q r high (rw (itself host, is) at e) own)
 
 quietly : (header : Header) (host : ℕ) (object : ObjectId) (m : Message) (old new : SlotTable) (past events : List Event) → IsQuiet m
     → Same header host (taking host object m past) (events ++ taking host object m past) → new ≡ old → Stands header host old past → Stands header host new (events ++ taking host object m past)
@@ -189,13 +189,13 @@ pub leaves_all : (header : Header) (host : ℕ) (events is past : List Event) �
 leaves_all header host events is past e same = subst (λ (es : List Event). Same header host past (es ++ past)) (sym e) same
 
 pub nothing_new : (header : Header) (host : ℕ) (past : List Event) → Same header host past past
-nothing_new header host past = record { rows = refl; ended = λ q. refl; last = λ q r. refl; lost = λ q r. refl }
+nothing_new header host past = record { rows = refl; ended = λ q. refl; away = λ q. refl; last = λ q r. refl; lost = λ q r. refl }
 
 pub on_sent : (header : Header) (host at : ℕ) (object : ObjectId) (control : ℕ) (m : Message) (past : List Event) → Same header host past (sent_to at object control m ∷ past)
-on_sent header host at object control m past = record { rows = refl; ended = λ q. refl; last = λ q r. refl; lost = λ q r. refl }
+on_sent header host at object control m past = record { rows = refl; ended = λ q. refl; away = λ q. refl; last = λ q r. refl; lost = λ q r. refl }
 
 on_unread : (header : Header) (host at : ℕ) (object : ObjectId) (control : ℕ) (m : Message) (page : PageNo) (past : List Event) → Same header host past (sent_to at object control m ∷ device_failed Read object page ∷ past)
-on_unread header host at object control m page past = record { rows = refl; ended = λ q. refl; last = λ q r. refl; lost = λ q r. refl }
+on_unread header host at object control m page past = record { rows = refl; ended = λ q. refl; away = λ q. refl; last = λ q r. refl; lost = λ q r. refl }
 
 pub requested_same : (header : Header) (host size at : ℕ) (object : ObjectId) (control : ℕ) (page : PageNo) (has : Option Held) (events past : List Event) → Requested size at object control page has events → Same header host past (events ++ past)
 requested_same header host size at object control page None events past is = leaves_all header host events _ past is (on_sent header host at object control _ past)

@@ -1,5 +1,5 @@
 -- When the slots of a pager stand for a history on its host, and what of each page that history has stored.
-use Rattle.std.specs.Prelude.{ℕ, ◌≡◌, ◌<◌, ◌≤◌, ◌==◌, ◌&&◌, ◌||◌, nat_lt, Bool, true, false, List, [], ◌∷◌, Option, Some, None, if◌then◌else◌}
+use Rattle.std.specs.Prelude.{ℕ, ◌≡◌, ◌≢◌, ◌<◌, ◌≤◌, ◌⊎◌, ◌==◌, ◌&&◌, ◌||◌, not, nat_lt, Bool, true, false, List, [], ◌∷◌, Option, Some, None, if◌then◌else◌}
 use Rattle.pg_slots.specs.Contents.{Agrees, Content, Fits, IsTold, Kept, Lost, Stored}
 use Rattle.pg_slots.specs.Slots.{SlotTable, held_at, slot_at}
 use Rattle.pg_slots.specs.declared.slot_row.Held.{Held}
@@ -23,6 +23,12 @@ is_ended host o [] = false
 is_ended host o (event.Taken (Up at object) (message.Terminate control) ∷ past) = (at.0 == host && object.0 == o) || is_ended host o past
 is_ended host o (e ∷ past) = is_ended host o past
 
+-- the pager of another host took a message about the object
+abbrev pub is_elsewhere : ℕ → ℕ → List Event → Bool
+is_elsewhere host o [] = false
+is_elsewhere host o (event.Taken (Up at object) m ∷ past) = (not (at.0 == host) && object.0 == o) || is_elsewhere host o past
+is_elsewhere host o (e ∷ past) = is_elsewhere host o past
+
 -- what is held of a page, by its last return and whether that was lost
 abbrev pub IsHeldOf : Option Held → Option (List ℕ) → Bool → Type 0
 IsHeldOf None None false = Unit {0}
@@ -31,8 +37,8 @@ IsHeldOf (Some (held.Torn s)) (Some bytes) true = Unit {0}
 IsHeldOf (Some held.Lost) (Some bytes) true = Unit {0}
 IsHeldOf has returned lost = ⊥
 
--- The slots of a host's pager stand for a history. Whether a page was lost goes by its object and page alone, so this is of histories in
--- which a temporary object's messages go to the pager of one host.
+-- The slots of a host's pager stand for a history. Whether a page was lost goes by its object and page alone, so nothing is said of the
+-- returns of an object that is another host's.
 pub record Stands (header : Header) (host : ℕ) (slots : SlotTable) (past : List Event) : Type 0 where
   pub host_is : slots.host ≡ host
   pub size : slots.size ≡ header.size
@@ -40,7 +46,7 @@ pub record Stands (header : Header) (host : ℕ) (slots : SlotTable) (past : Lis
   pub slot : (o p : ℕ) → slot_at slots o p ≡ slot_of_page header host o p past
   pub declared : (o p : ℕ) → o < named header → held_at slots o p ≡ None
   pub ended : (o p : ℕ) → is_ended host o past ≡ true → held_at slots o p ≡ None
-  pub returned : (o p : ℕ) → named header ≤ o → is_ended host o past ≡ false → IsHeldOf (held_at slots o p) (last_return host o p past) (is_lost o p past)
+  pub returned : (o p : ℕ) → named header ≤ o → is_ended host o past ≡ false → is_elsewhere host o past ≡ false → IsHeldOf (held_at slots o p) (last_return host o p past) (is_lost o p past)
 
 abbrev pub stored_of : Option (List ℕ) → Bool → Option Stored
 stored_of None lost = None
@@ -55,10 +61,11 @@ content_of header host past = λ o p. if nat_lt o (named header) || is_ended hos
 abbrev pub taking : ℕ → ObjectId → Message → List Event → List Event
 taking host object m past = event.Taken (up host object.0) m ∷ past
 
--- a pager whose slots stand for a history answers a message about a temporary object, of which it didn't take the end before
+-- a pager whose slots stand for a history answers a message about a temporary object of its host, of which it didn't take the end before
 pub record Serves (header : Header) (host : ℕ) (past : List Event) (object : ObjectId) (m : Message) (old new : SlotTable) (events : List Event) : Type 0 where
   pub temporary : named header ≤ object.0
   pub unended : is_ended host object.0 past ≡ false
+  pub own : is_elsewhere host object.0 past ≡ false
   pub stands : Stands header host old past
   pub answered : Answered m object old new events
 
@@ -66,3 +73,14 @@ pub record Serves (header : Header) (host : ℕ) (past : List Event) (object : O
 pub record CarriesOver (before after : List ℕ → Told) (old new : SlotTable) (was now : Content) : Type 0 where
   pub agrees : Agrees old was → Agrees new now
   pub fits : IsTold before old → Fits before old was → Fits after new now
+
+-- the object is declared, or another host's
+abbrev pub IsForeign : Header → ℕ → ℕ → List Event → Type 0
+IsForeign header host o past = (o < named header) ⊎ (is_elsewhere host o past ≡ true)
+
+-- an event in which the pager of the host has no part, as far as temporary objects go
+abbrev pub IsOther : Header → ℕ → Event → List Event → Type 0
+IsOther header host (event.Taken (Up at object) m) past = (object.0 < named header) ⊎ (at.0 ≢ host)
+IsOther header host (event.DeviceFailed who way object page) past = IsForeign header host object.0 past
+IsOther header host (event.NoSlot object page) past = IsForeign header host object.0 past
+IsOther header host other past = Unit {0}

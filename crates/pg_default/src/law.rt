@@ -1,7 +1,7 @@
 // That what a default pager answers is a step of a legal history.
-ghost use Rattle.std.specs.Prelude.{ℕ, ◌≡◌, ◌++◌, true, List, [], Ok};
+ghost use Rattle.std.specs.Prelude.{ℕ, ◌≡◌, ◌++◌, true, List, [], ◌∷◌, Ok};
 ghost use Rattle.pg_default.specs.Answers.{SuppliesStored, after_message};
-ghost use Rattle.pg_default.specs.Stands.{CarriesOver, Serves, Stands, content_of, taking};
+ghost use Rattle.pg_default.specs.Stands.{CarriesOver, IsOther, Serves, Stands, content_of, taking};
 ghost use Rattle.pg_slots.specs.Contents.{Carries};
 ghost use Rattle.pg_slots.specs.Slots.{SlotTable};
 ghost use Rattle.vm_base.specs.Listing.{Listed};
@@ -20,13 +20,16 @@ ghost use Rattle.vm_outside.specs.Areas.{Told};
 /// its cause, and the step owes nothing. So whatever `DefaultPager::answer` gives is as the
 /// definitions of legal histories want it.
 ///
-/// It is of messages about temporary objects whose end the pager didn't take before. A new pager's
-/// slots stand for the empty history.
-#[tactic(auto, using(crate::proofs::Standing::start, crate::proofs::Standing::stands, crate::proofs::Causes::causes, crate::proofs::Carrying::carries))]
+/// It is of messages about temporary objects of the pager's host, whose end it didn't take before.
+/// A new pager's slots stand for the empty history, and events in which the pager has no part leave
+/// what they stand for: so they stand for every history that its answers make.
+#[tactic(auto, using(crate::proofs::Standing::start))]
 pub fn answers_are_legal()
     ensures start { (header : Header) (host : ℕ) → Stands header host (record { host = host; size = header.size; count = header.slots; rows = [] }) [] }
     ensures stands { (header : Header) (host : ℕ) (past : List Event) (object : ObjectId) (m : Message) (old new : SlotTable) (events : List Event)
         → Serves header host past object m old new events → Stands header host new (events ++ taking host object m past) }
+
+    ensures others { (header : Header) (host : ℕ) (slots : SlotTable) (e : Event) (past : List Event) → IsOther header host e past → Stands header host slots past → Stands header host slots (e ∷ past) }
 
     // Where the paging area tells, a supply must have the bytes that were stored.
     ensures causes { (header : Header) (outside : Outside) (doing : Command) (host : ℕ) (past : List Event) (object : ObjectId) (m : Message) (old new : SlotTable) (events : List Event)

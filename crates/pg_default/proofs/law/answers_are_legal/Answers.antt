@@ -1,6 +1,21 @@
+use Rattle.pg_default.proofs.Carrying.{carries}
+use Rattle.pg_default.proofs.Causes.{causes}
 use Rattle.pg_default.proofs.Debts.{paid}
+use Rattle.pg_default.proofs.Others.{others}
+use Rattle.pg_default.proofs.Standing.{stands}
 use Rattle.pg_default.proofs.law.answers_are_legal.Goals as goal
 
--- src/law.rt:25:1
+pub returns-clause-stands : goal.returns-clause-stands
+returns-clause-stands c = stands
+
+pub returns-clause-others : goal.returns-clause-others
+returns-clause-others c = others
+
+pub returns-clause-causes : goal.returns-clause-causes
+returns-clause-causes c = causes
+
 pub returns-clause-paid : goal.returns-clause-paid
 returns-clause-paid c = paid
+
+pub returns-clause-carries : goal.returns-clause-carries
+returns-clause-carries c = carries
