@@ -29,7 +29,7 @@ SameContent was now = (q r : ℕ) → now q r ≡ was q r
 agrees_same : (slots : SlotTable) (was now : Content) → SameContent was now → Agrees slots was → Agrees slots now
 agrees_same slots was now same agrees = record { at = λ q r. subst (λ (x : Option Stored). IsHeldAs slots.count slots.size (held_at slots q r) x) (sym (same q r)) (agrees.at q r) }
 
-carries_same : (before after : List ℕ → Told) (old new : SlotTable) (change : Content → Content) (was now : Content) → SameContent (change was) now → Carries before after old new change → CarriesOver before after old new was now
+pub carries_same : (before after : List ℕ → Told) (old new : SlotTable) (change : Content → Content) (was now : Content) → SameContent (change was) now → Carries before after old new change → CarriesOver before after old new was now
 carries_same before after old new change was now same carries = record {
   agrees = λ agrees. agrees_same new (change was) now same (carries.agrees was agrees);
   fits = λ told fits.

@@ -1,8 +1,10 @@
 -- The slots stand on under events in which their pager has no part.
-use Rattle.std.proofs.Common.{ℕ, ◌≡◌, ◌≢◌, ◌≤◌, ◌<◌, ◌==◌, ◌&&◌, ◌||◌, ◌⊎◌, not, nat_lt, Bool, true, false, List, ◌∷◌, None, refl, sym, ◌∙◌, ap, subst, arith, inl, inr}
+use Rattle.std.proofs.Common.{ℕ, ◌≡◌, ◌≢◌, ◌≤◌, ◌<◌, ◌==◌, ◌&&◌, ◌||◌, ◌⊎◌, not, nat_lt, Bool, true, false, List, ◌∷◌, None, refl, sym, ◌∙◌, ap, subst, arith, inl, inr, [], if◌then◌else◌}
 use Rattle.std.proofs.lemmas.Bool.{false≢true}
 use Rattle.std.proofs.lemmas.Bool.Decides.{nat_tests}
 use Rattle.pg_slots.specs.Slots.{SlotTable, held_at}
+use Rattle.pg_slots.specs.Contents.{same_content}
+use Rattle.vm_outside.specs.Areas.{Told}
 use Rattle.vm_base.specs.declared.ids.HostId.{HostId}
 use Rattle.vm_base.specs.declared.ids.ObjectId.{ObjectId}
 use Rattle.vm_model.specs.declared.event.Event.{Event}
@@ -14,7 +16,10 @@ use Rattle.vm_model.specs.declared.script.Header.{Header}
 use Rattle.vm_model.specs.Named.{named}
 use Rattle.vm_legal.specs.Pagers.{is_lost, last_return, slot_of, slots}
 use Rattle.vm_legal.specs.Steps.{is_read}
-use Rattle.pg_default.specs.Stands.{IsForeign, IsOther, Stands, is_elsewhere, is_ended}
+use Rattle.pg_default.specs.Stands.{CarriesOver, IsApart, IsForeign, IsOther, Stands, content_of, is_elsewhere, is_ended, stored_of}
+use Rattle.pg_default.proofs.Carrying.{SameContent, carries_same}
+use Rattle.pg_default.proofs.Leaving.{carried_same}
+use Rattle.pg_default.proofs.Rows.{same_if}
 use Rattle.pg_default.proofs.Standing.{held_same}
 
 -- an event that leaves the slots, and what is said of the host's own temporary objects
@@ -22,7 +27,7 @@ record Leaves (header : Header) (host : ℕ) (past now : List Event) : Type 0 wh
   rows : slots header host now ≡ slots header host past
   ended : (q : ℕ) → named header ≤ q → is_ended host q now ≡ is_ended host q past
   away : (q : ℕ) → is_elsewhere host q now ≡ false → is_elsewhere host q past ≡ false
-  last : (q r : ℕ) → named header ≤ q → is_elsewhere host q now ≡ false → last_return host q r now ≡ last_return host q r past
+  last : (q r : ℕ) → named header ≤ q → last_return host q r now ≡ last_return host q r past
   lost : (q r : ℕ) → named header ≤ q → is_elsewhere host q now ≡ false → is_lost q r now ≡ is_lost q r past
 
 leaves_stands : (header : Header) (host : ℕ) (table : SlotTable) (past now : List Event) → Leaves header host past now → Stands header host table past → Stands header host table now
@@ -33,7 +38,7 @@ leaves_stands header host table past now l s = record {
   slot = λ q r. s.slot q r ∙ ap (slot_of q r) (sym l.rows);
   declared = s.declared;
   ended = λ q r is. ended_if q r (nat_lt q (named header)) refl is;
-  returned = λ q r high is own. held_same _ _ _ _ _ _ refl (l.last q r high own) (l.lost q r high own) (s.returned q r high (sym (l.ended q high) ∙ is) (l.away q own));
+  returned = λ q r high is own. held_same _ _ _ _ _ _ refl (l.last q r high) (l.lost q r high own) (s.returned q r high (sym (l.ended q high) ∙ is) (l.away q own));
 }
   where
     ended_if : (q r : ℕ) (b : Bool) → nat_lt q (named header) ≡ b → is_ended host q now ≡ true → held_at table q r ≡ None
@@ -78,7 +83,7 @@ taken_leaves header host at object m past is = record {
   rows = rw (no_row header host at.0 object.0 is) refl;
   ended = λ q high. ended_taken host q at object m past (apart_taken header host at.0 object.0 q is high);
   away = λ q own. or_no (not (at.0 == host) && object.0 == q) (is_elsewhere host q past) own;
-  last = λ q r high own. rw (apart_taken header host at.0 object.0 q is high) refl;
+  last = λ q r high. rw (apart_taken header host at.0 object.0 q is high) refl;
   lost = λ q r high own. lost_taken q r at object m past (no_object header host at.0 object.0 q is high (first_no (not (at.0 == host) && object.0 == q) (is_elsewhere host q past) own));
 }
 
@@ -101,17 +106,39 @@ event_leaves header host (event.DeviceFailed who way object page) past is = reco
   rows = refl;
   ended = λ q high. refl;
   away = λ q own. own;
-  last = λ q r high own. refl;
+  last = λ q r high. refl;
   lost = λ q r high own. rw (foreign header host object.0 q past is high own, and_no (not (is_read way)) (page.0 == r)) refl;
 }
 event_leaves header host (event.NoSlot object page) past is = record {
   rows = refl;
   ended = λ q high. refl;
   away = λ q own. own;
-  last = λ q r high own. refl;
+  last = λ q r high. refl;
   lost = λ q r high own. rw (foreign header host object.0 q past is high own) refl;
 }
-event_leaves header host e past is = record { rows = refl; ended = λ q high. refl; away = λ q own. own; last = λ q r high own. refl; lost = λ q r high own. refl }
+event_leaves header host e past is = record { rows = refl; ended = λ q high. refl; away = λ q own. own; last = λ q r high. refl; lost = λ q r high own. refl }
 
 pub others : (header : Header) (host : ℕ) (table : SlotTable) (e : Event) (past : List Event) → IsOther header host e past → Stands header host table past → Stands header host table (e ∷ past)
 others header host table e past is s = leaves_stands header host table past (e ∷ past) (event_leaves header host e past is) s
+
+content_stays : (header : Header) (host : ℕ) (past now : List Event) → Leaves header host past now → IsApart header host now → SameContent (content_of header host past) (content_of header host now)
+content_stays header host past now l apart q r = by (nat_lt q (named header)) refl
+  where
+    stays : named header ≤ q → (b : Bool) → is_elsewhere host q now ≡ b → stored_of (last_return host q r now) (is_lost q r now) ≡ stored_of (last_return host q r past) (is_lost q r past)
+    stays high true away =
+        let none : last_return host q r now ≡ None = apart q r high away in
+        let never : last_return host q r past ≡ None = sym (l.last q r high) ∙ none in
+        rw (none, never) refl
+    stays high false own = rw (l.last q r high, l.lost q r high own) refl
+
+    by : (b : Bool) → nat_lt q (named header) ≡ b → (if b || is_ended host q now then None else stored_of (last_return host q r now) (is_lost q r now)) ≡ (if b || is_ended host q past then None else stored_of (last_return host q r past) (is_lost q r past))
+    by true low = refl
+    by false is = let high : named header ≤ q = grind (arith, nat_tests, is) in rw (l.ended q high, stays high (is_elsewhere host q now) refl) refl
+
+pub others_carry : (header : Header) (host : ℕ) (table : SlotTable) (e : Event) (past : List Event) (areas : List ℕ → Told) → IsOther header host e past → IsApart header host (e ∷ past)
+    → CarriesOver areas areas table table (content_of header host past) (content_of header host (e ∷ past))
+others_carry header host table e past areas is apart =
+    carries_same areas areas table table same_content _ _ (content_stays header host past (e ∷ past) (event_leaves header host e past is) apart) (carried_same areas table)
+
+pub empty : (header : Header) (host o p : ℕ) → content_of header host [] o p ≡ None
+empty header host o p = same_if (nat_lt o (named header) || false) None

@@ -84,3 +84,7 @@ IsOther header host (event.Taken (Up at object) m) past = (object.0 < named head
 IsOther header host (event.DeviceFailed who way object page) past = IsForeign header host object.0 past
 IsOther header host (event.NoSlot object page) past = IsForeign header host object.0 past
 IsOther header host other past = Unit {0}
+
+-- what other hosts' pagers took messages about was never returned to this one
+abbrev pub IsApart : Header → ℕ → List Event → Type 0
+IsApart header host past = (o p : ℕ) → named header ≤ o → is_elsewhere host o past ≡ true → last_return host o p past ≡ None

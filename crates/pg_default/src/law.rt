@@ -1,7 +1,7 @@
 // That what a default pager answers is a step of a legal history.
-ghost use Rattle.std.specs.Prelude.{ℕ, ◌≡◌, ◌++◌, true, List, [], ◌∷◌, Ok};
+ghost use Rattle.std.specs.Prelude.{ℕ, ◌≡◌, ◌++◌, true, List, [], ◌∷◌, None, Ok};
 ghost use Rattle.pg_default.specs.Answers.{SuppliesStored, after_message};
-ghost use Rattle.pg_default.specs.Stands.{CarriesOver, IsOther, Serves, Stands, content_of, taking};
+ghost use Rattle.pg_default.specs.Stands.{CarriesOver, IsApart, IsOther, Serves, Stands, content_of, taking};
 ghost use Rattle.pg_slots.specs.Contents.{Carries};
 ghost use Rattle.pg_slots.specs.Slots.{SlotTable};
 ghost use Rattle.vm_base.specs.Listing.{Listed};
@@ -40,4 +40,7 @@ pub fn answers_are_legal()
     ensures carries { (header : Header) (host : ℕ) (past : List Event) (object : ObjectId) (m : Message) (old new : SlotTable) (events : Listed Event) (before after : List ℕ → Told)
         → Serves header host past object m old new events.items → Carries before after old new (after_message m object (Ok events))
         → CarriesOver before after old new (content_of header host past) (content_of header host (events.items ++ taking host object m past)) }
+    ensures others_carry { (header : Header) (host : ℕ) (slots : SlotTable) (e : Event) (past : List Event) (areas : List ℕ → Told) → IsOther header host e past → IsApart header host (e ∷ past)
+        → CarriesOver areas areas slots slots (content_of header host past) (content_of header host (e ∷ past)) }
+    ensures empty { (header : Header) (host o p : ℕ) → content_of header host [] o p ≡ None }
 {}

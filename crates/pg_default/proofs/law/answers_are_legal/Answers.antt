@@ -1,7 +1,7 @@
 use Rattle.pg_default.proofs.Carrying.{carries}
 use Rattle.pg_default.proofs.Causes.{causes}
 use Rattle.pg_default.proofs.Debts.{paid}
-use Rattle.pg_default.proofs.Others.{others}
+use Rattle.pg_default.proofs.Others.{empty, others, others_carry}
 use Rattle.pg_default.proofs.Standing.{stands}
 use Rattle.pg_default.proofs.law.answers_are_legal.Goals as goal
 
@@ -19,3 +19,9 @@ returns-clause-paid c = paid
 
 pub returns-clause-carries : goal.returns-clause-carries
 returns-clause-carries c = carries
+
+pub returns-clause-others_carry : goal.returns-clause-others_carry
+returns-clause-others_carry c = others_carry
+
+pub returns-clause-empty : goal.returns-clause-empty
+returns-clause-empty c = empty
