@@ -22,7 +22,7 @@ ghost use Rattle.vm_outside.specs.Areas.{Told};
 ///
 /// It is of messages about temporary objects of the pager's host, whose end it didn't take before.
 /// A new pager's slots stand for the empty history, and events in which the pager has no part leave
-/// what they stand for: so they stand for every history that its answers make.
+/// what they stand for. Contents stay too, where no object is two hosts'.
 #[tactic(auto, using(crate::proofs::Standing::start))]
 pub fn answers_are_legal()
     ensures start { (header : Header) (host : ℕ) → Stands header host (record { host = host; size = header.size; count = header.slots; rows = [] }) [] }
