@@ -1,45 +1,51 @@
 -- Commands that change a task's entries, from their beginning to their end.
-use Rattle.std.proofs.Common.{◌≡◌, ℕ, zero, suc, ◌+◌, ◌-◌, ◌*◌, ◌<◌, ◌≤◌, true, List, [], ◌∷◌, length, refl, ap, sym, ◌∙◌, subst, arith, Some, None, Option, inl, inr}
+use Rattle.std.proofs.Common.{◌≡◌, ℕ, zero, suc, ◌+◌, ◌-◌, ◌*◌, ◌<◌, ◌≤◌, true, false, List, [], ◌∷◌, length, refl, ap, sym, ◌∙◌, subst, arith, Some, None, Option, inl, inr}
 use Rattle.std.proofs.lemmas.Bool.Decides.{eqb_tells}
-use Rattle.std.specs.Prelude.{unwrap_or}
+use Rattle.std.specs.Prelude.{is_none, is_some, unwrap_or}
+use Rattle.vm_base.specs.declared.code.Code.{Code}
+use Rattle.vm_base.specs.declared.code.Code.TheVariants as code
 use Rattle.vm_base.specs.declared.entry.Entry.{Entry}
 use Rattle.vm_base.specs.declared.ids.Inherit.{Inherit}
 use Rattle.vm_base.specs.declared.ids.Prot.{Prot}
 use Rattle.vm_base.specs.declared.ids.TaskId.{TaskId}
-use Rattle.vm_base.specs.Entries.{inherited, most_entries, protected, rewritten}
+use Rattle.vm_base.specs.Entries.{inherited, most_entries, protected}
 use Rattle.vm_model.specs.declared.event.Event.{Event}
 use Rattle.vm_model.specs.declared.event.Event.TheVariants as event
 use Rattle.vm_model.specs.declared.command.Command.TheVariants as command
 use Rattle.vm_model.specs.declared.script.Header.{Header}
-use Rattle.vm_model.specs.Controls.{last_control, live_control}
 use Rattle.vm_model.specs.Local.{local}
 use Rattle.vm_model.specs.Regions.{backing_of, next_object, next_region, region_of}
-use Rattle.vm_model.specs.Rows.{AllRows, Parts, inside_part, rows_known, rows_map, rows_rewritten}
+use Rattle.vm_model.specs.Rows.{AllRows, rows_map}
 use Rattle.vm_model.specs.Tasks.{entries_of, has_entry, host_of}
-use Rattle.vm_model.specs.Waiting.{waiting}
-use Rattle.vm_legal.specs.Licences.{created}
+use Rattle.vm_model.specs.Waiting.{Access, waiting}
 use Rattle.vm_legal.specs.Living.{tasks}
 use Rattle.vm_legal.specs.Outside.{Outside}
+use Rattle.vm_legal.specs.Refusal.{acting, where_true}
 use Rattle.vm_legal.specs.Used.{in_use}
 use Rattle.vm_maps.specs.declared.change.MapChange.{MapChange}
 use Rattle.vm_maps.specs.Maps.{ChangesOnly, Mapped, entries_in, rows_in}
 use Rattle.vm_shadow.specs.Chains.{ChainTable, region_at}
 use Rattle.vm_shadow.specs.declared.ids.Ids.{Ids}
 use Rattle.vm_shadow.specs.declared.region_row.RegionRow.{RegionRow}
-use Rattle.vm_kernel.specs.Begun.{Began, Starts}
+use Rattle.vm_supply.specs.declared.woken.Woken.TheVariants as woken
+use Rattle.vm_waits.specs.Waits.{entry}
+use Rattle.vm_waits.specs.declared.waiting.Waiting.{Waiting}
+use Rattle.vm_kernel.specs.Begun.{Ran, Starts}
 use Rattle.vm_kernel.specs.Changes.{inheritance, protection}
 use Rattle.vm_kernel.specs.Counts.{count_by, count_on, most_tasks}
-use Rattle.vm_kernel.specs.Matches.{AllInside, AllUsed, HasEntries, HasPages, HasRegions, HasUse, IsInside, Rests}
-use Rattle.vm_kernel.specs.Places.{entries_in_row, has_region, place_of, region_entries, region_pages}
-use Rattle.vm_kernel.specs.Sweeping.{Lowered, Raised}
-use Rattle.vm_kernel.specs.declared.parts.Parts.{Parts as KernelParts}
+use Rattle.vm_kernel.specs.Matches.{AllReached, AllUsed, HasEntries, HasPages, HasRegions, HasUse, IsInside, Rests}
+use Rattle.vm_kernel.specs.Places.{entries_in_row, has_region, place_of, region_entries}
+use Rattle.vm_kernel.specs.Sweeping.{Lowered, Raised, with_entries}
+use Rattle.vm_kernel.specs.Waiters.{HasWaiters, waiting_in}
+use Rattle.vm_kernel.specs.declared.parts.Parts.{Parts}
 use Rattle.vm_kernel.proofs.Counts.{by_changed, by_few, most_is}
-use Rattle.vm_kernel.proofs.Growing.{paid_of, suffices}
-use Rattle.vm_kernel.proofs.Heads.{grows_one}
-use Rattle.vm_kernel.proofs.Prompting.{prompt_of, region_row}
-use Rattle.vm_kernel.proofs.Recounts.{Recounts, entries_are, entries_most, lowered_recounts, raised_recounts, recounts_as, recounts_twice}
-use Rattle.vm_kernel.proofs.Rewrites.{IsSpan, entries_changed, lives_below, on_among, on_kept, recount_known, recount_pages, recount_regions, recount_used, tasks_changed}
-use Rattle.vm_kernel.proofs.Uses.{still, uses_same}
+use Rattle.vm_kernel.proofs.Cutting.{Cuts, inherit_cuts, protect_cuts}
+use Rattle.vm_kernel.proofs.Growing.{suffices}
+use Rattle.vm_kernel.proofs.Heads.{grows_one, passed}
+use Rattle.vm_kernel.proofs.Recounts.{Recounts, entries_are, entries_most, has_same, lowered_recounts, raised_recounts, recounts_as, recounts_twice}
+use Rattle.vm_kernel.proofs.Rewrites.{entries_changed, lives_below, on_among, recount_known, recount_pages, recount_regions, recount_used, tasks_changed}
+use Rattle.vm_kernel.proofs.Uses.{uses_same}
+use Rattle.vm_kernel.proofs.Waited.{SameTops, waits_changed}
 
 -- how many entries lead to a region
 
@@ -49,6 +55,14 @@ by_most (suc n) r task maps less = elim (eqb_tells n task) [
   | inl same ↦ subst (λ (z : ℕ). count_on r (rows_in z maps) ≤ count_by (suc n) r maps) same.1 (omega arith)
   | inr apart ↦ let later = by_most n r task maps (let other = apart.1 in grind arith) in omega arith
 ]
+
+-- the row of a region that is there
+region_row : (cs : ChainTable) (r : ℕ) → has_region cs r ≡ true → (row : RegionRow) × (region_at cs r ≡ Some row)
+region_row cs r there = go (region_at cs r) there
+  where
+    go : (x : Option RegionRow) → is_some x ≡ true → (row : RegionRow) × (x ≡ Some row)
+    go None bad = absurd (let no : false ≡ true = bad in cc)
+    go (Some row) is = (row, refl)
 
 pub counted : (size task : ℕ) (maps : Mapped) (cs : ChainTable) (lost : List Entry) → HasEntries size maps cs lost → entries_in task maps ≡ Some (rows_in task maps) → (r : ℕ) → has_region cs r ≡ true → count_on r (rows_in task maps) ≤ region_entries cs r
 counted size task maps cs lost has lives r there =
@@ -71,65 +85,39 @@ entries_few size maps cs has r = go (region_at cs r) refl
 pub lives_as : (task : ℕ) (maps : Mapped) (rows : List Entry) → entries_in task maps ≡ Some rows → (rows_in task maps ≡ rows) × (entries_in task maps ≡ Some (rows_in task maps))
 lives_as task maps rows is = let same : rows_in task maps ≡ rows = ap (λ z. unwrap_or z []) is in (same, is ∙ ap Some (sym same))
 
--- what is made of a task's entries, and what is lost of them
-pub record Cuts (size : ℕ) (chains : ChainTable) (rows made lost : List Entry) : Type 0 where
-  pub inside : AllInside size chains made
-  pub own : AllRows (λ row. has_entry row.region.0 rows ≡ true) made
-  pub known : AllRows (λ row. has_region chains row.region.0 ≡ true) lost
-  pub gone : AllRows (λ row. has_entry row.region.0 rows ≡ true) lost
-  pub few : length made ≤ most_entries
-  pub kept : (r : ℕ) → count_on r rows ≤ count_on r made + count_on r lost
+-- the task of a command that acts has no access that waits
 
--- an entry of the rows, within its region
-abbrev pub IsOwn : ℕ → ChainTable → List Entry → Entry → Type 0
-IsOwn size chains rows row = IsInside size chains row × (has_entry row.region.0 rows ≡ true)
+pub acts : (task : ℕ) (past : List Event) (later : Option Code) → acting past task later ≡ None → waiting task past ≡ None
+acts task past later accepted = go (waiting task past) (passed (is_some (waiting task past)) code.Blocked later (passed (is_none (host_of task past)) code.NoSuchName (where_true (is_some (waiting task past)) code.Blocked later) accepted).1).0
+  where
+    go : (x : Option Access) → is_some x ≡ false → x ≡ None
+    go None is = refl
+    go (Some access) bad = absurd (let no : true ≡ false = bad in cc)
 
-pub own_parts : (size : ℕ) (chains : ChainTable) (rows : List Entry) → Parts size (IsOwn size chains rows)
-own_parts size chains rows row start end is low less high = (
-  record {
-    region = is.0.region;
-    some = omega arith;
-    below = let below = is.0.below in omega arith;
-    inside = inside_part size (region_pages chains row.region.0) row start end is.0.inside low less high;
-  },
-  is.1,
-)
+no_row : (x : Option Waiting) → waiting_in x ≡ None → x ≡ None
+no_row None is = refl
+no_row (Some w) bad = absurd (let no : waiting_in (Some w) ≡ None = bad in cc)
 
-pub spans : (size : ℕ) (chains : ChainTable) (rows : List Entry) → AllInside size chains rows → AllRows IsSpan rows
-spans size chains rows all = rows_map (IsInside size chains) IsSpan (λ row is. record { some = is.some; below = is.below }) rows all
-
-pub cuts_kept : (size address bytes : ℕ) (chains : ChainTable) (becomes : Entry → List Entry) (rows made : List Entry) → ((r : ℕ) (row : Entry) → count_on r (becomes row) ≡ count_on r (row ∷ []))
-    → ((row : Entry) → IsOwn size chains rows row → AllRows (IsOwn size chains rows) (becomes row)) → AllInside size chains rows → made ≡ rewritten becomes size address bytes rows → length made ≤ most_entries → Cuts size chains rows made []
-cuts_kept size address bytes chains becomes rows made same each all is few =
-    let both : AllRows (IsOwn size chains rows) made = subst (AllRows (IsOwn size chains rows)) (sym is)
-    (rows_rewritten size (IsOwn size chains rows) becomes (own_parts size chains rows) each address bytes rows (rows_known (IsInside size chains) rows all)) in
-    record {
-      inside = rows_map (IsOwn size chains rows) (IsInside size chains) (λ row is. is.0) made both;
-      own = rows_map (IsOwn size chains rows) (λ row. has_entry row.region.0 rows ≡ true) (λ row is. is.1) made both;
-      known = tt;
-      gone = tt;
-      few = few;
-      kept = λ r. let kept = on_kept r size address bytes becomes rows (same r) (spans size chains rows all) in let e = ap (count_on r) is in omega arith;
-    }
-
-with_prot : (size : ℕ) (chains : ChainTable) (rows : List Entry) (prot : Prot) (row : Entry) → IsOwn size chains rows row → AllRows (IsOwn size chains rows) (record row { prot = prot } ∷ [])
-with_prot size chains rows prot row is = ((record { region = is.0.region; some = is.0.some; below = is.0.below; inside = record { whole = is.0.inside.whole; each = is.0.inside.each } }, is.1), tt)
-
-with_inherit : (size : ℕ) (chains : ChainTable) (rows : List Entry) (inherit : Inherit) (row : Entry) → IsOwn size chains rows row → AllRows (IsOwn size chains rows) (record row { inherit = inherit } ∷ [])
-with_inherit size chains rows inherit row is = ((record { region = is.0.region; some = is.0.some; below = is.0.below; inside = record { whole = is.0.inside.whole; each = is.0.inside.each } }, is.1), tt)
+pub not_there : (header : Header) (past : List Event) (k : Parts) (ids : Ids) (task : ℕ) → Rests header k ids past → waiting task past ≡ None → entry k.waits.rows task ≡ None
+not_there header past k ids task rests none = no_row (entry k.waits.rows task) (sym (rests.waits.is task) ∙ none)
 
 -- regions count what was made, and what was lost, in place of what there was
 
-pub record Changed (header : Header) (past : List Event) (k : KernelParts) (ids : Ids) (maps : Mapped) (chains : ChainTable) (lost : List Entry) : Type 0 where
+pub record Changed (header : Header) (past : List Event) (k : Parts) (ids : Ids) (maps : Mapped) (chains : ChainTable) (lost : List Entry) : Type 0 where
   pub regions : HasRegions chains k.objects ids (λ r. region_of header r past) (λ o. backing_of header o past) (next_region header past) (next_object header past)
   pub entries : HasEntries header.size maps chains lost
   pub pages : HasPages k.frames k.resident k.objects chains (λ o p. local header.size 0 (place_of o p) past)
   pub used : AllUsed chains
+  pub reached : AllReached chains k.objects
+  pub waits : HasWaiters maps chains k.resident k.objects k.waits.rows woken.Nobody (λ t. waiting t past)
 
-pub changed_by : (header : Header) (past : List Event) (k : KernelParts) (ids : Ids) (maps : Mapped) (chains : ChainTable) (task : ℕ) (rows : Option (List Entry)) (lost : List Entry) (count : ℕ → ℕ) → Rests header k ids past
+recount_tops : (count : ℕ → ℕ) (old new : ChainTable) → Recounts count old new → SameTops old new
+recount_tops count old new is = record { at = λ r row found. record { row_now = record row { entries = count r }; found = is.at r ∙ ap (with_entries (count r)) found; top = refl; shift = refl } }
+
+pub changed_by : (header : Header) (past : List Event) (k : Parts) (ids : Ids) (maps : Mapped) (chains : ChainTable) (task : ℕ) (rows : Option (List Entry)) (lost : List Entry) (count : ℕ → ℕ) → Rests header k ids past → waiting task past ≡ None
     → ChangesOnly k.maps maps task rows → entries_in task k.maps ≡ Some (rows_in task k.maps) → Cuts header.size k.chains (rows_in task k.maps) (unwrap_or rows []) lost → Recounts count k.chains chains
     → ((r : ℕ) → has_region k.chains r ≡ true → count r + count_on r (rows_in task k.maps) ≡ region_entries k.chains r + (count_on r (unwrap_or rows []) + count_on r lost)) → Changed header past k ids maps chains lost
-changed_by header past k ids maps chains task rows lost count rests changes lives cuts is sums =
+changed_by header past k ids maps chains task rows lost count rests idle changes lives cuts is sums =
     let m = rests.matches in
     let old = rows_in task k.maps in
     let made = unwrap_or rows [] in
@@ -138,6 +126,8 @@ changed_by header past k ids maps chains task rows lost count rests changes live
       entries = entries_changed header.size task k.maps maps k.chains chains count rows lost m.entries changes lives is sums cuts.inside cuts.known cuts.few;
       pages = recount_pages count k.frames k.resident k.objects k.chains chains (λ o p. local header.size 0 (place_of o p) past) is m.pages;
       used = recount_used count k.chains chains is (λ r there some. let sum = sums r there in let kept = cuts.kept r in omega arith) rests.used;
+      reached = λ o row found live. has_same count k.chains chains is o ∙ rests.reached o row found live;
+      waits = waits_changed k.maps maps k.chains chains k.resident k.objects k.waits.rows woken.Nobody (λ t. waiting t past) task rows rests.waits changes (not_there header past k ids task rests idle) (recount_tops count k.chains chains is);
     }
 
 -- a region is in use as long as before where no entry on it is new, and after where none goes
@@ -156,7 +146,7 @@ uses_fewer size task r maps new cs rows has changes lives own some = by_count (c
         let most = by_most most_tasks r task maps below in
         omega arith
 
-pub uses_kept : (header : Header) (past : List Event) (k : KernelParts) (ids : Ids) (maps : Mapped) (task : ℕ) (two : List Entry) → Rests header k ids past → ChangesOnly k.maps maps task (Some two) → entries_in task k.maps ≡ Some (rows_in task k.maps)
+pub uses_kept : (header : Header) (past : List Event) (k : Parts) (ids : Ids) (maps : Mapped) (task : ℕ) (two : List Entry) → Rests header k ids past → ChangesOnly k.maps maps task (Some two) → entries_in task k.maps ≡ Some (rows_in task k.maps)
     → Cuts header.size k.chains (rows_in task k.maps) two [] → HasUse maps (λ r. in_use header 0 r past) (tasks past)
 uses_kept header past k ids maps task two rests changes lives cuts =
     let m = rests.matches in
@@ -179,50 +169,33 @@ lowered_few rows old mid down few r =
     let all = few r in
     omega arith
 
--- entries get a protection, or an inheritance
-
-pub protect_cuts : (size address bytes task : ℕ) (prot : Prot) (maps new : Mapped) (chains : ChainTable) (change : MapChange) (two : List Entry) → HasEntries size maps chains [] → maps.size ≡ size → change ≡ protection address bytes prot
-    → ChangesOnly maps new task (Some (protected maps.size change.address change.bytes change.prot (rows_in task maps))) → entries_in task new ≡ Some two → length two ≤ most_entries → Cuts size chains (rows_in task maps) two []
-protect_cuts size address bytes task prot maps new chains change two has sized is changes value few =
-    let rows = rows_in task maps in
-    let made : two ≡ protected size address bytes prot rows =
-    ap (λ z. unwrap_or z []) (sym value ∙ changes.changed) ∙ (ap (λ z. protected maps.size z.address z.bytes z.prot rows) is ∙ ap (λ z. protected z address bytes prot rows) sized) in
-    cuts_kept size address bytes chains (λ row. record row { prot = prot } ∷ []) rows two (λ r row. refl) (with_prot size chains rows prot) (has.inside task) made few
-
-pub inherit_cuts : (size address bytes task : ℕ) (inherit : Inherit) (maps new : Mapped) (chains : ChainTable) (change : MapChange) (two : List Entry) → HasEntries size maps chains [] → maps.size ≡ size → change ≡ inheritance address bytes inherit
-    → ChangesOnly maps new task (Some (inherited maps.size change.address change.bytes change.inherit (rows_in task maps))) → entries_in task new ≡ Some two → length two ≤ most_entries → Cuts size chains (rows_in task maps) two []
-inherit_cuts size address bytes task inherit maps new chains change two has sized is changes value few =
-    let rows = rows_in task maps in
-    let made : two ≡ inherited size address bytes inherit rows =
-    ap (λ z. unwrap_or z []) (sym value ∙ changes.changed) ∙ (ap (λ z. inherited maps.size z.address z.bytes z.inherit rows) is ∙ ap (λ z. inherited z address bytes inherit rows) sized) in
-    cuts_kept size address bytes chains (λ row. record row { inherit = inherit } ∷ []) rows two (λ r row. refl) (with_inherit size chains rows inherit) (has.inside task) made few
-
 -- what was made can be counted
 pub raise_there : (size : ℕ) (old mid : ChainTable) (rows made lost : List Entry) → Cuts size old rows made lost → Lowered rows old mid → AllRows (λ row. has_region mid row.region.0 ≡ true) made
 raise_there size old mid rows made lost cuts down =
     recount_known (λ r. region_entries old r - count_on r rows) old mid (lowered_recounts rows old mid down) made (rows_map (IsInside size old) (λ row. has_region old row.region.0 ≡ true) (λ row is. is.region) made cuts.inside)
 
 -- counts, once the rows were taken off and what was made of them was put on
-pub changed_counts : (header : Header) (past : List Event) (k : KernelParts) (ids : Ids) (maps : Mapped) (mid chains : ChainTable) (task : ℕ) (one two : List Entry) → Rests header k ids past
+pub changed_counts : (header : Header) (past : List Event) (k : Parts) (ids : Ids) (maps : Mapped) (mid chains : ChainTable) (task : ℕ) (one two : List Entry) → Rests header k ids past → waiting task past ≡ None
     → ChangesOnly k.maps maps task (Some two) → entries_in task k.maps ≡ Some one → Cuts header.size k.chains (rows_in task k.maps) two [] → Lowered one k.chains mid → Raised two mid chains → Changed header past k ids maps chains []
-changed_counts header past k ids maps mid chains task one two rests changes value cuts down up =
+changed_counts header past k ids maps mid chains task one two rests idle changes value cuts down up =
     let live = lives_as task k.maps one value in
     let rows = rows_in task k.maps in
     let down2 = subst (λ (z : List Entry). Lowered z k.chains mid) (sym live.0) down in
-    changed_by header past k ids maps chains task (Some two) [] (λ r. region_entries k.chains r - count_on r rows + count_on r two) rests changes live.1 cuts (recounted rows two k.chains mid chains down2 up)
+    changed_by header past k ids maps chains task (Some two) [] (λ r. region_entries k.chains r - count_on r rows + count_on r two) rests idle changes live.1 cuts (recounted rows two k.chains mid chains down2 up)
     (λ r there. let most = counted header.size task k.maps k.chains [] rests.matches.entries live.1 r there in omega arith)
 
-pub began_protect : (header : Header) (outside : Outside) (task : TaskId) (address bytes : ℕ) (prot : Prot) (past events : List Event) (k : KernelParts) (ids : Ids) (maps : Mapped) (mid chains : ChainTable) (change : MapChange) (one two : List Entry)
+pub ran_protect : (header : Header) (outside : Outside) (task : TaskId) (address bytes : ℕ) (prot : Prot) (past events : List Event) (k : Parts) (ids : Ids) (maps : Mapped) (mid chains : ChainTable) (change : MapChange) (one two : List Entry)
     → Starts header (command.Protect task address bytes prot) past k ids events → change ≡ protection address bytes prot
     → ChangesOnly k.maps maps task.0 (Some (protected k.maps.size change.address change.bytes change.prot (rows_in task.0 k.maps)))
     → entries_in task.0 k.maps ≡ Some one → entries_in task.0 maps ≡ Some two → length two ≤ most_entries → Lowered one k.chains mid → Raised two mid chains
-    → Began header outside (command.Protect task address bytes prot) past (record k { maps = maps; chains = chains }) ids (event.Protected task address bytes prot ∷ [])
-began_protect header outside task address bytes prot past events k ids maps mid chains change one two s is changes value now few down up =
+    → Ran header outside (command.Protect task address bytes prot) past (record k { maps = maps; chains = chains }) ids (event.Protected task address bytes prot ∷ [])
+ran_protect header outside task address bytes prot past events k ids maps mid chains change one two s is changes value now few down up =
     let m = s.rests.matches in
     let live = lives_as task.0 k.maps one value in
     let rows = rows_in task.0 k.maps in
     let cuts = protect_cuts header.size address bytes task.0 prot k.maps maps k.chains change two m.entries m.tasks.sized is changes now few in
-    let c = changed_counts header past k ids maps mid chains task.0 one two s.rests (record { size = changes.size; changed = now; others = changes.others }) value cuts down up in
+    let idle = acts task.0 past _ s.accepted in
+    let c = changed_counts header past k ids maps mid chains task.0 one two s.rests idle (record { size = changes.size; changed = now; others = changes.others }) value cuts down up in
     let same : ChangesOnly k.maps maps task.0 (Some (protected header.size address bytes prot rows)) =
     record { size = changes.size; changed = changes.changed ∙ ap Some (ap (λ z. protected k.maps.size z.address z.bytes z.prot rows) is ∙ ap (λ z. protected z address bytes prot rows) m.tasks.sized); others = changes.others } in
     let rests : Rests header (record k { maps = maps; chains = chains }) ids (event.Protected task address bytes prot ∷ past) =
@@ -232,37 +205,40 @@ began_protect header outside task address bytes prot past events k ids maps mid 
             plain = m.plain;
             size = m.size;
             host = m.host;
-            fits = m.fits;
-            tasks = tasks_changed header.size task.0 k.maps maps (λ t. host_of t past) (λ t. entries_of header.size t past) (λ t. waiting t past) (protected header.size address bytes prot) m.tasks same live.1;
+            fits = record { parts = m.fits.parts; plain = m.fits.plain; buffers = m.fits.buffers };
+            tasks = tasks_changed header.size task.0 k.maps maps (λ t. host_of t past) (λ t. entries_of header.size t past) (protected header.size address bytes prot) m.tasks same live.1;
             regions = c.regions;
             entries = c.entries;
             pages = c.pages;
             uses = uses_kept header past k ids maps task.0 two s.rests (record { size = changes.size; changed = now; others = changes.others }) live.1 cuts;
-            controls = still (λ o. last_control 0 o past) (λ o. live_control 0 o past) (created past) m.controls;
-            stores = m.stores;
+            controls = m.controls;
+            settled = refl;
+            laundry = m.laundry;
             frames = m.frames;
           };
       used = c.used;
+      reached = c.reached;
+      waits = c.waits;
+      idle = s.rests.idle;
     } in
     record {
       rests = rests;
-      grows = grows_one header outside (command.Protect task address bytes prot) past (event.Protected task address bytes prot) refl (record { quiet = m.controls.created; cause = tt; own_bytes = tt; copies = tt; frames = suffices header k.frames (event.Protected task address bytes prot ∷ past) m.frames; inner = tt });
+      grows = grows_one header outside (command.Protect task address bytes prot) past (event.Protected task address bytes prot) refl (record { quiet = m.settled; cause = tt; own_bytes = tt; copies = tt; frames = suffices header k.frames (event.Protected task address bytes prot ∷ past) m.frames; inner = tt; said = tt });
       done = tt;
-      prompt = prompt_of header (record k { maps = maps; chains = chains }) ids (event.Protected task address bytes prot ∷ past) rests;
-      paid = paid_of header past (event.Protected task address bytes prot ∷ []) s.begins (tt, tt) refl;
     }
 
-pub began_inherit : (header : Header) (outside : Outside) (task : TaskId) (address bytes : ℕ) (inherit : Inherit) (past events : List Event) (k : KernelParts) (ids : Ids) (maps : Mapped) (mid chains : ChainTable) (change : MapChange) (one two : List Entry)
+pub ran_inherit : (header : Header) (outside : Outside) (task : TaskId) (address bytes : ℕ) (inherit : Inherit) (past events : List Event) (k : Parts) (ids : Ids) (maps : Mapped) (mid chains : ChainTable) (change : MapChange) (one two : List Entry)
     → Starts header (command.Inherit task address bytes inherit) past k ids events → change ≡ inheritance address bytes inherit
     → ChangesOnly k.maps maps task.0 (Some (inherited k.maps.size change.address change.bytes change.inherit (rows_in task.0 k.maps)))
     → entries_in task.0 k.maps ≡ Some one → entries_in task.0 maps ≡ Some two → length two ≤ most_entries → Lowered one k.chains mid → Raised two mid chains
-    → Began header outside (command.Inherit task address bytes inherit) past (record k { maps = maps; chains = chains }) ids (event.Inherited task address bytes inherit ∷ [])
-began_inherit header outside task address bytes inherit past events k ids maps mid chains change one two s is changes value now few down up =
+    → Ran header outside (command.Inherit task address bytes inherit) past (record k { maps = maps; chains = chains }) ids (event.Inherited task address bytes inherit ∷ [])
+ran_inherit header outside task address bytes inherit past events k ids maps mid chains change one two s is changes value now few down up =
     let m = s.rests.matches in
     let live = lives_as task.0 k.maps one value in
     let rows = rows_in task.0 k.maps in
     let cuts = inherit_cuts header.size address bytes task.0 inherit k.maps maps k.chains change two m.entries m.tasks.sized is changes now few in
-    let c = changed_counts header past k ids maps mid chains task.0 one two s.rests (record { size = changes.size; changed = now; others = changes.others }) value cuts down up in
+    let idle = acts task.0 past _ s.accepted in
+    let c = changed_counts header past k ids maps mid chains task.0 one two s.rests idle (record { size = changes.size; changed = now; others = changes.others }) value cuts down up in
     let same : ChangesOnly k.maps maps task.0 (Some (inherited header.size address bytes inherit rows)) =
     record { size = changes.size; changed = changes.changed ∙ ap Some (ap (λ z. inherited k.maps.size z.address z.bytes z.inherit rows) is ∙ ap (λ z. inherited z address bytes inherit rows) m.tasks.sized); others = changes.others } in
     let rests : Rests header (record k { maps = maps; chains = chains }) ids (event.Inherited task address bytes inherit ∷ past) =
@@ -272,22 +248,24 @@ began_inherit header outside task address bytes inherit past events k ids maps m
             plain = m.plain;
             size = m.size;
             host = m.host;
-            fits = m.fits;
-            tasks = tasks_changed header.size task.0 k.maps maps (λ t. host_of t past) (λ t. entries_of header.size t past) (λ t. waiting t past) (inherited header.size address bytes inherit) m.tasks same live.1;
+            fits = record { parts = m.fits.parts; plain = m.fits.plain; buffers = m.fits.buffers };
+            tasks = tasks_changed header.size task.0 k.maps maps (λ t. host_of t past) (λ t. entries_of header.size t past) (inherited header.size address bytes inherit) m.tasks same live.1;
             regions = c.regions;
             entries = c.entries;
             pages = c.pages;
             uses = uses_kept header past k ids maps task.0 two s.rests (record { size = changes.size; changed = now; others = changes.others }) live.1 cuts;
-            controls = still (λ o. last_control 0 o past) (λ o. live_control 0 o past) (created past) m.controls;
-            stores = m.stores;
+            controls = m.controls;
+            settled = refl;
+            laundry = m.laundry;
             frames = m.frames;
           };
       used = c.used;
+      reached = c.reached;
+      waits = c.waits;
+      idle = s.rests.idle;
     } in
     record {
       rests = rests;
-      grows = grows_one header outside (command.Inherit task address bytes inherit) past (event.Inherited task address bytes inherit) refl (record { quiet = m.controls.created; cause = tt; own_bytes = tt; copies = tt; frames = suffices header k.frames (event.Inherited task address bytes inherit ∷ past) m.frames; inner = tt });
+      grows = grows_one header outside (command.Inherit task address bytes inherit) past (event.Inherited task address bytes inherit) refl (record { quiet = m.settled; cause = tt; own_bytes = tt; copies = tt; frames = suffices header k.frames (event.Inherited task address bytes inherit ∷ past) m.frames; inner = tt; said = tt });
       done = tt;
-      prompt = prompt_of header (record k { maps = maps; chains = chains }) ids (event.Inherited task address bytes inherit ∷ past) rests;
-      paid = paid_of header past (event.Inherited task address bytes inherit ∷ []) s.begins (tt, tt) refl;
     }

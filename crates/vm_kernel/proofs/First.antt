@@ -2,14 +2,12 @@
 use Rattle.std.proofs.Common.{◌≡◌, ℕ, zero, suc, ◌<◌, false, List, [], ◌∷◌, get_or, length, replicate, refl, ap, sym, ◌∙◌, subst, arith, Some, None, Option}
 use Rattle.std.proofs.lemmas.List.{length-replicate}
 use Rattle.std.proofs.lemmas.Bool.Decides.{nat_tests}
-use Rattle.std.specs.Prelude.{nat_lt, reverse, slice_get}
+use Rattle.std.specs.Prelude.{All, nat_lt, reverse, slice_get}
 use Rattle.vm_base.specs.declared.ids.TaskId.{TaskId}
 use Rattle.vm_model.specs.declared.command.Command.TheVariants as command
 use Rattle.vm_model.specs.declared.event.Event.{Event}
 use Rattle.vm_model.specs.declared.event.Event.TheVariants as event
 use Rattle.vm_model.specs.declared.script.Header.{Header}
-use Rattle.vm_model.specs.Controls.{last_control, live_control}
-use Rattle.vm_legal.specs.Licences.{created}
 use Rattle.vm_model.specs.Named.{named}
 use Rattle.vm_legal.specs.Used.{in_use}
 use Rattle.vm_frames.specs.Frames.{claimed, count_claims, frame_count, is_claimed}
@@ -17,13 +15,15 @@ use Rattle.vm_objects.specs.Objects.{absent_at, object_at}
 use Rattle.vm_queues.specs.Queues.{IsEmpty}
 use Rattle.vm_resident.specs.Resident.{IsOwned, owner_of, row_at}
 use Rattle.vm_shadow.specs.Chains.{region_at}
-use Rattle.vm_kernel.specs.Matches.{IsPlain, Rests, first_ids, the_host}
+use Rattle.vm_kernel.specs.Matches.{EachApart, IsPlain, IsWashed, Rests, first_ids, the_host}
+use Rattle.vm_kernel.specs.Pagers.{last_in, live_in}
+use Rattle.vm_kernel.specs.Waiters.{waiting_in}
+use Rattle.vm_waits.specs.Waits.{again, entry}
 use Rattle.vm_shadow.specs.declared.ids.Ids.{Ids}
 use Rattle.vm_kernel.specs.Begun.{Starts}
 use Rattle.vm_kernel.specs.Counts.{count_by, most_tasks}
 use Rattle.vm_kernel.specs.declared.parts.Parts.{Parts}
 use Rattle.vm_kernel.proofs.Counts.{by_none}
-use Rattle.vm_kernel.proofs.Uses.{still}
 
 none_of : {A B : Type 0} (x : Option A) (y : A) → x ≡ None → x ≡ Some y → B
 none_of x y none some = absurd (let bad : None ≡ Some y = sym none ∙ some in cc)
@@ -53,8 +53,9 @@ unused header r plain =
 pub first_rests : (header : Header) (k : Parts) (count : ℕ) → IsPlain header → k.size ≡ header.size → k.host ≡ the_host → slice_get (reverse header.frames.items) 0 ≡ Some count
     → k.frames ≡ record { pages = replicate count (replicate header.size 0); claims = replicate count false; wired = 0 } → k.queues.frames ≡ count → IsEmpty k.queues
     → ((o p : ℕ) → row_at k.resident o p ≡ None) → ((f : ℕ) → owner_of k.resident f ≡ None) → IsOwned k.resident → ((o : ℕ) → object_at k.objects o ≡ None) → ((o p : ℕ) → absent_at k.objects o p ≡ false)
-    → k.maps ≡ record { size = header.size; tasks = [] } → ((r : ℕ) → region_at k.chains r ≡ None) → Rests header k first_ids []
-first_rests header k count plain size host hosts frames queues empty rows owners owned objects marks maps regions =
+    → k.maps ≡ record { size = header.size; tasks = [] } → ((r : ℕ) → region_at k.chains r ≡ None) → k.buffers.size ≡ header.size → k.laundry.held ≡ [] → k.laundry.room ≡ count → k.waits.rows ≡ []
+    → Rests header k first_ids []
+first_rests header k count plain size host hosts frames queues empty rows owners owned objects marks maps regions buffers held room waits =
     let claims : k.frames.claims ≡ replicate count false = ap (λ z. z.claims) frames in
     let pages : k.frames.pages ≡ replicate count (replicate header.size 0) = ap (λ z. z.pages) frames in
     let counted : frame_count k.frames ≡ count = ap length claims ∙ length-replicate count false in
@@ -82,8 +83,9 @@ first_rests header k count plain size host hosts frames queues empty rows owners
                         pages = ap length pages ∙ (length-replicate count (replicate header.size 0) ∙ sym counted);
                       };
                   plain = λ o p row is. none_of (row_at k.resident o p) row (rows o p) is;
+                  buffers = buffers ∙ sym size;
                 };
-            tasks = rw maps (record { sized = refl; hosts = λ task. refl; rows = λ task. refl; none = λ task. refl });
+            tasks = rw maps (record { sized = refl; hosts = λ task. refl; rows = λ task. refl });
             regions =
                 record {
                   region = sym declared;
@@ -100,11 +102,37 @@ first_rests header k count plain size host hosts frames queues empty rows owners
             entries = rw maps (record { inside = λ task. tt; known = tt; most = λ task le. refl; few = λ task. omega arith; counts = λ r row is. none_of (region_at k.chains r) row (regions r) is });
             pages = record { shown = λ o p. rw (rows o p, marks o p) refl; live = λ o p row is. none_of (row_at k.resident o p) row (rows o p) is };
             uses = rw maps (record { used = λ r. unused header r plain; among = λ task rows is. none_of None rows refl is });
-            controls = record { last = λ o. refl; live = λ o. refl; created = refl };
-            stores = record { clean = λ none o p row is. none_of (row_at k.resident o p) row (rows o p) is };
+            controls =
+                record {
+                  last = λ o. sym (ap last_in (objects o));
+                  live = λ o. sym (ap live_in (objects o));
+                  ready = λ o control live. none_of None control refl live;
+                  all_live = record { at = λ o row is. none_of (object_at k.objects o) row (objects o) is };
+                  numbers = record { at = λ o row is. none_of (object_at k.objects o) row (objects o) is };
+                  ended = λ o row is. none_of (object_at k.objects o) row (objects o) is;
+                };
+            settled = refl;
+            laundry =
+                record {
+                  count = sym (ap length held);
+                  room = let none = ap length held in omega (arith, none, room, counted);
+                  washed = subst (All (IsWashed k.frames k.resident)) (sym held) (λ f none less. absurd (omega arith));
+                  apart = subst EachApart (sym held) tt;
+                };
             frames = record { total = hosts ∙ ap Some (sym counted); held = sym nothing; wired = sym (ap (λ z. z.wired) frames); fits = let none = ap (λ z. z.wired) frames in omega (arith, nothing, none) };
           };
       used = λ r row is. none_of (region_at k.chains r) row (regions r) is;
+      reached = λ o row is. none_of (object_at k.objects o) row (objects o) is;
+      waits =
+          record {
+            is = λ t. sym (ap (λ z. waiting_in (entry z t)) waits);
+            allowed = λ t w is. none_of (entry k.waits.rows t) w (ap (λ z. entry z t) waits) is;
+            sized = λ t w is. none_of (entry k.waits.rows t) w (ap (λ z. entry z t) waits) is;
+            reasons = λ t w is. none_of (entry k.waits.rows t) w (ap (λ z. entry z t) waits) is;
+            aims = λ t w key is. none_of (entry k.waits.rows t) w (ap (λ z. entry z t) waits) is;
+            askers = λ o p row is. none_of (row_at k.resident o p) row (rows o p) is;
+          };
+      idle = ap again waits;
     }
 
 -- a line changes nothing
@@ -123,11 +151,15 @@ rests_line header k ids line past rests =
             entries = m.entries;
             pages = m.pages;
             uses = m.uses;
-            controls = still (λ o. last_control 0 o past) (λ o. live_control 0 o past) (created past) m.controls;
-            stores = m.stores;
+            controls = m.controls;
+            settled = refl;
+            laundry = m.laundry;
             frames = m.frames;
           };
       used = rests.used;
+      reached = rests.reached;
+      waits = rests.waits;
+      idle = rests.idle;
     }
 
 -- a first command may make a task

@@ -11,13 +11,12 @@ use Rattle.vm_legal.specs.Frames.{Suffice}
 use Rattle.vm_legal.specs.Licences.{AllLicensed, Caused, created}
 use Rattle.vm_legal.specs.Outside.{Outside}
 use Rattle.vm_legal.specs.Refusal.{where_true}
-use Rattle.vm_legal.specs.Stretches.{EachIn, MomentsIn}
+use Rattle.vm_legal.specs.Stretches.{EachIn, EachOf, MomentsIn}
 use Rattle.vm_shadow.specs.declared.ids.Ids.{Ids}
-use Rattle.vm_kernel.specs.Begun.{AllInner, Began, Grows, IsInner, IsLined}
+use Rattle.vm_kernel.specs.Begun.{AllInner, Grows, IsInner, IsSaid, Ran}
 use Rattle.vm_kernel.specs.Matches.{Rests}
 use Rattle.vm_kernel.specs.declared.parts.Parts.{Parts}
-use Rattle.vm_kernel.proofs.Growing.{licensed, paid_of}
-use Rattle.vm_kernel.proofs.Prompting.{prompt_of}
+use Rattle.vm_kernel.proofs.Growing.{licensed}
 
 -- of a list of tests that finds nothing, each found nothing
 pub passed : (b : Bool) (why : Code) (later : Option Code) → where_true b why later ≡ None → (b ≡ false) × (later ≡ None)
@@ -31,6 +30,7 @@ pub record Heads (header : Header) (outside : Outside) (doing : Command) (past e
   pub copies : EachIn (CopiesCurrent header outside) events past
   pub frames : MomentsIn (Suffice header 0) events past
   pub inner : AllInner events
+  pub said : EachOf (IsSaid header.size) events
 
 pub grows_head : (header : Header) (outside : Outside) (doing : Command) (past events first : List Event) → head header past doing ≡ Some first → events ≡ reverse first → Heads header outside doing past events → Grows header outside doing past events
 grows_head header outside doing past events first is same all =
@@ -45,6 +45,7 @@ grows_head header outside doing past events first is same all =
       copies = all.copies;
       frames = all.frames;
       inner = all.inner;
+      said = all.said;
     }
 
 -- what holds of a command's one event
@@ -55,21 +56,15 @@ pub record IsOne (header : Header) (outside : Outside) (doing : Command) (past :
   pub copies : CopiesCurrent header outside e past
   pub frames : Suffice header 0 (e ∷ past)
   pub inner : IsInner e
+  pub said : IsSaid header.size e
 
 pub heads_one : (header : Header) (outside : Outside) (doing : Command) (past : List Event) (e : Event) → IsOne header outside doing past e → Heads header outside doing past (e ∷ [])
 heads_one header outside doing past e is =
-    record { licensed = (licensed header outside doing e past is.quiet is.cause, tt); own_bytes = (is.own_bytes, tt); copies = (is.copies, tt); frames = (is.frames, tt); inner = (is.inner, tt) }
+    record { licensed = (licensed header outside doing e past is.quiet is.cause, tt); own_bytes = (is.own_bytes, tt); copies = (is.copies, tt); frames = (is.frames, tt); inner = (is.inner, tt); said = (is.said, tt) }
 
 pub grows_one : (header : Header) (outside : Outside) (doing : Command) (past : List Event) (e : Event) → head header past doing ≡ Some (e ∷ []) → IsOne header outside doing past e → Grows header outside doing past (e ∷ [])
 grows_one header outside doing past e first is = grows_head header outside doing past (e ∷ []) (e ∷ []) first refl (heads_one header outside doing past e is)
 
-pub began_head : (header : Header) (outside : Outside) (doing : Command) (past : List Event) (k : Parts) (ids : Ids) (events first : List Event) → IsLined past → head header past doing ≡ Some first → events ≡ reverse first
-    → Heads header outside doing past events → IsDone header doing events past → Rests header k ids (events ++ past) → Began header outside doing past k ids events
-began_head header outside doing past k ids events first lined is same all done rests =
-    record {
-      rests = rests;
-      grows = grows_head header outside doing past events first is same all;
-      done = done;
-      prompt = prompt_of header k ids (events ++ past) rests;
-      paid = paid_of header past events lined all.inner rests.matches.controls.created;
-    }
+pub ran_head : (header : Header) (outside : Outside) (doing : Command) (past : List Event) (k : Parts) (ids : Ids) (events first : List Event) → head header past doing ≡ Some first → events ≡ reverse first
+    → Heads header outside doing past events → IsDone header doing events past → Rests header k ids (events ++ past) → Ran header outside doing past k ids events
+ran_head header outside doing past k ids events first is same all done rests = record { rests = rests; grows = grows_head header outside doing past events first is same all; done = done }

@@ -1,146 +1,173 @@
--- Where a load or store leads that isn't refused.
-use Rattle.std.proofs.Common.{◌≡◌, ℕ, zero, suc, ◌+◌, ◌%◌, ◌<◌, ◌≤◌, ◌^◌, ◌==◌, Bool, true, false, List, refl, ap, sym, ◌∙◌, subst, arith, Some, None, Option, inl, inr}
-use Rattle.std.proofs.lemmas.Bool.Decides.{eqb_tells}
-use Rattle.std.specs.Prelude.{IfSome, IsSome, is_none, is_some, not, if◌then◌else◌}
-use Rattle.vm_base.specs.declared.code.Code.{Code}
-use Rattle.vm_base.specs.declared.code.Code.TheVariants as code
+-- Where a waiting access leads: its entry, its region, and the page of the object under that.
+use Rattle.std.proofs.Common.{◌≡◌, ℕ, ◌+◌, ◌<◌, ◌^◌, true, false, List, [], length, refl, ap, sym, ◌∙◌, subst, arith, Some, None, Option}
+use Rattle.std.specs.Prelude.{is_some}
 use Rattle.vm_base.specs.declared.entry.Entry.{Entry}
-use Rattle.vm_base.specs.declared.ids.Access.{Access as Need}
 use Rattle.vm_base.specs.declared.ids.PageKey.{PageKey}
-use Rattle.vm_base.specs.Pages.{IsAccessSize, IsPageSize, access_fits}
-use Rattle.vm_base.specs.Entries.{allows, entry_at, page_at}
+use Rattle.vm_base.specs.Entries.{entry_at, page_at}
 use Rattle.vm_model.specs.declared.event.Event.{Event}
 use Rattle.vm_model.specs.declared.script.Header.{Header}
-use Rattle.vm_legal.specs.Frames.{frames_free}
-use Rattle.vm_legal.specs.Refusal.{access_refusal, acting, where_true}
+use Rattle.vm_model.specs.Named.{named}
+use Rattle.vm_model.specs.Regions.{Region, backing_of, region_of}
 use Rattle.vm_model.specs.Rows.{FoundRow, found_row}
 use Rattle.vm_model.specs.Tasks.{entries_of, host_of}
-use Rattle.vm_model.specs.Waiting.{waiting}
-use Rattle.vm_maps.specs.Judge.{place_at}
-use Rattle.vm_maps.specs.Maps.{entries_in, rows_in}
-use Rattle.vm_maps.specs.declared.place.Place.{Place}
-use Rattle.vm_frames.specs.Frames.{free}
-use Rattle.vm_shadow.specs.Chains.{region_at}
+use Rattle.vm_model.specs.Waiting.{address_of, next_page, waiting}
+use Rattle.vm_legal.specs.Accesses.{Waits, page_of}
+use Rattle.vm_legal.specs.Walks.{IsTop}
+use Rattle.vm_maps.specs.Maps.{rows_in}
+use Rattle.vm_objects.specs.Objects.{object_at}
+use Rattle.vm_parts.specs.Fits.{object_pages, pages_kept}
+use Rattle.vm_shadow.specs.Chains.{ChainTable, region_at}
 use Rattle.vm_shadow.specs.declared.ids.Ids.{Ids}
 use Rattle.vm_shadow.specs.declared.region_row.RegionRow.{RegionRow}
-use Rattle.vm_kernel.specs.Built.{is_spent}
-use Rattle.vm_kernel.specs.Changes.{IsAllowed}
-use Rattle.vm_kernel.specs.Matches.{IsInside, Matches}
-use Rattle.vm_parts.specs.Fits.{object_pages, pages_kept}
+use Rattle.vm_waits.specs.Waits.{entry}
+use Rattle.vm_waits.specs.declared.waiting.Waiting.{Waiting}
+use Rattle.vm_waits.specs.declared.waiting.Want.{Want}
+use Rattle.vm_waits.specs.declared.waiting.Want.TheVariants as want
+use Rattle.vm_supply.specs.declared.woken.Woken.{Woken}
+use Rattle.vm_kernel.specs.Faulting.{CanFault}
+use Rattle.vm_kernel.specs.Matches.{HasWaits, IsInside, IsPlain, IsUnder, Matches, host_for}
 use Rattle.vm_kernel.specs.Places.{has_region, pages_in, region_pages}
+use Rattle.vm_kernel.specs.Waiters.{IsAt, access_in, address_in, waiting_in}
 use Rattle.vm_kernel.specs.declared.parts.Parts.{Parts}
-use Rattle.vm_kernel.proofs.Accessing.{Leads}
-use Rattle.vm_kernel.proofs.Growing.{free_is}
-use Rattle.vm_kernel.proofs.Heads.{passed}
-use Rattle.vm_kernel.proofs.Prompting.{region_row}
-use Rattle.vm_kernel.proofs.Tasks.{lives_of}
 
-found_of : (what : Need) (x : Option Entry) → access_refusal what x ≡ None → (entry : Entry) × (x ≡ Some entry) × (allows what entry.prot ≡ true)
-found_of what None fine = absurd (let bad : Some code.InvalidAddress ≡ None = fine in cc)
-found_of what (Some entry) fine = (entry, refl, go (allows what entry.prot) fine)
+-- the row of a region that is there
+pub region_row : (cs : ChainTable) (r : ℕ) → has_region cs r ≡ true → (row : RegionRow) × (region_at cs r ≡ Some row)
+region_row cs r there = go (region_at cs r) there
   where
-    go : (b : Bool) → (if b then None else Some code.ProtectionFailure) ≡ None → b ≡ true
-    go true is = refl
-    go false is = absurd (let bad : Some code.ProtectionFailure ≡ None = is in cc)
+    go : (x : Option RegionRow) → is_some x ≡ true → (row : RegionRow) × (x ≡ Some row)
+    go None bad = absurd (let no : false ≡ true = bad in cc)
+    go (Some row) is = (row, refl)
 
--- a load or store that isn't refused, where a test on its address comes first
-pub allowed_of : (header : Header) (k : Parts) (ids : Ids) (past : List Event) (lost : List Entry) (task address : ℕ) (what : Need) (test : Bool) → Matches header k ids lost past
-    → acting past task (where_true test code.InvalidArgument (access_refusal what (entry_at address (entries_of header.size task past)))) ≡ None → IsAllowed k.maps task address what
-allowed_of header k ids past lost task address what test m fine =
-    let one = passed (is_none (host_of task past)) code.NoSuchName (where_true (is_some (waiting task past)) code.Blocked (where_true test code.InvalidArgument (access_refusal what (entry_at address (entries_of header.size task past))))) fine in
-    let two = passed (is_some (waiting task past)) code.Blocked (where_true test code.InvalidArgument (access_refusal what (entry_at address (entries_of header.size task past)))) one.1 in
-    let three = passed test code.InvalidArgument (access_refusal what (entry_at address (entries_of header.size task past))) two.1 in
-    let found = found_of what (entry_at address (entries_of header.size task past)) three.1 in
-    record {
-      entry = found.0;
-      lives = lives_of (entries_in task k.maps) (host_of task past) (m.tasks.hosts task) one.0;
-      found = ap (entry_at address) (sym (m.tasks.rows task)) ∙ found.1;
-      allowed = found.2;
-    }
+pub region_is : (cs : ChainTable) (r : ℕ) (row : RegionRow) → region_at cs r ≡ Some row → has_region cs r ≡ true
+region_is cs r row is = ap is_some is
 
--- the region under it is over the object with its number
+-- the region is over the object with its number, from its page 0 on
 pub top_is : (header : Header) (k : Parts) (ids : Ids) (past : List Event) (lost : List Entry) (r : ℕ) (row : RegionRow) → Matches header k ids lost past → region_at k.chains r ≡ Some row → row.top.0 ≡ r
-top_is header k ids past lost r row m is = sym (ap (λ z. z.top) (m.regions.rows r row is)) ∙ (m.regions.tops r).top
+top_is header k ids past lost r row m is = sym (ap (λ (z : Region). z.top) (m.regions.rows r row is)) ∙ (m.regions.tops r).top
 
 pub shift_is : (header : Header) (k : Parts) (ids : Ids) (past : List Event) (lost : List Entry) (r : ℕ) (row : RegionRow) → Matches header k ids lost past → region_at k.chains r ≡ Some row → row.shift ≡ 0
-shift_is header k ids past lost r row m is = sym (ap (λ z. z.shift) (m.regions.rows r row is)) ∙ (m.regions.tops r).shift
+shift_is header k ids past lost r row m is = sym (ap (λ (z : Region). z.shift) (m.regions.rows r row is)) ∙ (m.regions.tops r).shift
 
+-- an entry that holds an address lies within its region
 pub inside_of : (header : Header) (k : Parts) (ids : Ids) (past : List Event) (lost : List Entry) (task address : ℕ) (entry : Entry) → Matches header k ids lost past → entry_at address (rows_in task k.maps) ≡ Some entry
     → FoundRow (IsInside header.size k.chains) address entry
 inside_of header k ids past lost task address entry m found = found_row (IsInside header.size k.chains) address (rows_in task k.maps) entry (m.entries.inside task) found
 
--- the key of a place
-abbrev pub key_at : RegionRow → Place → PageKey
-key_at row place = record { object = row.top; page = record { 0 = row.shift + place.page.0 } }
+-- the page is one of an object, which is under the region with its number
+pub record Lies (k : Parts) (key : PageKey) : Type 0 where
+  pub row : RegionRow
+  pub region : region_at k.chains key.object.0 ≡ Some row
+  pub under : IsUnder row (object_at k.objects key.object.0)
+  pub inside : key.page.0 < row.pages
 
-first : (shift page : ℕ) → shift ≡ 0 → shift + page ≡ page
-first shift page is = omega arith
-
-pub leads_of : (header : Header) (k : Parts) (ids : Ids) (past : List Event) (lost : List Entry) (task address : ℕ) (what : Need) (place : Place) (key : PageKey) → Matches header k ids lost past → (a : IsAllowed k.maps task address what)
-    → place ≡ place_at k.maps.size address a.entry → IfSome (region_at k.chains place.region.0) (λ row. key ≡ key_at row place) → Leads header k task address key
-leads_of header k ids past lost task address what place key m a is keyed =
-    let inside = inside_of header k ids past lost task address a.entry m a.found in
-    let r = a.entry.region.0 in
-    let region = region_row k.chains r inside.is.region in
-    let same : key ≡ key_at region.0 (place_at k.maps.size address a.entry) = rw region.1 at (rw is at keyed) in
+pub lies_of : (header : Header) (k : Parts) (ids : Ids) (past : List Event) (lost : List Entry) (task : ℕ) (what : Want) (key : PageKey) → Matches header k ids lost past → IsAt k.maps k.chains task what key → Lies k key
+lies_of header k ids past lost task what key m at =
+    let r = at.entry.region.0 in
+    let address = address_in what in
+    let object : key.object.0 ≡ r = ap (λ (z : PageKey). z.object.0) at.is ∙ top_is header k ids past lost r at.row m at.region in
+    let page : key.page.0 ≡ at.row.shift + page_at k.maps.size address at.entry = ap (λ (z : PageKey). z.page.0) at.is in
+    let none = shift_is header k ids past lost r at.row m at.region in
+    let found = inside_of header k ids past lost task address at.entry m at.found in
+    let below : page_at header.size address at.entry < region_pages k.chains r = found.is.inside.each address found.from found.below in
+    let pages : region_pages k.chains r ≡ at.row.pages = ap pages_in at.region in
+    let sized : page_at k.maps.size address at.entry ≡ page_at header.size address at.entry = ap (λ z. page_at z address at.entry) m.tasks.sized in
     record {
-      entry = a.entry;
-      lives = a.lives;
-      found = a.found;
-      object = ap (λ z. z.object.0) same ∙ top_is header k ids past lost r region.0 m region.1;
-      page = ap (λ z. z.page.0) same ∙ (first region.0.shift (page_at k.maps.size address a.entry) (shift_is header k ids past lost r region.0 m region.1) ∙ ap (λ z. page_at z address a.entry) m.tasks.sized);
-      region = inside.is.region;
+      row = at.row;
+      region = ap (λ z. region_at k.chains z) object ∙ at.region;
+      under = subst (λ (z : ℕ). IsUnder at.row (object_at k.objects z)) (sym object) (m.regions.under r at.row at.region);
+      inside = omega (arith, page, none, below, pages, sized);
     }
 
--- the page is one of the object
-pub page_inside : (header : Header) (k : Parts) (ids : Ids) (past : List Event) (lost : List Entry) (task address : ℕ) (key : PageKey) → Matches header k ids lost past → Leads header k task address key → key.page.0 < object_pages k.objects key.object.0
-page_inside header k ids past lost task address key m to =
-    let inside = inside_of header k ids past lost task address to.entry m to.found in
-    let r = to.entry.region.0 in
-    let region = region_row k.chains r to.region in
-    let below : page_at header.size address to.entry < region_pages k.chains r = inside.is.inside.each address inside.from inside.below in
-    let pages : region_pages k.chains r ≡ region.0.pages = ap pages_in region.1 in
-    let objects : object_pages k.objects r ≡ region.0.pages = ap pages_kept (m.regions.under r region.0 region.1) in
-    subst (λ (z : ℕ). z < object_pages k.objects key.object.0) (sym to.page) (subst (λ (z : ℕ). page_at header.size address to.entry < object_pages k.objects z) (sym to.object) (omega (arith, below, pages, objects)))
+pub lies_there : (k : Parts) (key : PageKey) → Lies k key → has_region k.chains key.object.0 ≡ true
+lies_there k key lies = region_is k.chains key.object.0 lies.row lies.region
 
--- the region of a place is there, and its page has no shift
-pub region_there : (header : Header) (k : Parts) (ids : Ids) (past : List Event) (lost : List Entry) (task address : ℕ) (what : Need) (place : Place) → Matches header k ids lost past → (a : IsAllowed k.maps task address what)
-    → place ≡ place_at k.maps.size address a.entry → has_region k.chains place.region.0 ≡ true
-region_there header k ids past lost task address what place m a is =
-    subst (λ (z : Place). has_region k.chains z.region.0 ≡ true) (sym is) (inside_of header k ids past lost task address a.entry m a.found).is.region
+pub lies_inside : (k : Parts) (key : PageKey) → Lies k key → key.page.0 < object_pages k.objects key.object.0
+lies_inside k key lies =
+    let pages : object_pages k.objects key.object.0 ≡ lies.row.pages = ap pages_kept lies.under.found ∙ lies.under.pages in
+    omega (arith, pages, lies.inside)
 
-pub is_there : {A : Type 0} (x : Option A) → is_some x ≡ true → IsSome x
-is_there None bad = absurd (let no : false ≡ true = bad in cc)
-is_there (Some y) is = refl
+-- an access that waits can be run
 
-pub shift_few : (header : Header) (k : Parts) (ids : Ids) (past : List Event) (lost : List Entry) (r page : ℕ) → Matches header k ids lost past → page < 2 ^ 32 → IfSome (region_at k.chains r) (λ row. row.shift + page < 2 ^ 32)
-shift_few header k ids past lost r page m less = go (region_at k.chains r) refl
+pub can_fault : (header : Header) (k : Parts) (ids : Ids) (past : List Event) (who : Woken) (task : ℕ) (w : Waiting) → Matches header k ids [] past → HasWaits k who past → entry k.waits.rows task ≡ Some w → CanFault k task w.want
+can_fault header k ids past who task w m waits is =
+    let allowed = waits.allowed task w is in
+    let address = address_in w.want in
+    let found = inside_of header k ids past [] task address allowed.entry m allowed.found in
+    let region = region_row k.chains allowed.entry.region.0 found.is.region in
+    let page = page_at k.maps.size address allowed.entry in
+    let key : PageKey = record { object = region.0.top; page = record { 0 = region.0.shift + page } } in
+    let at : IsAt k.maps k.chains task w.want key = record { entry = allowed.entry; found = allowed.found; row = region.0; region = region.1; is = refl } in
+    let none = shift_is header k ids past [] allowed.entry.region.0 region.0 m region.1 in
+    record {
+      fits = m.fits;
+      allowed = allowed;
+      sized = waits.sized task w is;
+      page_size = m.tasks.sized ∙ sym m.size;
+      key = key;
+      at = at;
+      few = λ less. subst (λ (z : ℕ). z + page < 2 ^ 32) (sym none) (zero_less page less);
+      inside = lies_inside k key (lies_of header k ids past [] task w.want key m at);
+    }
   where
-    go : (x : Option RegionRow) → region_at k.chains r ≡ x → IfSome x (λ row. row.shift + page < 2 ^ 32)
-    go None is = tt
-    go (Some row) is = let none = shift_is header k ids past lost r row m is in omega arith
+    zero_less : (page : ℕ) → page < 2 ^ 32 → 0 + page < 2 ^ 32
+    zero_less page less = omega arith
 
--- an access that isn't refused lies within a page
-pub even_of : (past : List Event) (task address n : ℕ) (later : Option Code) → acting past task (where_true (not (address % n == 0)) code.InvalidArgument later) ≡ None → address % n ≡ 0
-even_of past task address n later fine =
-    let one = passed (is_none (host_of task past)) code.NoSuchName (where_true (is_some (waiting task past)) code.Blocked (where_true (not (address % n == 0)) code.InvalidArgument later)) fine in
-    let two = passed (is_some (waiting task past)) code.Blocked (where_true (not (address % n == 0)) code.InvalidArgument later) one.1 in
-    let three = passed (not (address % n == 0)) code.InvalidArgument later two.1 in
-    elim (eqb_tells (address % n) 0) [
-      | inl same ↦ same.1
-      | inr apart ↦ absurd (let bad : true ≡ false = rw apart.0 at three.0 in cc)
-    ]
+-- where the access of a task leads, after a history
+pub record Leads (header : Header) (past : List Event) (task : ℕ) (what : Want) (key : PageKey) : Type 0 where
+  pub entry : Entry
+  pub lives : host_of task past ≡ Some 0
+  pub found : entry_at (address_in what) (entries_of header.size task past) ≡ Some entry
+  pub waits : waiting task past ≡ Some (access_in what)
+  pub unmarked : (region_of header entry.region.0 past).mark ≡ false
+  pub top : IsTop (region_of header entry.region.0 past) (page_at header.size (address_in what) entry) key.object.0 key.page.0
+  pub bare : (backing_of header key.object.0 past).backed ≡ false
 
-pub fits_of : (header : Header) (past : List Event) (task address n : ℕ) (later : Option Code) → IsPageSize header.size → IsAccessSize n → acting past task (where_true (not (address % n == 0)) code.InvalidArgument later) ≡ None → address % header.size + n ≤ header.size
-fits_of header past task address n later page width fine = access_fits header.size n address page width (even_of past task address n later fine)
+pub leads_of : (header : Header) (k : Parts) (ids : Ids) (past : List Event) (who : Woken) (task : ℕ) (w : Waiting) (key : PageKey) → Matches header k ids [] past → HasWaits k who past → entry k.waits.rows task ≡ Some w
+    → IsAt k.maps k.chains task w.want key → Leads header past task w.want key
+leads_of header k ids past who task w key m waits is at =
+    let r = at.entry.region.0 in
+    let address = address_in w.want in
+    let row = m.regions.rows r at.row at.region in
+    let object : key.object.0 ≡ at.row.top.0 = ap (λ (z : PageKey). z.object.0) at.is in
+    let page : key.page.0 ≡ at.row.shift + page_at k.maps.size address at.entry = ap (λ (z : PageKey). z.page.0) at.is in
+    let shift : (region_of header r past).shift ≡ at.row.shift = ap (λ (z : Region). z.shift) row in
+    let sized : page_at k.maps.size address at.entry ≡ page_at header.size address at.entry = ap (λ z. page_at z address at.entry) m.tasks.sized in
+    record {
+      entry = at.entry;
+      lives = m.tasks.hosts task ∙ ap host_for (waits.allowed task w is).lives;
+      found = ap (entry_at address) (m.tasks.rows task) ∙ at.found;
+      waits = waits.is task ∙ ap waiting_in is;
+      unmarked = (m.regions.tops r).unmarked;
+      top = record { object = ap (λ (z : Region). z.top) row ∙ sym object; page = omega (arith, page, shift, sized) };
+      bare = m.regions.unbacked key.object.0;
+    }
 
-pub some_free : (header : Header) (k : Parts) (ids : Ids) (past : List Event) (lost : List Entry) → Matches header k ids lost past → is_spent header past ≡ false → 0 < free k.frames
-some_free header k ids past lost m fine =
-    elim (eqb_tells (frames_free header 0 past) 0) [
-      | inl same ↦ absurd (let bad : true ≡ false = sym same.0 ∙ fine in cc)
-      | inr apart ↦ let same = free_is header k.frames past m.frames in let other = apart.1 in positive (free k.frames) (λ e. other (same ∙ e))
-    ]
-  where
-    positive : (n : ℕ) → (n ≡ 0 → ⊥) → 0 < n
-    positive zero apart = absurd (apart refl)
-    positive (suc n) apart = omega arith
+-- the address of an access is its own, since none is a slow copy
+pub address_is : (size next : ℕ) (what : Want) → address_of size next (access_in what) ≡ address_in what
+address_is size next (want.Load address n) = refl
+address_is size next (want.Store address n value) = refl
+
+-- the waiting access, as licences want it
+abbrev pub it_waits : (header : Header) (past : List Event) (task : ℕ) (what : Want) (key : PageKey) → Leads header past task what key → Waits header task (access_in what) past
+it_waits header past task what key to =
+    record {
+      waits = to.waits;
+      at = record {
+        host = 0;
+        entry = to.entry;
+        lives = to.lives;
+        found = ap (λ z. entry_at z (entries_of header.size task past)) (address_is header.size (next_page task past) what) ∙ to.found;
+      };
+    }
+
+pub top_at : (header : Header) (past : List Event) (task : ℕ) (what : Want) (key : PageKey) → (to : Leads header past task what key)
+    → IsTop (region_of header to.entry.region.0 past) (page_of header task (access_in what) past to.entry) key.object.0 key.page.0
+top_at header past task what key to =
+    record {
+      object = to.top.object;
+      page = ap (λ z. (region_of header to.entry.region.0 past).shift + page_at header.size z to.entry) (address_is header.size (next_page task past) what) ∙ to.top.page;
+    }
+
+-- no object is declared
+pub none_named : (header : Header) → IsPlain header → named header ≡ 0
+none_named header plain = ap length plain.objects

@@ -1,11 +1,10 @@
 -- A range is allocated: a region over a new object, and an entry on the whole of it.
-use Rattle.std.proofs.Common.{◌≡◌, nat_le, nat_lt, ℕ, ◌+◌, ◌-◌, ◌/◌, ◌%◌, ◌<◌, ◌≤◌, ◌^◌, ◌==◌, ◌||◌, not, Bool, true, false, List, [], ◌∷◌, ◌++◌, length, refl, ap, sym, ◌∙◌, subst, arith, Some, None, inl, inr}
+use Rattle.std.proofs.Common.{◌≡◌, nat_le, nat_lt, ℕ, ◌+◌, ◌-◌, ◌/◌, ◌%◌, ◌<◌, ◌≤◌, ◌^◌, ◌==◌, ◌||◌, not, Bool, true, false, List, [], ◌∷◌, ◌++◌, length, refl, ap, sym, ◌∙◌, subst, arith, Some, None, Option, inl, inr}
 use Rattle.std.proofs.lemmas.Bool.Decides.{eqb_tells, nat_tests}
 use Rattle.std.specs.Prelude.{if◌then◌else◌, is_none, is_some, IfSome, ◌≢◌}
 use Rattle.vm_base.specs.declared.code.Code.TheVariants as code
 use Rattle.vm_base.specs.declared.entry.Entry.{Entry}
 use Rattle.vm_base.specs.declared.ids.ObjectId.{ObjectId}
-use Rattle.vm_base.specs.declared.ids.ObjectKind.TheVariants.{Temp}
 use Rattle.vm_base.specs.declared.ids.TaskId.{TaskId}
 use Rattle.vm_base.specs.Entries.{entered, is_range, meets_range, most_entries}
 use Rattle.vm_model.specs.declared.event.Event.{Event}
@@ -21,7 +20,8 @@ use Rattle.vm_model.specs.Regions.{Region, backing_of, next_object, next_region,
 use Rattle.vm_model.specs.Rows.{AllRows, page_below, rows_entered, rows_map}
 use Rattle.vm_model.specs.Tasks.{entries_of, has_entry, host_of}
 use Rattle.vm_model.specs.Waiting.{waiting}
-use Rattle.vm_legal.specs.Licences.{AllLicensed, Enters, created}
+use Rattle.vm_legal.specs.Licences.{AllLicensed, Enters}
+use Rattle.vm_legal.specs.Accesses.{is_ready}
 use Rattle.vm_legal.specs.Living.{lives_on, tasks}
 use Rattle.vm_legal.specs.Outside.{Outside}
 use Rattle.vm_legal.specs.Used.{in_use, made_here}
@@ -30,27 +30,28 @@ use Rattle.vm_maps.specs.declared.change.MapChange.{MapChange}
 use Rattle.vm_maps.specs.Maps.{ChangesOnly, Mapped, entries_in, rows_in}
 use Rattle.vm_objects.specs.Objects.{ObjectTable, PutsObject, object_at, SameMarks}
 use Rattle.vm_objects.specs.declared.row.ObjectRow.{ObjectRow}
-use Rattle.vm_objects.specs.declared.row.PagerState.TheVariants.{Without}
 use Rattle.vm_queues.specs.Queues.{Queues}
 use Rattle.vm_resident.specs.Resident.{ResidentTable, row_at}
 use Rattle.vm_shadow.specs.Chains.{ChainTable, PutsRegion, region_at}
 use Rattle.vm_shadow.specs.declared.ids.Ids.{Ids}
 use Rattle.vm_shadow.specs.declared.region_row.RegionRow.{RegionRow}
-use Rattle.vm_kernel.specs.Begun.{Began, IsLined, Starts}
+use Rattle.vm_waits.specs.Waits.{entry}
+use Rattle.vm_kernel.specs.Begun.{IsLined, Ran, Starts}
 use Rattle.vm_kernel.specs.Changes.{MadeRange, entering, whole_entry}
 use Rattle.vm_kernel.specs.Counts.{count_by, most_tasks}
-use Rattle.vm_kernel.specs.Fits.{PlainFit}
 use Rattle.vm_kernel.specs.Forking.{got}
-use Rattle.vm_kernel.specs.Matches.{AllUsed, HasEntries, HasPages, HasRegions, HasUse, IsInside, IsOwn, Rests, host_for, object_under}
-use Rattle.vm_parts.specs.Fits.{pages_kept}
+use Rattle.vm_kernel.specs.Matches.{AllReached, AllUsed, HasEntries, HasPages, HasRegions, HasUse, IsInside, IsOwn, IsUnder, Rests, host_for}
+use Rattle.vm_parts.specs.Fits.{Fit, pages_kept}
 use Rattle.vm_kernel.specs.Places.{has_region, pages_in, place_of, region_pages, shown}
 use Rattle.vm_kernel.specs.declared.parts.Parts.{Parts}
 use Rattle.vm_kernel.proofs.Counts.{by_none, most_is, on_entered}
 use Rattle.vm_kernel.proofs.Growing.{licensed, suffices}
-use Rattle.vm_kernel.proofs.Heads.{began_head, passed}
+use Rattle.vm_kernel.proofs.Heads.{passed, ran_head}
+use Rattle.vm_kernel.proofs.Making.{controls_made, idle_of, knows_made, new_object, waits_known}
 use Rattle.vm_kernel.proofs.Rows.{one_case, region_cases, some_is}
 use Rattle.vm_kernel.proofs.Tasks.{Keeps, entries_changed, inside_kept, length_entered, lives_of, tasks_entered}
-use Rattle.vm_kernel.proofs.Uses.{still, unfilled, uses_entered}
+use Rattle.vm_kernel.proofs.Uses.{unfilled, uses_entered}
+use Rattle.vm_kernel.proofs.Waited.{SameTops, waits_changed}
 
 -- what an allocation that isn't refused has
 pub record MayRange (size : ℕ) (k : Parts) (ids : Ids) (task address bytes : ℕ) : Type 0 where
@@ -64,6 +65,7 @@ pub record MayRange (size : ℕ) (k : Parts) (ids : Ids) (task address bytes : �
   pub room : length (rows_in task k.maps) < most_entries
   pub regions : ids.next_region < 8192
   pub objects : ids.next_object < 8192
+  pub idle : entry k.waits.rows task ≡ None
 
 pub may_range : (header : Header) (task : TaskId) (address bytes : ℕ) (past : List Event) (k : Parts) (ids : Ids) (events : List Event) → Starts header (command.Allocate task address bytes) past k ids events → MayRange header.size k ids task.0 address bytes
 may_range header task address bytes past k ids events s =
@@ -100,6 +102,7 @@ may_range header task address bytes past k ids events s =
       room = subst (λ (z : List Entry). length z < most_entries) own (grind (arith, nat_tests));
       regions = grind (arith, nat_tests);
       objects = grind (arith, nat_tests);
+      idle = idle_of (entry k.waits.rows task.0) (waiting task.0 past) (s.rests.waits.is task.0) idle.0;
     }
   where
     only_true : (b c : Bool) → (not b || c) ≡ false → b ≡ true
@@ -116,12 +119,12 @@ may_range header task address bytes past k ids events s =
 pub region_free : (header : Header) (k : Parts) (ids : Ids) (past : List Event) → Rests header k ids past → region_at k.chains ids.next_region ≡ None
 region_free header k ids past rests = let number = rests.matches.regions.region in rests.matches.regions.unmade ids.next_region (omega arith)
 
--- a new region's row, and that of its object
+pub object_free : (header : Header) (k : Parts) (ids : Ids) (past : List Event) → Rests header k ids past → object_at k.objects ids.next_object ≡ None
+object_free header k ids past rests = let number = rests.matches.regions.object in rests.matches.regions.unknown ids.next_object (omega arith)
+
+-- a new region's row
 abbrev pub new_region : ObjectId → ℕ → RegionRow
 new_region object pages = record { top = object; shift = 0; pages = pages; marked = false; entries = 1 }
-
-abbrev pub new_object : ℕ → ObjectRow
-new_object pages = record { kind = Temp; pages = pages; state = Without; control = 0; live = false; references = 1 }
 
 -- a region that isn't there has no pages and no entries
 not_there : (chains : ChainTable) (n r : ℕ) → region_at chains n ≡ None → n ≡ r → has_region chains r ≡ true → ⊥
@@ -188,16 +191,19 @@ regions_made chains chains2 objects objects2 ids region_from backing_from region
       ];
       under = λ r row found. elim (region_cases n (Some new) chains chains2 put r) [
         | inl same ↦ elim (one_case ids.next_object r (Some (new_object pages)) (object_at objects r) (object_at objects2 r) (object.at r)) [
-          | inl it ↦ it.1 ∙ ap (λ (z : RegionRow). Some (object_under z)) (some_is new row (sym same.1 ∙ found))
+          | inl it ↦ subst (λ (z : Option ObjectRow). IsUnder row z) (sym it.1) (under_new row (some_is new row (sym same.1 ∙ found)))
           | inr other ↦ absurd (other.0 (let is = same.0 in omega (arith, numbers)))
         ]
         | inr apart ↦ elim (one_case ids.next_object r (Some (new_object pages)) (object_at objects r) (object_at objects2 r) (object.at r)) [
           | inl it ↦ absurd (apart.0 (let is = it.0 in omega (arith, numbers)))
-          | inr other ↦ other.1 ∙ has.under r row (sym apart.1 ∙ found)
+          | inr other ↦ subst (λ (z : Option ObjectRow). IsUnder row z) (sym other.1) (has.under r row (sym apart.1 ∙ found))
         ]
       ];
     }
   where
+    under_new : (row : RegionRow) → new_region (record { 0 = ids.next_object }) pages ≡ row → IsUnder row (Some (new_object pages))
+    under_new row is = record { object = new_object pages; found = refl; temporary = refl; pages = ap (λ z. z.pages) is; references = refl; live = refl; number = refl }
+
     numbers : ids.next_object ≡ ids.next_region
     numbers = has.object ∙ (has.equal ∙ sym has.region)
 
@@ -256,26 +262,37 @@ used_range chains chains2 n object pages used put r row found = elim (region_cas
   | inr apart ↦ used r row (sym apart.1 ∙ found)
 ]
 
-fit_range : (size : ℕ) (fs : FrameTable) (rs : ResidentTable) (qs : Queues) (os os2 : ObjectTable) (chains : ChainTable) (local_at : ℕ → ℕ → Local) (n o : ℕ) (row : ObjectRow) → PlainFit size fs rs qs os → HasPages fs rs os chains local_at → region_at chains n ≡ None → o ≡ n
-    → PutsObject o (Some row) os os2 → PlainFit size fs rs qs os2
+reached_range : (chains chains2 : ChainTable) (os os2 : ObjectTable) (n pages : ℕ) → AllReached chains os → Keeps chains chains2 → PutsObject n (Some (new_object pages)) os os2 → AllReached chains2 os2
+reached_range chains chains2 os os2 n pages reached keeps put o row found live = elim (one_case n o (Some (new_object pages)) (object_at os o) (object_at os2 o) (put.at o)) [
+  | inl same ↦ absurd (let bad : false ≡ true = ap (λ z. z.live) (some_is (new_object pages) row (sym same.1 ∙ found)) ∙ live in cc)
+  | inr apart ↦ keeps.there o (reached o row (sym apart.1 ∙ found) live)
+]
+
+tops_range : (chains chains2 : ChainTable) (n : ℕ) (row : RegionRow) → region_at chains n ≡ None → PutsRegion n (Some row) chains chains2 → SameTops chains chains2
+tops_range chains chains2 n row none put =
+    record {
+      at = λ r was found. elim (region_cases n (Some row) chains chains2 put r) [
+        | inl same ↦ absurd (let bad : None ≡ Some was = sym none ∙ (ap (region_at chains) same.0 ∙ found) in cc)
+        | inr apart ↦ record { row_now = was; found = apart.1 ∙ found; top = refl; shift = refl }
+      ];
+    }
+
+fit_range : (size : ℕ) (fs : FrameTable) (rs : ResidentTable) (qs : Queues) (os os2 : ObjectTable) (chains : ChainTable) (local_at : ℕ → ℕ → Local) (n o : ℕ) (row : ObjectRow) → Fit size fs rs qs os → HasPages fs rs os chains local_at → region_at chains n ≡ None → o ≡ n
+    → PutsObject o (Some row) os os2 → Fit size fs rs qs os2
 fit_range size fs rs qs os os2 chains local_at n o row fit pages none is put =
     record {
-      parts =
-          record {
-            owned = fit.parts.owned;
-            held = fit.parts.held;
-            listed = fit.parts.listed;
-            unlisted = fit.parts.unlisted;
-            unowned = fit.parts.unowned;
-            inside = λ o2 p r found. elim (one_case o o2 (Some row) (object_at os o2) (object_at os2 o2) (put.at o2)) [
-              | inl same ↦ absurd (not_there chains n o2 none (sym is ∙ same.0) (pages.live o2 p r found))
-              | inr apart ↦ subst (λ (z : ℕ). p < z) (sym (ap pages_kept apart.1)) (fit.parts.inside o2 p r found)
-            ];
-            all_sized = fit.parts.all_sized;
-            count = fit.parts.count;
-            pages = fit.parts.pages;
-          };
-      plain = fit.plain;
+      owned = fit.owned;
+      held = fit.held;
+      listed = fit.listed;
+      unlisted = fit.unlisted;
+      unowned = fit.unowned;
+      inside = λ o2 p r found. elim (one_case o o2 (Some row) (object_at os o2) (object_at os2 o2) (put.at o2)) [
+        | inl same ↦ absurd (not_there chains n o2 none (sym is ∙ same.0) (pages.live o2 p r found))
+        | inr apart ↦ subst (λ (z : ℕ). p < z) (sym (ap pages_kept apart.1)) (fit.inside o2 p r found)
+      ];
+      all_sized = fit.all_sized;
+      count = fit.count;
+      pages = fit.pages;
     }
 
 -- the entry that was entered
@@ -303,6 +320,9 @@ with_range k k2 maps =
       objects = k2.objects;
       maps = maps;
       chains = k2.chains;
+      buffers = k.buffers;
+      laundry = k.laundry;
+      waits = k.waits;
     }
 
 -- a region that was made may be used, up to its first entry
@@ -349,10 +369,10 @@ range_licensed header outside task address bytes past k ids lined rests may =
       made = let number = m.regions.region in omega arith;
       used = λ temporary. own;
       file = λ is. own;
-      unfilled = unfilled n (tasks past) (made ∷ past) m.tasks.none;
+      unfilled = unfilled n (tasks past) k.waits.rows (made ∷ past) (record { is = rests.waits.is });
     } in (
       licensed header outside (command.Allocate task address bytes) (got task (whole_entry address bytes (record { 0 = n }))) (made ∷ past) refl enters,
-      (licensed header outside (command.Allocate task address bytes) made past m.controls.created numbers, tt),
+      (licensed header outside (command.Allocate task address bytes) made past m.settled numbers, tt),
     )
 
 rests_range : (header : Header) (task : TaskId) (address bytes : ℕ) (past : List Event) (k k2 : Parts) (ids : Ids) (maps : Mapped) → IsLined past → Rests header k ids past → MayRange header.size k ids task.0 address bytes → task.0 < 1024
@@ -367,30 +387,38 @@ rests_range header task address bytes past k k2 ids maps lined rests may below m
     let keeps = keeps_new k.chains k2.chains n (new_region object pages) none made.region_row in
     let local_at = λ (o p : ℕ). local header.size 0 (place_of o p) past in
     let number : ids.next_object ≡ n = m.regions.object ∙ (m.regions.equal ∙ sym m.regions.region) in
+    let unknown = object_free header k ids past rests in
     record {
       matches =
           record {
             plain = m.plain;
             size = m.size;
             host = m.host;
-            fits = fit_range k.size k.frames k.resident k.queues k.objects k2.objects k.chains local_at n ids.next_object (new_object pages) m.fits m.pages none number made.object_row;
+            fits = record { parts = fit_range k.size k.frames k.resident k.queues k.objects k2.objects k.chains local_at n ids.next_object (new_object pages) m.fits.parts m.pages none number made.object_row; plain = m.fits.plain; buffers = m.fits.buffers };
             tasks = tasks_entered header.size k.maps maps (event.RegionMade (record { 0 = n }) object pages ∷ past) task (whole_entry address bytes (record { 0 = n })) m.tasks changes may.lives;
             regions = regions_made k.chains k2.chains k.objects k2.objects ids (λ r. region_of header r past) (λ o. backing_of header o past) (next_region header past) (next_object header past) pages m.regions made.region_row made.object_row;
             entries = entries_range header.size k.maps maps k.chains k2.chains task.0 n address bytes object m.entries none made.region_row changes below may.whole may.some may.below may.room;
             pages = pages_range k.frames k.resident k.objects k2.objects k.chains k2.chains local_at m.pages made.marks keeps;
             uses = range_uses header task address bytes past k ids maps object (bytes / header.size) lined rests may (rw most_is below) changes;
-            controls = still (λ o. last_control 0 o past) (λ o. live_control 0 o past) (created past) m.controls;
-            stores = m.stores;
+            controls = controls_made k.objects k2.objects (λ o. last_control 0 o past) (λ o. live_control 0 o past) (λ o. is_ready 0 o past) ids.next_object pages m.controls unknown made.object_row;
+            settled = refl;
+            laundry = m.laundry;
             frames = m.frames;
           };
       used = used_range k.chains k2.chains n object pages rests.used made.region_row;
+      reached = reached_range k.chains k2.chains k.objects k2.objects ids.next_object pages rests.reached keeps made.object_row;
+      waits =
+          waits_known maps k2.chains k.resident k.objects k2.objects k.waits.rows _ (λ t. waiting t past)
+          (waits_changed k.maps maps k.chains k2.chains k.resident k.objects k.waits.rows _ (λ t. waiting t past) task.0 _ rests.waits changes may.idle (tops_range k.chains k2.chains n (new_region object pages) none made.region_row))
+          (knows_made k.objects k2.objects ids.next_object (new_object pages) unknown made.object_row);
+      idle = rests.idle;
     }
 
-pub began_range : (header : Header) (outside : Outside) (task : TaskId) (address bytes pages : ℕ) (past : List Event) (k k2 : Parts) (ids : Ids) (before after : List Event) (maps : Mapped) → Starts header (command.Allocate task address bytes) past k ids before → pages ≡ bytes / k.size
+pub ran_range : (header : Header) (outside : Outside) (task : TaskId) (address bytes pages : ℕ) (past : List Event) (k k2 : Parts) (ids : Ids) (before after : List Event) (maps : Mapped) → Starts header (command.Allocate task address bytes) past k ids before → pages ≡ bytes / k.size
     → MadeRange (record { 0 = ids.next_region }) (record { 0 = ids.next_object }) pages k k2
     → ChangesOnly k2.maps maps task.0 (Some (entered (whole_entry address bytes (record { 0 = ids.next_region })) (rows_in task.0 k2.maps))) → after ≡ ranged task ids address bytes pages ++ before
-    → Began header outside (command.Allocate task address bytes) past (record k2 { maps = maps }) (ids_after ids) after
-began_range header outside task address bytes pages past k k2 ids before after maps s count made changes told =
+    → Ran header outside (command.Allocate task address bytes) past (record k2 { maps = maps }) (ids_after ids) after
+ran_range header outside task address bytes pages past k k2 ids before after maps s count made changes told =
     let m = s.rests.matches in
     let whole : pages ≡ bytes / header.size = count ∙ ap (λ z. bytes / z) m.size in
     let events = ranged task ids address bytes (bytes / header.size) in
@@ -401,11 +429,11 @@ began_range header outside task address bytes pages past k k2 ids before after m
     let first = event.RegionMade (record { 0 = ids.next_region }) (record { 0 = ids.next_object }) (bytes / header.size) ∷ got task (whole_entry address bytes (record { 0 = ids.next_region })) ∷ [] in
     let is : head header past (command.Allocate task address bytes) ≡ Some first = rw (← m.regions.region, ← m.regions.object) refl in
     let fine = suffices header k.frames past m.frames in
-    let began : Began header outside (command.Allocate task address bytes) past (with_range k k2 maps) (ids_after ids) events =
-    began_head header outside (command.Allocate task address bytes) past (with_range k k2 maps) (ids_after ids) events first s.begins is refl
-    (record { licensed = range_licensed header outside task address bytes past k ids s.begins s.rests (may_range header task address bytes past k ids before s); own_bytes = (tt, (tt, tt)); copies = (tt, (tt, tt)); frames = (fine, (fine, tt)); inner = (tt, (tt, tt)) })
+    let ran : Ran header outside (command.Allocate task address bytes) past (with_range k k2 maps) (ids_after ids) events =
+    ran_head header outside (command.Allocate task address bytes) past (with_range k k2 maps) (ids_after ids) events first is refl
+    (record { licensed = range_licensed header outside task address bytes past k ids s.begins s.rests (may_range header task address bytes past k ids before s); own_bytes = (tt, (tt, tt)); copies = (tt, (tt, tt)); frames = (fine, (fine, tt)); inner = (tt, (tt, tt)); said = (tt, (tt, tt)) })
     tt rests in
     let same : record k2 { maps = maps } ≡ with_range k k2 maps =
-    λ i. record { alloc = k2.alloc; host = made.host i; size = made.size i; frames = made.frames i; resident = made.resident i; queues = made.queues i; objects = k2.objects; maps = maps; chains = k2.chains } in
-    subst (λ (z : List Event). Began header outside (command.Allocate task address bytes) past (record k2 { maps = maps }) (ids_after ids) z) (sym log)
-    (subst (λ (z : Parts). Began header outside (command.Allocate task address bytes) past z (ids_after ids) events) (sym same) began)
+    λ i. record { alloc = k2.alloc; host = made.host i; size = made.size i; frames = made.frames i; resident = made.resident i; queues = made.queues i; objects = k2.objects; maps = maps; chains = k2.chains; buffers = made.buffers i; laundry = made.laundry i; waits = made.waits i } in
+    subst (λ (z : List Event). Ran header outside (command.Allocate task address bytes) past (record k2 { maps = maps }) (ids_after ids) z) (sym log)
+    (subst (λ (z : Parts). Ran header outside (command.Allocate task address bytes) past z (ids_after ids) events) (sym same) ran)

@@ -1,177 +1,463 @@
--- A pageout reclaims pages, one after another.
-use Rattle.std.proofs.Common.{◌≡◌, ℕ, ◌+◌, ◌<◌, ◌==◌, ◌&&◌, not, Bool, true, false, List, [], ◌∷◌, ◌++◌, refl, ap, sym, ◌∙◌, subst, arith, Some, None, Option, inl, inr}
-use Rattle.std.specs.Prelude.{reverse, slice_get}
-use Rattle.std.proofs.lemmas.Bool.Decides.{nat_tests}
+-- One page of a host is reclaimed, and a pageout does that over and over.
+use Rattle.std.proofs.Common.{◌≡◌, ℕ, ◌+◌, ◌≤◌, ◌<◌, ◌||◌, Bool, true, false, List, [], ◌∷◌, ◌++◌, length, refl, ap, sym, ◌∙◌, subst, arith, Some, None, Option, inl, inr}
+use Rattle.std.specs.Prelude.{◌⊎◌, if◌then◌else◌, MatchOption, reverse, slice_get}
+use Rattle.vm_base.specs.declared.ids.FrameNo.{FrameNo}
+use Rattle.vm_base.specs.declared.ids.HostId.{HostId}
+use Rattle.vm_base.specs.declared.ids.PageKey.{PageKey}
+use Rattle.vm_frames.specs.Frames.{claimed, frame_count, free, is_claimed, page_in}
+use Rattle.vm_legal.specs.Accesses.{is_ready}
+use Rattle.vm_legal.specs.Frames.{frames_held, frames_wired, returns_out}
+use Rattle.vm_legal.specs.Licences.{Created, Creates, Drops, Gives, GivesBack, Reclaimed as ForFrames, ReturnsOn}
+use Rattle.vm_legal.specs.Living.{tasks as made_tasks}
+use Rattle.vm_legal.specs.Outside.{Outside}
+use Rattle.vm_legal.specs.Prompt.{IsExhausted, IsFull}
+use Rattle.vm_legal.specs.Reclaims.{PagesOut, Starves, Reclaims as May}
+use Rattle.vm_legal.specs.Steps.{gone}
+use Rattle.vm_legal.specs.Used.{in_use}
+use Rattle.vm_model.specs.declared.command.Command.{Command}
 use Rattle.vm_model.specs.declared.event.Event.{Event}
 use Rattle.vm_model.specs.declared.event.Event.TheVariants as event
-use Rattle.vm_model.specs.declared.command.Command.TheVariants as command
+use Rattle.vm_model.specs.declared.message.Channel.{Channel}
+use Rattle.vm_model.specs.declared.message.Channel.TheVariants.{Up}
+use Rattle.vm_model.specs.declared.message.Message.TheVariants as message
+use Rattle.vm_model.specs.declared.script.Declared.{Declared}
 use Rattle.vm_model.specs.declared.script.Header.{Header}
 use Rattle.vm_model.specs.Controls.{last_control, live_control}
-use Rattle.vm_legal.specs.Follows.{IsDone, IsReclaim}
-use Rattle.vm_legal.specs.Frames.{frames_held, frames_wired}
 use Rattle.vm_model.specs.Local.{local}
-use Rattle.vm_model.specs.Waiting.{waiting}
-use Rattle.vm_legal.specs.Licences.{Drops, Reclaimed as Taken, created}
-use Rattle.vm_legal.specs.Outside.{Outside}
-use Rattle.vm_legal.specs.Prompt.{IsExhausted}
-use Rattle.vm_legal.specs.Reclaims.{Reclaims as May}
-use Rattle.vm_legal.specs.Steps.{gone}
-use Rattle.vm_legal.specs.Stretches.{EachOf}
-use Rattle.vm_objects.specs.Objects.{absent_at}
-use Rattle.vm_queues.specs.Queues.{AllSkipped, KeepsPages, Queues, balanced, is_queued, spared}
-use Rattle.vm_resident.specs.Resident.{row_at}
+use Rattle.vm_model.specs.Regions.{backing_of, next_object, next_region, region_of}
+use Rattle.vm_model.specs.Tasks.{entries_of, host_of}
+use Rattle.vm_objects.specs.Objects.{PutsObject, absent_at}
+use Rattle.vm_objects.specs.declared.row.ObjectRow.{ObjectRow}
+use Rattle.vm_objects.specs.declared.row.PagerState.{PagerState}
+use Rattle.vm_objects.specs.declared.row.PagerState.TheVariants as state
+use Rattle.vm_pageout.specs.Reclaims.{IsFreed, IsNothing, IsReturned, Parts as Some_parts, Reclaims, controlled, parts, sends, told_from, with_control}
+use Rattle.vm_pageout.specs.declared.answer.Reclaim.{Reclaim}
+use Rattle.vm_pageout.specs.declared.answer.Reclaim.TheVariants as reclaim
+use Rattle.vm_parts.specs.Controls.{AllLive}
+use Rattle.vm_parts.specs.Fits.{Fit}
+use Rattle.vm_parts.proofs.Fitting.{fit_touched}
+use Rattle.vm_queues.specs.Queues.{AllSkipped, KeepsPages, Queues, is_queued}
+use Rattle.vm_resident.specs.Resident.{owner_of, row_at}
 use Rattle.vm_resident.specs.declared.page_row.PageRow.{PageRow}
 use Rattle.vm_shadow.specs.declared.ids.Ids.{Ids}
-use Rattle.vm_kernel.specs.Begun.{Began, Grows, IsLined, Starts}
-use Rattle.vm_kernel.specs.Built.{has_stored}
-use Rattle.vm_kernel.specs.Changes.{Reclaimed}
-use Rattle.vm_kernel.specs.Matches.{AllUsed, HasFrames, Matches, Rests, the_host}
+use Rattle.vm_supply.specs.declared.woken.Woken.TheVariants as woken
+use Rattle.vm_kernel.specs.Begun.{Goes}
+use Rattle.vm_kernel.specs.Fits.{ArePlain, Fits}
+use Rattle.vm_kernel.specs.Matches.{HasControls, HasFrames, HasLaundry, HasPages, HasRegions, HasTasks, HasUse, HasWaits, Matches, Rests, the_host}
+use Rattle.vm_kernel.specs.Pagers.{has_pager, last_in, live_in}
 use Rattle.vm_kernel.specs.Places.{place_of, shown}
+use Rattle.vm_kernel.specs.Serving.{Reclaimed}
+use Rattle.vm_kernel.specs.Taking.{EachGone}
 use Rattle.vm_kernel.specs.declared.parts.Parts.{Parts}
-use Rattle.vm_kernel.proofs.Fitting.{fit_touched}
-use Rattle.vm_kernel.proofs.Growing.{Follows, grows_more, paid_of, suffices}
-use Rattle.vm_kernel.proofs.Pages.{frames_lost, pages_lost, stores_lost}
-use Rattle.vm_kernel.proofs.Prompting.{no_wait, prompt_of}
-use Rattle.vm_kernel.proofs.Uses.{still}
+use Rattle.vm_kernel.proofs.Growing.{Follows, free_is, goes_none, goes_one, suffices}
+use Rattle.vm_kernel.proofs.Losing.{IsSeen, frames_lost, pages_lost, plain_lost, seen_here, unnamed, waiters_lost}
+use Rattle.vm_kernel.proofs.Returning.{controls_begun, controls_same, controls_told, first_of_object, pages_created, pages_returned, reached_controlled, regions_controlled, told_controlled, unasked}
+use Rattle.vm_kernel.proofs.Rows.{claimed_inside, if_true}
+use Rattle.vm_kernel.proofs.Washing.{laundry_lost, laundry_room, laundry_returned}
 
--- so many pages were reclaimed; where some are asked for, none is dirty
-pub record Reclaims (header : Header) (outside : Outside) (count done : ℕ) (past : List Event) (k : Parts) (ids : Ids) (events : List Event) : Type 0 where
-  pub begins : IsLined past
-  pub matches : Matches header k ids [] (events ++ past)
-  pub used : AllUsed k.chains
-  pub grows : Grows header outside (command.Pageout the_host count) past events
-  pub reclaims : EachOf (IsReclaim 0) events
-  pub gone : gone (events ++ past) ≡ done
-  pub clean : 0 < count → has_stored (events ++ past) ≡ false
+-- all but what a reclaim changes is as it was, and what it changes fits
+pub record Beside (k k2 : Parts) : Type 0 where
+  pub host : k2.host ≡ k.host
+  pub size : k2.size ≡ k.size
+  pub maps : k2.maps ≡ k.maps
+  pub chains : k2.chains ≡ k.chains
+  pub waits : k2.waits ≡ k.waits
+  pub buffers : k2.buffers.size ≡ k.buffers.size
+  pub fit : Fit k2.buffers.size k2.frames k2.resident k2.queues k2.objects
+  pub live : AllLive k2.objects
 
-pub reclaims_start : (header : Header) (outside : Outside) (count : ℕ) (past : List Event) (k : Parts) (ids : Ids) (events : List Event) → Starts header (command.Pageout the_host count) past k ids events → Reclaims header outside count 0 past k ids events
-reclaims_start header outside count past k ids events s =
-    subst (λ (z : List Event). Reclaims header outside count 0 past k ids z) (sym s.nothing)
+abbrev pub parts_of : Parts → List Event → Some_parts
+parts_of k events = parts k.frames k.resident k.queues k.objects k.laundry events
+
+-- what a reclaim owes its caller
+pub record Took (header : Header) (outside : Outside) (doing : Command) (past : List Event) (ids : Ids) (answer : Reclaim) (k k2 : Parts) (before after : List Event) : Type 0 where
+  pub rests : Rests header k2 ids (after ++ past)
+  pub goes : Goes header outside doing past before after
+  pub gone : EachGone before after
+  pub reclaimed : Reclaimed answer k k2 (before ++ past) (after ++ past)
+
+-- why a page may be reclaimed
+abbrev pub MayTake : Header → Command → List Event → Type 0
+MayTake header doing past = PagesOut doing 0 past ⊎ Starves header 0 past
+
+-- a page on which there is no lock may be reclaimed
+may_take : (header : Header) (doing : Command) (o p : ℕ) (past : List Event) → (local header.size 0 (place_of o p) past).lock ≡ 0 → MayTake header doing past → May header doing 0 o p past
+may_take header doing o p past none why = record { spared = λ waits. unnamed (local header.size 0 (place_of o p) past).lock _ none waits.named; may = why }
+
+-- the parts fit still, with fewer rows
+fits_of : (k k2 : Parts) → Beside k k2 → Fits k → ArePlain k2.resident → Fits k2
+fits_of k k2 beside fits plain =
+    let same : k2.buffers.size ≡ k2.size = beside.buffers ∙ (fits.buffers ∙ sym beside.size) in
+    record { parts = subst (λ (z : ℕ). Fit z k2.frames k2.resident k2.queues k2.objects) same beside.fit; plain = plain; buffers = same }
+
+no_bool : (b : Bool) → (b ≡ true → ⊥) → b ≡ false
+no_bool true never = absurd (never refl)
+no_bool false never = refl
+
+-- no page was found
+took_nothing : (header : Header) (outside : Outside) (doing : Command) (past : List Event) (ids : Ids) (k k2 : Parts) (before after : List Event)
+    → Rests header k ids (before ++ past) → Beside k k2 → IsNothing [] (parts_of k before) (parts_of k2 after) → Took header outside doing past ids reclaim.Nothing k k2 before after
+took_nothing header outside doing past ids k k2 before after rests beside is =
+    let m = rests.matches in
+    subst (λ (z : List Event). Took header outside doing past ids reclaim.Nothing k k2 before z) (sym is.events)
     (record {
-      begins = s.begins;
-      matches = s.rests.matches;
-      used = s.rests.used;
-      grows = record { first = []; more = []; head = refl; is = refl; follows = tt; licensed = tt; own_bytes = tt; copies = tt; frames = tt; inner = tt };
-      reclaims = tt;
-      gone = ap gone s.begins.is;
-      clean = λ some. clean (count == 0) (has_stored past) (grind (arith, nat_tests)) s.enough;
+      rests =
+          record {
+            matches =
+                record {
+                  plain = m.plain;
+                  size = beside.size ∙ m.size;
+                  host = beside.host ∙ m.host;
+                  fits = fits_of k k2 beside m.fits (subst ArePlain (sym is.resident) m.fits.plain);
+                  tasks = rw beside.maps m.tasks;
+                  regions = rw (beside.chains, is.objects) m.regions;
+                  entries = rw (beside.chains, beside.maps) m.entries;
+                  pages = rw (beside.chains, is.objects, is.frames, is.resident) m.pages;
+                  uses = rw beside.maps m.uses;
+                  controls = rw is.objects m.controls;
+                  settled = m.settled;
+                  laundry = rw (is.frames, is.resident, is.laundry) m.laundry;
+                  frames = rw is.frames m.frames;
+                };
+            used = rw beside.chains rests.used;
+            reached = rw (beside.chains, is.objects) rests.reached;
+            waits = rw (beside.chains, beside.maps, beside.waits, is.objects, is.resident) rests.waits;
+            idle = rw beside.waits rests.idle;
+          };
+      goes = goes_none header outside doing past before;
+      gone = record { more = []; is = refl; each = tt };
+      reclaimed =
+          record {
+            waits = beside.waits;
+            freed = λ bad. absurd (let clash : reclaim.Nothing ≡ reclaim.Freed = bad in cc);
+            returned = λ bad. absurd (let clash : reclaim.Nothing ≡ reclaim.Returned = bad in cc);
+            nothing = λ same. (refl, (λ o p row found. away o p row (ap (λ z. row_at z o p) (sym is.resident) ∙ found)), ap free is.frames);
+          };
     })
   where
-    clean : (b stored : Bool) → b ≡ false → (not b && stored) ≡ false → stored ≡ false
-    clean true stored is e = absurd (let bad : true ≡ false = is in cc)
-    clean false stored is e = e
+    away : (o p : ℕ) (row : PageRow) → row_at k.resident o p ≡ Some row → row.here ≡ false
+    away o p row found = no_bool row.here (λ here. let bad : false ≡ true = is.skipped row.frame.0 (rests.matches.fits.parts.listed o p row found ∙ here) in cc)
 
--- the lists of pages keep their pages when a victim is looked for
-pub reclaims_spared : (header : Header) (outside : Outside) (count done : ℕ) (past : List Event) (k : Parts) (ids : Ids) (queues : Queues) (events : List Event) → Reclaims header outside count done past k ids events → queues ≡ spared (balanced k.queues) → KeepsPages k.queues queues
-    → Reclaims header outside count done past (record k { queues = queues }) ids events
-reclaims_spared header outside count done past k ids queues events r is keeps =
-    let m = r.matches in
+-- a clean page was dropped
+took_freed : (header : Header) (outside : Outside) (doing : Command) (past : List Event) (ids : Ids) (k k2 : Parts) (before after : List Event)
+    → Rests header k ids (before ++ past) → Beside k k2 → MayTake header doing (before ++ past) → IsFreed k.host [] (parts_of k before) (parts_of k2 after) → Took header outside doing past ids reclaim.Freed k k2 before after
+took_freed header outside doing past ids k k2 before after rests beside may freed =
+    let m = rests.matches in
+    let key = freed.key in
+    let row = freed.row in
+    let leaves = freed.leaves in
+    let o = key.object.0 in
+    let p = key.page.0 in
+    let h = before ++ past in
+    let e : Event = event.Dropped the_host key.object key.page in
+    let log : after ≡ e ∷ before = freed.events ∙ ap (λ z. event.Dropped z key.object key.page ∷ before) m.host in
+    let is : local header.size 0 (place_of o p) h ≡ shown k.frames (Some row) (absent_at k.objects o p) = m.pages.shown o p ∙ ap (λ z. shown k.frames z (absent_at k.objects o p)) leaves.found in
+    let seen = seen_here k.frames row (absent_at k.objects o p) (local header.size 0 (place_of o p) h) is leaves.here (m.fits.plain o p row leaves.found) in
+    let frames : HasFrames (slice_get (reverse header.frames.items) 0) k2.frames (frames_held header.size 0 (e ∷ h)) (frames_wired 0 (e ∷ h)) =
+    frames_lost (slice_get (reverse header.frames.items) 0) k.frames k2.frames (frames_held header.size 0 h) (frames_wired 0 h) freed.frame.0 m.frames freed.frames in
+    let drops : Drops header doing 0 o p h = record { here = seen.here; why = ForFrames (seen.dirty ∙ freed.clean) seen.precious (may_take header doing o p h seen.lock may) } in
+    let follows : Follows header outside doing e h =
+    record { consequence = tt; cause = λ paged. drops; own_bytes = tt; copies = tt; frames = suffices header k2.frames (e ∷ h) frames; inner = tt; said = tt } in
+    let mine : is_claimed k.frames freed.frame.0 ≡ true = subst (λ z. is_claimed k.frames z.0 ≡ true) leaves.framed (m.fits.parts.held o p row leaves.found) in
+    subst (λ (z : List Event). Took header outside doing past ids reclaim.Freed k k2 before z) (sym log)
+    (record {
+      rests =
+          record {
+            matches =
+                record {
+                  plain = m.plain;
+                  size = beside.size ∙ m.size;
+                  host = beside.host ∙ m.host;
+                  fits = fits_of k k2 beside m.fits (plain_lost k.resident k2.resident o p m.fits.plain leaves.gone);
+                  tasks = rw beside.maps m.tasks;
+                  regions = rw (beside.chains, freed.objects) m.regions;
+                  entries = rw (beside.chains, beside.maps) m.entries;
+                  pages = rw (beside.chains, freed.objects) (pages_lost header.size k.frames k2.frames k.resident k2.resident k.objects k.chains (λ o p. local header.size 0 (place_of o p) h) o p row leaves.found leaves.here m.pages (ap (λ z. z.pages) freed.frames.is) leaves.gone);
+                  uses = rw beside.maps m.uses;
+                  controls = rw freed.objects m.controls;
+                  settled = refl;
+                  laundry = rw freed.laundry (laundry_lost k.frames k2.frames k.resident k2.resident k.laundry (returns_out 0 h) freed.frame.0 key m.laundry leaves.page mine freed.frames leaves.unowned);
+                  frames = frames;
+                };
+            used = rw beside.chains rests.used;
+            reached = rw (beside.chains, freed.objects) rests.reached;
+            waits = rw (beside.chains, beside.maps, beside.waits, freed.objects) (waiters_lost k.maps k.chains k.resident k2.resident k.objects k.objects k.waits.rows _ o p row rests.waits leaves.found leaves.here leaves.gone (λ object told. told));
+            idle = rw beside.waits rests.idle;
+          };
+      goes = goes_one header outside doing past before e m.settled follows;
+      gone = record { more = e ∷ []; is = refl; each = (refl, tt) };
+      reclaimed =
+          record {
+            waits = beside.waits;
+            freed = λ same. (omega (arith, freed.frames.count), refl);
+            returned = λ bad. absurd (let clash : reclaim.Freed ≡ reclaim.Returned = bad in cc);
+            nothing = λ bad. absurd (let clash : reclaim.Freed ≡ reclaim.Nothing = bad in cc);
+          };
+    })
+
+-- a page is on its way to its pager, in its frame
+on_its_way : (k k2 : Parts) (before after : List Event) → Beside k k2 → k2.frames ≡ k.frames → gone after ≡ gone before + 1 → 0 < returns_out 0 after → Reclaimed reclaim.Returned k k2 before after
+on_its_way k k2 before after beside frames less out =
     record {
-      begins = r.begins;
+      waits = beside.waits;
+      freed = λ bad. absurd (let clash : reclaim.Returned ≡ reclaim.Freed = bad in cc);
+      returned = λ same. (ap claimed frames, less, ap free frames, out);
+      nothing = λ bad. absurd (let clash : reclaim.Returned ≡ reclaim.Nothing = bad in cc);
+    }
+
+-- what holds of a history in front of a return, of all but the object's control
+record Before (header : Header) (k : Parts) (ids : Ids) (past : List Event) : Type 0 where
+  tasks : HasTasks header.size k.maps (λ task. host_of task past) (λ task. entries_of header.size task past)
+  regions : HasRegions k.chains k.objects ids (λ r. region_of header r past) (λ o. backing_of header o past) (next_region header past) (next_object header past)
+  pages : HasPages k.frames k.resident k.objects k.chains (λ o p. local header.size 0 (place_of o p) past)
+  uses : HasUse k.maps (λ r. in_use header 0 r past) (made_tasks past)
+  laundry : HasLaundry k.frames k.resident k.laundry (returns_out 0 past)
+  frames : HasFrames (slice_get (reverse header.frames.items) 0) k.frames (frames_held header.size 0 past) (frames_wired 0 past)
+  waits : HasWaits k woken.Nobody past
+
+-- the return of a page
+abbrev returning : PageKey → ℕ → Bool → List ℕ → Event
+returning key control dirty bytes = event.Sent (Up the_host key.object) (message.Return control key.page dirty false bytes)
+
+-- that a pager is told of an object
+abbrev creating : PageKey → ℕ → ℕ → Event
+creating key control size = event.Sent (Up the_host key.object) (message.Create control size)
+
+-- what a return leaves of the kernel
+returned_rests : (header : Header) (ids : Ids) (k k2 : Parts) (before after h past : List Event) (control : ℕ) → Rests header k ids past → Beside k k2 → (is : IsReturned k.host k.buffers.size [] (parts_of k before) (parts_of k2 after)) → Before header k ids h
+    → HasControls k2.objects (λ o. last_control 0 o h) (λ o. live_control 0 o h) (λ o. is_ready 0 o h)
+    → Rests header k2 ids (returning is.key control is.row.dirty (page_in k.frames is.frame.0) ∷ h)
+returned_rests header ids k k2 before after h past control rests beside is b controls =
+    let m = rests.matches in
+    let o = is.key.object.0 in
+    let p = is.key.page.0 in
+    let leaves = is.leaves in
+    let mine : is_claimed k.frames is.frame.0 ≡ true = subst (λ (z : FrameNo). is_claimed k.frames z.0 ≡ true) leaves.framed (m.fits.parts.held o p is.row leaves.found) in
+    let region = m.pages.live o p is.row leaves.found in
+    record {
+      matches =
+          record {
+            plain = m.plain;
+            size = beside.size ∙ m.size;
+            host = beside.host ∙ m.host;
+            fits = fits_of k k2 beside m.fits (plain_lost k.resident k2.resident o p m.fits.plain leaves.gone);
+            tasks = rw beside.maps b.tasks;
+            regions = rw beside.chains (regions_controlled k.chains k.objects k2.objects ids _ _ _ _ o is.object b.regions is.known is.objects);
+            entries = rw (beside.chains, beside.maps) m.entries;
+            pages = rw (beside.chains, is.frames) (pages_returned header.size k.frames k.resident k2.resident k.objects k2.objects k.chains (λ o p. local header.size 0 (place_of o p) h) o p is.row leaves.found leaves.here b.pages leaves.gone is.present);
+            uses = rw beside.maps b.uses;
+            controls = controls;
+            settled = refl;
+            laundry = rw is.frames (laundry_returned k.frames k.resident k2.resident k.laundry k2.laundry (returns_out 0 h) is.frame is.key b.laundry leaves.page mine leaves.unowned is.held is.room);
+            frames = rw is.frames b.frames;
+          };
+      used = rw beside.chains rests.used;
+      reached = rw beside.chains (reached_controlled k.chains k.objects k2.objects o (controlled is.object) rests.reached region is.objects);
+      waits = rw (beside.chains, beside.maps, beside.waits) (waiters_lost k.maps k.chains k.resident k2.resident k.objects k2.objects k.waits.rows _ o p is.row b.waits leaves.found leaves.here leaves.gone (told_controlled k.objects k2.objects o is.object is.known is.objects));
+      idle = rw beside.waits rests.idle;
+    }
+
+-- a return has its cause, and its bytes are those of the page
+back_follows : (header : Header) (outside : Outside) (doing : Command) (ids : Ids) (k : Parts) (key : PageKey) (row : PageRow) (f control : ℕ) (past h : List Event) → Matches header k ids [] past → row_at k.resident key.object.0 key.page.0 ≡ Some row → row.frame.0 ≡ f
+    → IsSeen (local header.size 0 (place_of key.object.0 key.page.0) h) row (page_in k.frames row.frame.0) → row.dirty ≡ true → live_control 0 key.object.0 h ≡ Some control → Gives header doing 0 key.object.0 key.page.0 false h
+    → HasFrames (slice_get (reverse header.frames.items) 0) k.frames (frames_held header.size 0 h) (frames_wired 0 h) → Follows header outside doing (returning key control row.dirty (page_in k.frames f)) h
+back_follows header outside doing ids k key row f control past h m found framed seen dirty live why frames =
+    let back : GivesBack header doing 0 control key.object.0 key.page.0 row.dirty false (page_in k.frames f) h =
+    record { live = live; here = seen.here; dirty = seen.dirty ∙ dirty; same = ap (page_in k.frames) (sym framed) ∙ sym seen.bytes_are; flag = sym seen.dirty; why = why } in
+    let inside : f < frame_count k.frames = claimed_inside k.frames.claims f (subst (λ (z : ℕ). is_claimed k.frames z ≡ true) framed (m.fits.parts.held key.object.0 key.page.0 row found)) in
+    let long : length (page_in k.frames f) ≡ header.size = m.fits.parts.all_sized f inside ∙ m.size in
+    record { consequence = tt; cause = λ paged. back; own_bytes = tt; copies = tt; frames = suffices header k.frames (returning key control row.dirty (page_in k.frames f) ∷ h) frames; inner = tt; said = (refl, long) }
+
+-- what is said where a page goes back
+abbrev sent_back : PageKey → Bool → ObjectRow → List ℕ → List Event → ℕ → PagerState → HostId → List Event
+sent_back key dirty object bytes events size pager host =
+    sends host key (message.Return (with_control pager object).control key.page dirty false bytes)
+    ∷ told_from pager (sends host key (message.Create (with_control pager object).control size)) events
+
+-- a changed page was returned, to a pager that was told of the object
+took_told : (header : Header) (outside : Outside) (doing : Command) (past : List Event) (ids : Ids) (k k2 : Parts) (before after : List Event) → Rests header k ids (before ++ past) → Beside k k2 → MayTake header doing (before ++ past)
+    → (is : IsReturned k.host k.buffers.size [] (parts_of k before) (parts_of k2 after)) → is.row.dirty ≡ true → has_pager is.object.state ≡ true → controlled is.object ≡ is.object
+    → after ≡ returning is.key is.object.control is.row.dirty (page_in k.frames is.frame.0) ∷ before → Took header outside doing past ids reclaim.Returned k k2 before after
+took_told header outside doing past ids k k2 before after rests beside may is dirty paged same log =
+    let m = rests.matches in
+    let key = is.key in
+    let row = is.row in
+    let leaves = is.leaves in
+    let o = key.object.0 in
+    let p = key.page.0 in
+    let h = before ++ past in
+    let e = returning key is.object.control row.dirty (page_in k.frames is.frame.0) in
+    let seen = seen_here k.frames row (absent_at k.objects o p) (local header.size 0 (place_of o p) h) (m.pages.shown o p ∙ ap (λ z. shown k.frames z (absent_at k.objects o p)) leaves.found) leaves.here (m.fits.plain o p row leaves.found) in
+    let first = first_of_object k.chains k.objects ids _ _ _ _ o is.object m.regions (m.pages.live o p row leaves.found) is.known in
+    let lives : live_control 0 o h ≡ Some is.object.control = m.controls.live o ∙ (ap live_in is.known ∙ ap (λ b. if b then Some is.object.control else None) (first.live ∙ paged)) in
+    let why : Gives header doing 0 o p false h = ForFrames refl (may_take header doing o p h seen.lock may) in
+    let follows = back_follows header outside doing ids k key row is.frame.0 is.object.control h h m leaves.found (ap (λ z. z.0) leaves.framed) seen dirty lives why m.frames in
+    let b : Before header k ids h = record { tasks = m.tasks; regions = m.regions; pages = m.pages; uses = m.uses; laundry = m.laundry; frames = m.frames; waits = rests.waits } in
+    let controls = controls_same k.objects k2.objects _ _ _ m.controls (controls_told k.objects k2.objects o is.object is.known same is.objects) in
+    subst (λ (z : List Event). Took header outside doing past ids reclaim.Returned k k2 before z) (sym log)
+    (record {
+      rests = returned_rests header ids k k2 before after h h is.object.control rests beside is b controls;
+      goes = goes_one header outside doing past before e m.settled follows;
+      gone = record { more = e ∷ []; is = refl; each = (refl, tt) };
+      reclaimed = on_its_way k k2 h (e ∷ h) beside is.frames refl (omega arith);
+    })
+
+-- a changed page was returned, and its pager told of the object first
+took_first : (header : Header) (outside : Outside) (doing : Command) (past : List Event) (ids : Ids) (k k2 : Parts) (before after : List Event) → Rests header k ids (before ++ past) → Beside k k2 → MayTake header doing (before ++ past)
+    → (is : IsReturned k.host k.buffers.size [] (parts_of k before) (parts_of k2 after)) → is.row.dirty ≡ true → is.object.state ≡ state.Without
+    → after ≡ returning is.key (is.object.control + 1) is.row.dirty (page_in k.frames is.frame.0) ∷ creating is.key (is.object.control + 1) header.size ∷ before → Took header outside doing past ids reclaim.Returned k k2 before after
+took_first header outside doing past ids k k2 before after rests beside may is dirty without log =
+    let m = rests.matches in
+    let key = is.key in
+    let row = is.row in
+    let leaves = is.leaves in
+    let o = key.object.0 in
+    let p = key.page.0 in
+    let control = is.object.control + 1 in
+    let h0 = before ++ past in
+    let e1 = creating key control header.size in
+    let e2 = returning key control row.dirty (page_in k.frames is.frame.0) in
+    let h = e1 ∷ h0 in
+    let first = first_of_object k.chains k.objects ids _ _ _ _ o is.object m.regions (m.pages.live o p row leaves.found) is.known in
+    let none : is.object.control ≡ 0 = first.number ∙ ap (λ z. if has_pager z then 1 else 0) without in
+    let dead : live_control 0 o h0 ≡ None = m.controls.live o ∙ (ap live_in is.known ∙ ap (λ b. if b then Some is.object.control else None) (first.live ∙ ap has_pager without)) in
+    let pages : HasPages k.frames k.resident k.objects k.chains (λ o p. local header.size 0 (place_of o p) h) =
+    pages_created header.size k.frames k.resident k.objects k.chains (λ o p. local header.size 0 (place_of o p) h0) o m.pages (λ q. unasked header.size 0 o q h0 dead) in
+    let plain = m.fits.plain o p row leaves.found in
+    let seen0 = seen_here k.frames row (absent_at k.objects o p) (local header.size 0 (place_of o p) h0) (m.pages.shown o p ∙ ap (λ z. shown k.frames z (absent_at k.objects o p)) leaves.found) leaves.here plain in
+    let seen = seen_here k.frames row (absent_at k.objects o p) (local header.size 0 (place_of o p) h) (pages.shown o p ∙ ap (λ z. shown k.frames z (absent_at k.objects o p)) leaves.found) leaves.here plain in
+    let put : PutsObject o (Some (with_control state.Without is.object)) k.objects k2.objects = subst (λ (z : PagerState). PutsObject o (Some (with_control z is.object)) k.objects k2.objects) without is.objects in
+    let controls : HasControls k2.objects (λ o. last_control 0 o h) (λ o. live_control 0 o h) (λ o. is_ready 0 o h) = controls_begun k.objects k2.objects _ _ _ o is.object m.controls beside.live none put in
+    let lives : live_control 0 o h ≡ Some control = if_true o (Some control) (live_control 0 o h0) (live_control 0 o h) refl in
+    let why : Gives header doing 0 o p false h = Created control header.size h0 refl refl (may_take header doing o p h0 seen0.lock may) in
+    let follows = back_follows header outside doing ids k key row is.frame.0 control h0 h m leaves.found (ap (λ z. z.0) leaves.framed) seen dirty lives why m.frames in
+    let creates : Creates header 0 control o header.size h0 =
+    record { number = ap (λ z. z + 1) none; sized = refl; temporary = subst (λ (z : List Declared). length z ≤ o) (sym m.plain.objects) (omega arith); never = m.controls.last o ∙ (ap last_in is.known ∙ none); page = p; here = seen0.here } in
+    let b : Before header k ids h = record { tasks = m.tasks; regions = m.regions; pages = pages; uses = m.uses; laundry = m.laundry; frames = m.frames; waits = rests.waits } in
+    subst (λ (z : List Event). Took header outside doing past ids reclaim.Returned k k2 before z) (sym log)
+    (record {
+      rests = returned_rests header ids k k2 before after h h0 control rests beside is b controls;
+      goes =
+          record {
+            more = e2 ∷ e1 ∷ [];
+            is = refl;
+            follows = (tt, (tt, tt));
+            licensed = ((follows.cause, refl), (((λ paged. creates), subst (λ (z : Option Channel). MatchOption z (Unit {0}) (λ channel. ReturnsOn channel e1)) (sym m.settled) tt), tt));
+            own_bytes = (tt, (tt, tt));
+            copies = (tt, (tt, tt));
+            frames = (follows.frames, (suffices header k.frames h m.frames, tt));
+            inner = (tt, (tt, tt));
+            said = (follows.said, (refl, tt));
+          };
+      gone = record { more = e2 ∷ e1 ∷ []; is = refl; each = (refl, (refl, tt)) };
+      reclaimed = on_its_way k k2 h0 (e2 ∷ h) beside is.frames refl (omega arith);
+    })
+
+took_returned : (header : Header) (outside : Outside) (doing : Command) (past : List Event) (ids : Ids) (k k2 : Parts) (before after : List Event) → Rests header k ids (before ++ past) → Beside k k2 → MayTake header doing (before ++ past)
+    → IsReturned k.host k.buffers.size [] (parts_of k before) (parts_of k2 after) → Took header outside doing past ids reclaim.Returned k k2 before after
+took_returned header outside doing past ids k k2 before after rests beside may is = go is.object.state refl
+  where
+    bytes : List ℕ
+    bytes = page_in k.frames is.frame.0
+
+    unless : (a b : Bool) → (a || b) ≡ true → b ≡ false → a ≡ true
+    unless true b either none = refl
+    unless false b either none = absurd (let bad : false ≡ true = sym none ∙ either in cc)
+
+    dirty : is.row.dirty ≡ true
+    dirty = unless is.row.dirty is.row.precious is.wanted (rests.matches.fits.plain is.key.object.0 is.key.page.0 is.row is.leaves.found).precious
+
+    log : (pager : PagerState) → is.object.state ≡ pager → after ≡ sent_back is.key is.row.dirty is.object bytes before header.size pager the_host
+    log pager same =
+        is.events
+        ∙ (ap (λ z. sent_back is.key is.row.dirty is.object bytes before z is.object.state k.host) (rests.matches.fits.buffers ∙ rests.matches.size)
+        ∙ (ap (sent_back is.key is.row.dirty is.object bytes before header.size is.object.state) rests.matches.host
+        ∙ ap (λ z. sent_back is.key is.row.dirty is.object bytes before header.size z the_host) same))
+
+    go : (pager : PagerState) → is.object.state ≡ pager → Took header outside doing past ids reclaim.Returned k k2 before after
+    go state.Without same = took_first header outside doing past ids k k2 before after rests beside may is dirty same (log state.Without same)
+    go state.Sent same = took_told header outside doing past ids k k2 before after rests beside may is dirty (ap has_pager same) (ap (λ z. with_control z is.object) same) (log state.Sent same)
+    go state.Ready same = took_told header outside doing past ids k k2 before after rests beside may is dirty (ap has_pager same) (ap (λ z. with_control z is.object) same) (log state.Ready same)
+
+-- a page was reclaimed, or none is here
+pub took : (header : Header) (outside : Outside) (doing : Command) (past : List Event) (ids : Ids) (answer : Reclaim) (k k2 : Parts) (before after : List Event) → Rests header k ids (before ++ past) → Beside k k2 → MayTake header doing (before ++ past)
+    → Reclaims answer k.host k.buffers.size [] (parts_of k before) (parts_of k2 after) → Took header outside doing past ids answer k k2 before after
+took header outside doing past ids reclaim.Freed k k2 before after rests beside may is = took_freed header outside doing past ids k k2 before after rests beside may is
+took header outside doing past ids reclaim.Returned k k2 before after rests beside may is = took_returned header outside doing past ids k k2 before after rests beside may is
+took header outside doing past ids reclaim.Nothing k k2 before after rests beside may is = took_nothing header outside doing past ids k k2 before after rests beside is
+
+-- the lists of pages have another order
+
+pub rests_touched : (header : Header) (ids : Ids) (k : Parts) (queues : Queues) (past : List Event) → Rests header k ids past → KeepsPages k.queues queues → queues.frames ≡ k.queues.frames → Rests header (record k { queues = queues }) ids past
+rests_touched header ids k queues past rests keeps count =
+    let m = rests.matches in
+    record {
       matches =
           record {
             plain = m.plain;
             size = m.size;
             host = m.host;
-            fits = fit_touched k.size k.frames k.resident k.queues queues k.objects m.fits keeps (ap (λ z. z.frames) is);
+            fits = record { parts = fit_touched k.size k.frames k.resident k.queues queues k.objects m.fits.parts keeps count; plain = m.fits.plain; buffers = m.fits.buffers };
             tasks = m.tasks;
             regions = m.regions;
             entries = m.entries;
             pages = m.pages;
             uses = m.uses;
             controls = m.controls;
-            stores = m.stores;
+            settled = m.settled;
+            laundry = m.laundry;
             frames = m.frames;
           };
-      used = r.used;
-      grows = r.grows;
-      reclaims = r.reclaims;
-      gone = r.gone;
-      clean = r.clean;
+      used = rests.used;
+      reached = rests.reached;
+      waits = rests.waits;
+      idle = rests.idle;
     }
 
--- a page more is reclaimed
-pub reclaims_more : (header : Header) (outside : Outside) (count done : ℕ) (past : List Event) (k k2 : Parts) (ids : Ids) (events after : List Event) → Reclaims header outside count done past k ids events → done < count → Reclaimed k k2 events after → Reclaims header outside count (done + 1) past k2 ids after
-reclaims_more header outside count done past k k2 ids events after r less reclaimed =
-    let m = r.matches in
-    let key = reclaimed.key in
-    let lost = reclaimed.lost in
-    let o = key.object.0 in
-    let p = key.page.0 in
-    let h = events ++ past in
-    let e : Event = event.Dropped the_host key.object key.page in
-    let log : after ≡ e ∷ events = lost.told ∙ ap (λ z. event.Dropped z key.object key.page ∷ events) m.host in
-    let stored = r.clean (omega arith) in
-    let is : local header.size 0 (place_of o p) h ≡ shown k.frames (Some lost.row) (absent_at k.objects o p) = m.pages.shown o p ∙ ap (λ z. shown k.frames z (absent_at k.objects o p)) lost.found in
-    let here : (local header.size 0 (place_of o p) h).here ≡ true = ap (λ z. z.here) is ∙ (m.fits.plain o p lost.row lost.found).here in
-    let row_clean : lost.row.dirty ≡ false = m.stores.clean stored o p lost.row lost.found in
-    let clean : (local header.size 0 (place_of o p) h).dirty ≡ false = ap (λ z. z.dirty) is ∙ row_clean in
-    let frames : HasFrames (slice_get (reverse header.frames.items) 0) k2.frames (frames_held header.size 0 (e ∷ h)) (frames_wired 0 (e ∷ h)) =
-    frames_lost (slice_get (reverse header.frames.items) 0) k.frames k2.frames (frames_held header.size 0 h) (frames_wired 0 h) m.frames lost.claims lost.wired lost.count in
-    let precious : (local header.size 0 (place_of o p) h).precious ≡ false = ap (λ z. z.precious) is ∙ (m.fits.plain o p lost.row lost.found).precious in
-    let why : May header (command.Pageout the_host count) 0 o p h =
-    record { spared = λ waits. no_wait (waiting waits.task h) waits.access (m.tasks.none waits.task) waits.waits.waits; may = inl (refl, (let number = r.gone in omega arith)) } in
-    let drops : Drops header (command.Pageout the_host count) 0 o p h = record { here = here; why = Taken clean precious why } in
-    let follows : Follows header outside (command.Pageout the_host count) e h =
-    record { consequence = tt; cause = λ paged. drops; own_bytes = tt; copies = tt; frames = suffices header k2.frames (e ∷ h) frames; inner = tt } in
-    subst (λ (z : List Event). Reclaims header outside count (done + 1) past k2 ids z) (sym log)
-    (record {
-      begins = r.begins;
-      matches =
-          record {
-            plain = m.plain;
-            size = lost.plan.size ∙ m.size;
-            host = lost.plan.host ∙ m.host;
-            fits = lost.fits;
-            tasks = rw lost.plan.maps m.tasks;
-            regions = rw (lost.plan.chains, lost.plan.objects) m.regions;
-            entries = rw (lost.plan.chains, lost.plan.maps) m.entries;
-            pages = rw (lost.plan.chains, lost.plan.objects) (pages_lost header.size k.frames k2.frames k.resident k2.resident k.objects k.chains (λ o p. local header.size 0 (place_of o p) h) o p lost.row lost.found (m.fits.plain o p lost.row lost.found) m.pages lost.pages lost.put);
-            uses = rw lost.plan.maps m.uses;
-            controls = still (λ o. last_control 0 o h) (λ o. live_control 0 o h) (created h) m.controls;
-            stores = stores_lost k.resident k2.resident o p (has_stored h) m.stores lost.put;
-            frames = frames;
-          };
-      used = rw lost.plan.chains r.used;
-      grows = grows_more header outside (command.Pageout the_host count) past events e r.grows m.controls.created follows;
-      reclaims = (refl, r.reclaims);
-      gone = ap (λ z. z + 1) r.gone;
-      clean = r.clean;
-    })
-
-reclaims_end : (header : Header) (outside : Outside) (count done : ℕ) (past : List Event) (k : Parts) (ids : Ids) (events : List Event) → Reclaims header outside count done past k ids events → IsDone header (command.Pageout the_host count) events past
-    → Began header outside (command.Pageout the_host count) past k ids events
-reclaims_end header outside count done past k ids events r is_done =
-    let rests : Rests header k ids (events ++ past) = record { matches = r.matches; used = r.used } in
-    record {
-      rests = rests;
-      grows = r.grows;
-      done = is_done;
-      prompt = prompt_of header k ids (events ++ past) rests;
-      paid = paid_of header past events r.begins r.grows.inner r.matches.controls.created;
-    }
-
--- as many as were asked for are gone
-pub began_pageout : (header : Header) (outside : Outside) (count done : ℕ) (past : List Event) (k : Parts) (ids : Ids) (events : List Event) → Reclaims header outside count done past k ids events → done ≡ count → Began header outside (command.Pageout the_host count) past k ids events
-began_pageout header outside count done past k ids events r all = reclaims_end header outside count done past k ids events r (inl (let number = r.gone in omega arith))
+pub reclaimed_touched : (answer : Reclaim) (k k2 : Parts) (queues : Queues) (before after : List Event) → Reclaimed answer (record k { queues = queues }) k2 before after → Reclaimed answer k k2 before after
+reclaimed_touched answer k k2 queues before after r = record { waits = r.waits; freed = r.freed; returned = r.returned; nothing = r.nothing }
 
 -- no page is on a list, so none is here
-pub began_bare : (header : Header) (outside : Outside) (count done : ℕ) (past : List Event) (k : Parts) (ids : Ids) (queues : Queues) (events : List Event) → Reclaims header outside count done past k ids events → queues ≡ spared (balanced k.queues) → KeepsPages k.queues queues → AllSkipped [] k.queues
-    → Began header outside (command.Pageout the_host count) past (record k { queues = queues }) ids events
-began_bare header outside count done past k ids queues events r is keeps none =
-    reclaims_end header outside count done past (record k { queues = queues }) ids events (reclaims_spared header outside count done past k ids queues events r is keeps) (inr (record { later = []; front = events; is = refl; reclaims = r.reclaims; exhausted = exhausted }))
-  where
-    away : {B : Type 0} (b : Bool) → b ≡ false → b ≡ true → B
-    away b isnt is = absurd (let bad : false ≡ true = sym isnt ∙ is in cc)
-
-    bare : (o p : ℕ) (x : Option PageRow) → row_at k.resident o p ≡ x → (local header.size 0 (place_of o p) (events ++ past)).here ≡ false
-    bare o p None found = ap (λ z. z.here) (r.matches.pages.shown o p ∙ ap (λ z. shown k.frames z (absent_at k.objects o p)) found)
-    bare o p (Some row) found =
-        let listed : is_queued k.queues row.frame.0 ≡ true = r.matches.fits.parts.listed o p row found ∙ (r.matches.fits.plain o p row found).here in
-        absurd (let bad : false ≡ true = none row.frame.0 listed in cc)
-
-    exhausted : IsExhausted header 0 past (events ++ past)
-    exhausted = record {
-      held = λ o p here. away _ (bare o p (row_at k.resident o p) refl) here;
-      one = λ o p q u here here2 spared spared2. away _ (bare o p (row_at k.resident o p) refl) here;
+pub none_queued : (header : Header) (k : Parts) (queues : Queues) (ids : Ids) (past : List Event) → Rests header k ids past → AllSkipped [] k.queues → Reclaimed reclaim.Nothing k (record k { queues = queues }) past past
+none_queued header k queues ids past rests none =
+    record {
+      waits = refl;
+      freed = λ bad. absurd (let clash : reclaim.Nothing ≡ reclaim.Freed = bad in cc);
+      returned = λ bad. absurd (let clash : reclaim.Nothing ≡ reclaim.Returned = bad in cc);
+      nothing = λ same. (refl, (λ o p row found. no_bool row.here (λ here. let bad : false ≡ true = none row.frame.0 (rests.matches.fits.parts.listed o p row found ∙ here) in cc)), refl);
     }
+
+-- a page is on a list, so a frame is not held by a return
+pub room_for : (header : Header) (k : Parts) (ids : Ids) (past : List Event) (f : ℕ) → Rests header k ids past → is_queued k.queues f ≡ true → 0 < k.laundry.room
+room_for header k ids past f rests listed = go (owner_of k.resident f) refl
+  where
+    m : Matches header k ids [] past
+    m = rests.matches
+
+    mine : (b : Bool) (key : PageKey) → is_claimed k.frames f ≡ b → owner_of k.resident f ≡ Some key → is_claimed k.frames f ≡ true
+    mine true key is owner = is
+    mine false key is owner = absurd (let bad : None ≡ Some key = sym (m.fits.parts.unowned f is) ∙ owner in cc)
+
+    go : (x : Option PageKey) → owner_of k.resident f ≡ x → 0 < k.laundry.room
+    go None none = absurd (let bad : false ≡ true = sym (m.fits.parts.unlisted f none) ∙ listed in cc)
+    go (Some key) owner = laundry_room k.frames k.resident k.laundry (returns_out 0 past) f key m.laundry (omega (arith, m.frames.fits)) (mine (is_claimed k.frames f) key refl owner) owner
+
+-- the front of the frame queue has to wait
+
+-- no page is here, so nothing can be reclaimed
+pub exhausted : (header : Header) (k : Parts) (ids : Ids) (moment past : List Event) → Matches header k ids [] past → ((o p : ℕ) (row : PageRow) → row_at k.resident o p ≡ Some row → row.here ≡ false) → IsExhausted header 0 moment past
+exhausted header k ids moment past m none = record { held = λ o p here. never o p here; one = λ o p q u here here2 spared spared2. never o p here }
+  where
+    away : (o p : ℕ) (x : Option PageRow) → row_at k.resident o p ≡ x → (local header.size 0 (place_of o p) past).here ≡ false
+    away o p None found = ap (λ z. z.here) (m.pages.shown o p ∙ ap (λ z. shown k.frames z (absent_at k.objects o p)) found)
+    away o p (Some row) found = ap (λ z. z.here) (m.pages.shown o p ∙ ap (λ z. shown k.frames z (absent_at k.objects o p)) found) ∙ none o p row found
+
+    never : {B : Type 0} (o p : ℕ) → (local header.size 0 (place_of o p) past).here ≡ true → B
+    never o p here = absurd (let bad : false ≡ true = sym (away o p (row_at k.resident o p) refl) ∙ here in cc)
+
+-- nothing was freed
+pub full_after : (header : Header) (k k2 : Parts) (ids : Ids) (answer : Reclaim) (past after : List Event) → Rests header k2 ids after → free k.frames ≡ 0 → Reclaimed answer k k2 past after → (answer ≡ reclaim.Returned) ⊎ (answer ≡ reclaim.Nothing) → IsFull header 0 after
+full_after header k k2 ids answer past after rests none r (inl returned) =
+    record { none = free_is header k2.frames after rests.matches.frames ∙ ((r.returned returned).2 ∙ none); why = inl (r.returned returned).3 }
+full_after header k k2 ids answer past after rests none r (inr nothing) =
+    record { none = free_is header k2.frames after rests.matches.frames ∙ ((r.nothing nothing).2 ∙ none); why = inr (exhausted header k2 ids after after rests.matches (r.nothing nothing).1) }

@@ -9,7 +9,6 @@ use Rattle.vm_model.specs.Local.{Local}
 use Rattle.vm_model.specs.Regions.{Backing, Region}
 use Rattle.vm_model.specs.Rows.{AllRows, Inside, part, rows_map}
 use Rattle.vm_model.specs.Tasks.{has_entry}
-use Rattle.vm_model.specs.Waiting.{Access}
 use Rattle.vm_frames.specs.Frames.{FrameTable}
 use Rattle.vm_maps.specs.Maps.{ChangesOnly, Mapped, entries_in, rows_in}
 use Rattle.vm_objects.specs.Objects.{ObjectTable}
@@ -18,7 +17,7 @@ use Rattle.vm_shadow.specs.Chains.{ChainTable}
 use Rattle.vm_shadow.specs.declared.ids.Ids.{Ids}
 use Rattle.vm_shadow.specs.declared.region_row.RegionRow.{RegionRow}
 use Rattle.vm_kernel.specs.Counts.{count_on, most_tasks}
-use Rattle.vm_kernel.specs.Matches.{AllInside, AllUsed, HasEntries, HasPages, HasRegions, HasTasks, IsInside, host_for, object_under}
+use Rattle.vm_kernel.specs.Matches.{AllInside, AllUsed, HasEntries, HasPages, HasRegions, HasTasks, IsInside, host_for}
 use Rattle.vm_kernel.specs.Places.{entries_in_row, has_region, region_entries}
 use Rattle.vm_kernel.specs.Sweeping.{with_entries}
 use Rattle.vm_kernel.proofs.Counts.{by_changed, on_append, on_zero}
@@ -39,7 +38,7 @@ recount_regions count cs cs2 os ids region_from backing_from regions_made object
       unbacked = has.unbacked;
       unmade = λ r le. is.at r ∙ ap (with_entries (count r)) (has.unmade r le);
       unknown = has.unknown;
-      under = λ r row found. let b = row_before count cs cs2 is r row found in has.under r b.was b.found ∙ ap (λ z. Some (object_under z)) (sym b.is);
+      under = λ r row found. let b = row_before count cs cs2 is r row found in let was = has.under r b.was b.found in record { object = was.object; found = was.found; temporary = was.temporary; pages = was.pages ∙ ap (λ z. z.pages) (sym b.is); references = was.references; live = was.live; number = was.number };
     }
 
 pub recount_pages : (count : ℕ → ℕ) (fs : FrameTable) (rs : ResidentTable) (os : ObjectTable) (cs cs2 : ChainTable) (local_at : ℕ → ℕ → Local) → Recounts count cs cs2 → HasPages fs rs os cs local_at → HasPages fs rs os cs2 local_at
@@ -113,9 +112,9 @@ entries_changed size task maps new cs cs2 count rows lost has changes lives is c
     other : (t : ℕ) → t ≢ task → rows_in t new ≡ rows_in t maps
     other t apart = ap (λ z. unwrap_or z []) (changes.others t apart)
 
-pub tasks_changed : (size task : ℕ) (maps new : Mapped) (host_at : ℕ → Option ℕ) (rows_at : ℕ → List Entry) (waiting_at : ℕ → Option Access) (f : List Entry → List Entry) → HasTasks size maps host_at rows_at waiting_at
-    → ChangesOnly maps new task (Some (f (rows_in task maps))) → entries_in task maps ≡ Some (rows_in task maps) → HasTasks size new host_at (λ t. if task == t then f (rows_at t) else rows_at t) waiting_at
-tasks_changed size task maps new host_at rows_at waiting_at f has changes lives =
+pub tasks_changed : (size task : ℕ) (maps new : Mapped) (host_at : ℕ → Option ℕ) (rows_at : ℕ → List Entry) (f : List Entry → List Entry) → HasTasks size maps host_at rows_at
+    → ChangesOnly maps new task (Some (f (rows_in task maps))) → entries_in task maps ≡ Some (rows_in task maps) → HasTasks size new host_at (λ t. if task == t then f (rows_at t) else rows_at t)
+tasks_changed size task maps new host_at rows_at f has changes lives =
     record {
       sized = changes.size ∙ has.sized;
       hosts = λ t. elim (eqb_tells task t) [
@@ -126,7 +125,6 @@ tasks_changed size task maps new host_at rows_at waiting_at f has changes lives 
         | inl same ↦ ap (λ b. if b then f (rows_at t) else rows_at t) same.0 ∙ subst (λ (z : ℕ). f (rows_at z) ≡ rows_in z new) same.1 (ap f (has.rows task) ∙ sym (ap (λ z. unwrap_or z []) changes.changed))
         | inr apart ↦ ap (λ b. if b then f (rows_at t) else rows_at t) apart.0 ∙ (has.rows t ∙ sym (ap (λ z. unwrap_or z []) (changes.others t (λ e. apart.1 (sym e)))))
       ];
-      none = has.none;
     }
 
 -- entries are cut

@@ -1,5 +1,5 @@
 -- A fork makes a child, and gives it what is shared, one entry after another.
-use Rattle.std.proofs.Common.{◌≡◌, nat_lt, ℕ, ◌+◌, ◌*◌, ◌%◌, ◌<◌, ◌≤◌, ◌^◌, ◌==◌, not, Bool, true, false, List, [], ◌∷◌, ◌++◌, length, take, drop, reverse, slice_get, refl, ap, sym, ◌∙◌, subst, arith, Some, None, Option, inl, inr, length-append}
+use Rattle.std.proofs.Common.{append_assoc, ◌≡◌, nat_lt, ℕ, ◌+◌, ◌*◌, ◌%◌, ◌<◌, ◌≤◌, ◌^◌, ◌==◌, not, Bool, true, false, List, [], ◌∷◌, ◌++◌, length, take, drop, reverse, slice_get, refl, ap, sym, ◌∙◌, subst, arith, Some, None, Option, inl, inr, length-append}
 use Rattle.std.proofs.lemmas.Bool.Decides.{eqb_tells, nat_tests}
 use Rattle.std.proofs.lemmas.List.{reverse-append}
 use Rattle.std.specs.Prelude.{if◌then◌else◌, is_none, is_some, unwrap_or, IfSome, IsSome, ◌≢◌}
@@ -12,7 +12,6 @@ use Rattle.vm_model.specs.declared.event.Event.TheVariants as event
 use Rattle.vm_model.specs.declared.command.Command.{Command}
 use Rattle.vm_model.specs.declared.command.Command.TheVariants as command
 use Rattle.vm_model.specs.declared.script.Header.{Header}
-use Rattle.vm_model.specs.Controls.{last_control, live_control}
 use Rattle.vm_legal.specs.Follows.{gets, head}
 use Rattle.vm_legal.specs.Frames.{Suffice, frames_used}
 use Rattle.vm_model.specs.Local.{is_on, local}
@@ -20,30 +19,38 @@ use Rattle.vm_legal.specs.Refusal.{is_fork_full, where_true}
 use Rattle.vm_model.specs.Regions.{backing_of, next_object, next_region, region_of}
 use Rattle.vm_model.specs.Rows.{AllRows, rows_entered}
 use Rattle.vm_model.specs.Tasks.{copies, entries_of, host_of, is_shared, shared}
-use Rattle.vm_model.specs.Waiting.{waiting}
+use Rattle.vm_model.specs.Waiting.{Access, waiting}
 use Rattle.vm_legal.specs.Bytes.{CopiesCurrent, OwnBytes}
-use Rattle.vm_legal.specs.Licences.{AllLicensed, Enters, created}
+use Rattle.vm_legal.specs.Licences.{AllLicensed, Enters}
 use Rattle.vm_legal.specs.Living.{lives_on, tasks}
 use Rattle.vm_legal.specs.Outside.{Outside}
 use Rattle.vm_legal.specs.Used.{in_use}
 use Rattle.vm_maps.specs.Maps.{ChangesOnly, Mapped, entries_in, rows_in}
+use Rattle.vm_objects.specs.Objects.{object_at}
 use Rattle.vm_shadow.specs.Chains.{ChainTable, region_at}
 use Rattle.vm_shadow.specs.declared.ids.Ids.{Ids}
-use Rattle.vm_kernel.specs.Begun.{Began, IsInner, Starts}
+use Rattle.vm_shadow.specs.declared.region_row.RegionRow.{RegionRow}
+use Rattle.vm_supply.specs.declared.woken.Woken.TheVariants as woken
+use Rattle.vm_waits.specs.Waits.{again, entry}
+use Rattle.vm_kernel.specs.Begun.{IsInner, IsSaid, Ran, Starts}
 use Rattle.vm_kernel.specs.Counts.{count_by, most_tasks}
+use Rattle.vm_kernel.specs.Fits.{ArePlain}
 use Rattle.vm_kernel.specs.Forking.{CanShare, HasForked, Shares, got, with_child}
-use Rattle.vm_kernel.specs.Matches.{HasEntries, IsInside, Matches, host_for, the_host}
+use Rattle.vm_kernel.specs.Matches.{HasEntries, HasWaits, IsInside, Matches, host_for, the_host}
+use Rattle.vm_kernel.specs.Waiters.{HasWaiters}
 use Rattle.vm_kernel.specs.Places.{entries_in_row, has_region, pages_in, place_of, region_entries, region_pages}
+use Rattle.vm_kernel.specs.Sweeping.{with_entries}
 use Rattle.vm_kernel.specs.declared.parts.Parts.{Parts}
 use Rattle.vm_kernel.proofs.Counts.{by_few, most_is, on_entered}
 use Rattle.vm_kernel.proofs.Forks.{behind, entered_behind, few_shared, free_behind, gets_more, row_among, rows_shared, shared_more, shared_one, shared_other, split_at, take_all, whole_among}
 use Rattle.vm_kernel.proofs.Growing.{licensed, suffices}
-use Rattle.vm_kernel.proofs.Heads.{Heads, began_head, passed}
-use Rattle.vm_kernel.proofs.Prompting.{region_row}
-use Rattle.vm_kernel.proofs.Recounts.{Recounts, more_taken, recounts_put}
+use Rattle.vm_kernel.proofs.Heads.{Heads, passed, ran_head}
+use Rattle.vm_kernel.proofs.Making.{idle_of, waits_made}
+use Rattle.vm_kernel.proofs.Recounts.{Recounts, has_same, more_taken, recounts_put}
 use Rattle.vm_kernel.proofs.Rewrites.{entries_changed, lives_below, recount_pages, recount_regions, recount_used}
 use Rattle.vm_kernel.proofs.Tasks.{entries_made, free_task, length_entered, lives_of, tasks_entered, tasks_made}
-use Rattle.vm_kernel.proofs.Uses.{still, unfilled, uses_entered, uses_made}
+use Rattle.vm_kernel.proofs.Uses.{unfilled, uses_entered, uses_made}
+use Rattle.vm_kernel.proofs.Waited.{SameTops, waits_changed}
 
 -- a task that can be forked lives, its child doesn't, and nothing is copied
 pub record MayFork (k : Parts) (task child : ℕ) : Type 0 where
@@ -92,22 +99,56 @@ fork_start header outside task child past k ids before after maps s changes told
             plain = m.plain;
             size = m.size;
             host = m.host;
-            fits = m.fits;
+            fits = record { parts = m.fits.parts; plain = m.fits.plain; buffers = m.fits.buffers };
             tasks = tasks_made header.size k.maps maps past child m.tasks changes;
             regions = m.regions;
             entries = entries_made header.size k.maps maps k.chains child.0 m.entries changes may.free s.range.1;
             pages = m.pages;
             uses = uses_made k.maps maps (λ r. in_use header 0 r past) (tasks past) child.0 m.uses changes may.free (rw most_is s.range.1);
-            controls = still (λ o. last_control 0 o past) (λ o. live_control 0 o past) (created past) m.controls;
-            stores = m.stores;
+            controls = m.controls;
+            settled = refl;
+            laundry = m.laundry;
             frames = m.frames;
           });
       used = s.rests.used;
+      reached = s.rests.reached;
+      waits =
+          subst (λ (z : List Event). HasWaits (record k { maps = maps }) woken.Nobody (z ++ past)) (sym log)
+          (waits_made k.maps maps k.chains k.resident k.objects k.waits.rows woken.Nobody child the_host past s.rests.waits may.free changes);
+      idle = s.rests.idle;
       others = changes.others task.0 apart ∙ may.lives;
       own = changes.changed;
       told = log;
-      licensed = subst (λ (z : List Event). AllLicensed header outside (command.Fork task child) z past) (sym log) (licensed header outside (command.Fork task child) (event.TaskMade child the_host) past m.controls.created tt, tt);
+      licensed = subst (λ (z : List Event). AllLicensed header outside (command.Fork task child) z past) (sym log) (licensed header outside (command.Fork task child) (event.TaskMade child the_host) past m.settled tt, tt);
     }
+
+-- the row of a region that is there
+region_row : (cs : ChainTable) (r : ℕ) → has_region cs r ≡ true → (row : RegionRow) × (region_at cs r ≡ Some row)
+region_row cs r there = go (region_at cs r) there
+  where
+    go : (x : Option RegionRow) → is_some x ≡ true → (row : RegionRow) × (x ≡ Some row)
+    go None bad = absurd (let no : false ≡ true = bad in cc)
+    go (Some row) is = (row, refl)
+
+-- regions that count anew are over the same pages
+pub tops_recounted : (count : ℕ → ℕ) (old new : ChainTable) → Recounts count old new → SameTops old new
+tops_recounted count old new is = record { at = λ r row found. record { row_now = record row { entries = count r }; found = is.at r ∙ ap (with_entries (count r)) found; top = refl; shift = refl } }
+
+-- the child doesn't wait
+
+gets_idle : (task : ℕ) (child : TaskId) (rows : List Entry) (past : List Event) → waiting task (reverse (gets child rows) ++ past) ≡ waiting task past
+gets_idle task child [] past = refl
+gets_idle task child (row ∷ rows) past =
+    ap (λ z. waiting task (z ++ past)) (reverse-append (got child row ∷ []) (gets child rows))
+    ∙ (ap (waiting task) (append_assoc (reverse (gets child rows)) (got child row ∷ []) past) ∙ gets_idle task child rows (got child row ∷ past))
+
+child_idle : (child : TaskId) (rows : List Entry) (past : List Event) → waiting child.0 (with_child child rows ++ past) ≡ None
+child_idle child rows past =
+    ap (waiting child.0) (append_assoc (reverse (gets child rows)) (event.TaskMade child the_host ∷ []) past)
+    ∙ (gets_idle child.0 child rows (event.TaskMade child the_host ∷ past) ∙ made child.0 (waiting child.0 past))
+  where
+    made : (n : ℕ) (other : Option Access) → ◌≡◌ {A = Option Access} (if n == n then None else other) None
+    made n other = elim (eqb_tells n n) [ inl same ↦ ap (λ b. if b then None else other) same.0 | inr apart ↦ absurd (apart.1 refl) ]
 
 -- the number of a region's entries is far below its limit
 few_entries : (size : ℕ) (maps : Mapped) (chains : ChainTable) (r : ℕ) → HasEntries size maps chains [] → has_region chains r ≡ true → region_entries chains r + 1 < 2 ^ 32
@@ -195,8 +236,13 @@ fork_shared header outside task child rows i row past k k2 ids events after f so
       made = by_number (nat_lt r (next_region header (events ++ past))) refl;
       used = λ temporary. used;
       file = λ is. used;
-      unfilled = unfilled r (tasks (events ++ past)) (events ++ past) m.tasks.none;
+      unfilled = unfilled r (tasks (events ++ past)) k.waits.rows (events ++ past) (record { is = f.waits.is });
     } in
+    let waits_at = λ (t : ℕ). waiting t (events ++ past) in
+    let idle : entry k.waits.rows child.0 ≡ None =
+    idle_of (entry k.waits.rows child.0) (waiting child.0 (events ++ past)) (f.waits.is child.0) (ap is_some (ap (λ z. waiting child.0 (z ++ past)) f.told ∙ child_idle child (shared front) past)) in
+    let now_waits : HasWaiters k2.maps k2.chains k.resident k.objects k.waits.rows woken.Nobody waits_at =
+    waits_changed k.maps k2.maps k.chains k2.chains k.resident k.objects k.waits.rows woken.Nobody waits_at child.0 (Some (entered row (rows_in child.0 k.maps))) f.waits s.maps idle (tops_recounted count_at k.chains k2.chains recounts) in
     record {
       apart = f.apart;
       matches =
@@ -205,21 +251,30 @@ fork_shared header outside task child rows i row past k k2 ids events after f so
             plain = m.plain;
             size = s.size ∙ m.size;
             host = s.host ∙ m.host;
-            fits = rw (s.size, s.frames, s.resident, s.queues, s.objects) m.fits;
+            fits =
+                record {
+                  parts = rw (s.size, s.frames, s.resident, s.queues, s.objects) m.fits.parts;
+                  plain = subst ArePlain (sym s.resident) m.fits.plain;
+                  buffers = ap (λ z. z.size) s.buffers ∙ (m.fits.buffers ∙ sym s.size);
+                };
             tasks = tasks_entered size k.maps k2.maps (events ++ past) child row m.tasks s.maps lives;
             regions = rw s.objects (recount_regions count_at k.chains k2.chains k.objects ids (λ q. region_of header q (events ++ past)) (λ o. backing_of header o (events ++ past)) (next_region header (events ++ past)) (next_object header (events ++ past)) recounts m.regions);
             entries = entries;
             pages = rw (s.frames, s.resident, s.objects) (recount_pages count_at k.frames k.resident k.objects k.chains k2.chains (λ o p. local size 0 (place_of o p) (events ++ past)) recounts m.pages);
             uses = uses_entered k.maps k2.maps (λ q. in_use header 0 q (events ++ past)) (tasks (events ++ past)) child.0 row (lives_on 0 child.0 (events ++ past)) (λ q apart. m.uses.used q) used m.uses.among s.maps lives below lives_here;
-            controls = still (λ o. last_control 0 o (events ++ past)) (λ o. live_control 0 o (events ++ past)) (created (events ++ past)) m.controls;
-            stores = rw s.resident m.stores;
+            controls = rw s.objects m.controls;
+            settled = refl;
+            laundry = rw (s.frames, s.resident, s.laundry) m.laundry;
             frames = rw s.frames m.frames;
           });
       used = recount_used count_at k.chains k2.chains recounts (λ q there some. omega (arith, step q)) f.used;
+      reached = λ o known found live. has_same count_at k.chains k2.chains recounts o ∙ f.reached o known (ap (λ z. object_at z o) (sym s.objects) ∙ found) live;
+      waits = subst (λ (z : List Event). HasWaits k2 woken.Nobody (z ++ past)) (sym s.told) (rw (s.resident, s.objects, s.waits) now_waits);
+      idle = ap (λ z. again z.rows) s.waits ∙ f.idle;
       others = s.maps.others task.0 f.apart ∙ f.others;
       own = s.maps.changed ∙ ap Some (ap (entered row) own ∙ (last ∙ sym more));
       told = s.told ∙ (ap (λ z. e ∷ z) f.told ∙ sym (with_one (shared front) (shared (take (i + 1) rows)) more));
-      licensed = subst (λ (z : List Event). AllLicensed header outside (command.Fork task child) z past) (sym s.told) (licensed header outside (command.Fork task child) e (events ++ past) m.controls.created enters, f.licensed);
+      licensed = subst (λ (z : List Event). AllLicensed header outside (command.Fork task child) z past) (sym s.told) (licensed header outside (command.Fork task child) e (events ++ past) m.settled enters, f.licensed);
     }
   where
     some_use : (n : ℕ) → 0 < n → nat_lt 0 n ≡ true
@@ -246,13 +301,6 @@ fork_shared header outside task child rows i row past k k2 ids events after f so
       | inr apart ↦ rw apart.0 (omega arith)
     ]
 
-    had : (q : ℕ) → has_region k.chains q ≡ true → 0 < region_entries k.chains q
-    had q there =
-        let was = region_row k.chains q there in
-        let some = f.used q was.0 was.1 in
-        let same = ap entries_in_row was.1 in
-        omega arith
-
 -- an entry isn't shared
 pub fork_other : (header : Header) (outside : Outside) (task child : TaskId) (rows : List Entry) (i : ℕ) (row : Entry) (past : List Event) (k : Parts) (ids : Ids) (events : List Event) → HasForked header outside task child rows i past k ids events → slice_get rows i ≡ Some row → is_shared row.inherit ≡ false
     → HasForked header outside task child rows (i + 1) past k ids events
@@ -263,6 +311,9 @@ fork_other header outside task child rows i row past k ids events f found isnt =
       apart = f.apart;
       matches = f.matches;
       used = f.used;
+      reached = f.reached;
+      waits = f.waits;
+      idle = f.idle;
       others = f.others;
       own = f.own ∙ ap Some (sym same);
       told = f.told ∙ ap (with_child child) (sym same);
@@ -279,16 +330,17 @@ record Quiet (header : Header) (e : Event) : Type 0 where
   copies : (outside : Outside) (past : List Event) → CopiesCurrent header outside e past
   frames : (past : List Event) → frames_used header.size 0 (e ∷ past) ≡ frames_used header.size 0 past
   inner : IsInner e
+  said : (size : ℕ) → IsSaid size e
 
 abbrev AllQuiet : Header → List Event → Type 0
 AllQuiet header [] = Unit {0}
 AllQuiet header (e ∷ events) = Quiet header e × AllQuiet header events
 
 quiet_made : (header : Header) (child : TaskId) → Quiet header (event.TaskMade child the_host)
-quiet_made header child = record { own = λ past. tt; copies = λ outside past. tt; frames = λ past. refl; inner = tt }
+quiet_made header child = record { own = λ past. tt; copies = λ outside past. tt; frames = λ past. refl; inner = tt; said = λ size. tt }
 
 quiet_got : (header : Header) (child : TaskId) (row : Entry) → Quiet header (got child row)
-quiet_got header child row = record { own = λ past. tt; copies = λ outside past. tt; frames = λ past. refl; inner = tt }
+quiet_got header child row = record { own = λ past. tt; copies = λ outside past. tt; frames = λ past. refl; inner = tt; said = λ size. tt }
 
 quiet_append : (header : Header) (group more : List Event) → AllQuiet header group → AllQuiet header more → AllQuiet header (group ++ more)
 quiet_append header [] more one two = two
@@ -304,7 +356,7 @@ quiet_used header [] past all = refl
 quiet_used header (e ∷ events) past all = all.0.frames (events ++ past) ∙ quiet_used header events past all.1
 
 heads_quiet : (header : Header) (outside : Outside) (doing : Command) (events past : List Event) → AllLicensed header outside doing events past → AllQuiet header events → Suffice header 0 past → Heads header outside doing past events
-heads_quiet header outside doing [] past causes all fine = record { licensed = tt; own_bytes = tt; copies = tt; frames = tt; inner = tt }
+heads_quiet header outside doing [] past causes all fine = record { licensed = tt; own_bytes = tt; copies = tt; frames = tt; inner = tt; said = tt }
 heads_quiet header outside doing (e ∷ events) past causes all fine =
     let later = heads_quiet header outside doing events past causes.1 all.1 fine in
     record {
@@ -313,12 +365,13 @@ heads_quiet header outside doing (e ∷ events) past causes all fine =
       copies = (all.0.copies outside (events ++ past), later.copies);
       frames = (subst (λ (z : ℕ). IfSome (slice_get (reverse header.frames.items) 0) (λ frames. z ≤ frames)) (sym (quiet_used header (e ∷ events) past all)) fine, later.frames);
       inner = (all.0.inner, later.inner);
+      said = (all.0.said header.size, later.said);
     }
 
 -- all that is shared was given
-pub began_fork : (header : Header) (outside : Outside) (task child : TaskId) (i : ℕ) (past : List Event) (k k2 : Parts) (ids : Ids) (before events : List Event) → Starts header (command.Fork task child) past k ids before → HasForked header outside task child (rows_in task.0 k.maps) i past k2 ids events → length (rows_in task.0 k.maps) ≤ i
-    → Began header outside (command.Fork task child) past k2 ids events
-began_fork header outside task child i past k k2 ids before events s f end =
+pub ran_fork : (header : Header) (outside : Outside) (task child : TaskId) (i : ℕ) (past : List Event) (k k2 : Parts) (ids : Ids) (before events : List Event) → Starts header (command.Fork task child) past k ids before → HasForked header outside task child (rows_in task.0 k.maps) i past k2 ids events → length (rows_in task.0 k.maps) ≤ i
+    → Ran header outside (command.Fork task child) past k2 ids events
+ran_fork header outside task child i past k k2 ids before events s f end =
     let m = s.rests.matches in
     let may = may_fork header task child past k ids before s in
     let rows = rows_in task.0 k.maps in
@@ -327,4 +380,4 @@ began_fork header outside task child i past k k2 ids before events s f end =
     let whole : events ≡ reverse first = f.told ∙ (ap (λ z. with_child child (shared z)) (take_all rows i end) ∙ sym turned) in
     let quiet : AllQuiet header events = subst (AllQuiet header) (sym (whole ∙ turned)) (quiet_append header (reverse (gets child (shared rows))) (event.TaskMade child the_host ∷ []) (quiet_gets header child (shared rows)) (quiet_made header child, tt)) in
     let is : head header past (command.Fork task child) ≡ Some first = rw (m.tasks.hosts task.0, m.tasks.rows task.0, ap host_for may.lives, may.shares) refl in
-    began_head header outside (command.Fork task child) past k2 ids events first s.begins is whole (heads_quiet header outside (command.Fork task child) events past f.licensed quiet (suffices header k.frames past m.frames)) tt (record { matches = f.matches; used = f.used })
+    ran_head header outside (command.Fork task child) past k2 ids events first is whole (heads_quiet header outside (command.Fork task child) events past f.licensed quiet (suffices header k.frames past m.frames)) tt (record { matches = f.matches; used = f.used; reached = f.reached; waits = f.waits; idle = f.idle })

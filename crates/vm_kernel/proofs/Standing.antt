@@ -1,95 +1,134 @@
--- A load or store that isn't refused, up to where its page is here.
-use Rattle.std.proofs.Common.{◌≡◌, ℕ, ◌+◌, ◌%◌, ◌≤◌, ◌==◌, List, [], ◌∷◌, refl, ap, ◌∙◌, subst, arith, Some}
-use Rattle.std.specs.Prelude.{IfSome, not}
+-- What a page shows to a walk: it is here, or missing, and then its pager may have it or not.
+use Rattle.std.proofs.Common.{◌≡◌, ℕ, ◌&&◌, Bool, true, false, List, refl, ap, sym, ◌∙◌, arith, Some, None, Option, inl, inr}
+use Rattle.std.proofs.lemmas.Bool.Decides.{nat_tests}
+use Rattle.std.specs.Prelude.{if◌then◌else◌, is_some, nat_lt, not, ◌⊎◌}
 use Rattle.vm_base.specs.declared.entry.Entry.{Entry}
-use Rattle.vm_base.specs.declared.ids.Access.TheVariants.{Load, Store}
 use Rattle.vm_base.specs.declared.ids.FrameNo.{FrameNo}
 use Rattle.vm_base.specs.declared.ids.PageKey.{PageKey}
-use Rattle.vm_base.specs.declared.ids.TaskId.{TaskId}
-use Rattle.vm_base.specs.Entries.{entry_at}
 use Rattle.vm_model.specs.declared.event.Event.{Event}
-use Rattle.vm_model.specs.declared.event.Event.TheVariants as event
-use Rattle.vm_model.specs.declared.command.Command.TheVariants as command
 use Rattle.vm_model.specs.declared.script.Header.{Header}
-use Rattle.vm_legal.specs.Refusal.{access_refusal}
-use Rattle.vm_model.specs.Tasks.{entries_of}
-use Rattle.vm_model.specs.Waiting.{Loading, Storing}
-use Rattle.vm_legal.specs.Outside.{Outside}
-use Rattle.vm_maps.specs.Judge.{place_at}
-use Rattle.vm_maps.specs.Maps.{rows_in}
-use Rattle.vm_maps.specs.declared.place.Place.{Place}
-use Rattle.vm_shadow.specs.Chains.{region_at}
+use Rattle.vm_model.specs.Controls.{live_control}
+use Rattle.vm_model.specs.Local.{Local, is_known_absent}
+use Rattle.vm_legal.specs.Accesses.{is_ready}
+use Rattle.vm_legal.specs.Walks.{Passes, page_on, sight}
+use Rattle.vm_frames.specs.Frames.{page_in}
+use Rattle.vm_objects.specs.Objects.{absent_at}
+use Rattle.vm_objects.specs.declared.row.ObjectRow.{ObjectRow}
+use Rattle.vm_objects.specs.declared.row.PagerState.TheVariants as state
+use Rattle.vm_resident.specs.Resident.{row_at}
 use Rattle.vm_shadow.specs.declared.ids.Ids.{Ids}
-use Rattle.vm_kernel.specs.Begun.{Starts}
-use Rattle.vm_kernel.specs.Changes.{Faulted, IsAllowed}
+use Rattle.vm_kernel.specs.Changes.{IsHere}
+use Rattle.vm_kernel.specs.Faulting.{IsAvailable, IsUnavailable}
+use Rattle.vm_kernel.specs.Matches.{IsPlain, Matches}
+use Rattle.vm_kernel.specs.Pagers.{has_pager, is_ready_state, live_in, ready_in}
+use Rattle.vm_kernel.specs.Places.{lock_number, place_of, shown}
 use Rattle.vm_kernel.specs.declared.parts.Parts.{Parts}
-use Rattle.vm_kernel.proofs.Accessing.{Leads, Stands, access_faulted, begun_load, begun_store}
-use Rattle.vm_kernel.proofs.Leading.{allowed_of, fits_of, key_at, leads_of}
+use Rattle.vm_kernel.proofs.Leading.{Lies, none_named}
+use Rattle.vm_kernel.proofs.Pages.{shown_as, shown_here}
+use Rattle.vm_kernel.proofs.Rows.{some_is}
 
--- the place is where an entry has the address
-abbrev pub IsPlaced : Parts → ℕ → ℕ → Place → Type 0
-IsPlaced k task address place = (entry : Entry) → entry_at address (rows_in task k.maps) ≡ Some entry → place ≡ place_at k.maps.size address entry
+-- the page is here with these bytes, and nothing of it is prohibited
+pub record Shows (header : Header) (past : List Event) (key : PageKey) (bytes : List ℕ) : Type 0 where
+  pub here : (page_on header 0 key.object.0 key.page.0 past).here ≡ true
+  pub bytes_are : (page_on header 0 key.object.0 key.page.0 past).bytes ≡ bytes
+  pub unlocked : (page_on header 0 key.object.0 key.page.0 past).lock ≡ 0
 
--- the key is that of the place
-abbrev pub IsKeyed : Parts → Place → PageKey → Type 0
-IsKeyed k place key = IfSome (region_at k.chains place.region.0) (λ row. key ≡ key_at row place)
+pub shows_of : (header : Header) (k : Parts) (ids : Ids) (lost : List Entry) (past : List Event) (key : PageKey) (frame : FrameNo) → Matches header k ids lost past → IsHere key frame k → Shows header past key (page_in k.frames frame.0)
+shows_of header k ids lost past key frame m here =
+    let o = key.object.0 in
+    let p = key.page.0 in
+    let lacked = absent_at k.objects o p in
+    let all : page_on header 0 o p past ≡ shown_as here.row true true (page_in k.frames here.row.frame.0) lacked =
+    m.pages.shown o p ∙ (ap (λ z. shown k.frames z lacked) here.found ∙ shown_here k.frames here.row lacked here.here) in
+    record {
+      here = ap (λ (z : Local). z.here) all;
+      bytes_are = ap (λ (z : Local). z.bytes) all ∙ ap (λ (z : FrameNo). page_in k.frames z.0) here.is;
+      unlocked = ap (λ (z : Local). z.lock) all ∙ ap lock_number (m.fits.plain o p here.row here.found).lock;
+    }
 
-pub load_allowed : (header : Header) (task : TaskId) (address n : ℕ) (past : List Event) (k : Parts) (ids : Ids) (before : List Event) → Starts header (command.Load task address n) past k ids before → IsAllowed k.maps task.0 address Load
-load_allowed header task address n past k ids before s = allowed_of header k ids past [] task.0 address Load (not (address % n == 0)) s.rests.matches s.accepted
+-- the page is neither here nor asked; and what is known of its pager
+pub record Misses (header : Header) (past : List Event) (key : PageKey) (lacked : Bool) : Type 0 where
+  pub away : (page_on header 0 key.object.0 key.page.0 past).here ≡ false
+  pub unasked : (page_on header 0 key.object.0 key.page.0 past).asked ≡ false
+  pub known : is_known_absent header (place_of key.object.0 key.page.0) (page_on header 0 key.object.0 key.page.0 past) ≡ lacked
 
-pub store_allowed : (header : Header) (task : TaskId) (address n value : ℕ) (past : List Event) (k : Parts) (ids : Ids) (before : List Event) → Starts header (command.Store task address n value) past k ids before → IsAllowed k.maps task.0 address Store
-store_allowed header task address n value past k ids before s = allowed_of header k ids past [] task.0 address Store (not (address % n == 0)) s.rests.matches s.accepted
+low : (n : ℕ) → nat_lt n 0 ≡ false
+low n = grind (arith, nat_tests)
 
-pub load_leads : (header : Header) (task : TaskId) (address n : ℕ) (past : List Event) (k : Parts) (ids : Ids) (before : List Event) (place : Place) (key : PageKey) → Starts header (command.Load task address n) past k ids before
-    → IsPlaced k task.0 address place → IsKeyed k place key → Leads header k task.0 address key
-load_leads header task address n past k ids before place key s placed keyed =
-    let a = load_allowed header task address n past k ids before s in
-    leads_of header k ids past [] task.0 address Load place key s.rests.matches a (placed a.entry a.found) keyed
+-- no object is declared, so what is known of a page counts
+known_is : (header : Header) (o p : ℕ) (seen : Local) → IsPlain header → is_known_absent header (place_of o p) seen ≡ seen.absent
+known_is header o p seen plain = ap (λ z. not (nat_lt o z) && seen.absent) (none_named header plain) ∙ ap (λ b. not b && seen.absent) (low o)
 
-pub store_leads : (header : Header) (task : TaskId) (address n value : ℕ) (past : List Event) (k : Parts) (ids : Ids) (before : List Event) (place : Place) (key : PageKey) → Starts header (command.Store task address n value) past k ids before
-    → IsPlaced k task.0 address place → IsKeyed k place key → Leads header k task.0 address key
-store_leads header task address n value past k ids before place key s placed keyed =
-    let a = store_allowed header task address n value past k ids before s in
-    leads_of header k ids past [] task.0 address Store place key s.rests.matches a (placed a.entry a.found) keyed
+pub misses_of : (header : Header) (k : Parts) (ids : Ids) (lost : List Entry) (past : List Event) (key : PageKey) → Matches header k ids lost past → row_at k.resident key.object.0 key.page.0 ≡ None
+    → Misses header past key (absent_at k.objects key.object.0 key.page.0)
+misses_of header k ids lost past key m none =
+    let o = key.object.0 in
+    let p = key.page.0 in
+    let lacked = absent_at k.objects o p in
+    let all : page_on header 0 o p past ≡ shown k.frames None lacked = m.pages.shown o p ∙ ap (λ z. shown k.frames z lacked) none in
+    record {
+      away = ap (λ (z : Local). z.here) all;
+      unasked = ap (λ (z : Local). z.asked) all;
+      known = known_is header o p (page_on header 0 o p past) m.plain ∙ ap (λ (z : Local). z.absent) all;
+    }
 
-pub load_stands : (header : Header) (outside : Outside) (task : TaskId) (address n : ℕ) (past : List Event) (k mid : Parts) (ids : Ids) (before log after : List Event) (place : Place) (key : PageKey) (frame : FrameNo) → Starts header (command.Load task address n) past k ids before
-    → log ≡ event.BegunLoad task address n ∷ before → IsPlaced k task.0 address place → IsKeyed k place key → Faulted key frame k mid log after
-    → Stands header outside (command.Load task address n) past task.0 (Loading address n) address key frame mid ids after
-load_stands header outside task address n past k mid ids before log after place key frame s begun placed keyed faulted =
-    let first : log ≡ event.BegunLoad task address n ∷ [] = begun ∙ ap (λ z. event.BegunLoad task address n ∷ z) s.nothing in
-    access_faulted header outside (command.Load task address n) past task.0 (Loading address n) k mid ids (event.BegunLoad task address n ∷ []) after address key frame
-    (begun_load header outside task address n past k ids before s) (load_leads header task address n past k ids before place key s placed keyed) (λ next. refl)
-    (subst (λ (z : List Event). Faulted key frame k mid z after) first faulted)
+-- the object's row says whether its control lives
+live_is : (k : Parts) (key : PageKey) (row : ObjectRow) → (lies : Lies k key) → lies.under.object ≡ row → row.live ≡ has_pager row.state
+live_is k key row lies same = sym (ap (λ (z : ObjectRow). z.live) same) ∙ (lies.under.live ∙ ap (λ (z : ObjectRow). has_pager z.state) same)
 
-pub store_stands : (header : Header) (outside : Outside) (task : TaskId) (address n value : ℕ) (past : List Event) (k mid : Parts) (ids : Ids) (before log after : List Event) (place : Place) (key : PageKey) (frame : FrameNo) → Starts header (command.Store task address n value) past k ids before
-    → log ≡ event.BegunStore task address n value ∷ before → IsPlaced k task.0 address place → IsKeyed k place key → Faulted key frame k mid log after
-    → Stands header outside (command.Store task address n value) past task.0 (Storing address n value) address key frame mid ids after
-store_stands header outside task address n value past k mid ids before log after place key frame s begun placed keyed faulted =
-    let first : log ≡ event.BegunStore task address n value ∷ [] = begun ∙ ap (λ z. event.BegunStore task address n value ∷ z) s.nothing in
-    access_faulted header outside (command.Store task address n value) past task.0 (Storing address n value) k mid ids (event.BegunStore task address n value ∷ []) after address key frame
-    (begun_store header outside task address n value past k ids before s) (store_leads header task address n value past k ids before place key s placed keyed) (λ next. refl)
-    (subst (λ (z : List Event). Faulted key frame k mid z after) first faulted)
+lacking : (live : Option ℕ) (known : Bool) → (live ≡ None) ⊎ (known ≡ true) → (is_some live && not known) ≡ false
+lacking live known (inl none) = ap (λ z. is_some z && not known) none
+lacking live known (inr is) = ap (λ b. is_some live && not b) is ∙ never (is_some live)
+  where
+    never : (b : Bool) → (b && false) ≡ false
+    never true = refl
+    never false = refl
 
-pub load_at : (header : Header) (task : TaskId) (address n : ℕ) (past : List Event) (k : Parts) (ids : Ids) (before : List Event) (place : Place) → Starts header (command.Load task address n) past k ids before → IsPlaced k task.0 address place
-    → place.at ≡ address % header.size
-load_at header task address n past k ids before place s placed =
-    let a = load_allowed header task address n past k ids before s in
-    ap (λ z. z.at) (placed a.entry a.found) ∙ ap (λ z. address % z) s.rests.matches.tasks.sized
+-- a walk passes over a missing page whose pager has none
+pub passes_of : (header : Header) (k : Parts) (ids : Ids) (lost : List Entry) (past : List Event) (key : PageKey) → Matches header k ids lost past → Lies k key → row_at k.resident key.object.0 key.page.0 ≡ None → IsUnavailable key k
+    → Passes (sight header 0 key.object.0 key.page.0 past)
+passes_of header k ids lost past key m lies absent none =
+    let misses = misses_of header k ids lost past key m absent in
+    record {
+      away = misses.away;
+      unasked = misses.unasked;
+      without = lacking (live_control 0 key.object.0 past) (is_known_absent header (place_of key.object.0 key.page.0) (page_on header 0 key.object.0 key.page.0 past)) (why misses none.none);
+    }
+  where
+    row : ObjectRow
+    row = none.row
 
-pub store_at : (header : Header) (task : TaskId) (address n value : ℕ) (past : List Event) (k : Parts) (ids : Ids) (before : List Event) (place : Place) → Starts header (command.Store task address n value) past k ids before → IsPlaced k task.0 address place
-    → place.at ≡ address % header.size
-store_at header task address n value past k ids before place s placed =
-    let a = store_allowed header task address n value past k ids before s in
-    ap (λ z. z.at) (placed a.entry a.found) ∙ ap (λ z. address % z) s.rests.matches.tasks.sized
+    same : lies.under.object ≡ row
+    same = some_is lies.under.object row (sym lies.under.found ∙ none.found)
 
--- an access fits the page that is here
-pub at_fits : (at address n size whole : ℕ) → at ≡ address % size → address % size + n ≤ size → whole ≡ size → at + n ≤ whole
-at_fits at address n size whole is fits all = omega (arith, is, fits, all)
+    why : Misses header past key (absent_at k.objects key.object.0 key.page.0) → ((row.state ≡ state.Without) ⊎ ((row.state ≡ state.Ready) × (absent_at k.objects key.object.0 key.page.0 ≡ true)))
+        → (live_control 0 key.object.0 past ≡ None) ⊎ (is_known_absent header (place_of key.object.0 key.page.0) (page_on header 0 key.object.0 key.page.0 past) ≡ true)
+    why misses (inl without) =
+        let dead : row.live ≡ false = live_is k key row lies same ∙ ap has_pager without in
+        inl (m.controls.live key.object.0 ∙ (ap live_in none.found ∙ ap (λ b. if b then Some row.control else None) dead))
+    why misses (inr ready) = inr (misses.known ∙ ready.1)
 
-pub load_fits : (header : Header) (task : TaskId) (address n : ℕ) (past : List Event) (k : Parts) (ids : Ids) (before : List Event) → Starts header (command.Load task address n) past k ids before → address % header.size + n ≤ header.size
-load_fits header task address n past k ids before s =
-    fits_of header past task.0 address n (access_refusal Load (entry_at address (entries_of header.size task.0 past))) s.rests.matches.plain.size s.range.size s.accepted
+-- a pager is ready that may have the page
+pub record MayAnswer (header : Header) (past : List Event) (key : PageKey) (control : ℕ) : Type 0 where
+  pub live : live_control 0 key.object.0 past ≡ Some control
+  pub ready : is_ready 0 key.object.0 past ≡ true
+  pub known : is_known_absent header (place_of key.object.0 key.page.0) (page_on header 0 key.object.0 key.page.0 past) ≡ false
+  pub may_have : (sight header 0 key.object.0 key.page.0 past).may_have ≡ true
 
-pub store_fits : (header : Header) (task : TaskId) (address n value : ℕ) (past : List Event) (k : Parts) (ids : Ids) (before : List Event) → Starts header (command.Store task address n value) past k ids before → address % header.size + n ≤ header.size
-store_fits header task address n value past k ids before s =
-    fits_of header past task.0 address n (access_refusal Store (entry_at address (entries_of header.size task.0 past))) s.rests.matches.plain.size s.range.0.size s.accepted
+pub may_answer : (header : Header) (k : Parts) (ids : Ids) (lost : List Entry) (past : List Event) (key : PageKey) (control : ℕ) → Matches header k ids lost past → Lies k key → row_at k.resident key.object.0 key.page.0 ≡ None
+    → IsAvailable key control k → MayAnswer header past key control
+may_answer header k ids lost past key control m lies absent has =
+    let misses = misses_of header k ids lost past key m absent in
+    let same : lies.under.object ≡ has.row = some_is lies.under.object has.row (sym lies.under.found ∙ has.found) in
+    let lives : has.row.live ≡ true = live_is k key has.row lies same ∙ ap has_pager has.ready in
+    let live : live_control 0 key.object.0 past ≡ Some control =
+    m.controls.live key.object.0 ∙ (ap live_in has.found ∙ (ap (λ b. if b then Some has.row.control else None) lives ∙ ap Some has.number)) in
+    let known = misses.known ∙ has.may_have in
+    record {
+      live = live;
+      ready = m.controls.ready key.object.0 control live ∙ (ap ready_in has.found ∙ ap is_ready_state has.ready);
+      known = known;
+      may_have =
+          ap (λ z. is_some z && not (is_known_absent header (place_of key.object.0 key.page.0) (page_on header 0 key.object.0 key.page.0 past))) live
+          ∙ ap (λ b. not b) known;
+    }

@@ -1,5 +1,5 @@
 -- A task is made, or its entries become others.
-use Rattle.std.proofs.Common.{◌≡◌, nat_lt, ℕ, suc, ◌+◌, ◌<◌, ◌≤◌, ◌==◌, Bool, true, false, List, [], ◌∷◌, length, refl, ap, sym, ◌∙◌, subst, arith, Some, None, Option, inl, inr}
+use Rattle.std.proofs.Common.{◌≡◌, nat_lt, ℕ, suc, ◌+◌, ◌<◌, ◌≤◌, Bool, true, false, List, [], ◌∷◌, length, refl, ap, sym, ◌∙◌, subst, arith, Some, None, Option, inl, inr}
 use Rattle.std.proofs.lemmas.Bool.Decides.{eqb_tells}
 use Rattle.std.specs.Prelude.{if◌then◌else◌, is_none, is_some, unwrap_or}
 use Rattle.vm_base.specs.declared.code.Code.TheVariants as code
@@ -10,28 +10,20 @@ use Rattle.vm_model.specs.declared.event.Event.{Event}
 use Rattle.vm_model.specs.declared.event.Event.TheVariants as event
 use Rattle.vm_model.specs.declared.command.Command.TheVariants as command
 use Rattle.vm_model.specs.declared.script.Header.{Header}
-use Rattle.vm_model.specs.Controls.{last_control, live_control}
 use Rattle.vm_model.specs.Rows.{rows_map}
-use Rattle.vm_legal.specs.Licences.{created}
-use Rattle.vm_legal.specs.Living.{tasks}
-use Rattle.vm_legal.specs.Outside.{Outside}
-use Rattle.vm_legal.specs.Used.{in_use}
 use Rattle.vm_model.specs.Tasks.{entries_of, host_of}
-use Rattle.vm_model.specs.Waiting.{Access, waiting}
 use Rattle.vm_maps.specs.Maps.{ChangesOnly, Mapped, entries_in, rows_in}
 use Rattle.vm_shadow.specs.Chains.{ChainTable, region_at}
 use Rattle.vm_shadow.specs.declared.ids.Ids.{Ids}
 use Rattle.vm_shadow.specs.declared.region_row.RegionRow.{RegionRow}
-use Rattle.vm_kernel.specs.Begun.{Began, Starts}
+use Rattle.vm_kernel.specs.Begun.{Starts}
 use Rattle.vm_kernel.specs.Counts.{count_by, count_on, most_tasks}
 use Rattle.vm_kernel.specs.Forking.{got}
 use Rattle.vm_kernel.specs.Matches.{AllInside, HasEntries, HasTasks, IsInside, host_for, the_host}
 use Rattle.vm_kernel.specs.Places.{has_region, region_pages}
 use Rattle.vm_kernel.specs.declared.parts.Parts.{Parts}
 use Rattle.vm_kernel.proofs.Counts.{by_changed, most_is}
-use Rattle.vm_kernel.proofs.Growing.{suffices}
-use Rattle.vm_kernel.proofs.Heads.{began_head, heads_one, passed}
-use Rattle.vm_kernel.proofs.Uses.{still, uses_made}
+use Rattle.vm_kernel.proofs.Heads.{passed}
 
 -- a task with a host has its entries
 pub lives_of : (o : Option (List Entry)) (host : Option ℕ) → host ≡ host_for o → is_none host ≡ false → o ≡ Some (unwrap_or o [])
@@ -43,13 +35,9 @@ pub free_task : (o : Option (List Entry)) (host : Option ℕ) → host ≡ host_
 free_task None host is none = refl
 free_task (Some rows) host is none = absurd (let bad : true ≡ false = sym (ap is_some is) ∙ none in cc)
 
-none_anew : (b : Bool) (o : Option Access) → o ≡ None → (if b then None else o) ≡ None
-none_anew true o none = refl
-none_anew false o none = none
-
 -- a task has no entries yet
-pub tasks_made : (size : ℕ) (maps new : Mapped) (past : List Event) (task : TaskId) → HasTasks size maps (λ t. host_of t past) (λ t. entries_of size t past) (λ t. waiting t past) → ChangesOnly maps new task.0 (Some [])
-    → HasTasks size new (λ t. host_of t (event.TaskMade task the_host ∷ past)) (λ t. entries_of size t (event.TaskMade task the_host ∷ past)) (λ t. waiting t (event.TaskMade task the_host ∷ past))
+pub tasks_made : (size : ℕ) (maps new : Mapped) (past : List Event) (task : TaskId) → HasTasks size maps (λ t. host_of t past) (λ t. entries_of size t past) → ChangesOnly maps new task.0 (Some [])
+    → HasTasks size new (λ t. host_of t (event.TaskMade task the_host ∷ past)) (λ t. entries_of size t (event.TaskMade task the_host ∷ past))
 tasks_made size maps new past task has changes =
     record {
       sized = changes.size ∙ has.sized;
@@ -61,13 +49,12 @@ tasks_made size maps new past task has changes =
         | inl same ↦ rw (same.0, ← same.1, changes.changed) refl
         | inr apart ↦ rw (apart.0, changes.others t (λ e. apart.1 (sym e))) (has.rows t)
       ];
-      none = λ t. none_anew (task.0 == t) (waiting t past) (has.none t);
     }
 
 -- a living task has an entry more
-pub tasks_entered : (size : ℕ) (maps new : Mapped) (past : List Event) (task : TaskId) (entry : Entry) → HasTasks size maps (λ t. host_of t past) (λ t. entries_of size t past) (λ t. waiting t past)
+pub tasks_entered : (size : ℕ) (maps new : Mapped) (past : List Event) (task : TaskId) (entry : Entry) → HasTasks size maps (λ t. host_of t past) (λ t. entries_of size t past)
     → ChangesOnly maps new task.0 (Some (entered entry (rows_in task.0 maps))) → entries_in task.0 maps ≡ Some (rows_in task.0 maps)
-    → HasTasks size new (λ t. host_of t (got task entry ∷ past)) (λ t. entries_of size t (got task entry ∷ past)) (λ t. waiting t (got task entry ∷ past))
+    → HasTasks size new (λ t. host_of t (got task entry ∷ past)) (λ t. entries_of size t (got task entry ∷ past))
 tasks_entered size maps new past task entry has changes lives =
     record {
       sized = changes.size ∙ has.sized;
@@ -79,7 +66,6 @@ tasks_entered size maps new past task entry has changes lives =
         | inl same ↦ rw same.0 (subst (λ (z : ℕ). entered entry (entries_of size z past) ≡ rows_in z new) same.1 (rw (changes.changed, has.rows task.0) refl))
         | inr apart ↦ rw (apart.0, changes.others t (λ e. apart.1 (sym e))) (has.rows t)
       ];
-      none = has.none;
     }
 
 -- the regions that are there stay, with their pages
@@ -134,32 +120,3 @@ pub entries_made : (size : ℕ) (maps new : Mapped) (chains : ChainTable) (task 
 entries_made size maps new chains task has changes free below =
     entries_changed size maps new chains chains task [] has (keeps_all chains) changes (rw most_is below) tt (omega arith)
     (λ r row found. omega (arith, has.counts r row found, ap (λ z. count_on r (unwrap_or z [])) free))
-
-pub began_task : (header : Header) (outside : Outside) (task : TaskId) (past : List Event) (k : Parts) (ids : Ids) (before after : List Event) (maps : Mapped) → Starts header (command.Task task the_host) past k ids before
-    → ChangesOnly k.maps maps task.0 (Some []) → after ≡ event.TaskMade task k.host ∷ before → Began header outside (command.Task task the_host) past (record k { maps = maps }) ids after
-began_task header outside task past k ids before after maps s changes told =
-    let m = s.rests.matches in
-    let e : Event = event.TaskMade task the_host in
-    let log : after ≡ e ∷ [] = told ∙ (ap (λ z. event.TaskMade task z ∷ before) m.host ∙ ap (λ z. e ∷ z) s.nothing) in
-    subst (λ (z : List Event). Began header outside (command.Task task the_host) past (record k { maps = maps }) ids z) (sym log)
-    (began_head header outside (command.Task task the_host) past (record k { maps = maps }) ids (e ∷ []) (e ∷ []) s.begins refl refl
-    (heads_one header outside (command.Task task the_host) past e (record { quiet = m.controls.created; cause = tt; own_bytes = tt; copies = tt; frames = suffices header k.frames past m.frames; inner = tt }))
-    tt
-    (record {
-      matches =
-          record {
-            plain = m.plain;
-            size = m.size;
-            host = m.host;
-            fits = m.fits;
-            tasks = tasks_made header.size k.maps maps past task m.tasks changes;
-            regions = m.regions;
-            entries = entries_made header.size k.maps maps k.chains task.0 m.entries changes (can_make header task past k ids before s) s.range.0;
-            pages = m.pages;
-            uses = uses_made k.maps maps (λ r. in_use header 0 r past) (tasks past) task.0 m.uses changes (can_make header task past k ids before s) (rw most_is s.range.0);
-            controls = still (λ o. last_control 0 o past) (λ o. live_control 0 o past) (created past) m.controls;
-            stores = m.stores;
-            frames = m.frames;
-          };
-      used = s.rests.used;
-    }))

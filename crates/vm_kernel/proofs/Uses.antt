@@ -1,44 +1,57 @@
--- Which regions are in use, and that no pager runs.
+-- Which regions are in use.
 use Rattle.std.proofs.Common.{◌≡◌, ℕ, zero, suc, ◌+◌, ◌<◌, ◌≤◌, ◌==◌, ◌&&◌, ◌||◌, not, Bool, true, false, List, [], ◌∷◌, length, refl, ap, sym, ◌∙◌, subst, arith, Some, None, Option, inl, inr}
 use Rattle.std.proofs.lemmas.Bool.Decides.{eqb_tells, nat_tests}
 use Rattle.std.specs.Prelude.{if◌then◌else◌, nat_lt, unwrap_or, ◌≢◌}
 use Rattle.vm_base.specs.declared.entry.Entry.{Entry}
 use Rattle.vm_base.specs.Entries.{entered}
 use Rattle.vm_model.specs.declared.event.Event.{Event}
-use Rattle.vm_model.specs.declared.message.Channel.{Channel}
 use Rattle.vm_model.specs.declared.script.Header.{Header}
 use Rattle.vm_model.specs.Named.{named}
 use Rattle.vm_model.specs.Tasks.{entries_of, has_entry}
-use Rattle.vm_model.specs.Waiting.{Access, Target, copy_target, fills, waiting}
+use Rattle.vm_model.specs.Waiting.{Target, copy_target, fills, waiting}
 use Rattle.vm_legal.specs.Living.{tasks}
 use Rattle.vm_legal.specs.Used.{is_filled, is_held, is_kept}
 use Rattle.vm_maps.specs.Maps.{ChangesOnly, Mapped, entries_in, rows_in}
 use Rattle.vm_kernel.specs.Counts.{count_by, count_on, most_tasks}
-use Rattle.vm_kernel.specs.Matches.{HasControls, HasUse, IsPlain, is_among}
+use Rattle.vm_kernel.specs.Matches.{HasUse, IsPlain, is_among}
+use Rattle.vm_kernel.specs.Waiters.{access_in, waiting_in}
+use Rattle.vm_waits.specs.Waits.{entry}
+use Rattle.vm_waits.specs.declared.waiting.Waiting.{Waiting}
+use Rattle.vm_waits.specs.declared.waiting.Want.{Want}
+use Rattle.vm_waits.specs.declared.waiting.Want.TheVariants as want
 use Rattle.vm_kernel.proofs.Counts.{by_changed, by_some, by_zero, on_entered, on_zero}
 
 test_some : (n : ℕ) → nat_lt 0 (suc n) ≡ true
 test_some n = let less : 0 < suc n = omega arith in grind (arith, nat_tests)
 
--- nothing is created
-pub still : (last_at : ℕ → ℕ) (live_at : ℕ → Option ℕ) (now : Option Channel) → HasControls last_at live_at now → HasControls last_at live_at None
-still last_at live_at now has = record { last = has.last; live = has.live; created = refl }
+-- what no waiting load or store fills
+fills_nothing : (region : ℕ) (x : Option Waiting) (target : Option Target) → fills region (waiting_in x) target ≡ false
+fills_nothing region None target = refl
+fills_nothing region (Some w) target = by_want w.want
+  where
+    by_want : (what : Want) → fills region (Some (access_in what)) target ≡ false
+    by_want (want.Load address size) = refl
+    by_want (want.Store address size value) = refl
 
--- what no waiting copy fills
-unfilled_one : (region : ℕ) (x : Option Access) (target : Option Target) → x ≡ None → fills region x target ≡ false
-unfilled_one region x target none = ap (λ z. fills region z target) none
+-- the accesses that wait are loads and stores
+pub record WaitsHere (rows : List Waiting) (past : List Event) : Type 0 where
+  pub is : (task : ℕ) → waiting task past ≡ waiting_in (entry rows task)
 
-pub unfilled : (region : ℕ) (list : List ℕ) (past : List Event) → ((task : ℕ) → waiting task past ≡ None) → is_filled region list past ≡ false
-unfilled region [] past none = refl
-unfilled region (task ∷ others) past none = rw (unfilled_one region (waiting task past) (copy_target task past) (none task)) (unfilled region others past none)
+unfilled_one : (region task : ℕ) (rows : List Waiting) (past : List Event) → WaitsHere rows past → fills region (waiting task past) (copy_target task past) ≡ false
+unfilled_one region task rows past waits = ap (λ z. fills region z (copy_target task past)) (waits.is task) ∙ fills_nothing region (entry rows task) (copy_target task past)
 
--- the history's entries of tasks are these, and none of them waits
+pub unfilled : (region : ℕ) (list : List ℕ) (rows : List Waiting) (past : List Event) → WaitsHere rows past → is_filled region list past ≡ false
+unfilled region [] rows past waits = refl
+unfilled region (task ∷ others) rows past waits = rw (unfilled_one region task rows past waits) (unfilled region others rows past waits)
+
+-- the history's entries of tasks are these, and no region is filled
 pub record Shows (size : ℕ) (maps : Mapped) (past : List Event) : Type 0 where
   pub rows : (task : ℕ) → entries_of size task past ≡ rows_in task maps
-  pub none : (task : ℕ) → waiting task past ≡ None
+  pub waiting : List Waiting
+  pub waits : WaitsHere waiting past
 
 held_one : (size region task : ℕ) (maps : Mapped) (past : List Event) → Shows size maps past → (has_entry region (entries_of size task past) || fills region (waiting task past) (copy_target task past)) ≡ has_entry region (rows_in task maps)
-held_one size region task maps past shows = rw (shows.rows task, unfilled_one region (waiting task past) (copy_target task past) (shows.none task)) (alone (has_entry region (rows_in task maps)))
+held_one size region task maps past shows = rw (shows.rows task, unfilled_one region task shows.waiting past shows.waits) (alone (has_entry region (rows_in task maps)))
   where
     alone : (b : Bool) → (b || false) ≡ b
     alone true = refl

@@ -1,56 +1,57 @@
 -- Frames are wired, or wired no more.
 use Rattle.std.proofs.Common.{◌≡◌, nat_le, nat_lt, ℕ, ◌+◌, ◌-◌, ◌≤◌, Bool, true, false, List, [], ◌∷◌, refl, ap, sym, ◌∙◌, subst, arith, Some, None, Option}
 use Rattle.std.proofs.lemmas.Bool.Decides.{nat_tests}
-use Rattle.std.specs.Prelude.{if◌then◌else◌, reverse, slice_get}
+use Rattle.std.specs.Prelude.{All, if◌then◌else◌, reverse, slice_get}
 use Rattle.vm_base.specs.declared.code.Code.TheVariants as code
+use Rattle.vm_base.specs.declared.ids.FrameNo.{FrameNo}
 use Rattle.vm_model.specs.declared.event.Event.{Event}
 use Rattle.vm_model.specs.declared.event.Event.TheVariants as event
 use Rattle.vm_model.specs.declared.command.Command.{Command}
 use Rattle.vm_model.specs.declared.command.Command.TheVariants as command
 use Rattle.vm_model.specs.declared.script.Header.{Header}
-use Rattle.vm_model.specs.Controls.{last_control, live_control}
 use Rattle.vm_legal.specs.Follows.{IsDone, head}
-use Rattle.vm_legal.specs.Licences.{created}
 use Rattle.vm_legal.specs.Outside.{Outside}
-use Rattle.vm_legal.specs.Frames.{frames_free, frames_held, frames_wired}
+use Rattle.vm_legal.specs.Frames.{frames_free, frames_held, frames_wired, returns_out}
 use Rattle.vm_model.specs.Local.{Local, local}
 use Rattle.vm_frames.specs.Frames.{FrameTable, claimed, frame_count, free}
 use Rattle.vm_objects.specs.Objects.{ObjectTable, absent_at}
+use Rattle.vm_pageout.specs.Laundry.{LaundryList}
+use Rattle.vm_parts.specs.Fits.{Fit}
 use Rattle.vm_queues.specs.Queues.{Queues}
 use Rattle.vm_resident.specs.Resident.{ResidentTable, row_at}
 use Rattle.vm_resident.specs.declared.page_row.PageRow.{PageRow}
 use Rattle.vm_shadow.specs.Chains.{ChainTable}
 use Rattle.vm_shadow.specs.declared.ids.Ids.{Ids}
-use Rattle.vm_kernel.specs.Begun.{Began, IsLined, Starts}
-use Rattle.vm_kernel.specs.Fits.{PlainFit}
-use Rattle.vm_kernel.specs.Matches.{HasFrames, HasPages, Rests, the_host}
+use Rattle.vm_kernel.specs.Begun.{Ran, Starts}
+use Rattle.vm_kernel.specs.Matches.{HasFrames, HasLaundry, HasPages, IsWashed, Rests, the_host}
 use Rattle.vm_kernel.specs.Places.{place_of, shown}
 use Rattle.vm_kernel.specs.declared.parts.Parts.{Parts}
 use Rattle.vm_kernel.proofs.Growing.{free_is, suffices}
-use Rattle.vm_kernel.proofs.Heads.{began_head, heads_one, passed}
-use Rattle.vm_kernel.proofs.Uses.{still}
+use Rattle.vm_kernel.proofs.Heads.{heads_one, passed, ran_head}
 
 -- the frames, with another number wired
 abbrev pub with_wired : FrameTable → ℕ → FrameTable
 with_wired fs wired = record fs { wired = wired }
 
-fit_wired : (size : ℕ) (fs : FrameTable) (rs : ResidentTable) (qs : Queues) (os : ObjectTable) (wired : ℕ) → PlainFit size fs rs qs os → PlainFit size (with_wired fs wired) rs qs os
+fit_wired : (size : ℕ) (fs : FrameTable) (rs : ResidentTable) (qs : Queues) (os : ObjectTable) (wired : ℕ) → Fit size fs rs qs os → Fit size (with_wired fs wired) rs qs os
 fit_wired size fs rs qs os wired fit =
     record {
-      parts =
-          record {
-            owned = fit.parts.owned;
-            held = fit.parts.held;
-            listed = fit.parts.listed;
-            unlisted = fit.parts.unlisted;
-            unowned = fit.parts.unowned;
-            inside = fit.parts.inside;
-            all_sized = fit.parts.all_sized;
-            count = fit.parts.count;
-            pages = fit.parts.pages;
-          };
-      plain = fit.plain;
+      owned = fit.owned;
+      held = fit.held;
+      listed = fit.listed;
+      unlisted = fit.unlisted;
+      unowned = fit.unowned;
+      inside = fit.inside;
+      all_sized = fit.all_sized;
+      count = fit.count;
+      pages = fit.pages;
     }
+
+washed_wired : (fs : FrameTable) (rs : ResidentTable) (wired : ℕ) (held : List FrameNo) → All (IsWashed fs rs) held → All (IsWashed (with_wired fs wired) rs) held
+washed_wired fs rs wired held all k f less = let was = all k f less in record { claimed = was.claimed; unowned = was.unowned }
+
+laundry_wired : (fs : FrameTable) (rs : ResidentTable) (laundry : LaundryList) (out wired : ℕ) → HasLaundry fs rs laundry out → HasLaundry (with_wired fs wired) rs laundry out
+laundry_wired fs rs laundry out wired has = record { count = has.count; room = has.room; washed = washed_wired fs rs wired laundry.held has.washed; apart = has.apart }
 
 shown_wired : (fs : FrameTable) (wired : ℕ) (x : Option PageRow) (lacked : Bool) → shown fs x lacked ≡ shown (with_wired fs wired) x lacked
 shown_wired fs wired None lacked = refl
@@ -60,14 +61,14 @@ pages_wired : (fs : FrameTable) (rs : ResidentTable) (os : ObjectTable) (cs : Ch
 pages_wired fs rs os cs local_at wired has = record { shown = λ o p. has.shown o p ∙ shown_wired fs wired (row_at rs o p) (absent_at os o p); live = has.live }
 
 -- so many frames are wired now, and that was told
-began_wired : (header : Header) (outside : Outside) (doing : Command) (past : List Event) (k : Parts) (ids : Ids) (wired : ℕ) → IsLined past → Rests header k ids past → claimed k.frames + wired ≤ frame_count k.frames → head header past doing ≡ Some (event.Wired the_host wired ∷ [])
-    → IsDone header doing (event.Wired the_host wired ∷ []) past → Began header outside doing past (record k { frames = with_wired k.frames wired }) ids (event.Wired the_host wired ∷ [])
-began_wired header outside doing past k ids wired lined rests few first done =
+ran_wired : (header : Header) (outside : Outside) (doing : Command) (past : List Event) (k : Parts) (ids : Ids) (wired : ℕ) → Rests header k ids past → claimed k.frames + wired ≤ frame_count k.frames → head header past doing ≡ Some (event.Wired the_host wired ∷ [])
+    → IsDone header doing (event.Wired the_host wired ∷ []) past → Ran header outside doing past (record k { frames = with_wired k.frames wired }) ids (event.Wired the_host wired ∷ [])
+ran_wired header outside doing past k ids wired rests few first done =
     let m = rests.matches in
     let frames : HasFrames (slice_get (reverse header.frames.items) 0) (with_wired k.frames wired) (frames_held header.size 0 (event.Wired the_host wired ∷ past)) (frames_wired 0 (event.Wired the_host wired ∷ past)) =
     record { total = m.frames.total; held = m.frames.held; wired = refl; fits = few } in
-    began_head header outside doing past (record k { frames = with_wired k.frames wired }) ids (event.Wired the_host wired ∷ []) (event.Wired the_host wired ∷ []) lined first refl
-    (heads_one header outside doing past (event.Wired the_host wired) (record { quiet = m.controls.created; cause = tt; own_bytes = tt; copies = tt; frames = suffices header (with_wired k.frames wired) (event.Wired the_host wired ∷ past) frames; inner = tt }))
+    ran_head header outside doing past (record k { frames = with_wired k.frames wired }) ids (event.Wired the_host wired ∷ []) (event.Wired the_host wired ∷ []) first refl
+    (heads_one header outside doing past (event.Wired the_host wired) (record { quiet = m.settled; cause = tt; own_bytes = tt; copies = tt; frames = suffices header (with_wired k.frames wired) (event.Wired the_host wired ∷ past) frames; inner = tt; said = tt }))
     done
     (record {
       matches =
@@ -75,23 +76,27 @@ began_wired header outside doing past k ids wired lined rests few first done =
             plain = m.plain;
             size = m.size;
             host = m.host;
-            fits = fit_wired k.size k.frames k.resident k.queues k.objects wired m.fits;
+            fits = record { parts = fit_wired k.size k.frames k.resident k.queues k.objects wired m.fits.parts; plain = m.fits.plain; buffers = m.fits.buffers };
             tasks = m.tasks;
             regions = m.regions;
             entries = m.entries;
             pages = pages_wired k.frames k.resident k.objects k.chains (λ o p. local header.size 0 (place_of o p) past) wired m.pages;
             uses = m.uses;
-            controls = still (λ o. last_control 0 o past) (λ o. live_control 0 o past) (created past) m.controls;
-            stores = m.stores;
+            controls = m.controls;
+            settled = refl;
+            laundry = laundry_wired k.frames k.resident k.laundry (returns_out 0 past) wired m.laundry;
             frames = frames;
           };
       used = rests.used;
+      reached = rests.reached;
+      waits = rests.waits;
+      idle = rests.idle;
     })
 
-pub began_wire : (header : Header) (outside : Outside) (count : ℕ) (past : List Event) (k : Parts) (ids : Ids) (before after : List Event) (frames : FrameTable) (enough : Bool) → Starts header (command.Wire the_host count) past k ids before
+pub ran_wire : (header : Header) (outside : Outside) (count : ℕ) (past : List Event) (k : Parts) (ids : Ids) (before after : List Event) (frames : FrameTable) (enough : Bool) → Starts header (command.Wire the_host count) past k ids before
     → enough ≡ nat_le count (free k.frames) → frames ≡ (if enough then with_wired k.frames (k.frames.wired + count) else k.frames) → after ≡ event.Wired k.host frames.wired ∷ before
-    → Began header outside (command.Wire the_host count) past (record k { frames = frames }) ids after
-began_wire header outside count past k ids before after frames enough s test is told =
+    → Ran header outside (command.Wire the_host count) past (record k { frames = frames }) ids after
+ran_wire header outside count past k ids before after frames enough s test is told =
     let m = s.rests.matches in
     let short : nat_lt (frames_free header 0 past) count ≡ false = (passed (nat_lt (frames_free header 0 past) count) code.ResourceShortage None s.accepted).0 in
     let same = free_is header k.frames past m.frames in
@@ -99,15 +104,15 @@ began_wire header outside count past k ids before after frames enough s test is 
     let yes : enough ≡ true = test ∙ grind (arith, nat_tests) in
     let now : frames ≡ with_wired k.frames (k.frames.wired + count) = is ∙ ap (λ b. if b then with_wired k.frames (k.frames.wired + count) else k.frames) yes in
     let fits = m.frames.fits in
-    let began = began_wired header outside (command.Wire the_host count) past k ids (k.frames.wired + count) s.begins s.rests (omega (arith, less, fits)) (ap (λ z. Some (event.Wired the_host (z + count) ∷ [])) m.frames.wired) tt in
+    let ran = ran_wired header outside (command.Wire the_host count) past k ids (k.frames.wired + count) s.rests (omega (arith, less, fits)) (ap (λ z. Some (event.Wired the_host (z + count) ∷ [])) m.frames.wired) tt in
     let log : after ≡ event.Wired the_host (k.frames.wired + count) ∷ [] = told ∙ (ap (λ z. event.Wired z frames.wired ∷ before) m.host ∙ (ap (λ z. event.Wired the_host z.wired ∷ before) now ∙ ap (λ z. event.Wired the_host (k.frames.wired + count) ∷ z) s.nothing)) in
-    subst (λ (z : List Event). Began header outside (command.Wire the_host count) past (record k { frames = frames }) ids z) (sym log)
-    (subst (λ (z : FrameTable). Began header outside (command.Wire the_host count) past (record k { frames = z }) ids (event.Wired the_host (k.frames.wired + count) ∷ [])) (sym now) began)
+    subst (λ (z : List Event). Ran header outside (command.Wire the_host count) past (record k { frames = frames }) ids z) (sym log)
+    (subst (λ (z : FrameTable). Ran header outside (command.Wire the_host count) past (record k { frames = z }) ids (event.Wired the_host (k.frames.wired + count) ∷ [])) (sym now) ran)
 
-pub began_unwire : (header : Header) (outside : Outside) (count : ℕ) (past : List Event) (k : Parts) (ids : Ids) (before after : List Event) (frames : FrameTable) (enough : Bool) → Starts header (command.Unwire the_host count) past k ids before
+pub ran_unwire : (header : Header) (outside : Outside) (count : ℕ) (past : List Event) (k : Parts) (ids : Ids) (before after : List Event) (frames : FrameTable) (enough : Bool) → Starts header (command.Unwire the_host count) past k ids before
     → enough ≡ nat_le count k.frames.wired → k.frames ≡ (if enough then with_wired frames (frames.wired + count) else frames) → after ≡ event.Wired k.host frames.wired ∷ before
-    → Began header outside (command.Unwire the_host count) past (record k { frames = frames }) ids after
-began_unwire header outside count past k ids before after frames enough s test is told =
+    → Ran header outside (command.Unwire the_host count) past (record k { frames = frames }) ids after
+ran_unwire header outside count past k ids before after frames enough s test is told =
     let m = s.rests.matches in
     let short : nat_lt (frames_wired 0 past) count ≡ false = (passed (nat_lt (frames_wired 0 past) count) code.InvalidArgument None s.accepted).0 in
     let same = m.frames.wired in
@@ -119,7 +124,7 @@ began_unwire header outside count past k ids before after frames enough s test i
     let now : frames ≡ with_wired k.frames frames.wired = sym (ap (λ z. with_wired z frames.wired) was) in
     let fits = m.frames.fits in
     let first : head header past (command.Unwire the_host count) ≡ Some (event.Wired the_host frames.wired ∷ []) = ap (λ z. Some (event.Wired the_host (z - count) ∷ [])) m.frames.wired ∙ ap (λ z. Some (event.Wired the_host z ∷ [])) left in
-    let began = began_wired header outside (command.Unwire the_host count) past k ids frames.wired s.begins s.rests (omega (arith, number, fits)) first tt in
+    let ran = ran_wired header outside (command.Unwire the_host count) past k ids frames.wired s.rests (omega (arith, number, fits)) first tt in
     let log : after ≡ event.Wired the_host frames.wired ∷ [] = told ∙ (ap (λ z. event.Wired z frames.wired ∷ before) m.host ∙ ap (λ z. event.Wired the_host frames.wired ∷ z) s.nothing) in
-    subst (λ (z : List Event). Began header outside (command.Unwire the_host count) past (record k { frames = frames }) ids z) (sym log)
-    (subst (λ (z : FrameTable). Began header outside (command.Unwire the_host count) past (record k { frames = z }) ids (event.Wired the_host frames.wired ∷ [])) (sym now) began)
+    subst (λ (z : List Event). Ran header outside (command.Unwire the_host count) past (record k { frames = frames }) ids z) (sym log)
+    (subst (λ (z : FrameTable). Ran header outside (command.Unwire the_host count) past (record k { frames = z }) ids (event.Wired the_host frames.wired ∷ [])) (sym now) ran)

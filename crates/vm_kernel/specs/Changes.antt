@@ -1,5 +1,5 @@
 -- What the steps of a kernel's calls do to its parts.
-use Rattle.std.specs.Prelude.{ℕ, suc, ◌≡◌, ◌+◌, ◌<◌, ◌==◌, true, false, List, ◌∷◌, replicate, Some, None, if◌then◌else◌}
+use Rattle.std.specs.Prelude.{ℕ, suc, ◌≡◌, ◌+◌, ◌<◌, ◌==◌, Bool, true, false, List, ◌∷◌, replicate, Some, None, if◌then◌else◌}
 use Rattle.vm_base.specs.declared.entry.Entry.{Entry}
 use Rattle.vm_base.specs.declared.ids.Access.{Access}
 use Rattle.vm_base.specs.declared.ids.FrameNo.{FrameNo}
@@ -19,24 +19,31 @@ use Rattle.vm_maps.specs.declared.change.MapChange.{MapChange}
 use Rattle.vm_maps.specs.declared.change.MapKind.TheVariants as kind
 use Rattle.vm_objects.specs.Objects.{PutsObject, SameMarks}
 use Rattle.vm_objects.specs.declared.row.PagerState.TheVariants.{Without}
-use Rattle.vm_resident.specs.Resident.{PutsRow, row_at}
+use Rattle.vm_resident.specs.Resident.{PutsOwner, PutsRow, owner_of, row_at}
 use Rattle.vm_resident.specs.declared.page_row.PageRow.{PageRow}
 use Rattle.vm_shadow.specs.Chains.{PutsRegion}
 use Rattle.vm_kernel.specs.Fits.{Fits}
 use Rattle.vm_kernel.specs.Places.{fresh_row}
 use Rattle.vm_kernel.specs.declared.parts.Parts.{Parts}
 
--- tasks, regions and objects are as they were
+-- tasks, regions and objects are as they were, and so are those who wait, and the frames of returns
 pub record SamePlan (old new : Parts) : Type 0 where
   pub host : new.host ≡ old.host
   pub size : new.size ≡ old.size
   pub maps : new.maps ≡ old.maps
   pub chains : new.chains ≡ old.chains
   pub objects : new.objects ≡ old.objects
+  pub buffers : new.buffers ≡ old.buffers
+  pub laundry : new.laundry ≡ old.laundry
+  pub waits : new.waits ≡ old.waits
 
 -- one frame has these bytes now, and each other those that it had
 pub record PutsPage (f : ℕ) (bytes : List ℕ) (old new : FrameTable) : Type 0 where
   pub at : (g : ℕ) → page_in new g ≡ (if f == g then bytes else page_in old g)
+
+-- one frame is claimed now, or not, and each other as it was
+pub record PutsClaim (f : ℕ) (is : Bool) (old new : FrameTable) : Type 0 where
+  pub at : (g : ℕ) → is_claimed new g ≡ (if f == g then is else is_claimed old g)
 
 -- a page of zeros has come into a frame that was free
 pub record Brought (key : PageKey) (frame : FrameNo) (old new : Parts) : Type 0 where
@@ -44,8 +51,10 @@ pub record Brought (key : PageKey) (frame : FrameNo) (old new : Parts) : Type 0 
   pub fits : Fits new
   pub absent : row_at old.resident key.object.0 key.page.0 ≡ None
   pub row : PutsRow key.object.0 key.page.0 (Some (fresh_row frame)) old.resident new.resident
+  pub owner : PutsOwner frame.0 (Some key) old.resident new.resident
   pub page : PutsPage frame.0 (replicate old.size 0) old.frames new.frames
   pub fresh : is_claimed old.frames frame.0 ≡ false
+  pub claim : PutsClaim frame.0 true old.frames new.frames
   pub claims : claimed new.frames ≡ suc (claimed old.frames)
   pub wired : new.frames.wired ≡ old.frames.wired
   pub count : frame_count new.frames ≡ frame_count old.frames
@@ -56,14 +65,10 @@ pub record IsHere (key : PageKey) (frame : FrameNo) (k : Parts) : Type 0 where
   pub row : PageRow
   pub found : row_at k.resident key.object.0 key.page.0 ≡ Some row
   pub is : row.frame ≡ frame
+  pub here : row.here ≡ true
 
 abbrev pub zeroed : PageKey → Parts → Event
 zeroed key k = event.Zeroed k.host key.object key.page
-
--- a page is here: it was, or it has come, and that was told
-pub data Faulted (key : PageKey) (frame : FrameNo) (old new : Parts) (before after : List Event) : Type 0 where
-  WasHere : IsHere key frame old → new ≡ old → after ≡ before → Faulted key frame old new before after
-  Came : Brought key frame old new → after ≡ zeroed key old ∷ before → Faulted key frame old new before after
 
 -- the number of the access stands in the page, which is changed now
 pub record Wrote (key : PageKey) (frame : FrameNo) (bytes : List ℕ) (old new : Parts) : Type 0 where
@@ -73,9 +78,11 @@ pub record Wrote (key : PageKey) (frame : FrameNo) (bytes : List ℕ) (old new :
   pub found : row_at old.resident key.object.0 key.page.0 ≡ Some row
   pub is : row.frame ≡ frame
   pub put : PutsRow key.object.0 key.page.0 (Some (record row { dirty = true })) old.resident new.resident
+  pub owners : (f : ℕ) → owner_of new.resident f ≡ owner_of old.resident f
   pub page : PutsPage frame.0 bytes old.frames new.frames
   pub claims : new.frames.claims ≡ old.frames.claims
   pub wired : new.frames.wired ≡ old.frames.wired
+  pub queues : new.queues ≡ old.queues
 
 -- a page has gone, and that was told
 pub record Lost (key : PageKey) (old new : Parts) (before after : List Event) : Type 0 where
@@ -83,17 +90,15 @@ pub record Lost (key : PageKey) (old new : Parts) (before after : List Event) : 
   pub fits : Fits new
   pub row : PageRow
   pub found : row_at old.resident key.object.0 key.page.0 ≡ Some row
+  pub here : row.here ≡ true
   pub put : PutsRow key.object.0 key.page.0 None old.resident new.resident
+  pub owner : PutsOwner row.frame.0 None old.resident new.resident
   pub pages : new.frames.pages ≡ old.frames.pages
+  pub claim : PutsClaim row.frame.0 false old.frames new.frames
   pub claims : claimed old.frames ≡ suc (claimed new.frames)
   pub wired : new.frames.wired ≡ old.frames.wired
   pub count : frame_count new.frames ≡ frame_count old.frames
   pub told : after ≡ event.Dropped old.host key.object key.page ∷ before
-
--- some page has gone
-pub record Reclaimed (old new : Parts) (before after : List Event) : Type 0 where
-  pub key : PageKey
-  pub lost : Lost key old new before after
 
 -- a region was made with one entry, over a new object
 pub record MadeRange (region : RegionId) (object : ObjectId) (pages : ℕ) (old new : Parts) : Type 0 where
@@ -103,6 +108,9 @@ pub record MadeRange (region : RegionId) (object : ObjectId) (pages : ℕ) (old 
   pub resident : new.resident ≡ old.resident
   pub queues : new.queues ≡ old.queues
   pub maps : new.maps ≡ old.maps
+  pub buffers : new.buffers ≡ old.buffers
+  pub laundry : new.laundry ≡ old.laundry
+  pub waits : new.waits ≡ old.waits
   pub region_row : PutsRegion region.0 (Some (record { top = object; shift = 0; pages = pages; marked = false; entries = 1 })) old.chains new.chains
   pub object_row : PutsObject object.0 (Some (record { kind = Temp; pages = pages; state = Without; control = 0; live = false; references = 1 })) old.objects new.objects
   pub marks : SameMarks old.objects new.objects

@@ -1,25 +1,22 @@
--- The parts of a kernel fit each other, and its pages are those of temporary memory.
-use Rattle.std.specs.Prelude.{ℕ, ◌≡◌, true, false, Some}
-use Rattle.vm_frames.specs.Frames.{FrameTable}
-use Rattle.vm_objects.specs.Objects.{ObjectTable}
+-- The parts of a kernel fit each other.
+use Rattle.std.specs.Prelude.{ℕ, ◌≡◌, false, Some}
 use Rattle.vm_parts.specs.Fits.{Fit}
-use Rattle.vm_queues.specs.Queues.{Queues}
 use Rattle.vm_resident.specs.Resident.{ResidentTable, row_at}
 use Rattle.vm_resident.specs.declared.page_row.PageRow.{PageRow}
 use Rattle.vm_kernel.specs.Places.{unlocked}
 use Rattle.vm_kernel.specs.declared.parts.Parts.{Parts}
 
--- the row of a page of temporary memory that is here
+-- the row of a page of temporary memory: nothing of it is prohibited, and its pager doesn't want it back unchanged
 pub record IsPlainRow (row : PageRow) : Type 0 where
-  pub here : row.here ≡ true
   pub lock : row.lock ≡ unlocked
   pub precious : row.precious ≡ false
   pub unlock_sent : row.unlock_sent ≡ false
 
--- the parts fit, and each row is such a page's
-pub record PlainFit (size : ℕ) (frames : FrameTable) (resident : ResidentTable) (queues : Queues) (objects : ObjectTable) : Type 0 where
-  pub parts : Fit size frames resident queues objects
-  pub plain : (o p : ℕ) (row : PageRow) → row_at resident o p ≡ Some row → IsPlainRow row
+abbrev pub ArePlain : ResidentTable → Type 0
+ArePlain resident = (o p : ℕ) (row : PageRow) → row_at resident o p ≡ Some row → IsPlainRow row
 
-abbrev pub Fits : Parts → Type 0
-Fits k = PlainFit k.size k.frames k.resident k.queues k.objects
+-- frames, rows, lists and objects fit, all rows are plain, and pages that are sent are as long as frames
+pub record Fits (k : Parts) : Type 0 where
+  pub parts : Fit k.size k.frames k.resident k.queues k.objects
+  pub plain : ArePlain k.resident
+  pub buffers : k.buffers.size ≡ k.size

@@ -15,7 +15,9 @@ use Rattle.vm_maps.specs.Judge.{judged}
 use Rattle.vm_maps.specs.Maps.{ChangesOnly, entries_in, rows_in}
 use Rattle.vm_shadow.specs.declared.ids.Ids.{Ids}
 use Rattle.vm_kernel.specs.Changes.{entering}
-use Rattle.vm_kernel.specs.Matches.{AllUsed, Matches, the_host}
+use Rattle.vm_supply.specs.declared.woken.Woken.TheVariants as woken
+use Rattle.vm_waits.specs.Waits.{again}
+use Rattle.vm_kernel.specs.Matches.{AllReached, AllUsed, HasWaits, Matches, the_host}
 use Rattle.vm_kernel.specs.Places.{has_region, region_entries}
 use Rattle.vm_kernel.specs.Sweeping.{PutsEntries}
 use Rattle.vm_kernel.specs.declared.parts.Parts.{Parts}
@@ -40,6 +42,9 @@ pub record Shares (task : TaskId) (row : Entry) (old new : Parts) (before after 
   pub resident : new.resident ≡ old.resident
   pub queues : new.queues ≡ old.queues
   pub objects : new.objects ≡ old.objects
+  pub buffers : new.buffers ≡ old.buffers
+  pub laundry : new.laundry ≡ old.laundry
+  pub waits : new.waits ≡ old.waits
   pub maps : ChangesOnly old.maps new.maps task.0 (Some (entered row (rows_in task.0 old.maps)))
   pub counts : PutsEntries row.region.0 (region_entries old.chains row.region.0 + 1) old.chains new.chains
   pub told : after ≡ got task row ∷ before
@@ -53,6 +58,9 @@ pub record HasForked (header : Header) (outside : Outside) (task child : TaskId)
   pub apart : task.0 ≢ child.0
   pub matches : Matches header k ids [] (events ++ past)
   pub used : AllUsed k.chains
+  pub reached : AllReached k.chains k.objects
+  pub waits : HasWaits k woken.Nobody (events ++ past)
+  pub idle : again k.waits.rows ≡ 0
   pub others : entries_in task.0 k.maps ≡ Some rows
   pub own : entries_in child.0 k.maps ≡ Some (shared (take count rows))
   pub told : events ≡ with_child child (shared (take count rows))

@@ -1,9 +1,14 @@
 pub mod Begun
 pub mod Built
-pub mod Counts
 pub mod Changes
+pub mod Counts
+pub mod Faulting
 pub mod Fits
 pub mod Forking
 pub mod Matches
+pub mod Pagers
 pub mod Places
+pub mod Serving
 pub mod Sweeping
+pub mod Taking
+pub mod Waiters

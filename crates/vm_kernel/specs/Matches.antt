@@ -1,6 +1,7 @@
 -- A kernel stands for what a history says of its host: its parts are the facts of that history.
-use Rattle.std.specs.Prelude.{ℕ, ◌≡◌, ◌+◌, ◌<◌, ◌≤◌, ◌^◌, ◌==◌, ◌||◌, nat_lt, Bool, true, false, List, [], ◌∷◌, length, Option, Some, None, slice_get, reverse}
+use Rattle.std.specs.Prelude.{ℕ, All, if◌then◌else◌, ◌≢◌, ◌≡◌, ◌+◌, ◌<◌, ◌≤◌, ◌^◌, ◌==◌, ◌||◌, nat_lt, Bool, true, false, List, [], ◌∷◌, length, Option, Some, None, slice_get, reverse}
 use Rattle.vm_base.specs.declared.entry.Entry.{Entry}
+use Rattle.vm_base.specs.declared.ids.FrameNo.{FrameNo}
 use Rattle.vm_base.specs.declared.ids.HostId.{HostId}
 use Rattle.vm_base.specs.declared.ids.ObjectKind.TheVariants.{Temp}
 use Rattle.vm_base.specs.Entries.{most_entries}
@@ -12,23 +13,30 @@ use Rattle.vm_model.specs.Local.{Local, local}
 use Rattle.vm_model.specs.Regions.{Backing, Region, backing_of, next_object, next_region, region_of}
 use Rattle.vm_model.specs.Rows.{AllRows, Inside}
 use Rattle.vm_model.specs.Tasks.{entries_of, host_of}
-use Rattle.vm_model.specs.Waiting.{Access, waiting}
-use Rattle.vm_legal.specs.Frames.{frames_held, frames_wired}
+use Rattle.vm_model.specs.Waiting.{waiting}
+use Rattle.vm_legal.specs.Accesses.{is_ready}
+use Rattle.vm_legal.specs.Frames.{frames_held, frames_wired, returns_out}
 use Rattle.vm_legal.specs.Licences.{created}
 use Rattle.vm_legal.specs.Living.{tasks as made_tasks}
 use Rattle.vm_legal.specs.Used.{in_use}
-use Rattle.vm_model.specs.declared.message.Channel.{Channel}
-use Rattle.vm_frames.specs.Frames.{FrameTable, claimed, frame_count}
+use Rattle.vm_frames.specs.Frames.{FrameTable, claimed, frame_count, is_claimed}
+use Rattle.vm_pageout.specs.Laundry.{LaundryList}
+use Rattle.vm_parts.specs.Controls.{AllLive, HasNumbers}
+use Rattle.vm_queues.specs.Queues.{is_skipped}
+use Rattle.vm_supply.specs.declared.woken.Woken.{Woken}
+use Rattle.vm_supply.specs.declared.woken.Woken.TheVariants as woken
+use Rattle.vm_waits.specs.Waits.{again}
+use Rattle.vm_kernel.specs.Pagers.{has_pager, last_in, live_in, ready_in}
+use Rattle.vm_kernel.specs.Waiters.{HasWaiters}
 use Rattle.vm_maps.specs.Maps.{Mapped, entries_in, rows_in}
 use Rattle.vm_objects.specs.Objects.{ObjectTable, absent_at, object_at}
 use Rattle.vm_objects.specs.declared.row.ObjectRow.{ObjectRow}
 use Rattle.vm_objects.specs.declared.row.PagerState.TheVariants.{Without}
-use Rattle.vm_resident.specs.Resident.{ResidentTable, row_at}
+use Rattle.vm_resident.specs.Resident.{ResidentTable, owner_of, row_at}
 use Rattle.vm_resident.specs.declared.page_row.PageRow.{PageRow}
 use Rattle.vm_shadow.specs.Chains.{ChainTable, region_at}
 use Rattle.vm_shadow.specs.declared.ids.Ids.{Ids}
 use Rattle.vm_shadow.specs.declared.region_row.RegionRow.{RegionRow}
-use Rattle.vm_kernel.specs.Built.{has_stored}
 use Rattle.vm_kernel.specs.Counts.{count_by, count_on, most_tasks}
 use Rattle.vm_kernel.specs.Fits.{Fits}
 use Rattle.vm_kernel.specs.Places.{has_region, place_of, region_pages, shown}
@@ -55,12 +63,11 @@ abbrev pub host_for : Option (List Entry) → Option ℕ
 host_for None = None
 host_for (Some rows) = Some 0
 
--- the tasks and their entries; none of them waits
-pub record HasTasks (size : ℕ) (maps : Mapped) (host_at : ℕ → Option ℕ) (rows_at : ℕ → List Entry) (waiting_at : ℕ → Option Access) : Type 0 where
+-- the tasks and their entries
+pub record HasTasks (size : ℕ) (maps : Mapped) (host_at : ℕ → Option ℕ) (rows_at : ℕ → List Entry) : Type 0 where
   pub sized : maps.size ≡ size
   pub hosts : (task : ℕ) → host_at task ≡ host_for (entries_in task maps)
   pub rows : (task : ℕ) → rows_at task ≡ rows_in task maps
-  pub none : (task : ℕ) → waiting_at task ≡ None
 
 -- a region is that of the object with its number, from its page 0 on, and has no copy mark
 pub record IsOwn (region : Region) (number : ℕ) : Type 0 where
@@ -68,9 +75,15 @@ pub record IsOwn (region : Region) (number : ℕ) : Type 0 where
   pub top : region.top ≡ number
   pub shift : region.shift ≡ 0
 
--- an object of temporary memory without a pager, under one region
-abbrev pub object_under : RegionRow → ObjectRow
-object_under row = record { kind = Temp; pages = row.pages; state = Without; control = 0; live = false; references = 1 }
+-- an object of temporary memory under one region; its first control is made when it first gets a pager
+pub record IsUnder (row : RegionRow) (known : Option ObjectRow) : Type 0 where
+  pub object : ObjectRow
+  pub found : known ≡ Some object
+  pub temporary : object.kind ≡ Temp
+  pub pages : object.pages ≡ row.pages
+  pub references : object.references ≡ 1
+  pub live : object.live ≡ has_pager object.state
+  pub number : object.control ≡ (if has_pager object.state then 1 else 0)
 
 -- the regions and objects, and the next numbers of both; each region is over an object of its own, so no object has another under it
 pub record HasRegions (chains : ChainTable) (objects : ObjectTable) (ids : Ids) (region_from : ℕ → Region) (backing_from : ℕ → Backing) (regions_made objects_made : ℕ) : Type 0 where
@@ -83,7 +96,7 @@ pub record HasRegions (chains : ChainTable) (objects : ObjectTable) (ids : Ids) 
   pub unbacked : (o : ℕ) → (backing_from o).backed ≡ false
   pub unmade : (r : ℕ) → regions_made ≤ r → region_at chains r ≡ None
   pub unknown : (o : ℕ) → objects_made ≤ o → object_at objects o ≡ None
-  pub under : (r : ℕ) (row : RegionRow) → region_at chains r ≡ Some row → object_at objects r ≡ Some (object_under row)
+  pub under : (r : ℕ) (row : RegionRow) → region_at chains r ≡ Some row → IsUnder row (object_at objects r)
 
 -- an entry lies within its region
 pub record IsInside (size : ℕ) (chains : ChainTable) (row : Entry) : Type 0 where
@@ -118,15 +131,31 @@ pub record HasUse (maps : Mapped) (used_at : ℕ → Bool) (made : List ℕ) : T
   pub used : (r : ℕ) → used_at r ≡ nat_lt 0 (count_by most_tasks r maps)
   pub among : (task : ℕ) (rows : List Entry) → entries_in task maps ≡ Some rows → is_among task made ≡ true
 
--- no pager runs: no object ever had a control
-pub record HasControls (last_at : ℕ → ℕ) (live_at : ℕ → Option ℕ) (created_now : Option Channel) : Type 0 where
-  pub last : (o : ℕ) → last_at o ≡ 0
-  pub live : (o : ℕ) → live_at o ≡ None
-  pub created : created_now ≡ None
+-- the controls of objects: the last one, the one that lives, and whether that is ready
+pub record HasControls (objects : ObjectTable) (last_at : ℕ → ℕ) (live_at : ℕ → Option ℕ) (ready_at : ℕ → Bool) : Type 0 where
+  pub last : (o : ℕ) → last_at o ≡ last_in (object_at objects o)
+  pub live : (o : ℕ) → live_at o ≡ live_in (object_at objects o)
+  pub ready : (o control : ℕ) → live_at o ≡ Some control → ready_at o ≡ ready_in (object_at objects o)
+  pub all_live : AllLive objects
+  pub numbers : HasNumbers objects
+  pub ended : (o : ℕ) (row : ObjectRow) → object_at objects o ≡ Some row → row.live ≡ true → row.state ≢ Without
 
--- while no store has ended no page was changed
-pub record HasStores (resident : ResidentTable) (stored : Bool) : Type 0 where
-  pub clean : stored ≡ false → (o p : ℕ) (row : PageRow) → row_at resident o p ≡ Some row → row.dirty ≡ false
+-- a frame that a return holds is claimed, and is no page's
+pub record IsWashed (frames : FrameTable) (resident : ResidentTable) (f : FrameNo) : Type 0 where
+  pub claimed : is_claimed frames f.0 ≡ true
+  pub unowned : owner_of resident f.0 ≡ None
+
+-- each stands there once
+abbrev pub EachApart : List FrameNo → Type 0
+EachApart [] = Unit {0}
+EachApart (f ∷ fs) = (is_skipped fs f.0 ≡ false) × EachApart fs
+
+-- the frames of returns that their pagers did not take yet
+pub record HasLaundry (frames : FrameTable) (resident : ResidentTable) (laundry : LaundryList) (out : ℕ) : Type 0 where
+  pub count : out ≡ length laundry.held
+  pub room : length laundry.held + laundry.room ≡ frame_count frames
+  pub washed : All (IsWashed frames resident) laundry.held
+  pub apart : EachApart laundry.held
 
 -- the frames in use, and those wired
 pub record HasFrames (most : Option ℕ) (frames : FrameTable) (held_now wired_now : ℕ) : Type 0 where
@@ -141,20 +170,39 @@ pub record Matches (header : Header) (k : Parts) (ids : Ids) (gone : List Entry)
   pub size : k.size ≡ header.size
   pub host : k.host ≡ the_host
   pub fits : Fits k
-  pub tasks : HasTasks header.size k.maps (λ task. host_of task past) (λ task. entries_of header.size task past) (λ task. waiting task past)
+  pub tasks : HasTasks header.size k.maps (λ task. host_of task past) (λ task. entries_of header.size task past)
   pub regions : HasRegions k.chains k.objects ids (λ r. region_of header r past) (λ o. backing_of header o past) (next_region header past) (next_object header past)
   pub entries : HasEntries header.size k.maps k.chains gone
   pub pages : HasPages k.frames k.resident k.objects k.chains (λ o p. local header.size 0 (place_of o p) past)
   pub uses : HasUse k.maps (λ r. in_use header 0 r past) (made_tasks past)
-  pub controls : HasControls (λ o. last_control 0 o past) (λ o. live_control 0 o past) (created past)
-  pub stores : HasStores k.resident (has_stored past)
+  pub controls : HasControls k.objects (λ o. last_control 0 o past) (λ o. live_control 0 o past) (λ o. is_ready 0 o past)
+  pub settled : created past ≡ None
+  pub laundry : HasLaundry k.frames k.resident k.laundry (returns_out 0 past)
   pub frames : HasFrames (slice_get (reverse header.frames.items) 0) k.frames (frames_held header.size 0 past) (frames_wired 0 past)
 
 -- each region has an entry
 abbrev pub AllUsed : ChainTable → Type 0
 AllUsed chains = (r : ℕ) (row : RegionRow) → region_at chains r ≡ Some row → 0 < row.entries
 
--- the kernel at the end of a step
+-- an object whose control lives is under a region
+abbrev pub AllReached : ChainTable → ObjectTable → Type 0
+AllReached chains objects = (o : ℕ) (row : ObjectRow) → object_at objects o ≡ Some row → row.live ≡ true → has_region chains o ≡ true
+
+-- the accesses that wait, of a kernel with these maps, regions, pages and objects; some may have been woken
+abbrev pub HasWaits : Parts → Woken → List Event → Type 0
+HasWaits k who past = HasWaiters k.maps k.chains k.resident k.objects k.waits.rows who (λ task. waiting task past)
+
+-- the kernel inside a step, with accesses that are to be run again, and whom an answer has woken
+pub record Works (header : Header) (k : Parts) (ids : Ids) (who : Woken) (past : List Event) : Type 0 where
+  pub matches : Matches header k ids [] past
+  pub used : AllUsed k.chains
+  pub reached : AllReached k.chains k.objects
+  pub waits : HasWaits k who past
+
+-- the kernel at the end of a step: no access is left that is to be run again
 pub record Rests (header : Header) (k : Parts) (ids : Ids) (past : List Event) : Type 0 where
   pub matches : Matches header k ids [] past
   pub used : AllUsed k.chains
+  pub reached : AllReached k.chains k.objects
+  pub waits : HasWaits k woken.Nobody past
+  pub idle : again k.waits.rows ≡ 0

@@ -1,5 +1,5 @@
 -- What a host has of the pages of objects, by the rows and frames that its kernel keeps.
-use Rattle.std.specs.Prelude.{ℕ, ◌+◌, Bool, true, false, Option, Some, None, if◌then◌else◌, is_some, not}
+use Rattle.std.specs.Prelude.{ℕ, ◌+◌, Bool, true, false, [], Option, Some, None, if◌then◌else◌, is_some, not}
 use Rattle.vm_base.specs.declared.ids.Lock.{Lock}
 use Rattle.vm_base.specs.declared.ids.FrameNo.{FrameNo}
 use Rattle.vm_model.specs.Local.{Local, Place, away}
@@ -17,15 +17,15 @@ unlocked = record { read = false; write = false }
 abbrev pub lock_number : Lock → ℕ
 lock_number lock = (if lock.read then 1 else 0) + (if lock.write then 2 else 0)
 
--- what the host has of a page that has this row, or none, and whether the pager is known not to have it
+-- what the host has of a page that has this row, or none, and whether the pager is known not to have it; a page that isn't here is asked
 abbrev pub shown : FrameTable → Option PageRow → Bool → Local
 shown frames None lacked = record away { absent = lacked }
 shown frames (Some row) lacked =
     record {
       here = row.here;
-      bytes = page_in frames row.frame.0;
+      bytes = if row.here then page_in frames row.frame.0 else [];
       lock = lock_number row.lock;
-      dirty = row.dirty;
+      dirty = if row.here then row.dirty else false;
       precious = row.precious;
       asked = not row.here;
       unlocking = row.unlock_sent;

@@ -1,16 +1,20 @@
 -- The counts of entries go up and down, and what no entry leads to goes.
-use Rattle.std.specs.Prelude.{ℕ, ◌≡◌, ◌≢◌, ◌+◌, ◌-◌, ◌<◌, true, List, Option, Some, None}
+use Rattle.std.specs.Prelude.{ℕ, ◌≡◌, ◌≢◌, ◌+◌, ◌-◌, ◌<◌, true, false, List, ◌++◌, Option, Some, None, IsSome}
 use Rattle.vm_base.specs.declared.entry.Entry.{Entry}
 use Rattle.vm_model.specs.declared.event.Event.{Event}
 use Rattle.vm_model.specs.declared.command.Command.{Command}
 use Rattle.vm_model.specs.declared.script.Header.{Header}
 use Rattle.vm_legal.specs.Outside.{Outside}
+use Rattle.vm_legal.specs.Used.{in_use}
+use Rattle.vm_objects.specs.Objects.{object_at}
+use Rattle.vm_objects.specs.declared.row.ObjectRow.{ObjectRow}
+use Rattle.vm_resident.specs.Resident.{row_at}
 use Rattle.vm_shadow.specs.Chains.{ChainTable, PutsRegion, region_at}
 use Rattle.vm_shadow.specs.declared.ids.Ids.{Ids}
 use Rattle.vm_shadow.specs.declared.region_row.RegionRow.{RegionRow}
 use Rattle.vm_kernel.specs.Begun.{Runs}
 use Rattle.vm_kernel.specs.Counts.{count_on}
-use Rattle.vm_kernel.specs.Matches.{AllUsed}
+use Rattle.vm_kernel.specs.Matches.{AllReached, AllUsed}
 use Rattle.vm_kernel.specs.Places.{has_region, region_entries}
 use Rattle.vm_kernel.specs.declared.parts.Parts.{Parts}
 
@@ -43,6 +47,7 @@ pub record Releasing : Type 0 where
 pub record Sweeps (header : Header) (outside : Outside) (doing : Command) (past : List Event) (k : Parts) (ids : Ids) (gone : List Entry) (events : List Event) : Type 0 where
   pub runs : Runs header outside doing past k ids gone events
   pub used : AllUsed k.chains
+  pub reached : AllReached k.chains k.objects
 
 -- a region has no entries left, and all others have some
 pub record Ends (header : Header) (outside : Outside) (doing : Command) (past : List Event) (k : Parts) (ids : Ids) (gone : List Entry) (region : ℕ) (events : List Event) : Type 0 where
@@ -50,3 +55,14 @@ pub record Ends (header : Header) (outside : Outside) (doing : Command) (past : 
   pub there : has_region k.chains region ≡ true
   pub none : region_entries k.chains region ≡ 0
   pub others : (r : ℕ) (row : RegionRow) → r ≢ region → region_at k.chains r ≡ Some row → 0 < row.entries
+  pub reached : AllReached k.chains k.objects
+
+-- no region is over the object, and nothing of it is here; its control may still live
+pub record Strands (header : Header) (outside : Outside) (doing : Command) (past : List Event) (k : Parts) (ids : Ids) (gone : List Entry) (object : ℕ) (events : List Event) : Type 0 where
+  pub runs : Runs header outside doing past k ids gone events
+  pub used : AllUsed k.chains
+  pub others : (o : ℕ) (row : ObjectRow) → o ≢ object → object_at k.objects o ≡ Some row → row.live ≡ true → has_region k.chains o ≡ true
+  pub known : IsSome (object_at k.objects object)
+  pub none : region_at k.chains object ≡ None
+  pub pages : (p : ℕ) → row_at k.resident object p ≡ None
+  pub unused : in_use header 0 object (events ++ past) ≡ false

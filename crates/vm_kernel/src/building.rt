@@ -1,7 +1,7 @@
 // Tasks and ranges are made, and frames are wired.
 ghost use Rattle.std.specs.Prelude.{◌≡◌, ◌∷◌, OnOk, None};
 ghost use Rattle.vm_model.specs.declared.command.Command.TheVariants as command;
-ghost use Rattle.vm_kernel.specs.Begun.{Began, Given, Starts};
+ghost use Rattle.vm_kernel.specs.Begun.{Ran, Given, Starts};
 ghost use Rattle.vm_kernel.specs.Changes.{MadeRange, entering, whole_entry};
 ghost use Rattle.vm_kernel.specs.Forking.{got};
 ghost use Rattle.vm_model.specs.declared.event.Event.TheVariants as event;
@@ -65,7 +65,7 @@ impl Parts {
     pub fn make_task(&mut self, ids: &Ids, task: TaskId, log: &mut Events) -> Result<(), NoMemory>
         ghost given: { Given }
         requires { Starts given.header (command.Task task the_host) given.past self.old ids.now log.old.items }
-        ensures { OnOk result (Began given.header given.outside (command.Task task the_host) given.past self.new ids.now log.new.items) }
+        ensures { OnOk result (Ran given.header given.outside (command.Task task the_host) given.past self.new ids.now log.new.items) }
     {
         self.maps.add_task(task)?;
         log.push(Event::TaskMade {
@@ -84,7 +84,7 @@ impl Parts {
     ) -> Result<(), NoMemory>
         ghost given: { Given }
         requires { Starts given.header (command.Allocate task address bytes) given.past self.old ids.old log.old.items }
-        ensures { OnOk result (Began given.header given.outside (command.Allocate task address bytes) given.past self.new ids.new log.new.items) }
+        ensures { OnOk result (Ran given.header given.outside (command.Allocate task address bytes) given.past self.new ids.new log.new.items) }
     {
         let pages = (bytes / u64::from(self.size.bytes())) as u32;
         let region = RegionId(ids.next_region);
@@ -123,7 +123,7 @@ impl Parts {
     pub fn wire(&mut self, ids: &Ids, count: u32, log: &mut Events) -> Result<(), NoMemory>
         ghost given: { Given }
         requires { Starts given.header (command.Wire the_host count) given.past self.old ids.now log.old.items }
-        ensures { OnOk result (Began given.header given.outside (command.Wire the_host count) given.past self.new ids.now log.new.items) }
+        ensures { OnOk result (Ran given.header given.outside (command.Wire the_host count) given.past self.new ids.now log.new.items) }
     {
         let _ = self.frames.wire(count);
         self.tell_wired(log)
@@ -132,7 +132,7 @@ impl Parts {
     pub fn unwire(&mut self, ids: &Ids, count: u32, log: &mut Events) -> Result<(), NoMemory>
         ghost given: { Given }
         requires { Starts given.header (command.Unwire the_host count) given.past self.old ids.now log.old.items }
-        ensures { OnOk result (Began given.header given.outside (command.Unwire the_host count) given.past self.new ids.now log.new.items) }
+        ensures { OnOk result (Ran given.header given.outside (command.Unwire the_host count) given.past self.new ids.now log.new.items) }
     {
         let _ = self.frames.unwire(count);
         self.tell_wired(log)

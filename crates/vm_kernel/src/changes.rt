@@ -1,7 +1,7 @@
 // The commands that change a task's entries.
 ghost use Rattle.std.specs.Prelude.{◌≡◌, OnOk};
 ghost use Rattle.vm_model.specs.declared.command.Command.TheVariants as command;
-ghost use Rattle.vm_kernel.specs.Begun.{Began, Doing, Given, Starts};
+ghost use Rattle.vm_kernel.specs.Begun.{Ran, Doing, Given, Starts};
 ghost use Rattle.vm_kernel.specs.Changes.{enter, inheritance, protection, removal};
 
 use crate::counting::{lower, raise};
@@ -78,7 +78,7 @@ impl Parts {
         ghost given: { Doing }
         requires is { given.command ≡ command.Exit task }
         requires starts { Starts given.header given.command given.past self.old ids.now log.old.items }
-        ensures { OnOk result (Began given.header given.outside given.command given.past self.new ids.now log.new.items) }
+        ensures { OnOk result (Ran given.header given.outside given.command given.past self.new ids.now log.new.items) }
     {
         let gone = self.maps.end_task(task);
         log.push(Event::TaskEnded { task })?;
@@ -97,7 +97,7 @@ impl Parts {
         ghost given: { Doing }
         requires is { given.command ≡ command.Deallocate task address bytes }
         requires starts { Starts given.header given.command given.past self.old ids.now log.old.items }
-        ensures { OnOk result (Began given.header given.outside given.command given.past self.new ids.now log.new.items) }
+        ensures { OnOk result (Ran given.header given.outside given.command given.past self.new ids.now log.new.items) }
     {
         lower(&mut self.chains, self.maps.entries(task));
         let gone = self.maps.remove(task, &removal(address, bytes))?;
@@ -123,7 +123,7 @@ impl Parts {
     ) -> Result<(), NoMemory>
         ghost given: { Given }
         requires { Starts given.header (command.Protect task address bytes prot) given.past self.old ids.now log.old.items }
-        ensures { OnOk result (Began given.header given.outside (command.Protect task address bytes prot) given.past self.new ids.now log.new.items) }
+        ensures { OnOk result (Ran given.header given.outside (command.Protect task address bytes prot) given.past self.new ids.now log.new.items) }
     {
         lower(&mut self.chains, self.maps.entries(task));
         let _ = self.maps.protect(task, &protection(address, bytes, prot))?;
@@ -148,7 +148,7 @@ impl Parts {
     ) -> Result<(), NoMemory>
         ghost given: { Given }
         requires { Starts given.header (command.Inherit task address bytes inherit) given.past self.old ids.now log.old.items }
-        ensures { OnOk result (Began given.header given.outside (command.Inherit task address bytes inherit) given.past self.new ids.now log.new.items) }
+        ensures { OnOk result (Ran given.header given.outside (command.Inherit task address bytes inherit) given.past self.new ids.now log.new.items) }
     {
         lower(&mut self.chains, self.maps.entries(task));
         let _ = self

@@ -1,23 +1,26 @@
 // Pages leave a host.
-ghost use Rattle.std.specs.Prelude.{◌≡◌, true, OnOk, IsSome};
+ghost use Rattle.std.specs.Prelude.{◌≡◌, ◌++◌, ◌⊎◌, true, IfOk, IsSomeAnd, OnOk};
+ghost use Rattle.vm_legal.specs.Reclaims.{PagesOut, Starves};
 ghost use Rattle.vm_model.specs.declared.command.Command.TheVariants as command;
-ghost use Rattle.vm_queues.specs.Queues.{is_queued};
 ghost use Rattle.vm_resident.specs.Resident.{row_at};
-ghost use Rattle.vm_kernel.specs.Begun.{Began, Given, Starts};
-ghost use Rattle.vm_kernel.specs.Changes.{Lost, Reclaimed};
+ghost use Rattle.vm_kernel.specs.Begun.{Doing, Goes, Ran, Starts};
+ghost use Rattle.vm_kernel.specs.Changes.{Lost};
 ghost use Rattle.vm_kernel.specs.Fits.{Fits};
-ghost use Rattle.vm_kernel.specs.Matches.{the_host};
+ghost use Rattle.vm_kernel.specs.Matches.{Rests, the_host};
+ghost use Rattle.vm_kernel.specs.Serving.{Reclaimed};
+ghost use Rattle.vm_kernel.specs.Taking.{EachGone};
 
 use crate::parts::Parts;
-use vm_base::{FrameNo, NoMemory, PageKey};
+use vm_base::{NoMemory, PageKey};
 use vm_model::{Event, Events};
+use vm_pageout::{Reclaim, reclaim};
 use vm_shadow::Ids;
 
 impl Parts {
     // Drops a page that is here.
     pub fn drop_page(&mut self, key: PageKey, log: &mut Events) -> Result<(), NoMemory>
         requires fits { Fits self.old }
-        requires there { IsSome (row_at self.old.resident key.object.0 key.page.0) }
+        requires there { IsSomeAnd (row_at self.old.resident key.object.0 key.page.0) (λ row. row.here ≡ true) }
         ensures { OnOk result (Lost key self.old self.new log.old.items log.new.items) }
     {
         let Some(row) = self.resident.remove(key) else {
@@ -34,28 +37,46 @@ impl Parts {
 
     // Reclaims pages, as many as are asked for or as there are.
     pub fn pageout(&mut self, ids: &Ids, count: u32, log: &mut Events) -> Result<(), NoMemory>
-        ghost given: { Given }
-        requires { Starts given.header (command.Pageout the_host count) given.past self.old ids.now log.old.items }
-        ensures { OnOk result (Began given.header given.outside (command.Pageout the_host count) given.past self.new ids.now log.new.items) }
+        ghost given: { Doing }
+        requires is { given.command ≡ command.Pageout the_host count }
+        requires starts { Starts given.header given.command given.past self.old ids.now log.old.items }
+        ensures { OnOk result (Ran given.header given.outside given.command given.past self.new ids.now log.new.items) }
     {
         'pages: for _ in 0..count {
-            let Some(frame) = self.queues.victim(&[]) else {
-                return Ok(());
-            };
-            self.reclaim(frame, log)?;
+            match self.reclaim(ids, log)? {
+                Reclaim::Freed | Reclaim::Returned => {}
+                Reclaim::Nothing => return Ok(()),
+            }
         }
         Ok(())
     }
 
-    // Drops the page that is in a frame.
-    fn reclaim(&mut self, frame: FrameNo, log: &mut Events) -> Result<(), NoMemory>
-        requires fits { Fits self.old }
-        requires listed { is_queued self.old.queues frame.0 ≡ true }
-        ensures { OnOk result (Reclaimed self.old self.new log.old.items log.new.items) }
+    /// Reclaims one page.
+    pub fn reclaim(&mut self, ids: &Ids, log: &mut Events) -> Result<Reclaim, NoMemory>
+        ghost given: { Doing }
+        requires rests { Rests given.header self.old ids.now (log.old.items ++ given.past) }
+        requires may { PagesOut given.command 0 (log.old.items ++ given.past) ⊎ Starves given.header 0 (log.old.items ++ given.past) }
+        ensures rests { OnOk result (Rests given.header self.new ids.now (log.new.items ++ given.past)) }
+        ensures goes { OnOk result (Goes given.header given.outside given.command given.past log.old.items log.new.items) }
+        ensures reclaims { OnOk result (EachGone log.old.items log.new.items) }
+        ensures reclaimed { IfOk result (λ answer. Reclaimed answer self.old self.new (log.old.items ++ given.past) (log.new.items ++ given.past)) }
     {
-        let Some(key) = self.resident.page_of(frame) else {
-            unreachable!()
+        // The laundry has room for a page that is here, but may be full while none is.
+        let Some(_) = self.queues.victim(&[]) else {
+            return Ok(Reclaim::Nothing);
         };
-        self.drop_page(key, log)
+        let answer = reclaim(
+            self.alloc,
+            self.host,
+            &mut self.frames,
+            &mut self.resident,
+            &mut self.queues,
+            &mut self.objects,
+            &mut self.buffers,
+            &[],
+            &mut self.laundry,
+            log,
+        )?;
+        Ok(answer)
     }
 }

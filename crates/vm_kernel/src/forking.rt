@@ -2,7 +2,7 @@
 ghost use Rattle.std.specs.Prelude.{◌≡◌, OnOk};
 ghost use Rattle.vm_model.specs.declared.command.Command.TheVariants as command;
 ghost use Rattle.vm_model.specs.Tasks.{is_shared};
-ghost use Rattle.vm_kernel.specs.Begun.{Began, Given, Starts};
+ghost use Rattle.vm_kernel.specs.Begun.{Ran, Given, Starts};
 ghost use Rattle.vm_kernel.specs.Forking.{CanShare, Shares};
 
 use crate::building::{entered, entering};
@@ -32,7 +32,7 @@ impl Parts {
     ) -> Result<(), NoMemory>
         ghost given: { Given }
         requires { Starts given.header (command.Fork task child) given.past self.old ids.now log.old.items }
-        ensures { OnOk result (Began given.header given.outside (command.Fork task child) given.past self.new ids.now log.new.items) }
+        ensures { OnOk result (Ran given.header given.outside (command.Fork task child) given.past self.new ids.now log.new.items) }
     {
         self.maps.add_task(child)?;
         log.push(Event::TaskMade {

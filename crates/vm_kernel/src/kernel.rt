@@ -1,22 +1,29 @@
 // One host's kernel.
-ghost use Rattle.std.specs.Prelude.{◌≡◌, [], true, IfOk};
+ghost use Rattle.std.specs.Prelude.{◌≡◌, ◌≢◌, ◌++◌, ◌∷◌, [], true, is_some, IfOk};
+ghost use Rattle.vm_model.specs.declared.event.Event.TheVariants as event;
+ghost use Rattle.vm_model.specs.declared.message.Channel.TheVariants.{Down};
+ghost use Rattle.vm_legal.specs.Stretches.{EachOf};
+ghost use Rattle.vm_waits.specs.Waits.{entry};
 ghost use Rattle.vm_frames.specs.Frames.{free};
 ghost use Rattle.vm_objects.specs.Objects.{object_at};
-ghost use Rattle.vm_kernel.specs.Begun.{Began, Given, Starts};
+ghost use Rattle.vm_kernel.specs.Begun.{Began, Given, IsForeign, IsLaundered, Passed, Passing, Starts};
 ghost use Rattle.vm_kernel.specs.Built.{is_built};
 ghost use Rattle.vm_kernel.specs.Matches.{IsPlain, Rests, first_ids, the_host};
+ghost use Rattle.vm_kernel.specs.Taking.{IsErrorPaid, IsTempAnswer};
 
 use crate::parts::Parts;
 use std::alloc::Global;
 use std::marker::Model;
-use vm_base::{HostId, NoMemory, ObjectId};
+use vm_base::{Buffers, HostId, NoMemory, ObjectId, TaskId};
 use vm_frames::Frames;
 use vm_maps::Maps;
-use vm_model::{Command, Events, Header};
+use vm_model::{Command, Events, Header, Message};
 use vm_objects::{ObjectRow, Objects};
+use vm_pageout::Laundry;
 use vm_queues::PageQueues;
 use vm_resident::Resident;
 use vm_shadow::{Chains, Ids};
+use vm_waits::Waits;
 
 /// The kernel of one host: its tasks with their entries, its regions and memory objects, and the
 /// pages that are in its frames.
@@ -45,6 +52,7 @@ impl Kernel {
         let count = *header.frames.at(host.0);
         let frames = Frames::new(alloc, count, header.size)?;
         let queues = PageQueues::new(alloc, count)?;
+        let laundry = Laundry::new(alloc, count)?;
         let parts = Parts {
             alloc,
             host,
@@ -55,6 +63,9 @@ impl Kernel {
             objects: Objects::new(alloc),
             maps: Maps::new(alloc, header.size),
             chains: Chains::new(alloc),
+            buffers: Buffers::new(alloc, header.size),
+            laundry,
+            waits: Waits::new(alloc),
         };
         Ok(Kernel { parts })
     }
@@ -70,8 +81,71 @@ impl Kernel {
         ensures { IfOk result (λ events. Began given.header given.outside command.now given.past self.new ids.new events.items) }
     {
         let mut log = Events::new(self.parts.alloc);
-        self.parts.run(command, ids, &mut log)?;
+        self.parts.begin(command, ids, &mut log)?;
         Ok(log)
+    }
+
+    /// Takes an answer of the default pager to a control of an object, and gives what happened
+    /// behind the taking. What isn't for the live control, or answers nothing, is discarded.
+    ///
+    /// After `NoMemory` the kernel is used no more.
+    pub fn take(
+        &mut self,
+        object: ObjectId,
+        control: u32,
+        message: &Message,
+        ids: &mut Ids,
+    ) -> Result<Events, NoMemory>
+        ghost given: { Passing }
+        requires rests { Rests given.header self.old ids.old given.past }
+        requires front { given.front ≡ event.Taken (Down the_host object control) message.now ∷ [] }
+        requires answer { IsTempAnswer given.header.size message.now }
+        ensures passed { IfOk result (λ events. Passed given.header given.outside given.command (given.front ++ given.past) self.new ids.new events.items) }
+        ensures failed { IfOk result (λ events. IsErrorPaid given.header (events.items ++ (given.front ++ given.past))) }
+    {
+        let mut log = Events::new(self.parts.alloc);
+        self.parts.take(ids, object, control, message, &mut log)?;
+        self.parts.go_on(ids, &mut log)?;
+        Ok(log)
+    }
+
+    /// The pager of an object took the oldest return without a copy; gives what happened behind
+    /// that.
+    ///
+    /// After `NoMemory` the kernel is used no more.
+    pub fn laundered(&mut self, ids: &mut Ids) -> Result<Events, NoMemory>
+        ghost given: { Passing }
+        requires rests { Rests given.header self.old ids.old given.past }
+        requires front { IsLaundered given.front }
+        requires held { self.old.laundry.held ≢ [] }
+        ensures { IfOk result (λ events. Passed given.header given.outside given.command (given.front ++ given.past) self.new ids.new events.items) }
+    {
+        let mut log = Events::new(self.parts.alloc);
+        self.parts.launder(ids);
+        self.parts.go_on(ids, &mut log)?;
+        Ok(log)
+    }
+
+    /// A step has ended that is nothing to this host: its frame queue is served, as at the end of
+    /// every step.
+    ///
+    /// After `NoMemory` the kernel is used no more.
+    pub fn serve(&mut self, ids: &mut Ids) -> Result<Events, NoMemory>
+        ghost given: { Passing }
+        requires rests { Rests given.header self.old ids.old given.past }
+        requires front { EachOf IsForeign given.front }
+        ensures { IfOk result (λ events. Passed given.header given.outside given.command (given.front ++ given.past) self.new ids.new events.items) }
+    {
+        let mut log = Events::new(self.parts.alloc);
+        self.parts.go_on(ids, &mut log)?;
+        Ok(log)
+    }
+
+    /// Whether a task waits: it has begun an access that hasn't ended.
+    pub fn waits(&self, task: TaskId) -> bool
+        ensures { result ≡ is_some (entry self.now.waits.rows task.0) }
+    {
+        self.parts.waits.get(task).is_some()
     }
 
     /// The number of frames that are neither claimed nor wired.

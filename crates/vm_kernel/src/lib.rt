@@ -6,13 +6,16 @@ mod building;
 mod changes;
 mod counting;
 mod dropping;
+mod faults;
 mod forking;
 mod framing;
 mod kernel;
-mod paging;
 mod parts;
 mod running;
+mod serving;
+mod steps;
 mod sweeping;
+mod taking;
 
 pub use changes::{enter, inheritance, protection, removal};
 pub use kernel::Kernel;

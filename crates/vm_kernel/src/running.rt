@@ -1,6 +1,6 @@
 // The commands of a host.
 ghost use Rattle.std.specs.Prelude.{◌≡◌, true, OnOk};
-ghost use Rattle.vm_kernel.specs.Begun.{Began, Given, Starts};
+ghost use Rattle.vm_kernel.specs.Begun.{Began, Doing, Given, Ran, Starts};
 ghost use Rattle.vm_kernel.specs.Built.{is_built};
 
 use crate::parts::Parts;
@@ -9,17 +9,29 @@ use vm_model::{Command, Events};
 use vm_shadow::Ids;
 
 impl Parts {
-    // Runs one command.
-    pub fn run(
+    /// Runs one command, and serves the frame queue.
+    pub fn begin(
         &mut self,
         command: &Command,
         ids: &mut Ids,
         log: &mut Events,
     ) -> Result<(), NoMemory>
-        ghost given: { Given }
+        ghost given: { Doing }
+        requires is { given.command ≡ command.now }
         requires starts { Starts given.header command.now given.past self.old ids.old log.old.items }
         requires built { is_built command.now ≡ true }
         ensures { OnOk result (Began given.header given.outside command.now given.past self.new ids.new log.new.items) }
+    {
+        self.run(command, ids, log)?;
+        self.serve(ids, log)
+    }
+
+    // Runs one command.
+    fn run(&mut self, command: &Command, ids: &mut Ids, log: &mut Events) -> Result<(), NoMemory>
+        ghost given: { Given }
+        requires starts { Starts given.header command.now given.past self.old ids.old log.old.items }
+        requires built { is_built command.now ≡ true }
+        ensures { OnOk result (Ran given.header given.outside command.now given.past self.new ids.new log.new.items) }
     {
         match command {
             Command::Task { task, .. } => self.make_task(ids, *task, log),

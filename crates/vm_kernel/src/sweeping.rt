@@ -3,12 +3,12 @@ ghost use Rattle.std.specs.Prelude.{◌≡◌, ◌+◌, ◌<◌, ℕ, [], drop, 
 ghost use Rattle.vm_base.specs.Entries.{by_address};
 ghost use Rattle.vm_resident.specs.Resident.{row_at};
 ghost use Rattle.vm_kernel.specs.Begun.{Doing};
-ghost use Rattle.vm_kernel.specs.Sweeping.{Ends, Releasing, Sweeps};
+ghost use Rattle.vm_kernel.specs.Sweeping.{Ends, Releasing, Strands, Sweeps};
 
 use crate::counting::{count_of, set_count};
 use crate::parts::Parts;
 use vm_base::{Entries, NoMemory, ObjectId, PageKey, PageNo, RegionId};
-use vm_model::Events;
+use vm_model::{Channel, Event, Events, Message};
 use vm_shadow::Ids;
 
 impl Parts {
@@ -57,7 +57,31 @@ impl Parts {
         self.drop_pages(ids, ObjectId(region.0), log)?;
         let object = self.chains.drop_region(region);
         let _ = self.objects.unrefer(object);
-        Ok(())
+        self.end_object(ids, object, log)
+    }
+
+    // Ends the control of an object to which no region leads any more, where it has one.
+    fn end_object(&mut self, ids: &Ids, object: ObjectId, log: &mut Events) -> Result<(), NoMemory>
+        ghost given: { Releasing }
+        requires { Strands given.header given.outside given.command given.past self.old ids.now given.rest object.0 log.old.items }
+        ensures { OnOk result (Sweeps given.header given.outside given.command given.past self.new ids.now given.rest log.new.items) }
+    {
+        let Some(row) = self.objects.find(object) else {
+            unreachable!()
+        };
+        if !row.live {
+            return Ok(());
+        }
+        self.objects.end_control(object);
+        log.push(Event::Sent {
+            channel: Channel::Up {
+                host: self.host,
+                object,
+            },
+            message: Message::Terminate {
+                control: row.control,
+            },
+        })
     }
 
     // Drops the pages of an object, by rising number.

@@ -65,6 +65,7 @@ fn each_call(rt: HostRuntime) -> Result<(), Fail> {
     assert!(rt; kernel.object(ObjectId(0)).is_none());
     assert!(rt; kernel.chains().region(RegionId(0)).is_none());
     assert!(rt; !kernel.maps().has(TASK));
+    assert!(rt; !kernel.waits(TASK));
 
     let mut events = make_task(&header, &mut kernel, &mut ids)?;
     assert_eq!(rt; events.len(), 1);

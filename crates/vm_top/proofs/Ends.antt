@@ -1,5 +1,5 @@
 -- What was read is what the source had, and how a run ends tells the status.
-use Rattle.std.proofs.Common.{◌≡◌, ℕ, ◌<◌, ◌≤◌, ◌^◌, ◌⊎◌, inl, inr, List, [], ◌∷◌, ◌++◌, length, true, refl, ap, sym, ◌∙◌, subst, arith, Some, None, Option, Ok, Err, nat_lt, length-append, append-nil}
+use Rattle.std.proofs.Common.{◌≡◌, ℕ, ◌<◌, ◌≤◌, ◌^◌, ◌⊎◌, inl, inr, List, [], ◌∷◌, ◌++◌, length, true, refl, ap, sym, ◌∙◌, subst, arith, Some, None, Option, Ok, Err, nat_lt, length-append}
 use Rattle.std.specs.Prelude.{IfSome, IsErrOf, OnOk, Result}
 use Rattle.vm_base.specs.declared.failure.WriteStop.{WriteStop}
 use Rattle.vm_base.specs.declared.failure.WriteStop.TheVariants as stop
@@ -17,13 +17,16 @@ use Rattle.vm_text.specs.Unbuilt.{IsBuilt, unbuilt_of}
 use Rattle.vm_top.specs.declared.top.Status.{Status}
 use Rattle.vm_top.specs.declared.top.Status.TheVariants as status
 use Rattle.vm_top.specs.declared.words.Report.{Report}
+use Rattle.vm_top.specs.declared.words.Report.TheVariants as reports
 use Rattle.vm_top.specs.Ending.{EndsAs, HasEnded, Tells, WroteStuck, status_after}
 use Rattle.vm_top.specs.Reading.{ReadWhole}
-use Rattle.vm_top.specs.Run.{IsRunnable, IsStuck, IsWhole, report_text}
+use Rattle.vm_top.specs.Run.{CutIn, IsFull, IsRunnable, IsStuck, IsWhole, report_text}
+use Rattle.vm_legal.specs.Legal.{LegalSoFar}
+use Rattle.vm_legal.specs.Outside.{Outside}
 use Rattle.vm_kernel.specs.Matches.{IsPlain}
-use Rattle.vm_top.specs.Top.{IsReadFrom, IsBadFrom, IsUnbuiltFrom, IsDone, IsEventLimit, IsStopped, IsNotBuilt, IsOutputFault, IsNoMemory, WroteCut, WroteStopped, not_built_text, stopped_text}
+use Rattle.vm_top.specs.Top.{IsReadFrom, IsBadFrom, IsUnbuiltFrom, IsDone, IsEventLimit, IsStopped, IsNotBuilt, IsOutputFault, IsNoMemory, WroteFailed, WroteStopped, not_built_text, stopped_text}
 use Rattle.vm_top.specs.Writing.{WroteStart}
-use Rattle.vm_top.proofs.Starts.{legal_start, part_legal, whole_legal}
+use Rattle.vm_top.proofs.Closing.{full_so_far, none_legal, part_so_far, whole_so_far}
 use Rattle.vm_top.proofs.Writings.{start_all}
 
 long_bad : (bytes : List ℕ) → 1048576 < length bytes → script_of bytes ≡ Err (0, fault.TooLong)
@@ -78,66 +81,69 @@ ready_of told after bytes first second script read one spells two none =
     let same = ap script_of (sym one) ∙ spells in
     record { read = read_from told after bytes script read same; header = unbuilt_from told after bytes (seen script) None read same (ap unbuilt_of (sym two) ∙ sym none) }
 
-stuck_stops : (told : Option (List ℕ)) (run : Script) (script : Option Script) (h : List Event) (line : ℕ) → IsReady told run → script ≡ Some run → IsStuck run line h → IsStopped told line script h
-stuck_stops told run script h line ready held stuck = record {
+stuck_stops : (told : Option (List ℕ)) (run : Script) (outside : Outside) (script : Option Script) (h : List Event) (line : ℕ) → IsReady told run → script ≡ Some run → IsStuck run outside line h
+    → IsStopped told outside line script h
+stuck_stops told run outside script h line ready held stuck = record {
   run = run;
   held = record { held = held; read = ready.read };
   stops = inr (ready.header, stuck);
-  legal = part_legal run _ _ h stuck.part;
+  legal = part_so_far run outside _ _ h stuck.part;
 }
 
-stuck_wrote : (told : Option (List ℕ)) (run : Script) (script : Option Script) (h : List Event) (before after : Option (List ℕ)) → IsReady told run → script ≡ Some run → WroteStuck run h before after → WroteStopped told script h before after
-stuck_wrote told run script h before after ready held wrote = (wrote.0, stuck_stops told run script h wrote.0 ready held wrote.1, wrote.2)
+stuck_wrote : (told : Option (List ℕ)) (run : Script) (outside : Outside) (script : Option Script) (h : List Event) (before after : Option (List ℕ)) → IsReady told run → script ≡ Some run → WroteStuck run outside h before after
+    → WroteStopped told outside script h before after
+stuck_wrote told run outside script h before after ready held wrote = (wrote.0, stuck_stops told run outside script h wrote.0 ready held wrote.1, wrote.2)
 
-pub done_of : (told before after : Option (List ℕ)) (report : Report) (run : Script) (script : Option Script) (h : List Event) (s : Status)
-    → IsReady told run → HasEnded report run script h before after s → s ≡ status.Done → IsDone told report script h before after
-done_of told before after report run script h s ready has is =
-    let ends = subst (EndsAs report run h before after) is has.ends in
+pub done_of : (told before after : Option (List ℕ)) (outside : Outside) (report : Report) (run : Script) (script : Option Script) (h : List Event) (s : Status)
+    → IsReady told run → HasEnded report run outside script h before after s → s ≡ status.Done → IsDone told outside report script h before after
+done_of told before after outside report run script h s ready has is =
+    let ends = subst (EndsAs report run outside h before after) is has.ends in
     record { run = run; held = record { held = has.held; read = ready.read }; header = ready.header; whole = ends.0; written = ends.1 }
 
-pub full_of : (told before after : Option (List ℕ)) (report : Report) (run : Script) (script : Option Script) (h : List Event) (s : Status)
-    → IsReady told run → HasEnded report run script h before after s → s ≡ status.EventLimit → IsEventLimit told report script h before after
-full_of told before after report run script h s ready has is =
-    let ends = subst (EndsAs report run h before after) is has.ends in
+pub full_of : (told before after : Option (List ℕ)) (outside : Outside) (report : Report) (run : Script) (script : Option Script) (h : List Event) (s : Status)
+    → IsReady told run → HasEnded report run outside script h before after s → s ≡ status.EventLimit → IsEventLimit told outside report script h before after
+full_of told before after outside report run script h s ready has is =
+    let ends = subst (EndsAs report run outside h before after) is has.ends in
     record { run = run; held = record { held = has.held; read = ready.read }; header = ready.header; full = ends.0; written = ends.1 }
 
-pub not_built_of : (told before after : Option (List ℕ)) (report : Report) (run : Script) (script : Option Script) (h : List Event) (s : Status) (line : ℕ)
-    → IsReady told run → HasEnded report run script h before after s → s ≡ status.NotBuilt line → IsNotBuilt told line script h before after
-not_built_of told before after report run script h s line ready has is =
-    let ends = subst (EndsAs report run h before after) is has.ends in
-    record { stopped = stuck_stops told run script h line ready has.held ends.0; written = ends.1 }
+pub not_built_of : (told before after : Option (List ℕ)) (outside : Outside) (report : Report) (run : Script) (script : Option Script) (h : List Event) (s : Status) (line : ℕ)
+    → IsReady told run → HasEnded report run outside script h before after s → s ≡ status.NotBuilt line → IsNotBuilt told outside line script h before after
+not_built_of told before after outside report run script h s line ready has is =
+    let ends = subst (EndsAs report run outside h before after) is has.ends in
+    record { stopped = stuck_stops told run outside script h line ready has.held ends.0; written = ends.1 }
 
-pub output_of : (told before after : Option (List ℕ)) (report : Report) (run : Script) (script : Option Script) (h : List Event) (s : Status)
-    → IsReady told run → HasEnded report run script h before after s → s ≡ status.OutputFault → IsOutputFault told report script h before after
-output_of told before after report run script h s ready has is = elim (subst (EndsAs report run h before after) is has.ends) [
-  | inl cut ↦ inl (record { run = run; held = record { held = has.held; read = ready.read }; legal = cut.0 }, cut.1)
-  | inr stuck ↦ inr (inl (stuck_wrote told run script h before after ready has.held stuck))
+pub output_of : (told before after : Option (List ℕ)) (outside : Outside) (report : Report) (run : Script) (script : Option Script) (h : List Event) (s : Status)
+    → IsReady told run → HasEnded report run outside script h before after s → s ≡ status.OutputFault → IsOutputFault told outside report script h before after
+output_of told before after outside report run script h s ready has is = elim (subst (EndsAs report run outside h before after) is has.ends) [
+  | inl failed ↦ inl (record { run = run; held = record { held = has.held; read = ready.read }; header = ready.header; failed = failed })
+  | inr stuck ↦ inr (inl (stuck_wrote told run outside script h before after ready has.held stuck))
 ]
 
-pub memory_of : (told before after : Option (List ℕ)) (report : Report) (run : Script) (script : Option Script) (h : List Event) (s : Status)
-    → IsReady told run → HasEnded report run script h before after s → s ≡ status.NoMemory → IsNoMemory told report script h before after
-memory_of told before after report run script h s ready has is = elim (subst (EndsAs report run h before after) is has.ends) [
-  | inl cut ↦ inr (inl (record { run = run; held = record { held = has.held; read = ready.read }; legal = cut.0 }, cut.1))
-  | inr stuck ↦ inr (inr (inl (stuck_wrote told run script h before after ready has.held stuck)))
+pub memory_of : (told before after : Option (List ℕ)) (outside : Outside) (report : Report) (run : Script) (script : Option Script) (h : List Event) (s : Status)
+    → IsReady told run → HasEnded report run outside script h before after s → s ≡ status.NoMemory → IsNoMemory told outside report script h before after
+memory_of told before after outside report run script h s ready has is = elim (subst (EndsAs report run outside h before after) is has.ends) [
+  | inl cut ↦ inr (inl (record { run = run; held = record { held = has.held; read = ready.read }; header = ready.header; cut = cut.0 }, cut.1))
+  | inr stuck ↦ inr (inr (inl (stuck_wrote told run outside script h before after ready has.held stuck)))
 ]
 
 -- other ends have no such status
-pub never_usage : (report : Report) (run : Script) (script : Option Script) (h : List Event) (before after : Option (List ℕ)) (s : Status) → HasEnded report run script h before after s → s ≡ status.Usage → ⊥
-never_usage report run script h before after s has is = subst (EndsAs report run h before after) is has.ends
+pub never_usage : (report : Report) (run : Script) (outside : Outside) (script : Option Script) (h : List Event) (before after : Option (List ℕ)) (s : Status) → HasEnded report run outside script h before after s → s ≡ status.Usage → ⊥
+never_usage report run outside script h before after s has is = subst (EndsAs report run outside h before after) is has.ends
 
-pub never_read : (report : Report) (run : Script) (script : Option Script) (h : List Event) (before after : Option (List ℕ)) (s : Status) → HasEnded report run script h before after s → s ≡ status.ReadFault → ⊥
-never_read report run script h before after s has is = subst (EndsAs report run h before after) is has.ends
+pub never_read : (report : Report) (run : Script) (outside : Outside) (script : Option Script) (h : List Event) (before after : Option (List ℕ)) (s : Status) → HasEnded report run outside script h before after s → s ≡ status.ReadFault → ⊥
+never_read report run outside script h before after s has is = subst (EndsAs report run outside h before after) is has.ends
 
-pub never_bad : (report : Report) (run : Script) (script : Option Script) (h : List Event) (before after : Option (List ℕ)) (s : Status) (line : ℕ) (kind : ScriptFault) → HasEnded report run script h before after s → s ≡ status.BadScript line kind → ⊥
-never_bad report run script h before after s line kind has is = subst (EndsAs report run h before after) is has.ends
+pub never_bad : (report : Report) (run : Script) (outside : Outside) (script : Option Script) (h : List Event) (before after : Option (List ℕ)) (s : Status) (line : ℕ) (kind : ScriptFault) → HasEnded report run outside script h before after s → s ≡ status.BadScript line kind → ⊥
+never_bad report run outside script h before after s line kind has is = subst (EndsAs report run outside h before after) is has.ends
 
 -- a script was read whose header has a line that isn't built
-pub header_stops : (told : Option (List ℕ)) (run : Script) (script : Option Script) (h : List Event) (line : ℕ) → IsReadFrom told run → IsUnbuiltFrom told (Some line) → script ≡ Some run → h ≡ [] → IsStopped told line script h
-header_stops told run script h line read unbuilt held empty = record {
+pub header_stops : (told : Option (List ℕ)) (run : Script) (outside : Outside) (script : Option Script) (h : List Event) (line : ℕ) → IsReadFrom told run → IsUnbuiltFrom told (Some line) → script ≡ Some run → h ≡ []
+    → IsStopped told outside line script h
+header_stops told run outside script h line read unbuilt held empty = record {
   run = run;
   held = record { held = held; read = read };
   stops = inl (unbuilt, empty);
-  legal = rw empty (record { later = run.commands.items; run = []; order = sym (append-nil run.commands.items); follows = refl; holds = (legal_start run.header).holds; rests = (legal_start run.header).rests });
+  legal = rw empty (none_legal run outside);
 }
 
 -- whatever telling a text ends with, a first part of it was written
@@ -149,23 +155,23 @@ tells_start told status text before after (inr wrote) = wrote.1
 header_text : (h : List Event) (line : ℕ) → h ≡ [] → not_built_text line ≡ stopped_text h line
 header_text h line empty = rw empty refl
 
-pub header_not_built : (told : Option (List ℕ)) (script : Option Script) (h : List Event) (line named : ℕ) (before after : Option (List ℕ)) (s : Status)
-    → IsStopped told line script h → h ≡ [] → Tells (status.NotBuilt line) (not_built_text line) before after s → s ≡ status.NotBuilt named → IsNotBuilt told named script h before after
-header_not_built told script h line named before after s stopped empty (inl wrote) is =
+pub header_not_built : (told : Option (List ℕ)) (outside : Outside) (script : Option Script) (h : List Event) (line named : ℕ) (before after : Option (List ℕ)) (s : Status)
+    → IsStopped told outside line script h → h ≡ [] → Tells (status.NotBuilt line) (not_built_text line) before after s → s ≡ status.NotBuilt named → IsNotBuilt told outside named script h before after
+header_not_built told outside script h line named before after s stopped empty (inl wrote) is =
     let same : line ≡ named = cc in
-    subst (λ z. IsNotBuilt told z script h before after) same (record { stopped = stopped; written = subst (Appends before after) (header_text h line empty) wrote.1 })
-header_not_built told script h line named before after s stopped empty (inr (inl failed, wrote)) is = absurd (cc)
-header_not_built told script h line named before after s stopped empty (inr (inr none, wrote)) is = absurd (cc)
+    subst (λ z. IsNotBuilt told outside z script h before after) same (record { stopped = stopped; written = subst (Appends before after) (header_text h line empty) wrote.1 })
+header_not_built told outside script h line named before after s stopped empty (inr (inl failed, wrote)) is = absurd (cc)
+header_not_built told outside script h line named before after s stopped empty (inr (inr none, wrote)) is = absurd (cc)
 
-pub header_wrote : (told : Option (List ℕ)) (script : Option Script) (h : List Event) (line : ℕ) (before after : Option (List ℕ)) (s : Status)
-    → IsStopped told line script h → h ≡ [] → Tells (status.NotBuilt line) (not_built_text line) before after s → WroteStopped told script h before after
-header_wrote told script h line before after s stopped empty tells =
+pub header_wrote : (told : Option (List ℕ)) (outside : Outside) (script : Option Script) (h : List Event) (line : ℕ) (before after : Option (List ℕ)) (s : Status)
+    → IsStopped told outside line script h → h ≡ [] → Tells (status.NotBuilt line) (not_built_text line) before after s → WroteStopped told outside script h before after
+header_wrote told outside script h line before after s stopped empty tells =
     let start = tells_start (status.NotBuilt line) s (not_built_text line) before after tells in
     (line, stopped, (start.0, rw (← header_text h line empty) start.1))
 
 -- a script that keeps its ranges and has one host and no objects can be run
 pub runnable : (script : Script) → KeepsRanges script → IsBuilt script.header → IsRunnable script
-runnable script keeps built = record { plain = plain_of script.header.frames.items refl; ranges = keeps.commands }
+runnable script keeps built = record { plain = plain_of script.header.frames.items refl; slots = keeps.slots; ranges = keeps.commands }
   where
     few_of : (f : ℕ) → script.header.frames.items ≡ f ∷ [] → f < 2 ^ 32
     few_of f is = let both = subst (λ (z : List ℕ). All (IsBetween 2 4096) z) is keeps.frames 0 0 (omega arith) in let most = both.1 in omega arith
@@ -175,10 +181,29 @@ runnable script keeps built = record { plain = plain_of script.header.frames.ite
     plain_of (f ∷ []) is = record { size = keeps.size; frames = f; hosts = is; few = few_of f is; objects = built.no_object }
     plain_of (f ∷ g ∷ more) is = absurd (omega (arith, ap length is, built.one_host))
 
+-- the history of a run that has ended is also one whose last step is not cut
+uncut : (run : Script) (outside : Outside) (h : List Event) → LegalSoFar run outside h → CutIn run outside h
+uncut run outside h legal = record { later = legal.later; run = legal.run; order = legal.order; legal = record { follows = legal.follows; holds = legal.holds } }
+
+summary_failed : (report : Report) (run : Script) (outside : Outside) (h : List Event) (start after : Option (List ℕ)) → LegalSoFar run outside h
+    → (report ≡ reports.Summary) × WroteStart start after (report_text report h) → WroteFailed report run outside h start after
+summary_failed report run outside h start after legal wrote =
+    subst (λ z. WroteFailed z run outside h start after) (sym wrote.0) (legal, subst (λ z. WroteStart start after (report_text z h)) wrote.0 wrote.1)
+
 -- what was left of a whole run was written, or a write failed
-pub done_ends : (report : Report) (run : Script) (h : List Event) (start after : Option (List ℕ)) (wrote : Result (Unit {0}) WriteStop) → IsWhole run h
-    → OnOk wrote (Appends start after (report_text report h)) → (IsErrOf wrote stop.Failed → WroteCut report start after h)
-    → (IsErrOf wrote stop.NoMemory → WroteStart start after (report_text report h)) → EndsAs report run h start after (status_after wrote status.Done)
-done_ends report run h start after (Ok done) whole written failed memory = (whole, written)
-done_ends report run h start after (Err stop.Failed) whole written failed memory = inl (whole_legal run h whole, failed refl)
-done_ends report run h start after (Err stop.NoMemory) whole written failed memory = inl (whole_legal run h whole, memory refl)
+pub done_ends : (report : Report) (run : Script) (outside : Outside) (h : List Event) (start after : Option (List ℕ)) (wrote : Result (Unit {0}) WriteStop) → IsWhole run outside h
+    → OnOk wrote (Appends start after (report_text report h)) → (IsErrOf wrote stop.Failed → (report ≡ reports.Summary) × WroteStart start after (report_text report h))
+    → (IsErrOf wrote stop.NoMemory → WroteStart start after (report_text report h)) → EndsAs report run outside h start after (status_after wrote status.Done)
+done_ends report run outside h start after (Ok done) whole written failed memory = (whole, written)
+done_ends report run outside h start after (Err stop.Failed) whole written failed memory =
+    inl (summary_failed report run outside h start after (whole_so_far run outside h whole) (failed refl))
+done_ends report run outside h start after (Err stop.NoMemory) whole written failed memory = inl (uncut run outside h (whole_so_far run outside h whole), memory refl)
+
+-- and of a run that came to a full history
+pub full_ends : (report : Report) (run : Script) (outside : Outside) (h : List Event) (start after : Option (List ℕ)) (wrote : Result (Unit {0}) WriteStop) → IsFull run outside h
+    → OnOk wrote (Appends start after (report_text report h)) → (IsErrOf wrote stop.Failed → (report ≡ reports.Summary) × WroteStart start after (report_text report h))
+    → (IsErrOf wrote stop.NoMemory → WroteStart start after (report_text report h)) → EndsAs report run outside h start after (status_after wrote status.EventLimit)
+full_ends report run outside h start after (Ok done) full written failed memory = (full, written)
+full_ends report run outside h start after (Err stop.Failed) full written failed memory =
+    inl (summary_failed report run outside h start after (full_so_far run outside h full) (failed refl))
+full_ends report run outside h start after (Err stop.NoMemory) full written failed memory = inl (uncut run outside h (full_so_far run outside h full), memory refl)

@@ -1,11 +1,11 @@
-pub mod Asking
-pub mod Copied
+pub mod Arms
+pub mod Closing
+pub mod Counting
 pub mod Ends
-pub mod Grants
-pub mod Lines
-pub mod Refusals
+pub mod Keeping
+pub mod Settling
 pub mod Starts
-pub mod Steps
 pub mod Stops
 pub mod Sums
+pub mod Turns
 pub mod Writings

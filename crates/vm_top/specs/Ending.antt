@@ -5,10 +5,9 @@ use Rattle.vm_base.specs.declared.failure.WriteStop.{WriteStop}
 use Rattle.vm_base.specs.declared.failure.WriteStop.TheVariants as stop
 use Rattle.vm_model.specs.declared.event.Event.{Event}
 use Rattle.vm_model.specs.declared.script.Script.{Script}
-use Rattle.vm_legal.specs.Legal.{LegalSoFar}
-use Rattle.vm_top.specs.Run.{IsFull, IsStuck, IsWhole, report_text}
-use Rattle.vm_top.specs.Runner.{the_outside}
-use Rattle.vm_top.specs.Top.{WroteCut, stopped_text}
+use Rattle.vm_legal.specs.Outside.{Outside}
+use Rattle.vm_top.specs.Run.{CutIn, IsFull, IsStuck, IsWhole, report_text}
+use Rattle.vm_top.specs.Top.{WroteFailed, stopped_text}
 use Rattle.vm_top.specs.Writing.{WroteStart}
 use Rattle.vm_top.specs.declared.top.Status.{Status}
 use Rattle.vm_top.specs.declared.top.Status.TheVariants.{Done, OutputFault, EventLimit, NoMemory, NotBuilt}
@@ -26,19 +25,19 @@ Tells told text before after status =
     ((status ≡ told) × Appends before after text) ⊎ (((status ≡ OutputFault) ⊎ (status ≡ NoMemory)) × WroteStart before after text)
 
 -- a run stopped at a line that isn't built, and a first part of what tells that was written
-abbrev pub WroteStuck : Script → List Event → Option (List ℕ) → Option (List ℕ) → Type 0
-WroteStuck run history before after = (line : ℕ) × IsStuck run line history × WroteStart before after (stopped_text history line)
+abbrev pub WroteStuck : Script → Outside → List Event → Option (List ℕ) → Option (List ℕ) → Type 0
+WroteStuck run outside history before after = (line : ℕ) × IsStuck run outside line history × WroteStart before after (stopped_text history line)
 
 -- a script was run, and that is the status
-abbrev pub EndsAs : Report → Script → List Event → Option (List ℕ) → Option (List ℕ) → Status → Type 0
-EndsAs report run history before after Done = IsWhole run history × Appends before after (report_text report history)
-EndsAs report run history before after EventLimit = IsFull run history × Appends before after (report_text report history)
-EndsAs report run history before after (NotBuilt line) = IsStuck run line history × Appends before after (stopped_text history line)
-EndsAs report run history before after OutputFault = (LegalSoFar run the_outside history × WroteCut report before after history) ⊎ WroteStuck run history before after
-EndsAs report run history before after NoMemory = (LegalSoFar run the_outside history × WroteStart before after (report_text report history)) ⊎ WroteStuck run history before after
-EndsAs report run history before after other = ⊥
+abbrev pub EndsAs : Report → Script → Outside → List Event → Option (List ℕ) → Option (List ℕ) → Status → Type 0
+EndsAs report run outside history before after Done = IsWhole run outside history × Appends before after (report_text report history)
+EndsAs report run outside history before after EventLimit = IsFull run outside history × Appends before after (report_text report history)
+EndsAs report run outside history before after (NotBuilt line) = IsStuck run outside line history × Appends before after (stopped_text history line)
+EndsAs report run outside history before after OutputFault = WroteFailed report run outside history before after ⊎ WroteStuck run outside history before after
+EndsAs report run outside history before after NoMemory = (CutIn run outside history × WroteStart before after (report_text report history)) ⊎ WroteStuck run outside history before after
+EndsAs report run outside history before after other = ⊥
 
 -- the script is held
-pub record HasEnded (report : Report) (run : Script) (script : Option Script) (history : List Event) (before after : Option (List ℕ)) (status : Status) : Type 0 where
+pub record HasEnded (report : Report) (run : Script) (outside : Outside) (script : Option Script) (history : List Event) (before after : Option (List ℕ)) (status : Status) : Type 0 where
   pub held : script ≡ Some run
-  pub ends : EndsAs report run history before after status
+  pub ends : EndsAs report run outside history before after status

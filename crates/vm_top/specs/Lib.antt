@@ -1,8 +1,8 @@
+pub mod Arming
 pub mod Ending
 pub mod Reading
-pub mod Refusing
 pub mod Run
-pub mod Runner
+pub mod Running
 pub mod Status
 pub mod Summary
 pub mod Top

@@ -7,12 +7,15 @@ use Rattle.vm_model.specs.declared.fault.ScriptFault.TheVariants as fault
 use Rattle.vm_model.specs.declared.script.Script.{Script}
 use Rattle.vm_model.specs.Fault.{number}
 use Rattle.vm_legal.specs.Legal.{LegalSoFar}
+use Rattle.vm_legal.specs.Outside.{Outside}
 use Rattle.vm_model.specs.Text.{text, field}
 use Rattle.vm_text.specs.Script.{script_of, seen}
 use Rattle.vm_text.specs.Unbuilt.{unbuilt_of}
+use Rattle.vm_outside.specs.Areas.{Told}
 use Rattle.vm_outside.specs.Arming.{Arming}
-use Rattle.vm_top.specs.Run.{IsFull, IsStuck, IsWhole, WroteButLast, report_text}
-use Rattle.vm_top.specs.Runner.{the_outside}
+use Rattle.vm_system.specs.Keeping.{KeepsPages}
+use Rattle.vm_top.specs.Arming.{FilesLeft, PagingLeft, ran_of}
+use Rattle.vm_top.specs.Run.{CutIn, FailedIn, IsFull, IsStuck, IsWhole, report_text}
 use Rattle.vm_top.specs.Writing.{WroteStart}
 use Rattle.vm_top.specs.declared.words.Report.{Report}
 use Rattle.vm_top.specs.declared.words.Report.TheVariants.{History, Summary}
@@ -67,40 +70,40 @@ pub record IsHeld (told : Option (List ℕ)) (run : Script) (script : Option Scr
   pub read : IsReadFrom told run
 
 -- the whole script was run, all of which is built: its history is legal, and its report was written and nothing else
-pub record IsDone (told : Option (List ℕ)) (report : Report) (script : Option Script) (history : List Event) (before after : Option (List ℕ)) : Type 0 where
+pub record IsDone (told : Option (List ℕ)) (outside : Outside) (report : Report) (script : Option Script) (history : List Event) (before after : Option (List ℕ)) : Type 0 where
   pub run : Script
   pub held : IsHeld told run script
   pub header : IsUnbuiltFrom told None
-  pub whole : IsWhole run history
+  pub whole : IsWhole run outside history
   pub written : Appends before after (report_text report history)
 
--- the history is full while a command is left: it is legal as far as it goes, and its report was written and nothing else
-pub record IsEventLimit (told : Option (List ℕ)) (report : Report) (script : Option Script) (history : List Event) (before after : Option (List ℕ)) : Type 0 where
+-- the history is full while a step is left: it is legal as far as it goes, and its report was written and nothing else
+pub record IsEventLimit (told : Option (List ℕ)) (outside : Outside) (report : Report) (script : Option Script) (history : List Event) (before after : Option (List ℕ)) : Type 0 where
   pub run : Script
   pub held : IsHeld told run script
   pub header : IsUnbuiltFrom told None
-  pub full : IsFull run history
+  pub full : IsFull run outside history
   pub written : Appends before after (report_text report history)
 
 -- this line isn't built: one of the header, and nothing was run; or that of the first such command, and those in front
 -- of it were run
-abbrev pub Stops : Option (List ℕ) → Script → ℕ → List Event → Type 0
-Stops told run line history = (IsUnbuiltFrom told (Some line) × (history ≡ [])) ⊎ (IsUnbuiltFrom told None × IsStuck run line history)
+abbrev pub Stops : Option (List ℕ) → Outside → Script → ℕ → List Event → Type 0
+Stops told outside run line history = (IsUnbuiltFrom told (Some line) × (history ≡ [])) ⊎ (IsUnbuiltFrom told None × IsStuck run outside line history)
 
 -- a script was read, and run up to the line that isn't built
-pub record IsStopped (told : Option (List ℕ)) (line : ℕ) (script : Option Script) (history : List Event) : Type 0 where
+pub record IsStopped (told : Option (List ℕ)) (outside : Outside) (line : ℕ) (script : Option Script) (history : List Event) : Type 0 where
   pub run : Script
   pub held : IsHeld told run script
-  pub stops : Stops told run line history
-  pub legal : LegalSoFar run the_outside history
+  pub stops : Stops told outside run line history
+  pub legal : LegalSoFar run outside history
 
 -- the text of what was run, and then the line
 abbrev pub stopped_text : List Event → ℕ → List ℕ
 stopped_text history line = text history ++ not_built_text line
 
 -- the script isn't built from this line on, and that was written behind the text of what was run
-pub record IsNotBuilt (told : Option (List ℕ)) (line : ℕ) (script : Option Script) (history : List Event) (before after : Option (List ℕ)) : Type 0 where
-  pub stopped : IsStopped told line script history
+pub record IsNotBuilt (told : Option (List ℕ)) (outside : Outside) (line : ℕ) (script : Option Script) (history : List Event) (before after : Option (List ℕ)) : Type 0 where
+  pub stopped : IsStopped told outside line script history
   pub written : Appends before after (stopped_text history line)
 
 -- the script has a fault: nothing was run, and its first fault was written
@@ -109,20 +112,28 @@ pub record IsBad (told : Option (List ℕ)) (line : ℕ) (kind : ScriptFault) (s
   pub bad : IsBadFrom told line kind
   pub written : Appends before after (bad_text line kind)
 
--- a run that ended early: its history is legal as far as it goes
-pub record IsCut (told : Option (List ℕ)) (script : Option Script) (history : List Event) : Type 0 where
+-- a write of a run's report failed: of events, in the last step; of a summary, when the run had ended
+abbrev pub WroteFailed : Report → Script → Outside → List Event → Option (List ℕ) → Option (List ℕ) → Type 0
+WroteFailed History run outside history before after = FailedIn run outside history before after
+WroteFailed Summary run outside history before after = LegalSoFar run outside history × WroteStart before after (report_text Summary history)
+
+-- a script was run, and a write of its report failed
+pub record IsFailed (told : Option (List ℕ)) (outside : Outside) (report : Report) (script : Option Script) (history : List Event) (before after : Option (List ℕ)) : Type 0 where
   pub run : Script
   pub held : IsHeld told run script
-  pub legal : LegalSoFar run the_outside history
+  pub header : IsUnbuiltFrom told None
+  pub failed : WroteFailed report run outside history before after
 
--- what a write that failed left: of events, all steps but the last whole; of a summary, a first part
-abbrev pub WroteCut : Report → Option (List ℕ) → Option (List ℕ) → List Event → Type 0
-WroteCut History before after history = WroteButLast before after history
-WroteCut Summary before after history = WroteStart before after (report_text Summary history)
+-- a script was run until memory ended: its history is legal as far as it goes, and its last step may be cut
+pub record IsCut (told : Option (List ℕ)) (outside : Outside) (script : Option Script) (history : List Event) : Type 0 where
+  pub run : Script
+  pub held : IsHeld told run script
+  pub header : IsUnbuiltFrom told None
+  pub cut : CutIn run outside history
 
 -- a first part of what tells the line that isn't built
-abbrev pub WroteStopped : Option (List ℕ) → Option Script → List Event → Option (List ℕ) → Option (List ℕ) → Type 0
-WroteStopped told script history before after = (line : ℕ) × IsStopped told line script history × WroteStart before after (stopped_text history line)
+abbrev pub WroteStopped : Option (List ℕ) → Outside → Option Script → List Event → Option (List ℕ) → Option (List ℕ) → Type 0
+WroteStopped told outside script history before after = (line : ℕ) × IsStopped told outside line script history × WroteStart before after (stopped_text history line)
 
 -- a first part of what tells the first fault
 abbrev pub WroteBad : Option (List ℕ) → Option Script → List Event → Option (List ℕ) → Option (List ℕ) → Type 0
@@ -130,20 +141,28 @@ WroteBad told script history before after =
     NothingRun script history × (line : ℕ) × (kind : ScriptFault) × IsBadFrom told line kind × WroteStart before after (bad_text line kind)
 
 -- a write failed: of the run's report, or of the line that isn't built, or of the script's fault
-abbrev pub IsOutputFault : Option (List ℕ) → Report → Option Script → List Event → Option (List ℕ) → Option (List ℕ) → Type 0
-IsOutputFault told report script history before after =
-    (IsCut told script history × WroteCut report before after history)
-    ⊎ (WroteStopped told script history before after ⊎ WroteBad told script history before after)
+abbrev pub IsOutputFault : Option (List ℕ) → Outside → Report → Option Script → List Event → Option (List ℕ) → Option (List ℕ) → Type 0
+IsOutputFault told outside report script history before after =
+    IsFailed told outside report script history before after
+    ⊎ (WroteStopped told outside script history before after ⊎ WroteBad told script history before after)
 
 -- memory ended: nothing was read, or a first part of one of these was written
-abbrev pub IsNoMemory : Option (List ℕ) → Report → Option Script → List Event → Option (List ℕ) → Option (List ℕ) → Type 0
-IsNoMemory told report script history before after =
+abbrev pub IsNoMemory : Option (List ℕ) → Outside → Report → Option Script → List Event → Option (List ℕ) → Option (List ℕ) → Type 0
+IsNoMemory told outside report script history before after =
     NothingDone script history before after
-    ⊎ ((IsCut told script history × WroteStart before after (report_text report history))
-    ⊎ (WroteStopped told script history before after ⊎ WroteBad told script history before after))
+    ⊎ ((IsCut told outside script history × WroteStart before after (report_text report history))
+    ⊎ (WroteStopped told outside script history before after ⊎ WroteBad told script history before after))
 
--- the backing within is as it was, nothing is armed, and no armed call was reached
-pub record IsDisarmed {B : Type 0} (old new : Arming B) : Type 0 where
-  pub inner : new.inner ≡ old.inner
-  pub left : new.left ≡ 0
-  pub reached : new.reached ≡ old.reached
+-- each page that was returned and not lost stands at its slot
+abbrev pub KeptAt : Outside → (List ℕ → Told) → Option Script → List Event → Type 0
+KeptAt outside areas None history = Unit {0}
+KeptAt outside areas (Some script) history = KeepsPages script.header outside areas history
+
+-- how the files are armed, by the commands that were run
+abbrev pub FilesEnd : {B : Type 0} → Option Script → List Event → Arming B → Arming B → Type 0
+FilesEnd None history old new = FilesLeft [] old new
+FilesEnd (Some script) history old new = FilesLeft (ran_of script history) old new
+
+abbrev pub PagingEnds : {B : Type 0} → Option Script → List Event → Arming B → Arming B → Type 0
+PagingEnds None history old new = PagingLeft [] history old new
+PagingEnds (Some script) history old new = PagingLeft (ran_of script history) history old new

@@ -5,12 +5,11 @@
 mod frame_tests;
 #[cfg(test)]
 mod limit_tests;
+#[cfg(test)]
+mod pager_tests;
 mod reading;
-mod refusing;
 mod render;
 mod run;
-mod runner;
-mod shares;
 mod summary;
 #[cfg(test)]
 mod summary_tests;

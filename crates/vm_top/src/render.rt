@@ -5,7 +5,7 @@ ghost use Rattle.std.specs.declared.option.Option.{Option};
 ghost use Rattle.vm_model.specs.Text.{text, field};
 ghost use Rattle.vm_outside.specs.Causes.{Rose};
 ghost use Rattle.vm_top.specs.Run.{report_text, shown};
-ghost use Rattle.vm_top.specs.Top.{WroteCut, bad_text, fault_name, not_built_text, stopped_text};
+ghost use Rattle.vm_top.specs.Top.{bad_text, fault_name, not_built_text, stopped_text};
 ghost use Rattle.vm_top.specs.Writing.{oldest, WroteBeyond, WroteStart};
 
 use crate::summary::summary_text;
@@ -139,7 +139,7 @@ pub fn write_report<K: Sink>(
     ensures written { (start : Option (List ℕ)) → Appends start (K.written out.old) (shown report history.now.items)
         → OnOk result (Appends start (K.written out.new) (report_text report history.now.items)) }
     ensures failed { (start : Option (List ℕ)) → Appends start (K.written out.old) (shown report history.now.items)
-        → IsErrOf result WriteStop.Failed → WroteCut report start (K.written out.new) history.now.items }
+        → IsErrOf result WriteStop.Failed → (report ≡ Report.Summary) × WroteStart start (K.written out.new) (report_text report history.now.items) }
     ensures memory { (start : Option (List ℕ)) → Appends start (K.written out.old) (shown report history.now.items)
         → IsErrOf result WriteStop.NoMemory → WroteStart start (K.written out.new) (report_text report history.now.items) }
 {

@@ -1,20 +1,28 @@
-// Runs a script, and writes each command's events when its step has ended.
-ghost use Rattle.std.specs.Prelude.{◌≡◌, ◌<◌, ◌≤◌, [], true, false, List, ℕ, length, OnOk, IsErrOf};
+// Runs a script, and writes each step's events when it has ended.
+ghost use Rattle.std.specs.Prelude.{◌≡◌, ◌≢◌, ◌+◌, ◌⊎◌, ◌<◌, ◌≤◌, [], true, false, List, ℕ, length, IfOk, OnOk, IsErrOf};
 ghost use Rattle.std.specs.Io.KnownBytes.{Appends};
 ghost use Rattle.std.specs.declared.option.Option.{Option};
 ghost use Rattle.vm_model.specs.Ranges.{InRange};
+ghost use Rattle.vm_model.specs.Summary.{count_of, is_line};
+ghost use Rattle.vm_model.specs.Text.{text};
+ghost use Rattle.vm_legal.specs.Steps.{takings};
+ghost use Rattle.vm_legal.specs.Undelivered.{undelivered};
 ghost use Rattle.vm_outside.specs.Causes.{Rose};
-ghost use Rattle.vm_kernel.specs.Built.{is_built, is_held_up};
-ghost use Rattle.vm_top.specs.Run.{IsRunnable, RanAs, WroteButLast, MayStep, shown};
-ghost use Rattle.vm_top.specs.Runner.{Agrees, IsBelowLimit, KeepsLegal, event_limit};
+ghost use Rattle.vm_system.specs.Keeping.{KeepsPages};
+ghost use Rattle.vm_system.specs.Stands.{Kept, Stands};
+ghost use Rattle.vm_system.specs.Steps.{HasMore, IsBelowLimit, event_limit, is_built, is_held_up};
+ghost use Rattle.vm_top.specs.Arming.{FailuresCounted, FilesLeft, PagingLeft, ran_of};
+ghost use Rattle.vm_top.specs.Run.{IsRunnable, RanAs, outside_of, shown};
+ghost use Rattle.vm_top.specs.Running.{IsNextOf, Running, Runs, Settles, Stops, Taking, Turned};
+ghost use Rattle.vm_top.specs.Writing.{WroteBeyond, oldest};
 
 use crate::render::write_step;
-use crate::runner::Runner;
 use crate::words::Report;
 use std::alloc::Global;
 use vm_base::WriteStop;
-use vm_model::{Command, Header, History, Numbered, Script};
-use vm_outside::Sink;
+use vm_model::{Command, History, Numbered, Script};
+use vm_outside::{Armed, Backing, Sink};
+use vm_system::{System, SystemStop};
 
 // No step begins once the history has so many events.
 const MOST_EVENTS: u32 = 200_000;
@@ -28,7 +36,7 @@ pub enum RunEnd {
     Failed,
     /// No memory was there.
     NoMemory,
-    /// A command is left, and the history has 200,000 events or more.
+    /// A step is left, and the history has 200,000 events or more.
     EventLimit,
     /// The command of this line isn't built, or can't be run now.
     NotBuilt { line: u32 },
@@ -55,6 +63,10 @@ fn is_built(command: &Command) -> bool
         | Command::Inherit { .. }
         | Command::Load { .. }
         | Command::Store { .. }
+        | Command::Take { .. }
+        | Command::Settle { .. }
+        | Command::FailFiles { .. }
+        | Command::FailPaging { .. }
         | Command::Pageout { .. }
         | Command::Wire { .. }
         | Command::Unwire { .. } => true,
@@ -62,98 +74,259 @@ fn is_built(command: &Command) -> bool
     }
 }
 
-// One command's step, and its text.
-fn turn<K: Sink>(
-    alloc: Global,
-    report: Report,
-    header: &Header,
-    runner: &mut Runner,
-    numbered: &Numbered,
-    out: &mut K,
-) -> Result<(), WriteStop>
-    requires agrees { Agrees header.now runner.old }
-    requires range { InRange header.now numbered.now.command }
-    requires built { is_built numbered.now.command ≡ true }
-    requires free { is_held_up header.now runner.old.history.items numbered.now.command ≡ false }
-    ensures agrees { OnOk result (Agrees header.now runner.new) }
-    ensures limit { length runner.old.history.items < event_limit → IsBelowLimit runner.old.history.items → IsBelowLimit runner.new.history.items }
-    ensures later { K.faults out.old ≤ K.faults out.new }
-    ensures cause { IsErrOf result WriteStop.Failed → Rose (K.faults out.old) (K.faults out.new) }
-
-    // The history has the command's group more, but where memory ended.
-    ensures legal { OnOk result (KeepsLegal header.now numbered.now runner.old.history.items runner.new.history.items) }
-    ensures failed_legal { IsErrOf result WriteStop.Failed → KeepsLegal header.now numbered.now runner.old.history.items runner.new.history.items }
-    ensures memory_legal { IsErrOf result WriteStop.NoMemory → MayStep header.now numbered.now runner.old.history.items runner.new.history.items }
-
-    // Where what is shown of the history up to here has been written, so has been afterwards what is shown with the group.
-    ensures written { (start : Option (List ℕ)) → Appends start (K.written out.old) (shown report runner.old.history.items)
-        → OnOk result (Appends start (K.written out.new) (shown report runner.new.history.items)) }
-    ensures failed { (start : Option (List ℕ)) → Appends start (K.written out.old) (shown report runner.old.history.items)
-        → IsErrOf result WriteStop.Failed → (report ≡ Report.History) × WroteButLast start (K.written out.new) runner.new.history.items }
-    ensures memory { (start : Option (List ℕ)) → Appends start (K.written out.old) (shown report runner.old.history.items)
-        → IsErrOf result WriteStop.NoMemory → Appends start (K.written out.new) (shown report runner.old.history.items) }
+fn end_of(stop: SystemStop) -> RunEnd
+    ensures full { stop ≡ SystemStop.EventLimit → result ≡ RunEnd.EventLimit }
+    ensures none { stop ≡ SystemStop.NoMemory → result ≡ RunEnd.NoMemory }
 {
-    let from = runner.history.len();
-    let Ok(()) = runner.step(header, numbered) else {
-        return Err(WriteStop::NoMemory);
-    };
-    match report {
-        Report::History => write_step(alloc, &runner.history, from, out),
-        Report::Summary => Ok(()),
+    match stop {
+        SystemStop::EventLimit => RunEnd::EventLimit,
+        SystemStop::NoMemory => RunEnd::NoMemory,
     }
 }
 
-fn ended(runner: Runner, end: RunEnd) -> Ran
-    ensures { (result.history.items ≡ runner.history.items) × (result.end ≡ end) }
+// The text of the events from one on.
+fn show<K: Sink>(
+    alloc: Global,
+    report: Report,
+    system: &System,
+    from: u32,
+    out: &mut K,
+) -> Result<(), RunEnd>
+    requires { from ≤ length system.now.history.items }
+    ensures later { K.faults out.old ≤ K.faults out.new }
+    ensures cause { IsErrOf result RunEnd.Failed → Rose (K.faults out.old) (K.faults out.new) }
+    ensures written { (start : Option (List ℕ)) → Appends start (K.written out.old) (shown report (oldest from system.now.history.items))
+        → OnOk result (Appends start (K.written out.new) (shown report system.now.history.items)) }
+    ensures failed { (start : Option (List ℕ)) → Appends start (K.written out.old) (shown report (oldest from system.now.history.items))
+        → IsErrOf result RunEnd.Failed → (report ≡ Report.History) × WroteBeyond start (K.written out.new) (text (oldest from system.now.history.items)) (text system.now.history.items) }
+    ensures memory { (start : Option (List ℕ)) → Appends start (K.written out.old) (shown report (oldest from system.now.history.items))
+        → IsErrOf result RunEnd.NoMemory → Appends start (K.written out.new) (shown report (oldest from system.now.history.items)) }
+    ensures ends { (end : RunEnd) → IsErrOf result end → (end ≡ RunEnd.Failed) ⊎ (end ≡ RunEnd.NoMemory) }
 {
+    match report {
+        Report::Summary => Ok(()),
+        Report::History => match write_step(alloc, system.history(), from, out) {
+            Ok(()) => Ok(()),
+            Err(WriteStop::Failed) => Err(RunEnd::Failed),
+            Err(WriteStop::NoMemory) => Err(RunEnd::NoMemory),
+        },
+    }
+}
+
+// One command's step, and its text; of a settle its line's.
+fn turn<K: Sink, F: Backing, P: Backing>(
+    alloc: Global,
+    report: Report,
+    system: &mut System,
+    numbered: &Numbered,
+    out: &mut K,
+    files: &mut Armed<F>,
+    paging: &mut Armed<P>,
+) -> Result<(), RunEnd>
+    ghost given: { Running F P }
+    requires stands { Stands given.script.header given.outside system.old }
+    requires kept { Kept given.script.header given.outside (P.area paging.old.inner) system.old }
+    requires range { InRange given.script.header numbered.now.command }
+    requires built { is_built numbered.now.command ≡ true }
+    requires free { is_held_up given.script.header system.old.history.items numbered.now.command ≡ false }
+    requires below { length system.old.history.items < event_limit }
+    requires runs { Runs report given system.old.history.items (K.written out.old) files.old paging.old (⟦<Armed<P> as Backing>⟧.faults paging.old) }
+    requires next { IsNextOf given.script numbered.now system.old.history.items }
+    ensures stands { OnOk result (Stands given.script.header given.outside system.new) }
+    ensures kept { Kept given.script.header given.outside (P.area paging.new.inner) system.new }
+    ensures turned { OnOk result (Turned report given numbered.now system.new.history.items (K.written out.new) files.new paging.new (⟦<Armed<P> as Backing>⟧.faults paging.new)) }
+    ensures lines { OnOk result (count_of is_line system.new.history.items ≡ count_of is_line system.old.history.items + 1) }
+    ensures stops { (end : RunEnd) → IsErrOf result end → Stops report given system.new.history.items (K.written out.new) files.new paging.new (⟦<Armed<P> as Backing>⟧.faults paging.new) end }
+    ensures later { K.faults out.old ≤ K.faults out.new }
+    ensures cause { IsErrOf result RunEnd.Failed → Rose (K.faults out.old) (K.faults out.new) }
+{
+    let from = system.history().len();
+    if let Err(stop) = system.step(numbered.line, &numbered.command, files, paging) {
+        return Err(end_of(stop));
+    }
+    show(alloc, report, system, from, out)?;
+    Ok(())
+}
+
+// One taking of a settle, and its text; false where nothing is there to take.
+fn take_one<K: Sink, F: Backing, P: Backing>(
+    alloc: Global,
+    report: Report,
+    system: &mut System,
+    out: &mut K,
+    files: &mut Armed<F>,
+    paging: &mut Armed<P>,
+) -> Result<bool, RunEnd>
+    ghost given: { Taking F P }
+    requires stands { Stands given.running.script.header given.running.outside system.old }
+    requires kept { Kept given.running.script.header given.running.outside (P.area paging.old.inner) system.old }
+    requires settles { Settles report given system.old.history.items (K.written out.old) files.old paging.old (⟦<Armed<P> as Backing>⟧.faults paging.old) }
+    requires more { HasMore given.command system.old.history.items }
+    ensures stands { OnOk result (Stands given.running.script.header given.running.outside system.new) }
+    ensures kept { Kept given.running.script.header given.running.outside (P.area paging.new.inner) system.new }
+    ensures settles { OnOk result (Settles report given system.new.history.items (K.written out.new) files.new paging.new (⟦<Armed<P> as Backing>⟧.faults paging.new)) }
+    ensures more { IfOk result (λ took. took ≡ true → takings system.new.history.items ≡ takings system.old.history.items + 1) }
+    ensures quiet { IfOk result (λ took. took ≡ false → undelivered system.new.history.items ≡ []) }
+    ensures lines { OnOk result (count_of is_line system.new.history.items ≡ count_of is_line system.old.history.items) }
+    ensures stops { (end : RunEnd) → IsErrOf result end → Stops report given.running system.new.history.items (K.written out.new) files.new paging.new (⟦<Armed<P> as Backing>⟧.faults paging.new) end }
+    ensures later { K.faults out.old ≤ K.faults out.new }
+    ensures cause { IsErrOf result RunEnd.Failed → Rose (K.faults out.old) (K.faults out.new) }
+{
+    let from = system.history().len();
+    match system.take_oldest(files, paging) {
+        Ok(true) => {
+            show(alloc, report, system, from, out)?;
+            Ok(true)
+        }
+        Ok(false) => Ok(false),
+        Err(stop) => Err(end_of(stop)),
+    }
+}
+
+// The takings of a settle.
+fn settle<K: Sink, F: Backing, P: Backing>(
+    alloc: Global,
+    report: Report,
+    system: &mut System,
+    count: u32,
+    out: &mut K,
+    files: &mut Armed<F>,
+    paging: &mut Armed<P>,
+) -> Result<(), RunEnd>
+    ghost given: { Taking F P }
+    requires stands { Stands given.running.script.header given.running.outside system.old }
+    requires kept { Kept given.running.script.header given.running.outside (P.area paging.old.inner) system.old }
+    requires settles { Settles report given system.old.history.items (K.written out.old) files.old paging.old (⟦<Armed<P> as Backing>⟧.faults paging.old) }
+    requires command { given.command ≡ Command.Settle count }
+    requires none { takings system.old.history.items ≡ 0 }
+    ensures stands { OnOk result (Stands given.running.script.header given.running.outside system.new) }
+    ensures kept { Kept given.running.script.header given.running.outside (P.area paging.new.inner) system.new }
+    ensures runs { OnOk result (Runs report given.running system.new.history.items (K.written out.new) files.new paging.new (⟦<Armed<P> as Backing>⟧.faults paging.new)) }
+    ensures lines { OnOk result (count_of is_line system.new.history.items ≡ count_of is_line system.old.history.items) }
+    ensures stops { (end : RunEnd) → IsErrOf result end → Stops report given.running system.new.history.items (K.written out.new) files.new paging.new (⟦<Armed<P> as Backing>⟧.faults paging.new) end }
+    ensures later { K.faults out.old ≤ K.faults out.new }
+    ensures cause { IsErrOf result RunEnd.Failed → Rose (K.faults out.old) (K.faults out.new) }
+{
+    'all: for _taken in 0..count {
+        if !take_one(alloc, report, system, out, files, paging)? {
+            return Ok(());
+        }
+    }
+    Ok(())
+}
+
+/// Runs the script to its end, or to a write that fails, or until memory ends, or until the history
+/// has 200,000 events where a step is left, or to a command that isn't built, or can't be run now: a
+/// fork that would copy an entry.
+pub fn run_script<K: Sink, F: Backing, P: Backing>(
+    alloc: Global,
+    report: Report,
+    script: &Script,
+    out: &mut K,
+    files: &mut Armed<F>,
+    paging: &mut Armed<P>,
+) -> Ran
+    requires run { IsRunnable script.now }
+    requires files { files.old.left ≡ 0 }
+    requires paging { paging.old.left ≡ 0 }
+    ensures ran { RanAs report script.now (outside_of (P.area paging.old.inner)) result.history.items result.end (K.written out.old) (K.written out.new) }
+    ensures limit { IsBelowLimit result.history.items }
+    ensures later { K.faults out.old ≤ K.faults out.new }
+    ensures cause { result.end ≡ RunEnd.Failed → Rose (K.faults out.old) (K.faults out.new) }
+
+    // What the backings keep, and how they are armed.
+    ensures kept { KeepsPages script.now.header (outside_of (P.area paging.old.inner)) (P.area paging.new.inner) result.history.items }
+    ensures files { result.end ≢ RunEnd.NoMemory → FilesLeft (ran_of script.now result.history.items) files.old files.new }
+    ensures paging { result.end ≢ RunEnd.NoMemory → PagingLeft (ran_of script.now result.history.items) result.history.items paging.old paging.new }
+    ensures devices { FailuresCounted (⟦<Armed<P> as Backing>⟧.faults paging.old) (⟦<Armed<P> as Backing>⟧.faults paging.new) result.history.items }
+{
+    let Ok(mut system) = System::new(alloc, &script.header) else {
+        return Ran {
+            history: History::new(alloc),
+            end: RunEnd::NoMemory,
+        };
+    };
+    let end = run_all(alloc, report, script, &mut system, out, files, paging);
     Ran {
-        history: runner.history,
+        history: system.into_history(),
         end,
     }
 }
 
-// No memory was there for the first thing.
-fn nothing(alloc: Global) -> Ran
-    ensures { (result.history.items ≡ []) × (result.end ≡ RunEnd.NoMemory) }
+// The commands, one after another.
+fn run_all<K: Sink, F: Backing, P: Backing>(
+    alloc: Global,
+    report: Report,
+    script: &Script,
+    system: &mut System,
+    out: &mut K,
+    files: &mut Armed<F>,
+    paging: &mut Armed<P>,
+) -> RunEnd
+    ghost given: { Running F P }
+    requires script { given.script ≡ script.now }
+    requires run { IsRunnable script.now }
+    requires stands { Stands given.script.header given.outside system.old }
+    requires kept { Kept given.script.header given.outside (P.area paging.old.inner) system.old }
+    requires runs { Runs report given system.old.history.items (K.written out.old) files.old paging.old (⟦<Armed<P> as Backing>⟧.faults paging.old) }
+    requires none { system.old.history.items ≡ [] }
+    ensures kept { Kept given.script.header given.outside (P.area paging.new.inner) system.new }
+    ensures stops { Stops report given system.new.history.items (K.written out.new) files.new paging.new (⟦<Armed<P> as Backing>⟧.faults paging.new) result }
+    ensures later { K.faults out.old ≤ K.faults out.new }
+    ensures cause { result ≡ RunEnd.Failed → Rose (K.faults out.old) (K.faults out.new) }
 {
-    Ran {
-        history: History::new(alloc),
-        end: RunEnd::NoMemory,
+    'commands: for i in 0..script.commands.len() {
+        let numbered = script.commands.at(i);
+        if let Err(end) = run_one(alloc, report, system, numbered, out, files, paging) {
+            return end;
+        }
     }
+    RunEnd::Done
 }
 
-/// Runs the script to its end, or to a write that fails, or until memory ends, or until the history
-/// has 200,000 events at the begin of a step, or to a command that isn't built, or can't be run now:
-/// a load or store while no frame is free, a pageout where a page may be dirty, or a fork that would
-/// copy an entry.
-pub fn run_script<K: Sink>(alloc: Global, report: Report, script: &Script, out: &mut K) -> Ran
-    requires { IsRunnable script.now }
-    ensures ran { RanAs report script.now result.history.items result.end (K.written out.old) (K.written out.new) }
-    ensures limit { IsBelowLimit result.history.items }
+// One command with all its steps, and their text.
+fn run_one<K: Sink, F: Backing, P: Backing>(
+    alloc: Global,
+    report: Report,
+    system: &mut System,
+    numbered: &Numbered,
+    out: &mut K,
+    files: &mut Armed<F>,
+    paging: &mut Armed<P>,
+) -> Result<(), RunEnd>
+    ghost given: { Running F P }
+    requires stands { Stands given.script.header given.outside system.old }
+    requires kept { Kept given.script.header given.outside (P.area paging.old.inner) system.old }
+    requires range { InRange given.script.header numbered.now.command }
+    requires runs { Runs report given system.old.history.items (K.written out.old) files.old paging.old (⟦<Armed<P> as Backing>⟧.faults paging.old) }
+    requires next { IsNextOf given.script numbered.now system.old.history.items }
+    ensures stands { OnOk result (Stands given.script.header given.outside system.new) }
+    ensures kept { Kept given.script.header given.outside (P.area paging.new.inner) system.new }
+    ensures runs { OnOk result (Runs report given system.new.history.items (K.written out.new) files.new paging.new (⟦<Armed<P> as Backing>⟧.faults paging.new)) }
+    ensures lines { OnOk result (count_of is_line system.new.history.items ≡ count_of is_line system.old.history.items + 1) }
+    ensures stops { (end : RunEnd) → IsErrOf result end → Stops report given system.new.history.items (K.written out.new) files.new paging.new (⟦<Armed<P> as Backing>⟧.faults paging.new) end }
     ensures later { K.faults out.old ≤ K.faults out.new }
-    ensures cause { result.end ≡ RunEnd.Failed → Rose (K.faults out.old) (K.faults out.new) }
+    ensures cause { IsErrOf result RunEnd.Failed → Rose (K.faults out.old) (K.faults out.new) }
 {
-    let header = &script.header;
-    let Ok(mut runner) = Runner::new(alloc, header) else {
-        return nothing(alloc);
-    };
-    for i in 0..script.commands.len() {
-        let numbered = script.commands.at(i);
-        let line = numbered.line;
-        if !is_built(&numbered.command) {
-            return ended(runner, RunEnd::NotBuilt { line });
-        }
-        if runner.history.len() >= MOST_EVENTS {
-            return ended(runner, RunEnd::EventLimit);
-        }
-        if runner.is_held_up(header, &numbered.command) {
-            return ended(runner, RunEnd::NotBuilt { line });
-        }
-        match turn(alloc, report, header, &mut runner, numbered, out) {
-            Ok(()) => {}
-            Err(WriteStop::Failed) => return ended(runner, RunEnd::Failed),
-            Err(WriteStop::NoMemory) => return ended(runner, RunEnd::NoMemory),
-        }
+    if !is_built(&numbered.command) {
+        return Err(RunEnd::NotBuilt {
+            line: numbered.line,
+        });
     }
-    ended(runner, RunEnd::Done)
+    if system.history().len() >= MOST_EVENTS {
+        return Err(RunEnd::EventLimit);
+    }
+    if system.is_held_up(&numbered.command) {
+        return Err(RunEnd::NotBuilt {
+            line: numbered.line,
+        });
+    }
+    turn(alloc, report, system, numbered, out, files, paging)?;
+    match numbered.command {
+        Command::Settle { count } => {
+            settle(alloc, report, system, count, out, files, paging)?;
+            Ok(())
+        }
+        _ => Ok(()),
+    }
 }

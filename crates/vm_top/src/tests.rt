@@ -18,7 +18,7 @@ const TWO_PAGES: &str =
 /// The words, the script, the exit status and what is written.
 type Row = (&'static str, &'static str, u8, &'static str);
 
-const RUNS: [Row; 15] = [
+const RUNS: [Row; 19] = [
     ("run", SMALLEST, 0, SMALLEST_HISTORY),
     (
         "run",
@@ -99,6 +99,33 @@ const RUNS: [Row; 15] = [
         0,
         "line 3\nmade 0 0\nline 4\nregion 0 0 2\nentered 0 0 32 0 0 3 1\nline 5\ninherited 0 0 16 0\nline 6\ninherited 0 16 16 2\nline 7\nmade 1 0\nentered 1 0 16 0 0 3 0\nline 8\nbegun 1 store 0 1 7\nzeroed 0 0 0\nstored 1 0 0 0 07\nline 9\nbegun 0 load 0 1\nloaded 0 0 0 7\nline 10\nrefused 1\nline 11\nrefused 104\nline 12\nended 0\nline 13\nbegun 1 load 0 1\nloaded 1 0 0 7\nline 14\nrefused 103\nline 15\nmade 0 0\nentered 0 0 16 0 0 3 0\nline 16\nended 1\nline 17\nended 0\ndropped 0 0 0\n",
     ),
+    (
+        "run",
+        "hosts 1 4\ntask 0 0\nsettle 1\nfail files 1\nfail paging 1\ntake u0.0\ntask 1 0\n",
+        0,
+        "line 2\nmade 0 0\nline 3\nline 4\nline 5\nline 6\nrefused 103\nline 7\nmade 1 0\n",
+    ),
+    // no frame is free, but the page is here
+    (
+        "run",
+        "page 16\nhosts 1 2\ntask 0 0\nallocate 0 0 32\nload 0 0 1\nload 0 16 1\nload 0 32 1\nload 0 0 1\n",
+        0,
+        "line 3\nmade 0 0\nline 4\nregion 0 0 2\nentered 0 0 32 0 0 3 1\nline 5\nbegun 0 load 0 1\nzeroed 0 0 0\nloaded 0 0 0 0\nline 6\nbegun 0 load 16 1\nzeroed 0 0 1\nloaded 0 0 1 0\nline 7\nrefused 1\nline 8\nbegun 0 load 0 1\nloaded 0 0 0 0\n",
+    ),
+    // an access waits for a frame
+    (
+        "run",
+        "page 16\nhosts 1 2\ntask 0 0\nallocate 0 0 16\nwire 0 2\nstore 0 0 1 7\nload 0 0 1\nunwire 0 1\n",
+        0,
+        "line 3\nmade 0 0\nline 4\nregion 0 0 1\nentered 0 0 16 0 0 3 1\nline 5\nwired 0 2\nline 6\nbegun 0 store 0 1 7\nline 7\nrefused 101\nline 8\nwired 0 1\nzeroed 0 0 0\nstored 0 0 0 0 07\n",
+    ),
+    // a dirty page goes to the pager
+    (
+        "run",
+        "page 16\nhosts 1 4\ntask 0 0\nallocate 0 0 16\nstore 0 0 1 1\npageout 0 0\npageout 0 1\ntake u0.0\ntake d0.0.1\ntake d0.0.1\n",
+        0,
+        "line 3\nmade 0 0\nline 4\nregion 0 0 1\nentered 0 0 16 0 0 3 1\nline 5\nbegun 0 store 0 1 1\nzeroed 0 0 0\nstored 0 0 0 0 01\nline 6\nline 7\nsent u0.0 create 1 16\nsent u0.0 return 1 0 1 0 01\nline 8\ntaken u0.0 create 1 16\nsent d0.0.1 ready 0 3\nline 9\ntaken d0.0.1 ready 0 3\nline 10\nrefused 102\n",
+    ),
 ];
 
 const FAULTS: [Row; 11] = [
@@ -146,7 +173,7 @@ const USAGES: [Row; 12] = [
     ("generate 7 000001", SMALLEST, 2, USAGE),
 ];
 
-const NOT_BUILT: [Row; 18] = [
+const NOT_BUILT: [Row; 13] = [
     ("generate 7 2000", SMALLEST, 7, "notbuilt 0\n"),
     ("generate 00000000000000000007 00001", "", 7, "notbuilt 0\n"),
     ("generate 18446744073709551615 10000", "", 7, "notbuilt 0\n"),
@@ -163,39 +190,17 @@ const NOT_BUILT: [Row; 18] = [
     ("summary", "hosts 8 4\n", 7, "notbuilt 1\n"),
     (
         "run",
-        "hosts 1 4\ntask 0 0\nsettle 1\ntask 1 0\n",
+        "hosts 1 4\ntask 0 0\ncopy 0 0 16 0 64\ntask 1 0\n",
         7,
         "line 2\nmade 0 0\nnotbuilt 3\n",
     ),
     (
         "summary",
-        "hosts 1 4\ntask 0 0\nsettle 1\ntask 1 0\n",
+        "hosts 1 4\ntask 0 0\ncopy 0 0 16 0 64\ntask 1 0\n",
         7,
         "line 2\nmade 0 0\nnotbuilt 3\n",
     ),
-    ("run", "hosts 1 4\ntake u0.0\n", 7, "notbuilt 2\n"),
-    ("run", "hosts 1 4\nfail files 1\n", 7, "notbuilt 2\n"),
     ("run", "hosts 1 4\ncopy 0 0 16 0 64\n", 7, "notbuilt 2\n"),
-    // no frame is free for a load, even of a page that is here; one that is refused needs none
-    (
-        "run",
-        "page 16\nhosts 1 2\ntask 0 0\nallocate 0 0 32\nload 0 0 1\nload 0 16 1\nload 0 32 1\nload 0 0 1\n",
-        7,
-        "line 3\nmade 0 0\nline 4\nregion 0 0 2\nentered 0 0 32 0 0 3 1\nline 5\nbegun 0 load 0 1\nzeroed 0 0 0\nloaded 0 0 0 0\nline 6\nbegun 0 load 16 1\nzeroed 0 0 1\nloaded 0 0 1 0\nline 7\nrefused 1\nnotbuilt 8\n",
-    ),
-    (
-        "run",
-        "page 16\nhosts 1 2\ntask 0 0\nallocate 0 0 16\nwire 0 2\nstore 0 0 1 7\n",
-        7,
-        "line 3\nmade 0 0\nline 4\nregion 0 0 1\nentered 0 0 16 0 0 3 1\nline 5\nwired 0 2\nnotbuilt 6\n",
-    ),
-    // pages may be dirty
-    (
-        "run",
-        "page 16\nhosts 1 4\ntask 0 0\nallocate 0 0 16\nstore 0 0 1 1\npageout 0 0\npageout 0 1\n",
-        7,
-        "line 3\nmade 0 0\nline 4\nregion 0 0 1\nentered 0 0 16 0 0 3 1\nline 5\nbegun 0 store 0 1 1\nzeroed 0 0 0\nstored 0 0 0 0 01\nline 6\nnotbuilt 7\n",
-    ),
     // a fork that would copy an entry isn't built, but may be refused
     (
         "run",

@@ -1,14 +1,16 @@
 // The call that does all that the program does.
-ghost use Rattle.std.specs.Prelude.{◌≡◌, ◌⊎◌, ◌≤◌, List, None, Some, ℕ};
+ghost use Rattle.std.specs.Prelude.{◌≡◌, ◌≢◌, ◌⊎◌, ◌≤◌, List, None, Some, ℕ};
 ghost use Rattle.std.specs.declared.option.Option.{Option};
 ghost use Rattle.std.specs.Io.KnownBytes.{Appends};
 ghost use Rattle.vm_model.specs.declared.fault.ScriptFault.{ScriptFault};
 ghost use Rattle.vm_model.specs.declared.script.Script.{Script};
 ghost use Rattle.vm_outside.specs.Causes.{Rose};
 ghost use Rattle.vm_top.specs.Ending.{EndsAs, HasEnded, Tells, status_after};
-ghost use Rattle.vm_top.specs.Top.{IsBad, IsDone, IsEventLimit, NothingRun, IsOutputFault, IsNoMemory, IsNotBuilt, NothingDone, IsDisarmed, bad_text, not_built_text, usage_text};
-ghost use Rattle.vm_top.specs.Run.{IsRunnable, RanAs};
-ghost use Rattle.vm_top.specs.Runner.{IsBelowLimit};
+ghost use Rattle.vm_top.specs.Top.{IsBad, IsDone, IsEventLimit, NothingRun, IsOutputFault, IsNoMemory, IsNotBuilt, NothingDone, KeptAt, FilesEnd, PagingEnds, bad_text, not_built_text, usage_text};
+ghost use Rattle.vm_legal.specs.Outside.{Outside};
+ghost use Rattle.vm_system.specs.Steps.{IsBelowLimit};
+ghost use Rattle.vm_top.specs.Arming.{FailuresCounted};
+ghost use Rattle.vm_top.specs.Run.{IsRunnable, RanAs, outside_of};
 ghost use Rattle.vm_top.specs.Status.{number_of};
 ghost use Rattle.vm_top.specs.Words.{asked_by};
 ghost use Rattle.vm_top.specs.declared.words.Job.TheVariants as jobs;
@@ -39,14 +41,13 @@ pub enum Status {
     ReadFault,
     /// The sink failed.
     OutputFault,
-    /// A command is left, and the history has 200,000 events or more.
+    /// A step is left, and the history has 200,000 events or more.
     EventLimit,
     /// No memory was there.
     NoMemory,
     /// `line` is the first that isn't built: a header line for objects or for more than one host, or a
-    /// command other than `task`, `fork`, `exit`, `allocate`, `deallocate`, `protect`, `inherit`, `load` and
-    /// `store`, or an `allocate` with which the ranges up to there have more pages than the host has
-    /// frames, or a `fork` that would copy an entry. It is 0 where a script was to be made.
+    /// `map`, `copy`, `clean` or `say`, or a `fork` that would copy an entry. It is 0 where a script was
+    /// to be made.
     NotBuilt { line: u32 },
 }
 
@@ -134,10 +135,10 @@ fn tell_bad<K: Sink>(alloc: Global, line: u32, kind: ScriptFault, out: &mut K) -
 }
 
 // Writes what is left to be written of a run.
-#[tactic(auto, using(crate::proofs::Starts::whole_legal, crate::proofs::Starts::full_legal))]
 fn finish<K: Sink>(alloc: Global, report: Report, ran: &Ran, out: &mut K) -> Status
-    ensures ends { (run : Script) → (start : Option (List ℕ)) → RanAs report run ran.now.history.items ran.now.end start (K.written out.old)
-        → EndsAs report run ran.now.history.items start (K.written out.new) result }
+    ensures ends { (run : Script) → (outside : Outside) → (start : Option (List ℕ)) → RanAs report run outside ran.now.history.items ran.now.end start (K.written out.old)
+        → EndsAs report run outside ran.now.history.items start (K.written out.new) result }
+    ensures memory { ran.now.end ≡ RunEnd.NoMemory → result ≡ Status.NoMemory }
     ensures cause { result ≡ Status.OutputFault → (ran.now.end ≡ RunEnd.Failed) ⊎ Rose (K.faults out.old) (K.faults out.new) }
     ensures later { K.faults out.old ≤ K.faults out.new }
 {
@@ -159,14 +160,27 @@ fn finish<K: Sink>(alloc: Global, report: Report, ran: &Ran, out: &mut K) -> Sta
 }
 
 // Runs a script.
-fn run_read<K: Sink>(alloc: Global, report: Report, script: Script, out: &mut K) -> Outcome
-    requires { IsRunnable script }
-    ensures ended { HasEnded report script result.script result.history.items (K.written out.old) (K.written out.new) result.status }
+fn run_read<K: Sink, F: Backing, P: Backing>(
+    alloc: Global,
+    report: Report,
+    script: Script,
+    out: &mut K,
+    files: &mut Armed<F>,
+    paging: &mut Armed<P>,
+) -> Outcome
+    requires run { IsRunnable script }
+    requires files { files.old.left ≡ 0 }
+    requires paging { paging.old.left ≡ 0 }
+    ensures ended { HasEnded report script (outside_of (P.area paging.old.inner)) result.script result.history.items (K.written out.old) (K.written out.new) result.status }
     ensures limit { IsBelowLimit result.history.items }
     ensures cause { result.status ≡ Status.OutputFault → Rose (K.faults out.old) (K.faults out.new) }
     ensures later { K.faults out.old ≤ K.faults out.new }
+    ensures kept { KeptAt (outside_of (P.area paging.old.inner)) (P.area paging.new.inner) result.script result.history.items }
+    ensures files { result.status ≢ Status.NoMemory → FilesEnd result.script result.history.items files.old files.new }
+    ensures paging { result.status ≢ Status.NoMemory → PagingEnds result.script result.history.items paging.old paging.new }
+    ensures devices { FailuresCounted (⟦<Armed<P> as Backing>⟧.faults paging.old) (⟦<Armed<P> as Backing>⟧.faults paging.new) result.history.items }
 {
-    let ran = run_script(alloc, report, &script, out);
+    let ran = run_script(alloc, report, &script, out, files, paging);
     let status = finish(alloc, report, &ran, out);
     Outcome {
         status,
@@ -176,20 +190,33 @@ fn run_read<K: Sink>(alloc: Global, report: Report, script: Script, out: &mut K)
 }
 
 // Reads a script from the source, and runs it.
-fn run<S: Source, K: Sink>(alloc: Global, report: Report, source: &mut S, out: &mut K) -> Outcome
-    ensures done { result.status ≡ Status.Done → IsDone (S.left source.old) report result.script result.history.items (K.written out.old) (K.written out.new) }
+fn run<S: Source, K: Sink, F: Backing, P: Backing>(
+    alloc: Global,
+    report: Report,
+    source: &mut S,
+    out: &mut K,
+    files: &mut Armed<F>,
+    paging: &mut Armed<P>,
+) -> Outcome
+    requires files { files.old.left ≡ 0 }
+    requires paging { paging.old.left ≡ 0 }
+    ensures done { result.status ≡ Status.Done → IsDone (S.left source.old) (outside_of (P.area paging.old.inner)) report result.script result.history.items (K.written out.old) (K.written out.new) }
     ensures bad { (line : ℕ) → (kind : ScriptFault) → result.status ≡ Status.BadScript line kind → IsBad (S.left source.old) line kind result.script result.history.items (K.written out.old) (K.written out.new) }
     ensures usage { ¬ (result.status ≡ Status.Usage) }
     ensures read { result.status ≡ Status.ReadFault → NothingDone result.script result.history.items (K.written out.old) (K.written out.new) }
-    ensures output { result.status ≡ Status.OutputFault → IsOutputFault (S.left source.old) report result.script result.history.items (K.written out.old) (K.written out.new) }
-    ensures memory { result.status ≡ Status.NoMemory → IsNoMemory (S.left source.old) report result.script result.history.items (K.written out.old) (K.written out.new) }
-    ensures full { result.status ≡ Status.EventLimit → IsEventLimit (S.left source.old) report result.script result.history.items (K.written out.old) (K.written out.new) }
+    ensures output { result.status ≡ Status.OutputFault → IsOutputFault (S.left source.old) (outside_of (P.area paging.old.inner)) report result.script result.history.items (K.written out.old) (K.written out.new) }
+    ensures memory { result.status ≡ Status.NoMemory → IsNoMemory (S.left source.old) (outside_of (P.area paging.old.inner)) report result.script result.history.items (K.written out.old) (K.written out.new) }
+    ensures full { result.status ≡ Status.EventLimit → IsEventLimit (S.left source.old) (outside_of (P.area paging.old.inner)) report result.script result.history.items (K.written out.old) (K.written out.new) }
     ensures limit { IsBelowLimit result.history.items }
-    ensures not_built { (line : ℕ) → result.status ≡ Status.NotBuilt line → IsNotBuilt (S.left source.old) line result.script result.history.items (K.written out.old) (K.written out.new) }
+    ensures not_built { (line : ℕ) → result.status ≡ Status.NotBuilt line → IsNotBuilt (S.left source.old) (outside_of (P.area paging.old.inner)) line result.script result.history.items (K.written out.old) (K.written out.new) }
     ensures read_cause { result.status ≡ Status.ReadFault → Rose (S.faults source.old) (S.faults source.new) }
     ensures output_cause { result.status ≡ Status.OutputFault → Rose (K.faults out.old) (K.faults out.new) }
     ensures source_later { S.faults source.old ≤ S.faults source.new }
     ensures sink_later { K.faults out.old ≤ K.faults out.new }
+    ensures kept { KeptAt (outside_of (P.area paging.old.inner)) (P.area paging.new.inner) result.script result.history.items }
+    ensures files { (result.status ≢ Status.NoMemory) ⊎ (result.script ≡ None) → FilesEnd result.script result.history.items files.old files.new }
+    ensures paging { (result.status ≢ Status.NoMemory) ⊎ (result.script ≡ None) → PagingEnds result.script result.history.items paging.old paging.new }
+    ensures devices { FailuresCounted (⟦<Armed<P> as Backing>⟧.faults paging.old) (⟦<Armed<P> as Backing>⟧.faults paging.new) result.history.items }
 {
     let bytes = match read_all(alloc, source) {
         Ok(bytes) => bytes,
@@ -205,7 +232,7 @@ fn run<S: Source, K: Sink>(alloc: Global, report: Report, source: &mut S, out: &
         Err(ScriptError::NoMemory) => return ended(alloc, Status::NoMemory),
     };
     match unbuilt_header(&bytes) {
-        None => run_read(alloc, report, script, out),
+        None => run_read(alloc, report, script, out, files, paging),
         Some(line) => {
             let status = tell_not_built(alloc, line, out);
             Outcome {
@@ -222,8 +249,9 @@ fn run<S: Source, K: Sink>(alloc: Global, report: Report, source: &mut S, out: &
 ///
 /// `words` are without the program's name. The script is read to its end, or to its 1,048,577th
 /// byte, and is a script of the grammar before its first step. Under `run` the events of each step
-/// are written, in one piece, when the step has ended. No backing is called yet; an arming that
-/// stands in one is taken away.
+/// are written, in one piece, when the step has ended. The default pager keeps its pages in the area
+/// `paging0` of `paging`; the files aren't called yet. An arming that stands in a backing is taken
+/// away first.
 pub fn pagers_main<S: Source, K: Sink, F: Backing, P: Backing>(
     alloc: Global,
     words: &[String],
@@ -234,7 +262,7 @@ pub fn pagers_main<S: Source, K: Sink, F: Backing, P: Backing>(
 ) -> Outcome
     // The whole script of the source was run: the history is legal for it, and its report was written and nothing else.
     ensures done { result.status ≡ Status.Done
-        → (report : Report) × (asked_by words.now ≡ Some (jobs.Run report)) × IsDone (S.left script.old) report result.script result.history.items (K.written out.old) (K.written out.new) }
+        → (report : Report) × (asked_by words.now ≡ Some (jobs.Run report)) × IsDone (S.left script.old) (outside_of (P.area paging.old.inner)) report result.script result.history.items (K.written out.old) (K.written out.new) }
 
     // The source's bytes are no script: their first fault was written.
     ensures bad { (line : ℕ) → (kind : ScriptFault) → result.status ≡ Status.BadScript line kind
@@ -253,32 +281,38 @@ pub fn pagers_main<S: Source, K: Sink, F: Backing, P: Backing>(
         → (report : Report) × (asked_by words.now ≡ Some (jobs.Run report)) × NothingDone result.script result.history.items (K.written out.old) (K.written out.new) }
     ensures read_cause { result.status ≡ Status.ReadFault → Rose (S.faults script.old) (S.faults script.new) }
     ensures output { result.status ≡ Status.OutputFault → (report : Report) → asked_by words.now ≡ Some (jobs.Run report)
-        → IsOutputFault (S.left script.old) report result.script result.history.items (K.written out.old) (K.written out.new) }
+        → IsOutputFault (S.left script.old) (outside_of (P.area paging.old.inner)) report result.script result.history.items (K.written out.old) (K.written out.new) }
     ensures output_cause { result.status ≡ Status.OutputFault → Rose (K.faults out.old) (K.faults out.new) }
 
     // Memory ended.
     ensures memory { result.status ≡ Status.NoMemory → (report : Report) → asked_by words.now ≡ Some (jobs.Run report)
-        → IsNoMemory (S.left script.old) report result.script result.history.items (K.written out.old) (K.written out.new) }
+        → IsNoMemory (S.left script.old) (outside_of (P.area paging.old.inner)) report result.script result.history.items (K.written out.old) (K.written out.new) }
 
-    // The history is full while a command is left; and no step of any history began where it was full.
+    // The history is full while a step is left; and no step of any history began where it was full.
     ensures full { result.status ≡ Status.EventLimit
-        → (report : Report) × (asked_by words.now ≡ Some (jobs.Run report)) × IsEventLimit (S.left script.old) report result.script result.history.items (K.written out.old) (K.written out.new) }
+        → (report : Report) × (asked_by words.now ≡ Some (jobs.Run report)) × IsEventLimit (S.left script.old) (outside_of (P.area paging.old.inner)) report result.script result.history.items (K.written out.old) (K.written out.new) }
     ensures limit { IsBelowLimit result.history.items }
 
     // The script isn't built from exactly this line on.
     ensures not_built { (line : ℕ) → result.status ≡ Status.NotBuilt line → (report : Report) → asked_by words.now ≡ Some (jobs.Run report)
-        → IsNotBuilt (S.left script.old) line result.script result.history.items (K.written out.old) (K.written out.new) }
+        → IsNotBuilt (S.left script.old) (outside_of (P.area paging.old.inner)) line result.script result.history.items (K.written out.old) (K.written out.new) }
 
-    // Counts of faults never fall; no backing is called, and none is armed afterwards.
+    // Counts of faults never fall.
     ensures source_later { S.faults script.old ≤ S.faults script.new }
     ensures sink_later { K.faults out.old ≤ K.faults out.new }
-    ensures files { IsDisarmed files.old files.new }
-    ensures paging { IsDisarmed paging.old paging.new }
+
+    // At every status each page that was returned and not lost stands at its slot. An arming that stood before is gone, and `fail` alone
+    // arms; where memory ended while a script was run, the arming is not told. A failure of the paging area is told only where its count
+    // of faults rose.
+    ensures kept { KeptAt (outside_of (P.area paging.old.inner)) (P.area paging.new.inner) result.script result.history.items }
+    ensures files { (result.status ≢ Status.NoMemory) ⊎ (result.script ≡ None) → FilesEnd result.script result.history.items files.old files.new }
+    ensures paging { (result.status ≢ Status.NoMemory) ⊎ (result.script ≡ None) → PagingEnds result.script result.history.items paging.old paging.new }
+    ensures devices { FailuresCounted (⟦<Armed<P> as Backing>⟧.faults paging.old) (⟦<Armed<P> as Backing>⟧.faults paging.new) result.history.items }
 {
     files.disarm();
     paging.disarm();
     match asked(words) {
-        Some(Job::Run(report)) => run(alloc, report, script, out),
+        Some(Job::Run(report)) => run(alloc, report, script, out, files, paging),
         Some(Job::Generate { .. }) => {
             let status = tell_not_built(alloc, 0, out);
             ended(alloc, status)

@@ -1,89 +1,71 @@
-use Rattle.std.proofs.Common.{Err, ap, sym, ◌∙◌, arith, length, ◌<◌, ◌≤◌, refl}
-use Rattle.vm_top.specs.Runner.{event_limit}
-use Rattle.vm_top.specs.Writing.{oldest}
-use Rattle.vm_top.proofs.Writings.{oldest_step}
-use Rattle.vm_top.proofs.Starts.{failed_at, full_at, held_at, legal_start, memory_at, next_built, next_unbuilt, nothing_ran, oldest_none, range_at, shown_none, stuck_at}
+use Rattle.std.proofs.Common.{refl, subst, sym}
+use Rattle.vm_outside.specs.Causes.{sum_count}
+use Rattle.vm_system.specs.Keeping.{KeepsPages}
+use Rattle.vm_system.specs.Steps.{IsBelowLimit}
+use Rattle.vm_top.specs.Arming.{FailuresCounted, FilesLeft, PagingLeft, ran_of}
+use Rattle.vm_top.specs.Run.{RanAs, outside_of}
+use Rattle.vm_top.specs.Running.{Running}
+use Rattle.vm_top.proofs.Keeping.{kept_none, kept_pages, told_of}
+use Rattle.vm_top.proofs.Turns.{nothing_ran, start_runs}
 use Rattle.vm_top.proofs.run.run_script.Goals as goal
 
-pub loop-i-init : goal.loop-i-init
-loop-i-init g c =
-    let none = oldest_none c.args.script.now.commands.items in
-    let empty = c.in-Ok.ensures.history in
-    record {
-      agrees = c.in-Ok.ensures.agrees;
-      built = rw none refl;
-      legal = rw (empty, none) (legal_start c.args.script.now.header);
-      limit = rw empty tt;
-      later = omega arith;
-      written = rw empty (shown_none (g.K.Sink.written c.args.out.now) c.args.report);
-    }
+pub run_all-end-requires : goal.run_all-end-requires
+run_all-end-requires g c = λ lifetimes held.
+    let areas = g.P.Backing.area c.args.paging.now.inner in
+    let outside = outside_of areas in
+    let system = c.in-Ok.system in
+    let given : Running g.row.F.Denot g.row.P.Denot = record {
+      script = c.args.script.now;
+      outside = outside;
+      start = g.K.Sink.written c.args.out.now;
+      files = c.args.files.now;
+      paging = c.args.paging.now;
+      faults = sum_count (g.P.Backing.faults c.args.paging.now.inner) c.args.paging.now.reached;
+    } in
+    let stands = c.in-Ok.ensures.stands outside in
+    let kept = c.in-Ok.ensures.kept outside areas (told_of areas system.pager c.in-Ok.ensures.host) in
+    let runs = start_runs c.args.report given system.history.items c.in-Ok.ensures.nothing c.requires.files c.requires.paging in
+    (held.0, (held.1.0, (held.1.1, (refl, (c.requires.run, (stands, (kept, (runs, c.in-Ok.ensures.nothing))))))))
 
-pub returns-then-not-is_built-clause-ran : goal.returns-then-not-is_built-clause-ran
-returns-then-not-is_built-clause-ran g c =
-    let script = c.args.script.now in
-    let n = c.at-numbered.result.now in
-    let next = oldest_step script.commands.items c.loop-i.i n c.at-numbered.ensures in
-    let stuck = next_unbuilt n (oldest c.loop-i.i script.commands.items) c.loop-i.invariant.built (sym c.is_built.ensures ∙ c.if-not-is_built.true) in
-    rw (c.ended.ensures.0, c.ended.ensures.1) (stuck_at script c.loop-i.i n c.loop-i.runner.history.items next c.loop-i.invariant.built c.loop-i.invariant.legal stuck, c.loop-i.invariant.written)
+pub returns-clause-ran : goal.returns-clause-ran
+returns-clause-ran g c =
+    subst (λ z. RanAs c.args.report c.args.script.now (outside_of (g.P.Backing.area c.args.paging.now.inner)) z.items c.run_all-end.result (g.K.Sink.written c.args.out.now) (g.K.Sink.written c.run_all-end.new.out))
+    (sym c.into_history.ensures) c.run_all-end.ensures.stops.ran
 
-pub returns-then-len-ge-MOST_EVENTS-clause-ran : goal.returns-then-len-ge-MOST_EVENTS-clause-ran
-returns-then-len-ge-MOST_EVENTS-clause-ran g c =
-    let script = c.args.script.now in
-    let n = c.at-numbered.result.now in
-    let next = oldest_step script.commands.items c.loop-i.i n c.at-numbered.ensures in
-    let built = next_built n (oldest c.loop-i.i script.commands.items) c.loop-i.invariant.built (sym c.is_built.ensures ∙ c.if-not-is_built.false) in
-    let full : event_limit ≤ length c.loop-i.runner.history.items = rw c.len.ensures at c.if-len-ge-MOST_EVENTS.true in
-    rw (c.ended-then-len-ge-MOST_EVENTS.ensures.0, c.ended-then-len-ge-MOST_EVENTS.ensures.1) (full_at script c.loop-i.i n c.loop-i.runner.history.items next c.loop-i.invariant.built c.loop-i.invariant.legal built full, c.loop-i.invariant.written)
+pub returns-clause-limit : goal.returns-clause-limit
+returns-clause-limit g c = subst (λ z. IsBelowLimit z.items) (sym c.into_history.ensures) c.run_all-end.ensures.stops.below
 
-pub returns-then-is_held_up-clause-ran : goal.returns-then-is_held_up-clause-ran
-returns-then-is_held_up-clause-ran g c =
-    let script = c.args.script.now in
-    let n = c.at-numbered.result.now in
-    let next = oldest_step script.commands.items c.loop-i.i n c.at-numbered.ensures in
-    let built = next_built n (oldest c.loop-i.i script.commands.items) c.loop-i.invariant.built (sym c.is_built.ensures ∙ c.if-not-is_built.false) in
-    let below : length c.loop-i.runner.history.items < event_limit = let less = c.if-len-ge-MOST_EVENTS.false in omega (arith, c.len.ensures) in
-    rw (c.ended-then-is_held_up.ensures.0, c.ended-then-is_held_up.ensures.1)
-    (held_at script c.loop-i.i n c.loop-i.runner.history.items next c.loop-i.invariant.built c.loop-i.invariant.legal built below (sym c.is_held_up.ensures ∙ c.if-is_held_up.true), c.loop-i.invariant.written)
+pub returns-clause-later : goal.returns-clause-later
+returns-clause-later g c = c.run_all-end.ensures.later
+
+pub returns-clause-cause : goal.returns-clause-cause
+returns-clause-cause g c = c.run_all-end.ensures.cause
+
+pub returns-clause-kept : goal.returns-clause-kept
+returns-clause-kept g c =
+    let areas = g.P.Backing.area c.run_all-end.new.paging.inner in
+    let outside = outside_of (g.P.Backing.area c.args.paging.now.inner) in
+    subst (λ z. KeepsPages c.args.script.now.header outside areas z.items) (sym c.into_history.ensures) (kept_pages c.args.script.now.header outside areas c.run_all-end.new.system c.run_all-end.ensures.kept)
+
+pub returns-clause-files : goal.returns-clause-files
+returns-clause-files g c = λ other.
+    subst (λ z. FilesLeft (ran_of c.args.script.now z.items) c.args.files.now c.run_all-end.new.files) (sym c.into_history.ensures) (c.run_all-end.ensures.stops.arms other).files
+
+pub returns-clause-paging : goal.returns-clause-paging
+returns-clause-paging g c = λ other.
+    subst (λ z. PagingLeft (ran_of c.args.script.now z.items) z.items c.args.paging.now c.run_all-end.new.paging) (sym c.into_history.ensures) (c.run_all-end.ensures.stops.arms other).paging.left
+
+pub returns-clause-devices : goal.returns-clause-devices
+returns-clause-devices g c =
+    let faults = sum_count (g.P.Backing.faults c.args.paging.now.inner) c.args.paging.now.reached in
+    let after = sum_count (g.P.Backing.faults c.run_all-end.new.paging.inner) c.run_all-end.new.paging.reached in
+    subst (λ z. FailuresCounted faults after z.items) (sym c.into_history.ensures) c.run_all-end.ensures.stops.failed
 
 pub returns-in_default-clause-ran : goal.returns-in_default-clause-ran
 returns-in_default-clause-ran g c =
-    rw (c.nothing.ensures.0, c.nothing.ensures.1) (nothing_ran c.args.report c.args.script.now (g.K.Sink.written c.args.out.now))
+    nothing_ran c.args.report c.args.script.now (outside_of (g.P.Backing.area c.args.paging.now.inner)) c.new-in_default.result.items (g.K.Sink.written c.args.out.now) c.new-in_default.ensures
 
-pub is_held_up-requires-clause-range : goal.is_held_up-requires-clause-range
-is_held_up-requires-clause-range g c = range_at c.args.script.now c.loop-i.i c.at-numbered.result.now c.requires c.at-numbered.ensures
-
-pub turn-requires-clause-range : goal.turn-requires-clause-range
-turn-requires-clause-range g c = range_at c.args.script.now c.loop-i.i c.at-numbered.result.now c.requires c.at-numbered.ensures
-
-pub returns-in-Err-Failed-clause-ran : goal.returns-in-Err-Failed-clause-ran
-returns-in-Err-Failed-clause-ran g c =
-    let next = oldest_step c.args.script.now.commands.items c.loop-i.i c.at-numbered.result.now c.at-numbered.ensures in
-    let turn = c.turn.ensures in
-    rw (c.ended-in-Err-Failed.ensures.0, c.ended-in-Err-Failed.ensures.1)
-    (failed_at c.args.report c.args.script.now c.loop-i.i c.at-numbered.result.now c.loop-i.runner.history.items c.turn.new.runner.history.items (g.K.Sink.written c.args.out.now) (g.K.Sink.written c.turn.new.out) next c.loop-i.invariant.legal
-    (turn.failed_legal (c.in-Err-Failed.is ∙ ap Err c.in-Err-Failed.field-0-is)) (turn.failed (g.K.Sink.written c.args.out.now) c.loop-i.invariant.written (c.in-Err-Failed.is ∙ ap Err c.in-Err-Failed.field-0-is)))
-
-pub returns-in-Err-NoMemory-clause-ran : goal.returns-in-Err-NoMemory-clause-ran
-returns-in-Err-NoMemory-clause-ran g c =
-    let next = oldest_step c.args.script.now.commands.items c.loop-i.i c.at-numbered.result.now c.at-numbered.ensures in
-    let turn = c.turn.ensures in
-    rw (c.ended-in-Err-NoMemory.ensures.0, c.ended-in-Err-NoMemory.ensures.1)
-    (memory_at c.args.report c.args.script.now c.loop-i.i c.at-numbered.result.now c.loop-i.runner.history.items c.turn.new.runner.history.items (g.K.Sink.written c.args.out.now) (g.K.Sink.written c.turn.new.out) next c.loop-i.invariant.legal
-    (turn.memory_legal (c.in-Err-NoMemory.is ∙ ap Err c.in-Err-NoMemory.field-0-is)) (turn.memory (g.K.Sink.written c.args.out.now) c.loop-i.invariant.written (c.in-Err-NoMemory.is ∙ ap Err c.in-Err-NoMemory.field-0-is)))
-
-pub loop-i-preserved : goal.loop-i-preserved
-loop-i-preserved g c =
-    let script = c.args.script.now in
-    let items = script.commands.items in
-    let n = c.at-numbered.result.now in
-    let turn = c.in-Ok-turn.ensures in
-    let next = oldest_step items c.loop-i.i n c.at-numbered.ensures in
-    let built = next_built n (oldest c.loop-i.i items) c.loop-i.invariant.built (sym c.is_built.ensures ∙ c.if-not-is_built.false) in
-    record {
-      agrees = turn.agrees;
-      built = rw next built;
-      legal = rw next (turn.legal (oldest c.loop-i.i items) c.loop-i.invariant.legal);
-      limit = turn.limit (let less = c.if-len-ge-MOST_EVENTS.false in omega (arith, c.len.ensures)) c.loop-i.invariant.limit;
-      later = omega (arith, c.loop-i.invariant.later, turn.later);
-      written = turn.written (g.K.Sink.written c.args.out.now) c.loop-i.invariant.written;
-    }
+pub returns-in_default-clause-kept : goal.returns-in_default-clause-kept
+returns-in_default-clause-kept g c =
+    let outside = outside_of (g.P.Backing.area c.args.paging.now.inner) in
+    subst (KeepsPages c.args.script.now.header outside (g.P.Backing.area c.args.paging.now.inner)) (sym c.new-in_default.ensures) (kept_none c.args.script.now.header outside (g.P.Backing.area c.args.paging.now.inner))

@@ -1,20 +1,105 @@
-use Rattle.std.proofs.Common.{subst}
+use Rattle.std.proofs.Common.{◌≡◌, ◌<◌, ◌≤◌, ◌∙◌, arith, inl, inr, subst, sym, ap, length, Err}
 use Rattle.std.specs.Io.KnownBytes.{Appends}
+use Rattle.vm_model.specs.Text.{text}
+use Rattle.vm_outside.specs.Causes.{sum_count}
+use Rattle.vm_system.specs.Steps.{event_limit}
 use Rattle.vm_top.specs.Run.{shown}
+use Rattle.vm_top.specs.Running.{Stops}
+use Rattle.vm_top.specs.Writing.{WroteBeyond, oldest}
+use Rattle.vm_top.proofs.Turns.{Stepped, made, same_end, shown_stops, step_ends, step_stops, turned}
 use Rattle.vm_top.proofs.Writings.{oldest_before}
 use Rattle.vm_top.proofs.run.turn.Goals as goal
 
-pub returns-in-History-clause-failed : goal.returns-in-History-clause-failed
-returns-in-History-clause-failed g c = λ start one failed.
-    let step = c.in-Ok.ensures.ok.step in
-    let kept = oldest_before c.step.new.self.history.items step.more c.args.runner.now.history.items c.len-from.result c.len-from.ensures step.longer in
-    let old = subst (λ z. Appends start (g.K.Sink.written c.args.out.now) (shown z c.args.runner.now.history.items)) c.in-History.is one in
-    (c.in-History.is, rw (step.front, ← kept) (c.write_step.ensures.failed start (rw kept old) failed))
+pub returns-in-Err-clause-stops : goal.returns-in-Err-clause-stops
+returns-in-Err-clause-stops g c = λ end is.
+    let old = c.args.system.now.history.items in
+    let new = c.step.new.self.history.items in
+    let e0 = sum_count (g.P.Backing.faults c.args.paging.now.inner) c.args.paging.now.reached in
+    let e1 = sum_count (g.P.Backing.faults c.step.new.paging.inner) c.step.new.paging.reached in
+    let step = c.step.ensures in
+    let below : length old < event_limit = c.requires.1.1.1.1.1.1.1.1.0 in
+    let same : c.end_of.result ≡ end = same_end is in
+    let stop : Stops c.args.report g.given new (g.K.Sink.written c.args.out.now) c.step.new.files c.step.new.paging e1 end = elim (step_ends c.in-Err.stop c.end_of.result end c.end_of.ensures.full c.end_of.ensures.none same) [
+      | inl full ↦ let over : event_limit ≤ length old = step.full.0 (c.in-Err.is ∙ ap Err full.0) in absurd (omega arith)
+      | inr none ↦
+          subst (Stops c.args.report g.given new (g.K.Sink.written c.args.out.now) c.step.new.files c.step.new.paging e1) (sym none.1)
+          (step_stops c.args.report g.given c.args.numbered.now old new (g.K.Sink.written c.args.out.now) c.args.files.now c.step.new.files c.args.paging.now c.step.new.paging e0 e1
+          c.requires.1.1.1.1.1.1.1.1.1.0 c.requires.1.1.1.1.1.1.1.1.1.1 step.grew below (step.memory (c.in-Err.is ∙ ap Err none.0)) step.devices)
+    ] in
+    stop
 
-pub returns-in-History-clause-memory : goal.returns-in-History-clause-memory
-returns-in-History-clause-memory g c = λ start one none.
-    let step = c.in-Ok.ensures.ok.step in
-    let kept = oldest_before c.step.new.self.history.items step.more c.args.runner.now.history.items c.len-from.result c.len-from.ensures step.longer in
-    let old = subst (λ z. Appends start (g.K.Sink.written c.args.out.now) (shown z c.args.runner.now.history.items)) c.in-History.is one in
-    let new = c.write_step.ensures.memory start (rw kept old) none in
-    rw (c.in-History.is, ← kept) new
+pub returns-in_err-show-clause-stops : goal.returns-in_err-show-clause-stops
+returns-in_err-show-clause-stops g c = λ end is.
+    let old = c.args.system.now.history.items in
+    let new = c.step.new.self.history.items in
+    let e0 = sum_count (g.P.Backing.faults c.args.paging.now.inner) c.args.paging.now.reached in
+    let e1 = sum_count (g.P.Backing.faults c.step.new.paging.inner) c.step.new.paging.reached in
+    let step = c.in_default.ensures in
+    let runs = c.requires.1.1.1.1.1.1.1.1.1.0 in
+    let stepped : Stepped g.given.script.header g.given.outside c.args.numbered.now old new c.args.files.now c.step.new.files c.args.paging.now c.step.new.paging e0 e1 = record {
+      legal = step.legal;
+      grew = step.grew;
+      front = step.front;
+      files = step.files;
+      paging = step.paging;
+      later = λ none. (step.later none).1;
+      unasked = step.unasked;
+      devices = step.devices;
+    } in
+    let done = made c.args.report g.given c.args.numbered.now old new (g.K.Sink.written c.args.out.now) c.args.files.now c.step.new.files c.args.paging.now c.step.new.paging e0 e1
+    runs c.requires.1.1.1.1.1.1.1.1.1.1 c.requires.1.1.1.1.1.1.0 c.requires.1.1.1.1.1.0 c.requires.1.1.1.1.1.1.1.1.0 stepped in
+    let from : oldest c.len-from.result new ≡ old = oldest_before new step.grew.more old c.len-from.result (c.len-from.ensures ∙ ap (λ z. length z.items) c.history.ensures) step.grew.is in
+    let wrote : Appends g.given.start (g.K.Sink.written c.args.out.now) (shown c.args.report (oldest c.len-from.result new)) = subst (λ z. Appends g.given.start (g.K.Sink.written c.args.out.now) (shown c.args.report z)) (sym from) runs.keeps.written in
+    let same : end ≡ c.in_err-show.field-0.0 = rw is at c.from_residual.ensures.1 in
+    let show : c.show.result ≡ Err end = c.in_err-show.was ∙ ap Err (sym same) in
+    shown_stops c.args.report g.given c.args.numbered.now old new (g.K.Sink.written c.show.new.out) c.step.new.files c.step.new.paging e1 end
+    c.requires.1.1.1.1.1.1.1.1.1.1 step.front step.grew done
+    (λ failed. let told = c.show.ensures.failed g.given.start wrote (show ∙ ap Err failed) in (told.0, subst (λ z. WroteBeyond g.given.start (g.K.Sink.written c.show.new.out) (text z) (text new)) from told.1))
+    (λ none. subst (λ z. Appends g.given.start (g.K.Sink.written c.show.new.out) (shown c.args.report z)) from (c.show.ensures.memory g.given.start wrote (show ∙ ap Err none)))
+    (c.show.ensures.ends end show)
+
+pub returns-clause-turned : goal.returns-clause-turned
+returns-clause-turned g c =
+    let old = c.args.system.now.history.items in
+    let new = c.step.new.self.history.items in
+    let e0 = sum_count (g.P.Backing.faults c.args.paging.now.inner) c.args.paging.now.reached in
+    let e1 = sum_count (g.P.Backing.faults c.step.new.paging.inner) c.step.new.paging.reached in
+    let step = c.in_default.ensures in
+    let runs = c.requires.1.1.1.1.1.1.1.1.1.0 in
+    let stepped : Stepped g.given.script.header g.given.outside c.args.numbered.now old new c.args.files.now c.step.new.files c.args.paging.now c.step.new.paging e0 e1 = record {
+      legal = step.legal;
+      grew = step.grew;
+      front = step.front;
+      files = step.files;
+      paging = step.paging;
+      later = λ none. (step.later none).1;
+      unasked = step.unasked;
+      devices = step.devices;
+    } in
+    let done = made c.args.report g.given c.args.numbered.now old new (g.K.Sink.written c.args.out.now) c.args.files.now c.step.new.files c.args.paging.now c.step.new.paging e0 e1
+    runs c.requires.1.1.1.1.1.1.1.1.1.1 c.requires.1.1.1.1.1.1.0 c.requires.1.1.1.1.1.0 c.requires.1.1.1.1.1.1.1.1.0 stepped in
+    let from : oldest c.len-from.result new ≡ old = oldest_before new step.grew.more old c.len-from.result (c.len-from.ensures ∙ ap (λ z. length z.items) c.history.ensures) step.grew.is in
+    let wrote : Appends g.given.start (g.K.Sink.written c.args.out.now) (shown c.args.report (oldest c.len-from.result new)) = subst (λ z. Appends g.given.start (g.K.Sink.written c.args.out.now) (shown c.args.report z)) (sym from) runs.keeps.written in
+    turned c.args.report g.given c.args.numbered.now old new (g.K.Sink.written c.show.new.out) c.step.new.files c.step.new.paging e1 done (c.in_ok-show.ensures.written g.given.start wrote)
+
+pub returns-clause-lines : goal.returns-clause-lines
+returns-clause-lines g c =
+    let old = c.args.system.now.history.items in
+    let new = c.step.new.self.history.items in
+    let e0 = sum_count (g.P.Backing.faults c.args.paging.now.inner) c.args.paging.now.reached in
+    let e1 = sum_count (g.P.Backing.faults c.step.new.paging.inner) c.step.new.paging.reached in
+    let step = c.in_default.ensures in
+    let runs = c.requires.1.1.1.1.1.1.1.1.1.0 in
+    let stepped : Stepped g.given.script.header g.given.outside c.args.numbered.now old new c.args.files.now c.step.new.files c.args.paging.now c.step.new.paging e0 e1 = record {
+      legal = step.legal;
+      grew = step.grew;
+      front = step.front;
+      files = step.files;
+      paging = step.paging;
+      later = λ none. (step.later none).1;
+      unasked = step.unasked;
+      devices = step.devices;
+    } in
+    let done = made c.args.report g.given c.args.numbered.now old new (g.K.Sink.written c.args.out.now) c.args.files.now c.step.new.files c.args.paging.now c.step.new.paging e0 e1
+    runs c.requires.1.1.1.1.1.1.1.1.1.1 c.requires.1.1.1.1.1.1.0 c.requires.1.1.1.1.1.0 c.requires.1.1.1.1.1.1.1.1.0 stepped in
+    done.lines

@@ -4,7 +4,7 @@ use Rattle.vm_text.specs.Unbuilt.{unbuilt_of}
 use Rattle.vm_top.specs.declared.top.Status.TheVariants.{BadScript}
 use Rattle.vm_top.specs.Ending.{Tells}
 use Rattle.vm_top.specs.Top.{bad_text}
-use Rattle.vm_top.proofs.Ends.{bad_from, full_of, header_not_built, header_stops, header_wrote, memory_of, not_built_of, output_of, read_from, ready_of, runnable, tells_start, unbuilt_from}
+use Rattle.vm_top.proofs.Ends.{bad_from, done_of, full_of, header_not_built, header_stops, header_wrote, memory_of, not_built_of, output_of, read_from, ready_of, runnable, tells_start, unbuilt_from}
 use Rattle.vm_top.proofs.top.run.Goals as goal
 
 pub returns-in-Err-Bad-clause-output : goal.returns-in-Err-Bad-clause-output
@@ -21,31 +21,36 @@ returns-in-Err-Bad-clause-memory g c = λ is.
     let told : Tells (BadScript c.in-Err-Bad.line c.in-Err-Bad.kind) (bad_text c.in-Err-Bad.line c.in-Err-Bad.kind) (g.K.Sink.written c.args.out.now) (g.K.Sink.written c.tell_bad-status.new.out) c.tell_bad-status.result = rw c.in-Err-Bad.field-0-is at c.tell_bad-status.ensures.told in
     inr (inr (inr (c.ended-in-Err-Bad.ensures.nothing, c.in-Err-Bad.line, c.in-Err-Bad.kind, bad, tells_start _ _ _ _ _ told)))
 
-pub run_read-requires : goal.run_read-requires
-run_read-requires g c =
+pub run_read-requires-clause-run : goal.run_read-requires-clause-run
+run_read-requires-clause-run g c =
     let same = c.deref-2.ensures.value ∙ sym c.deref.ensures.value in
     let script = c.in-Ok-read_script.script in
     runnable script c.in-Ok-read_script.ensures.ranges (c.unbuilt_header.ensures.built c.in-None.is script (ap script_of same ∙ c.in-Ok-read_script.ensures.exact))
 
+pub returns-in-None-clause-done : goal.returns-in-None-clause-done
+returns-in-None-clause-done g c =
+    let ready = ready_of (g.S.Source.left c.args.source.now) _ c.in-Ok.bytes.items c.deref.result.now c.deref-2.result.now c.in-Ok-read_script.script c.in-Ok.ensures.whole c.deref.ensures.value c.in-Ok-read_script.ensures.exact c.deref-2.ensures.value c.in-None.ensures.exact in
+    done_of _ _ _ _ c.args.report c.in-Ok-read_script.script _ _ _ ready c.run_read.ensures.ended
+
 pub returns-in-None-clause-output : goal.returns-in-None-clause-output
 returns-in-None-clause-output g c =
     let ready = ready_of (g.S.Source.left c.args.source.now) _ c.in-Ok.bytes.items c.deref.result.now c.deref-2.result.now c.in-Ok-read_script.script c.in-Ok.ensures.whole c.deref.ensures.value c.in-Ok-read_script.ensures.exact c.deref-2.ensures.value c.in-None.ensures.exact in
-    output_of _ _ _ c.args.report c.in-Ok-read_script.script _ _ _ ready c.run_read.ensures.ended
+    output_of _ _ _ _ c.args.report c.in-Ok-read_script.script _ _ _ ready c.run_read.ensures.ended
 
 pub returns-in-None-clause-memory : goal.returns-in-None-clause-memory
 returns-in-None-clause-memory g c =
     let ready = ready_of (g.S.Source.left c.args.source.now) _ c.in-Ok.bytes.items c.deref.result.now c.deref-2.result.now c.in-Ok-read_script.script c.in-Ok.ensures.whole c.deref.ensures.value c.in-Ok-read_script.ensures.exact c.deref-2.ensures.value c.in-None.ensures.exact in
-    memory_of _ _ _ c.args.report c.in-Ok-read_script.script _ _ _ ready c.run_read.ensures.ended
+    memory_of _ _ _ _ c.args.report c.in-Ok-read_script.script _ _ _ ready c.run_read.ensures.ended
 
 pub returns-in-None-clause-full : goal.returns-in-None-clause-full
 returns-in-None-clause-full g c =
     let ready = ready_of (g.S.Source.left c.args.source.now) _ c.in-Ok.bytes.items c.deref.result.now c.deref-2.result.now c.in-Ok-read_script.script c.in-Ok.ensures.whole c.deref.ensures.value c.in-Ok-read_script.ensures.exact c.deref-2.ensures.value c.in-None.ensures.exact in
-    full_of _ _ _ c.args.report c.in-Ok-read_script.script _ _ _ ready c.run_read.ensures.ended
+    full_of _ _ _ _ c.args.report c.in-Ok-read_script.script _ _ _ ready c.run_read.ensures.ended
 
 pub returns-in-None-clause-not_built : goal.returns-in-None-clause-not_built
 returns-in-None-clause-not_built g c = λ line.
     let ready = ready_of (g.S.Source.left c.args.source.now) _ c.in-Ok.bytes.items c.deref.result.now c.deref-2.result.now c.in-Ok-read_script.script c.in-Ok.ensures.whole c.deref.ensures.value c.in-Ok-read_script.ensures.exact c.deref-2.ensures.value c.in-None.ensures.exact in
-    not_built_of _ _ _ c.args.report c.in-Ok-read_script.script _ _ _ line ready c.run_read.ensures.ended
+    not_built_of _ _ _ _ c.args.report c.in-Ok-read_script.script _ _ _ line ready c.run_read.ensures.ended
 
 pub returns-clause-output : goal.returns-clause-output
 returns-clause-output g c = λ is.
@@ -53,8 +58,8 @@ returns-clause-output g c = λ is.
     let unbuilt = ap unbuilt_of (sym c.deref-2.ensures.value) ∙ sym c.in-Some.ensures.exact in
     let read = read_from (g.S.Source.left c.args.source.now) _ c.in-Ok.bytes.items c.in-Ok-read_script.script c.in-Ok.ensures.whole spells in
     let header = unbuilt_from (g.S.Source.left c.args.source.now) _ c.in-Ok.bytes.items (seen c.in-Ok-read_script.script) (Some c.in-Some.line) c.in-Ok.ensures.whole spells unbuilt in
-    let stopped = header_stops (g.S.Source.left c.args.source.now) c.in-Ok-read_script.script (Some c.in-Ok-read_script.script) c.new.result.items c.in-Some.line read header refl c.new.ensures in
-    inr (inl (header_wrote _ _ _ c.in-Some.line _ _ _ stopped c.new.ensures c.tell_not_built-status.ensures.told))
+    let stopped = header_stops (g.S.Source.left c.args.source.now) c.in-Ok-read_script.script _ (Some c.in-Ok-read_script.script) c.new.result.items c.in-Some.line read header refl c.new.ensures in
+    inr (inl (header_wrote _ _ _ _ c.in-Some.line _ _ _ stopped c.new.ensures c.tell_not_built-status.ensures.told))
 
 pub returns-clause-memory : goal.returns-clause-memory
 returns-clause-memory g c = λ is.
@@ -62,8 +67,8 @@ returns-clause-memory g c = λ is.
     let unbuilt = ap unbuilt_of (sym c.deref-2.ensures.value) ∙ sym c.in-Some.ensures.exact in
     let read = read_from (g.S.Source.left c.args.source.now) _ c.in-Ok.bytes.items c.in-Ok-read_script.script c.in-Ok.ensures.whole spells in
     let header = unbuilt_from (g.S.Source.left c.args.source.now) _ c.in-Ok.bytes.items (seen c.in-Ok-read_script.script) (Some c.in-Some.line) c.in-Ok.ensures.whole spells unbuilt in
-    let stopped = header_stops (g.S.Source.left c.args.source.now) c.in-Ok-read_script.script (Some c.in-Ok-read_script.script) c.new.result.items c.in-Some.line read header refl c.new.ensures in
-    inr (inr (inl (header_wrote _ _ _ c.in-Some.line _ _ _ stopped c.new.ensures c.tell_not_built-status.ensures.told)))
+    let stopped = header_stops (g.S.Source.left c.args.source.now) c.in-Ok-read_script.script _ (Some c.in-Ok-read_script.script) c.new.result.items c.in-Some.line read header refl c.new.ensures in
+    inr (inr (inl (header_wrote _ _ _ _ c.in-Some.line _ _ _ stopped c.new.ensures c.tell_not_built-status.ensures.told)))
 
 pub returns-clause-not_built : goal.returns-clause-not_built
 returns-clause-not_built g c = λ line is.
@@ -71,5 +76,5 @@ returns-clause-not_built g c = λ line is.
     let unbuilt = ap unbuilt_of (sym c.deref-2.ensures.value) ∙ sym c.in-Some.ensures.exact in
     let read = read_from (g.S.Source.left c.args.source.now) _ c.in-Ok.bytes.items c.in-Ok-read_script.script c.in-Ok.ensures.whole spells in
     let header = unbuilt_from (g.S.Source.left c.args.source.now) _ c.in-Ok.bytes.items (seen c.in-Ok-read_script.script) (Some c.in-Some.line) c.in-Ok.ensures.whole spells unbuilt in
-    let stopped = header_stops (g.S.Source.left c.args.source.now) c.in-Ok-read_script.script (Some c.in-Ok-read_script.script) c.new.result.items c.in-Some.line read header refl c.new.ensures in
-    header_not_built _ _ _ c.in-Some.line line _ _ _ stopped c.new.ensures c.tell_not_built-status.ensures.told is
+    let stopped = header_stops (g.S.Source.left c.args.source.now) c.in-Ok-read_script.script _ (Some c.in-Ok-read_script.script) c.new.result.items c.in-Some.line read header refl c.new.ensures in
+    header_not_built _ _ _ _ c.in-Some.line line _ _ _ stopped c.new.ensures c.tell_not_built-status.ensures.told is

@@ -2,7 +2,7 @@ use Rattle.std.proofs.Common.{◌∷◌, ◌/◌, ap, ◌∙◌}
 use Rattle.vm_kernel.specs.Changes.{entering, whole_entry}
 use Rattle.vm_kernel.specs.Forking.{got}
 use Rattle.vm_kernel.proofs.Growing.{on_ok}
-use Rattle.vm_kernel.proofs.Ranges.{began_range, changes_entered}
+use Rattle.vm_kernel.proofs.Ranges.{ran_range, changes_entered}
 use Rattle.vm_kernel.proofs.parts.Parts.allocate.Goals as goal
 
 pub returns : goal.returns
@@ -11,7 +11,7 @@ returns g c =
     let changes = changes_entered c.make_range.new.self.maps c.enter.new.self c.args.task.0 c.entering.result _ (c.entering.ensures ∙ ap entering entry) c.in_ok-enter.ensures.changes in
     on_ok c.push-2.result _ _
     (λ told.
-    began_range g.given.header g.given.outside c.args.task c.args.address c.args.bytes _ g.given.past c.args.self.now c.make_range.new.self c.args.ids.now c.args.log.now.items _ c.enter.new.self c.requires
+    ran_range g.given.header g.given.outside c.args.task c.args.address c.args.bytes _ g.given.past c.args.self.now c.make_range.new.self c.args.ids.now c.args.log.now.items _ c.enter.new.self c.requires
     (ap (λ z. c.args.bytes / z) (c.from.ensures ∙ c.bytes.ensures.value)) c.in_ok-make_range.ensures changes
     (told ∙ (ap (λ z. z ∷ c.push.new.self.items) (c.entered.ensures ∙ ap (got c.args.task) entry) ∙ ap (λ z. got c.args.task (whole_entry c.args.address c.args.bytes (record { 0 = c.args.ids.now.next_region })) ∷ z) c.in_ok-push.ensures.ok)))
     c.push-2.ensures.ok

@@ -14,7 +14,8 @@ use Rattle.vm_kernel.specs.Places.{region_entries}
 use Rattle.vm_kernel.specs.Sweeping.{Lowered, Sweeps}
 use Rattle.vm_kernel.specs.declared.parts.Parts.{Parts}
 use Rattle.vm_kernel.proofs.Changing.{counted, entries_few, lives_as, lowered_few, raise_there}
-use Rattle.vm_kernel.proofs.Endings.{began_swept, gone_few, gone_there, raised_few, removed_cuts, sweeps_removed}
+use Rattle.vm_kernel.proofs.Cutting.{gone_few, removed_cuts}
+use Rattle.vm_kernel.proofs.Endings.{ran_swept, gone_there, raised_few, sweeps_removed}
 use Rattle.vm_kernel.proofs.Growing.{on_ok}
 use Rattle.vm_kernel.proofs.parts.Parts.deallocate.Goals as goal
 
@@ -74,6 +75,6 @@ sweep-requires g c =
 pub returns : goal.returns
 returns g c =
     on_ok c.sweep.result _ _
-    (λ is. began_swept g.given.header g.given.outside g.given.command g.given.past c.sweep.new.log.items c.sweep.new.self c.args.ids.now is
+    (λ is. ran_swept g.given.header g.given.outside g.given.command g.given.past c.sweep.new.log.items c.sweep.new.self c.args.ids.now is
     (subst (λ (z : Command). IsDone g.given.header z c.sweep.new.log.items g.given.past) (sym c.requires.0) tt))
     c.sweep.ensures

@@ -1,8 +1,13 @@
 use Rattle.std.proofs.Common.{refl}
 use Rattle.vm_kernel.proofs.Ends.{ends_lost}
+use Rattle.vm_kernel.proofs.Strands.{all_here}
 use Rattle.vm_kernel.proofs.parts.Parts.drop_pages.Goals as goal
 
 pub pages-preserved : goal.pages-preserved
 pages-preserved g c =
     ends_lost g.given.header g.given.outside g.given.command g.given.past c.pages.self c.drop_page.new.self c.args.ids.now g.given.rest c.args.object.0 (record { object = c.args.object; page = c.in-Some.page }) c.pages.log.items c.drop_page.new.log.items
     c.pages.invariant refl c.in_ok-drop_page.ensures
+
+pub drop_page-requires-clause-there : goal.drop_page-requires-clause-there
+drop_page-requires-clause-there g c =
+    all_here g.given.header g.given.outside g.given.command g.given.past c.pages.self c.args.ids.now g.given.rest c.args.object.0 c.pages.log.items c.in-Some.page.0 c.pages.invariant c.in-Some.ensures.there

@@ -8,7 +8,7 @@ use Rattle.vm_legal.specs.Follows.{IsDone}
 use Rattle.vm_kernel.specs.Begun.{Starts}
 use Rattle.vm_kernel.specs.Sweeping.{Sweeps}
 use Rattle.vm_kernel.specs.declared.parts.Parts.{Parts}
-use Rattle.vm_kernel.proofs.Endings.{began_swept, sweeps_exit}
+use Rattle.vm_kernel.proofs.Endings.{ran_swept, sweeps_exit}
 use Rattle.vm_kernel.proofs.Growing.{on_ok}
 use Rattle.vm_kernel.proofs.parts.Parts.exit.Goals as goal
 
@@ -25,6 +25,6 @@ sweep-requires g c =
 pub returns : goal.returns
 returns g c =
     on_ok c.sweep.result _ _
-    (λ is. began_swept g.given.header g.given.outside g.given.command g.given.past c.sweep.new.log.items c.sweep.new.self c.args.ids.now is
+    (λ is. ran_swept g.given.header g.given.outside g.given.command g.given.past c.sweep.new.log.items c.sweep.new.self c.args.ids.now is
     (subst (λ (z : Command). IsDone g.given.header z c.sweep.new.log.items g.given.past) (sym c.requires.0) tt))
     c.sweep.ensures

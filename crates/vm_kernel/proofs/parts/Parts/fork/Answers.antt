@@ -3,7 +3,7 @@ use Rattle.std.proofs.lemmas.List.{length-reverse}
 use Rattle.vm_base.specs.declared.entry.Entry.{Entry}
 use Rattle.vm_base.specs.Entries.{AreEntries}
 use Rattle.vm_maps.specs.Maps.{rows_in}
-use Rattle.vm_kernel.proofs.Shares.{began_fork, can_share, fork_other, fork_shared, fork_start, lives_some, may_fork, same_rows}
+use Rattle.vm_kernel.proofs.Shares.{ran_fork, can_share, fork_other, fork_shared, fork_start, lives_some, may_fork, same_rows}
 use Rattle.vm_kernel.proofs.parts.Parts.fork.Goals as goal
 use Rattle.vm_kernel.proofs.parts.Parts.fork.Goals.{then-is_shared+in_ok-share, else-is_shared}
 
@@ -42,5 +42,5 @@ pub returns : goal.returns
 returns g c =
     let may = may_fork g.given.header c.args.task c.args.child g.given.past c.args.self.now c.args.ids.now c.args.log.now.items c.requires in
     let same = same_rows _ _ _ c.entries.ensures.value (c.in_ok-add_task.ensures.ok.others c.args.task.0 c.all.invariant.apart ∙ may.lives) in
-    began_fork g.given.header g.given.outside c.args.task c.args.child c.all.i g.given.past c.args.self.now c.all.self c.args.ids.now c.args.log.now.items c.all.log.items c.requires c.all.invariant
+    ran_fork g.given.header g.given.outside c.args.task c.args.child c.all.i g.given.past c.args.self.now c.all.self c.args.ids.now c.args.log.now.items c.all.log.items c.requires c.all.invariant
     (omega (arith, ap length same, length-reverse c.entries.result.now.items, c.len-i-end.ensures, c.all-test.false))

@@ -1,5 +1,8 @@
-use Rattle.vm_kernel.proofs.Reclaims.{Reclaims}
+use Rattle.vm_kernel.proofs.Pageout.{Reclaiming}
 use Rattle.vm_kernel.proofs.parts.Parts.pageout.Given as goal
 
+abbrev pub ghost-reclaim : goal.ghost-reclaim
+ghost-reclaim g a = g.given
+
 abbrev pub invariant-pages : goal.invariant-pages
-invariant-pages g l = Reclaims g.given.header g.given.outside l.count l.counter g.given.past l.self l.ids l.log.items
+invariant-pages g l = Reclaiming g.given.header g.given.outside g.given.command l.count l.counter g.given.past l.self l.ids l.log.items

@@ -5,11 +5,12 @@ use Rattle.vm_model.specs.declared.event.Event.{Event}
 use Rattle.vm_model.specs.declared.event.Event.TheVariants as event
 use Rattle.vm_model.specs.declared.command.Command.TheVariants as command
 use Rattle.vm_maps.specs.Maps.{rows_in}
-use Rattle.vm_kernel.specs.Begun.{Began}
+use Rattle.vm_kernel.specs.Begun.{Ran}
 use Rattle.vm_kernel.specs.Counts.{count_on}
 use Rattle.vm_kernel.specs.Places.{region_entries}
 use Rattle.vm_kernel.specs.Sweeping.{Lowered}
-use Rattle.vm_kernel.proofs.Changing.{began_protect, counted, entries_few, lives_as, lowered_few, protect_cuts, raise_there}
+use Rattle.vm_kernel.proofs.Changing.{counted, entries_few, lives_as, lowered_few, raise_there, ran_protect}
+use Rattle.vm_kernel.proofs.Cutting.{protect_cuts}
 use Rattle.vm_kernel.proofs.Growing.{on_ok}
 use Rattle.vm_kernel.proofs.parts.Parts.protect.Goals as goal
 
@@ -40,8 +41,8 @@ raise-requires-clause-few g c =
 pub returns : goal.returns
 returns g c =
     on_ok c.push.result _ _
-    (λ is. subst (λ (z : List Event). Began g.given.header g.given.outside (command.Protect c.args.task c.args.address c.args.bytes c.args.prot) g.given.past (record c.args.self.now { maps = c.protect.new.self; chains = c.raise.new.chains }) c.args.ids.now z)
+    (λ is. subst (λ (z : List Event). Ran g.given.header g.given.outside (command.Protect c.args.task c.args.address c.args.bytes c.args.prot) g.given.past (record c.args.self.now { maps = c.protect.new.self; chains = c.raise.new.chains }) c.args.ids.now z)
     (sym (is ∙ ap (λ z. event.Protected c.args.task c.args.address c.args.bytes c.args.prot ∷ z) c.requires.nothing))
-    (began_protect g.given.header g.given.outside c.args.task c.args.address c.args.bytes c.args.prot g.given.past _ c.args.self.now c.args.ids.now c.protect.new.self c.lower.new.chains c.raise.new.chains c.protection.result _ _
+    (ran_protect g.given.header g.given.outside c.args.task c.args.address c.args.bytes c.args.prot g.given.past _ c.args.self.now c.args.ids.now c.protect.new.self c.lower.new.chains c.raise.new.chains c.protection.result _ _
     c.requires c.protection.ensures c.in_ok-protect.ensures.changes c.entries.ensures.value c.entries-2.ensures.value c.entries-2.ensures.sound.few c.lower.ensures c.raise.ensures))
     c.push.ensures.ok

@@ -1,6 +1,6 @@
 use Rattle.std.proofs.Common.{sym, subst}
 use Rattle.vm_model.specs.declared.command.Command.{Command}
-use Rattle.vm_kernel.specs.Begun.{Began}
+use Rattle.vm_kernel.specs.Begun.{Ran}
 use Rattle.vm_kernel.proofs.Built.{none_unknown, pageout_of}
 use Rattle.vm_kernel.proofs.Growing.{on_ok}
 use Rattle.vm_kernel.proofs.parts.Parts.run.Goals as goal
@@ -25,4 +25,4 @@ returns-in_default g c =
 pub returns-in-Pageout : goal.returns-in-Pageout
 returns-in-Pageout g c =
     let is = pageout_of g.given.header c.args.command.now g.given.past c.args.self.now c.args.ids.now c.args.log.now.items c.in-Pageout.host c.in-Pageout.count c.requires.0 c.in-Pageout.is in
-    on_ok c.pageout.result _ _ (λ began. subst (λ (z : Command). Began g.given.header g.given.outside z g.given.past c.pageout.new.self c.args.ids.now c.pageout.new.log.items) (sym is) began) c.pageout.ensures
+    on_ok c.pageout.result _ _ (λ ran. subst (λ (z : Command). Ran g.given.header g.given.outside z g.given.past c.pageout.new.self c.args.ids.now c.pageout.new.log.items) (sym is) ran) c.pageout.ensures

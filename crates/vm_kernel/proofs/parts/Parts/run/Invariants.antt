@@ -1,3 +1,4 @@
+use Rattle.vm_kernel.specs.Matches.{the_host}
 use Rattle.vm_model.specs.declared.command.Command.TheVariants as command
 use Rattle.vm_kernel.proofs.parts.Parts.run.Given as goal
 
@@ -7,14 +8,8 @@ ghost-make_task g a = g.given
 abbrev pub ghost-fork : goal.ghost-fork
 ghost-fork g a = g.given
 
-abbrev pub ghost-exit : goal.ghost-exit
-ghost-exit g a = record { header = g.given.header; outside = g.given.outside; past = g.given.past; command = command.Exit a.task }
-
 abbrev pub ghost-allocate : goal.ghost-allocate
 ghost-allocate g a = g.given
-
-abbrev pub ghost-deallocate : goal.ghost-deallocate
-ghost-deallocate g a = record { header = g.given.header; outside = g.given.outside; past = g.given.past; command = command.Deallocate a.task a.address a.bytes }
 
 abbrev pub ghost-protect : goal.ghost-protect
 ghost-protect g a = g.given
@@ -22,17 +17,23 @@ ghost-protect g a = g.given
 abbrev pub ghost-inherit : goal.ghost-inherit
 ghost-inherit g a = g.given
 
-abbrev pub ghost-load : goal.ghost-load
-ghost-load g a = g.given
-
-abbrev pub ghost-store : goal.ghost-store
-ghost-store g a = g.given
-
-abbrev pub ghost-pageout : goal.ghost-pageout
-ghost-pageout g a = g.given
-
 abbrev pub ghost-wire : goal.ghost-wire
 ghost-wire g a = g.given
 
 abbrev pub ghost-unwire : goal.ghost-unwire
 ghost-unwire g a = g.given
+
+abbrev pub ghost-exit : goal.ghost-exit
+ghost-exit g a = record { header = g.given.header; outside = g.given.outside; past = g.given.past; command = command.Exit a.task }
+
+abbrev pub ghost-deallocate : goal.ghost-deallocate
+ghost-deallocate g a = record { header = g.given.header; outside = g.given.outside; past = g.given.past; command = command.Deallocate a.task a.address a.bytes }
+
+abbrev pub ghost-load : goal.ghost-load
+ghost-load g a = record { header = g.given.header; outside = g.given.outside; past = g.given.past; command = command.Load a.task a.address a.size }
+
+abbrev pub ghost-store : goal.ghost-store
+ghost-store g a = record { header = g.given.header; outside = g.given.outside; past = g.given.past; command = command.Store a.task a.address a.size a.value }
+
+abbrev pub ghost-pageout : goal.ghost-pageout
+ghost-pageout g a = record { header = g.given.header; outside = g.given.outside; past = g.given.past; command = command.Pageout the_host a.count }

@@ -1,0 +1,424 @@
+-- An access is run: what holds after each thing that it may come to.
+use Rattle.std.proofs.Common.{◌≡◌, ℕ, ◌+◌, ◌-◌, ◌%◌, ◌==◌, Bool, true, List, [], ◌∷◌, ◌++◌, refl, ap, sym, ◌∙◌, subst, Some, None, Option, inl, inr}
+use Rattle.std.specs.Prelude.{IfSome, if◌then◌else◌, slice_range, ◌⊎◌}
+use Rattle.vm_base.specs.declared.ids.FrameNo.{FrameNo}
+use Rattle.vm_base.specs.declared.ids.HostId.{HostId}
+use Rattle.vm_base.specs.declared.ids.ObjectId.{ObjectId}
+use Rattle.vm_base.specs.declared.ids.PageKey.{PageKey}
+use Rattle.vm_base.specs.declared.ids.TaskId.{TaskId}
+use Rattle.vm_base.specs.Pages.{little_endian, little_endian_bytes, with_bytes}
+use Rattle.vm_model.specs.declared.event.Event.{Event}
+use Rattle.vm_model.specs.declared.event.Event.TheVariants as event
+use Rattle.vm_model.specs.declared.command.Command.{Command}
+use Rattle.vm_model.specs.declared.message.Channel.TheVariants.{Up}
+use Rattle.vm_model.specs.declared.message.Message.TheVariants as message
+use Rattle.vm_model.specs.declared.script.Header.{Header}
+use Rattle.vm_model.specs.Waiting.{Access, waiting}
+use Rattle.vm_legal.specs.Accesses.{Comes, Wants, WantsFrame, Nowhere, Elsewhere, page_of}
+use Rattle.vm_legal.specs.Licences.{access_number}
+use Rattle.vm_legal.specs.Outside.{Outside}
+use Rattle.vm_frames.specs.Frames.{claimed, free, page_in}
+use Rattle.vm_resident.specs.Resident.{PutsRow, ResidentTable, row_at}
+use Rattle.vm_resident.specs.declared.page_row.PageRow.{PageRow}
+use Rattle.vm_shadow.specs.declared.ids.Ids.{Ids}
+use Rattle.vm_supply.specs.declared.woken.Woken.{Woken}
+use Rattle.vm_supply.specs.declared.woken.Woken.TheVariants as woken
+use Rattle.vm_waits.specs.Waits.{PutsEntry, WaitTable, again, entry, one_again, one_frame, queued, with_on}
+use Rattle.vm_waits.specs.declared.waiting.On.{On}
+use Rattle.vm_waits.specs.declared.waiting.On.TheVariants as on
+use Rattle.vm_waits.specs.declared.waiting.Waiting.{Waiting}
+use Rattle.vm_waits.specs.declared.waiting.Want.{Want}
+use Rattle.vm_waits.specs.declared.waiting.Want.TheVariants as want
+use Rattle.vm_kernel.specs.Begun.{Goes}
+use Rattle.vm_kernel.specs.Changes.{Brought, IsHere, SamePlan, Wrote, zeroed}
+use Rattle.vm_kernel.specs.Faulting.{AfterZeros, AtOnce, Ended, Faulted, Faults, Hits, IsAvailable, IsUnavailable, Requested, Stays, Touched, WantsOne}
+use Rattle.vm_kernel.specs.Matches.{AllUsed, HasWaits, Matches, Works, the_host}
+use Rattle.vm_kernel.specs.Serving.{Queues}
+use Rattle.vm_kernel.specs.Waiters.{HasWaiters, IsAsked, IsAt, IsTold, Reason, access_in, address_in}
+use Rattle.vm_kernel.specs.declared.parts.Parts.{Parts}
+use Rattle.vm_kernel.specs.declared.steps.FaultStep.{FaultStep}
+use Rattle.vm_kernel.specs.declared.steps.FaultStep.TheVariants as step
+use Rattle.vm_kernel.proofs.Accessing.{brought_here, leads_zeroed, loaded_follows, matches_loaded, matches_stored, matches_touched, matches_waits, matches_zeroed, stored_follows, zeroed_follows}
+use Rattle.vm_kernel.proofs.Growing.{Follows, goes_both, goes_none, goes_one, suffices}
+use Rattle.vm_kernel.proofs.Leading.{Leads, Lies, it_waits, leads_of, lies_of, top_at}
+use Rattle.vm_kernel.proofs.Requesting.{matches_asked, request_follows, requesting}
+use Rattle.vm_kernel.proofs.Rows.{row_cases}
+use Rattle.vm_kernel.proofs.Standing.{may_answer, misses_of, passes_of, shows_of}
+use Rattle.vm_kernel.proofs.Waiting.{AsksNone, IsNotAsked, asks_none, here_not_asked, none_not_asked, waiters_asked, waiters_joined, waiters_over, waiters_page, waiters_turned}
+
+-- an access has ended, but its row is still there: what the history says, and what the kernel has
+pub record Finishes (header : Header) (outside : Outside) (doing : Command) (past : List Event) (k new : Parts) (ids : Ids) (task : TaskId) (what : Want) (key : PageKey) (events after : List Event) : Type 0 where
+  pub matches : Matches header new ids [] (after ++ past)
+  pub goes : Goes header outside doing past events after
+  pub ends : (u : ℕ) → waiting u (after ++ past) ≡ (if task.0 == u then None else waiting u (events ++ past))
+  pub waits : HasWaits new woken.Nobody (events ++ past)
+  pub at : IsAt new.maps new.chains task.0 what key
+  pub here : IsNotAsked (row_at new.resident key.object.0 key.page.0)
+  pub chains : new.chains ≡ k.chains
+  pub objects : new.objects ≡ k.objects
+  pub laundry : new.laundry ≡ k.laundry
+  pub kept : new.waits ≡ k.waits
+
+-- an access that waits, and the page that it is about
+pub record Tries (header : Header) (past : List Event) (k : Parts) (ids : Ids) (task : TaskId) (what : Want) (key : PageKey) : Type 0 where
+  pub matches : Matches header k ids [] past
+  pub waits : HasWaits k woken.Nobody past
+  pub to : Leads header past task.0 what key
+  pub at : IsAt k.maps k.chains task.0 what key
+  pub lies : Lies k key
+
+pub tries_of : (header : Header) (past : List Event) (k : Parts) (ids : Ids) (w : Waiting) (key : PageKey) → Works header k ids woken.Nobody past → entry k.waits.rows w.task.0 ≡ Some w → IsAt k.maps k.chains w.task.0 w.want key
+    → Tries header past k ids w.task w.want key
+tries_of header past k ids w key works is at =
+    record {
+      matches = works.matches;
+      waits = works.waits;
+      to = leads_of header k ids past woken.Nobody w.task.0 w key works.matches works.waits is at;
+      at = at;
+      lies = lies_of header k ids past [] w.task.0 w.want key works.matches at;
+    }
+
+-- the plan is the same, so those who wait do so still
+pub waits_planned : (k new : Parts) (who : Woken) (at : ℕ → Option Access) → SamePlan k new → HasWaiters k.maps k.chains new.resident k.objects k.waits.rows who at → HasWaiters new.maps new.chains new.resident new.objects new.waits.rows who at
+waits_planned k new who at plan has = rw (plan.maps, plan.chains, plan.objects, plan.waits) has
+
+at_planned : (k new : Parts) (task : ℕ) (what : Want) (key : PageKey) → SamePlan k new → IsAt k.maps k.chains task what key → IsAt new.maps new.chains task what key
+at_planned k new task what key plan at = rw (plan.maps, plan.chains) at
+
+lies_planned : (k new : Parts) (key : PageKey) → SamePlan k new → Lies k key → Lies new key
+lies_planned k new key plan lies = record { row = lies.row; region = rw plan.chains lies.region; under = rw plan.objects lies.under; inside = lies.inside }
+
+-- a load ends
+finish_load : (header : Header) (outside : Outside) (doing : Command) (past : List Event) (k new : Parts) (ids : Ids) (task : TaskId) (address n value : ℕ) (key : PageKey) (frame : FrameNo) (events : List Event)
+    → Tries header (events ++ past) k ids task (want.Load address n) key → IsHere key frame k
+    → value ≡ little_endian (slice_range (page_in k.frames frame.0) (address % header.size) (address % header.size + n)) → Touched k new
+    → Finishes header outside doing past k new ids task (want.Load address n) key events (event.Loaded task key.object key.page value ∷ events)
+finish_load header outside doing past k new ids task address n value key frame events t here number touched =
+    let h = events ++ past in
+    let e : Event = event.Loaded task key.object key.page value in
+    let m = t.matches in
+    record {
+      matches = matches_touched header k new ids [] (e ∷ h) (matches_loaded header k ids [] h task key.object key.page value m) touched;
+      goes = goes_one header outside doing past events e m.settled
+          (loaded_follows header outside doing h task address n value key (page_in k.frames frame.0) t.to (shows_of header k ids [] h key frame m here) number (suffices header k.frames (e ∷ h) m.frames));
+      ends = λ u. refl;
+      waits = subst (λ (z : Parts). HasWaits z woken.Nobody h) (sym touched.is) t.waits;
+      at = subst (λ (z : Parts). IsAt z.maps z.chains task.0 (want.Load address n) key) (sym touched.is) t.at;
+      here = subst (λ (z : Parts). IsNotAsked (row_at z.resident key.object.0 key.page.0)) (sym touched.is) (here_not_asked (row_at k.resident key.object.0 key.page.0) here.row here.found here.here);
+      chains = ap (λ (z : Parts). z.chains) touched.is;
+      objects = ap (λ (z : Parts). z.objects) touched.is;
+      laundry = ap (λ (z : Parts). z.laundry) touched.is;
+      kept = ap (λ (z : Parts). z.waits) touched.is;
+    }
+
+pub row_put : (rs rs2 : ResidentTable) (o p : ℕ) (x : Option PageRow) → PutsRow o p x rs rs2 → row_at rs2 o p ≡ x
+row_put rs rs2 o p x put = elim (row_cases o p x rs rs2 put o p) [ inl now ↦ now.is | inr other ↦ absurd (other.apart refl refl) ]
+
+-- a store ends
+finish_store : (header : Header) (outside : Outside) (doing : Command) (past : List Event) (k mid new : Parts) (ids : Ids) (task : TaskId) (address n value : ℕ) (key : PageKey) (frame : FrameNo) (events : List Event)
+    → Tries header (events ++ past) k ids task (want.Store address n value) key → IsHere key frame k
+    → Wrote key frame (with_bytes (address % header.size) (little_endian_bytes n value) (page_in k.frames frame.0)) k mid → Touched mid new
+    → Finishes header outside doing past k new ids task (want.Store address n value) key events (event.Stored task key.object key.page (address % header.size) n value ∷ events)
+finish_store header outside doing past k mid new ids task address n value key frame events t here wrote touched =
+    let h = events ++ past in
+    let o = key.object.0 in
+    let p = key.page.0 in
+    let e : Event = event.Stored task key.object key.page (address % header.size) n value in
+    let row2 : PageRow = record wrote.row { dirty = true } in
+    let before = here_not_asked (row_at k.resident o p) here.row here.found here.here in
+    let now = here_not_asked (Some row2) row2 refl (before.here wrote.row wrote.found) in
+    let m2 = matches_stored header k mid ids [] h task (address % header.size) n value key frame t.matches t.to.lives here wrote in
+    record {
+      matches = matches_touched header mid new ids [] (e ∷ h) m2 touched;
+      goes = goes_one header outside doing past events e t.matches.settled
+          (stored_follows header outside doing h task address n value key (page_in k.frames frame.0) t.to (shows_of header k ids [] h key frame t.matches here) (suffices header mid.frames (e ∷ h) m2.frames));
+      ends = λ u. refl;
+      waits = subst (λ (z : Parts). HasWaits z woken.Nobody h) (sym touched.is)
+          (waits_planned k mid woken.Nobody (λ u. waiting u h) wrote.plan (waiters_page k.maps k.chains k.resident mid.resident k.objects k.waits.rows woken.Nobody (λ u. waiting u h) o p (Some row2) t.waits wrote.put before now));
+      at = subst (λ (z : Parts). IsAt z.maps z.chains task.0 (want.Store address n value) key) (sym touched.is) (at_planned k mid task.0 (want.Store address n value) key wrote.plan t.at);
+      here = subst (λ (z : Parts). IsNotAsked (row_at z.resident o p)) (sym touched.is)
+          (here_not_asked (row_at mid.resident o p) row2 (row_put k.resident mid.resident o p (Some row2) wrote.put) (before.here wrote.row wrote.found));
+      chains = ap (λ (z : Parts). z.chains) touched.is ∙ wrote.plan.chains;
+      objects = ap (λ (z : Parts). z.objects) touched.is ∙ wrote.plan.objects;
+      laundry = ap (λ (z : Parts). z.laundry) touched.is ∙ wrote.plan.laundry;
+      kept = ap (λ (z : Parts). z.waits) touched.is ∙ wrote.plan.waits;
+    }
+
+-- an access ends with a page that is here
+finish : (header : Header) (outside : Outside) (doing : Command) (past : List Event) (k new : Parts) (ids : Ids) (task : TaskId) (what : Want) (key : PageKey) (frame : FrameNo) (at : ℕ) (events after : List Event)
+    → Tries header (events ++ past) k ids task what key → IsHere key frame k → at ≡ address_in what % header.size → Hits task what key frame at k new events after → Finishes header outside doing past k new ids task what key events after
+finish header outside doing past k new ids task (want.Load address n) key frame at events after t here is hits =
+    subst (λ (z : List Event). Finishes header outside doing past k new ids task (want.Load address n) key events z) (sym hits.3)
+    (finish_load header outside doing past k new ids task address n hits.0 key frame events t here (hits.1 ∙ ap (λ z. little_endian (slice_range (page_in k.frames frame.0) z (z + n))) is) hits.2)
+finish header outside doing past k new ids task (want.Store address n value) key frame at events after t here is hits =
+    subst (λ (z : List Event). Finishes header outside doing past k new ids task (want.Store address n value) key events z) (sym (hits.3 ∙ ap (λ z. event.Stored task key.object key.page z n value ∷ events) is))
+    (finish_store header outside doing past k hits.0 new ids task address n value key frame events t here (subst (λ (z : ℕ). Wrote key frame (with_bytes z (little_endian_bytes n value) (page_in k.frames frame.0)) k hits.0) is hits.1) hits.2)
+
+-- a page of zeros has come for it
+tries_zeroed : (header : Header) (past : List Event) (k mid : Parts) (ids : Ids) (task : TaskId) (what : Want) (key : PageKey) (frame : FrameNo) → Tries header past k ids task what key → Brought key frame k mid
+    → Tries header (event.Zeroed the_host key.object key.page ∷ past) mid ids task what key
+tries_zeroed header past k mid ids task what key frame t b =
+    record {
+      matches = matches_zeroed header k mid ids [] past key frame t.matches b t.lies;
+      waits = waits_planned k mid woken.Nobody (λ u. waiting u past) b.plan
+          (waiters_page k.maps k.chains k.resident mid.resident k.objects k.waits.rows woken.Nobody (λ u. waiting u past) key.object.0 key.page.0 _ t.waits b.row
+          (none_not_asked (row_at k.resident key.object.0 key.page.0) b.absent) (here_not_asked _ _ refl refl));
+      to = leads_zeroed header past task.0 what key the_host key.object key.page t.to;
+      at = at_planned k mid task.0 what key b.plan t.at;
+      lies = lies_planned k mid key b.plan t.lies;
+    }
+
+-- an access ends, at once or after zeros
+pub finishes : (header : Header) (outside : Outside) (doing : Command) (past : List Event) (k new : Parts) (ids : Ids) (task : TaskId) (what : Want) (key : PageKey) (events after : List Event) → Tries header (events ++ past) k ids task what key
+    → Ended task what key (address_in what % k.size) k new events after → Finishes header outside doing past k new ids task what key events after
+finishes header outside doing past k new ids task what key events after t (AtOnce frame here hits) =
+    finish header outside doing past k new ids task what key frame (address_in what % k.size) events after t here (ap (λ z. address_in what % z) t.matches.size) hits
+finishes header outside doing past k new ids task what key events after t (AfterZeros frame mid none b hits) =
+    let h = events ++ past in
+    let e : Event = event.Zeroed the_host key.object key.page in
+    let t2 = tries_zeroed header h k mid ids task what key frame t b in
+    let hits2 : Hits task what key frame (address_in what % k.size) mid new (e ∷ events) after =
+    subst (λ (z : HostId). Hits task what key frame (address_in what % k.size) mid new (event.Zeroed z key.object key.page ∷ events) after) t.matches.host hits in
+    let f = finish header outside doing past mid new ids task what key frame (address_in what % k.size) (e ∷ events) after t2 (brought_here key frame k mid b) (ap (λ z. address_in what % z) t.matches.size) hits2 in
+    let first = goes_one header outside doing past events e t.matches.settled
+    (zeroed_follows header outside doing h task.0 what key t.matches.plain t.to (passes_of header k ids [] h key t.matches t.lies b.absent none) (suffices header mid.frames (e ∷ h) t2.matches.frames)) in
+    record {
+      matches = f.matches;
+      goes = goes_both header outside doing past events (e ∷ events) after first f.goes;
+      ends = f.ends;
+      waits = f.waits;
+      at = f.at;
+      here = f.here;
+      chains = f.chains ∙ b.plan.chains;
+      objects = f.objects ∙ b.plan.objects;
+      laundry = f.laundry ∙ b.plan.laundry;
+      kept = f.kept ∙ b.plan.waits;
+    }
+
+-- the row of an access that has ended is taken away
+pub works_finished : (header : Header) (outside : Outside) (doing : Command) (past : List Event) (k new : Parts) (ids : Ids) (w : Waiting) (key : PageKey) (events after : List Event) (waits2 : WaitTable)
+    → Works header k ids woken.Nobody (events ++ past) → entry k.waits.rows w.task.0 ≡ Some w → Finishes header outside doing past k new ids w.task w.want key events after → PutsEntry w.task.0 None new.waits.rows waits2.rows
+    → Works header (record new { waits = waits2 }) ids woken.Nobody (after ++ past)
+works_finished header outside doing past k new ids w key events after waits2 works is f put =
+    let there : entry new.waits.rows w.task.0 ≡ Some w = ap (λ (z : WaitTable). entry z.rows w.task.0) f.kept ∙ is in
+    record {
+      matches = matches_waits header new ids [] (after ++ past) waits2 f.matches;
+      used = subst (λ z. AllUsed z) (sym f.chains) works.used;
+      reached = rw (f.chains, f.objects) works.reached;
+      waits = waiters_over new.maps new.chains new.resident new.objects new.waits.rows waits2.rows (λ u. waiting u (events ++ past)) (λ u. waiting u (after ++ past)) w.task.0 w f.waits there
+          (asks_none new.maps new.chains new.resident new.objects new.waits.rows woken.Nobody (λ u. waiting u (events ++ past)) w.task.0 w key f.waits there f.at f.here) put f.ends;
+    }
+
+-- an access waits for something else, with nothing else changed
+works_turned : (header : Header) (past : List Event) (k : Parts) (ids : Ids) (w : Waiting) (reason : On) (waits2 : WaitTable) → Works header k ids woken.Nobody past → entry k.waits.rows w.task.0 ≡ Some w → AsksNone k.resident w.on
+    → Reason k.maps k.chains k.resident k.objects w.task.0 w.want reason → PutsEntry w.task.0 (Some (with_on w reason)) k.waits.rows waits2.rows → Works header (record k { waits = waits2 }) ids woken.Nobody past
+works_turned header past k ids w reason waits2 works is none holds put =
+    record {
+      matches = matches_waits header k ids [] past waits2 works.matches;
+      used = works.used;
+      reached = works.reached;
+      waits = waiters_turned k.maps k.chains k.resident k.objects k.waits.rows waits2.rows (λ u. waiting u past) w.task.0 w reason works.waits is none put holds;
+    }
+
+absent_asks : (header : Header) (past : List Event) (k : Parts) (ids : Ids) (w : Waiting) (key : PageKey) → Works header k ids woken.Nobody past → entry k.waits.rows w.task.0 ≡ Some w → IsAt k.maps k.chains w.task.0 w.want key
+    → row_at k.resident key.object.0 key.page.0 ≡ None → AsksNone k.resident w.on
+absent_asks header past k ids w key works is at absent =
+    asks_none k.maps k.chains k.resident k.objects k.waits.rows woken.Nobody (λ u. waiting u past) w.task.0 w key works.waits is at (none_not_asked (row_at k.resident key.object.0 key.page.0) absent)
+
+-- it waits for the object's pager to be ready
+works_ready : (header : Header) (past : List Event) (k : Parts) (ids : Ids) (w : Waiting) (key : PageKey) (waits2 : WaitTable) → Works header k ids woken.Nobody past → entry k.waits.rows w.task.0 ≡ Some w → IsAt k.maps k.chains w.task.0 w.want key
+    → IsTold k.objects key.object.0 → row_at k.resident key.object.0 key.page.0 ≡ None → PutsEntry w.task.0 (Some (with_on w (on.Ready key.object))) k.waits.rows waits2.rows → Works header (record k { waits = waits2 }) ids woken.Nobody past
+works_ready header past k ids w key waits2 works is at told absent put =
+    works_turned header past k ids w (on.Ready key.object) waits2 works is (absent_asks header past k ids w key works is at absent) (key, at, refl, told) put
+
+-- it joins the frame queue
+works_queued : (header : Header) (past : List Event) (k : Parts) (ids : Ids) (w : Waiting) (key : PageKey) (waits2 : WaitTable) → Works header k ids woken.Nobody past → entry k.waits.rows w.task.0 ≡ Some w → IsAt k.maps k.chains w.task.0 w.want key
+    → row_at k.resident key.object.0 key.page.0 ≡ None → PutsEntry w.task.0 (Some (with_on w on.Frame)) k.waits.rows waits2.rows → Works header (record k { waits = waits2 }) ids woken.Nobody past
+works_queued header past k ids w key waits2 works is at absent put =
+    works_turned header past k ids w on.Frame waits2 works is (absent_asks header past k ids w key works is at absent) tt put
+
+-- it waits for a page that was asked for before
+works_joined : (header : Header) (past : List Event) (k : Parts) (ids : Ids) (w : Waiting) (key : PageKey) (waits2 : WaitTable) → Works header k ids woken.Nobody past → entry k.waits.rows w.task.0 ≡ Some w → IsAt k.maps k.chains w.task.0 w.want key
+    → IsAsked k.resident key.object.0 key.page.0 → PutsEntry w.task.0 (Some (with_on w (on.Page key))) k.waits.rows waits2.rows → Works header (record k { waits = waits2 }) ids woken.Nobody past
+works_joined header past k ids w key waits2 works is at asked put =
+    record {
+      matches = matches_waits header k ids [] past waits2 works.matches;
+      used = works.used;
+      reached = works.reached;
+      waits = waiters_joined k.maps k.chains k.resident k.objects k.waits.rows waits2.rows (λ u. waiting u past) w.task.0 w key works.waits is at asked put;
+    }
+
+-- its page is asked for
+
+-- the request, as the history has it
+asked_is : (header : Header) (past : List Event) (k new : Parts) (ids : Ids) (key : PageKey) (access : ℕ) (events after : List Event) → Matches header k ids [] (events ++ past) → (a : Requested key access k new events after)
+    → after ≡ requesting key a.control access ∷ events
+asked_is header past k new ids key access events after m a = a.told ∙ ap (λ z. event.Sent (Up z key.object) (message.Request a.control key.page access) ∷ events) m.host
+
+-- what is known of it, and of the kernel behind it
+record Asking (header : Header) (outside : Outside) (doing : Command) (past : List Event) (new : Parts) (ids : Ids) (key : PageKey) (control access : ℕ) : Type 0 where
+  pub matches : Matches header new ids [] (requesting key control access ∷ past)
+  pub follows : Follows header outside doing (requesting key control access) past
+
+asking_of : (header : Header) (outside : Outside) (doing : Command) (past : List Event) (k new : Parts) (ids : Ids) (task : TaskId) (what : Want) (key : PageKey) (events after : List Event) → Tries header (events ++ past) k ids task what key
+    → (a : Requested key (access_number (access_in what) 0) k new events after) → Asking header outside doing (events ++ past) new ids key a.control (access_number (access_in what) 0)
+asking_of header outside doing past k new ids task what key events after t a =
+    let h = events ++ past in
+    let number = access_number (access_in what) 0 in
+    let may = may_answer header k ids [] h key a.control t.matches t.lies a.absent a.available in
+    let m2 = matches_asked header k new ids [] h events after key number t.matches a t.lies may.live in
+    record {
+      matches = m2;
+      follows = request_follows header outside doing h task.0 what key a.control number _ t.to (misses_of header k ids [] h key t.matches a.absent) may refl (suffices header new.frames (requesting key a.control number ∷ h) m2.frames);
+    }
+
+goes_asked : (header : Header) (outside : Outside) (doing : Command) (past : List Event) (k new : Parts) (ids : Ids) (task : TaskId) (what : Want) (key : PageKey) (events after : List Event) → Tries header (events ++ past) k ids task what key
+    → Requested key (access_number (access_in what) 0) k new events after → Goes header outside doing past events after
+goes_asked header outside doing past k new ids task what key events after t a =
+    subst (λ (z : List Event). Goes header outside doing past events z) (sym (asked_is header past k new ids key (access_number (access_in what) 0) events after t.matches a))
+    (goes_one header outside doing past events (requesting key a.control (access_number (access_in what) 0)) t.matches.settled (asking_of header outside doing past k new ids task what key events after t a).follows)
+
+works_asked : (header : Header) (outside : Outside) (doing : Command) (past : List Event) (k new : Parts) (ids : Ids) (w : Waiting) (key : PageKey) (waits2 : WaitTable) (events after : List Event)
+    → Works header k ids woken.Nobody (events ++ past) → entry k.waits.rows w.task.0 ≡ Some w → IsAt k.maps k.chains w.task.0 w.want key → Requested key (access_number (access_in w.want) 0) k new events after
+    → PutsEntry w.task.0 (Some (with_on w (on.Page key))) new.waits.rows waits2.rows → Works header (record new { waits = waits2 }) ids woken.Nobody (after ++ past)
+works_asked header outside doing past k new ids w key waits2 events after works is at a put =
+    let h = events ++ past in
+    let e = requesting key a.control (access_number (access_in w.want) 0) in
+    let asking = asking_of header outside doing past k new ids w.task w.want key events after (tries_of header h k ids w key works is at) a in
+    let put2 : PutsEntry w.task.0 (Some (with_on w (on.Page key))) k.waits.rows waits2.rows = subst (λ (z : WaitTable). PutsEntry w.task.0 (Some (with_on w (on.Page key))) z.rows waits2.rows) a.plan.waits put in
+    let waiters = waiters_asked k.maps k.chains k.resident new.resident k.objects k.waits.rows waits2.rows (λ u. waiting u h) w.task.0 w key _ works.waits is at a.absent a.row refl put2 in
+    subst (λ (z : List Event). Works header (record new { waits = waits2 }) ids woken.Nobody (z ++ past)) (sym (asked_is header past k new ids key (access_number (access_in w.want) 0) events after works.matches a))
+    (record {
+      matches = matches_waits header new ids [] (e ∷ h) waits2 asking.matches;
+      used = rw a.plan.chains works.used;
+      reached = rw (a.plan.chains, a.plan.objects) works.reached;
+      waits = rw (a.plan.maps, a.plan.chains, a.plan.objects) waiters;
+    })
+
+-- the access wants a frame
+pub wants_of : (header : Header) (past : List Event) (k : Parts) (ids : Ids) (task : TaskId) (what : Want) (key : PageKey) (may : Bool) → Tries header past k ids task what key → WantsOne key may k → Wants header 0 past
+wants_of header past k ids task what key may t wants =
+    record {
+      task = task.0;
+      access = access_in what;
+      waits = it_waits header past task.0 what key t.to;
+      on_host = refl;
+      frame = why wants.why;
+    }
+  where
+    region : ℕ
+    region = t.to.entry.region.0
+
+    page : ℕ
+    page = page_of header task.0 (access_in what) past t.to.entry
+
+    comes : Comes header 0 region page key.object.0 key.page.0 past
+    comes = record { top = key.object.0; top_page = key.page.0; steps = 0; is_top = top_at header past task.0 what key t.to; walks = (refl, refl) }
+
+    why : (IsUnavailable key k ⊎ ((control : ℕ) × IsAvailable key control k)) → WantsFrame header 0 task.0 (access_in what) region page past
+    why (inl none) = Nowhere key.object.0 key.page.0 0 (top_at header past task.0 what key t.to) (passes_of header k ids [] past key t.matches t.lies wants.absent none, t.to.bare)
+    why (inr has) =
+        let misses = misses_of header k ids [] past key t.matches wants.absent in
+        let may = may_answer header k ids [] past key has.0 t.matches t.lies wants.absent has.1 in
+        Elsewhere key.object.0 key.page.0 comes misses.away misses.unasked may.may_have may.ready
+
+-- nothing has changed but what an access waits for
+stays_works : (header : Header) (past : List Event) (k new : Parts) (ids : Ids) (task : ℕ) (x : Option Waiting) (waits2 : WaitTable) (events after : List Event) → Stays k new events after
+    → (PutsEntry task x k.waits.rows waits2.rows → Works header (record k { waits = waits2 }) ids woken.Nobody (events ++ past)) → PutsEntry task x new.waits.rows waits2.rows
+    → Works header (record new { waits = waits2 }) ids woken.Nobody (after ++ past)
+stays_works header past k new ids task x waits2 events after stays works put =
+    subst (λ (z : List Event). Works header (record new { waits = waits2 }) ids woken.Nobody (z ++ past)) (sym stays.told)
+    (subst (λ (z : Parts). Works header (record z { waits = waits2 }) ids woken.Nobody (events ++ past)) (sym stays.same)
+    (works (subst (λ (z : Parts). PutsEntry task x z.waits.rows waits2.rows) stays.same put)))
+
+stays_goes : (header : Header) (outside : Outside) (doing : Command) (past : List Event) (k new : Parts) (events after : List Event) → Stays k new events after → Goes header outside doing past events after
+stays_goes header outside doing past k new events after stays = subst (λ (z : List Event). Goes header outside doing past events z) (sym stays.told) (goes_none header outside doing past events)
+
+-- what a fault's answer says
+
+-- what it told follows from what stood there
+pub fault_goes : (header : Header) (outside : Outside) (doing : Command) (past : List Event) (k new : Parts) (ids : Ids) (w : Waiting) (may : Bool) (answer : FaultStep) (events after : List Event) → Works header k ids woken.Nobody (events ++ past)
+    → entry k.waits.rows w.task.0 ≡ Some w → Faulted w.task w.want may answer k new events after → Goes header outside doing past events after
+fault_goes header outside doing past k new ids w may step.Done events after works is f = (finishes header outside doing past k new ids w.task w.want f.key events after (tries_of header (events ++ past) k ids w f.key works is f.at) f.faults).goes
+fault_goes header outside doing past k new ids w may (step.Ask key) events after works is f = goes_asked header outside doing past k new ids w.task w.want f.key events after (tries_of header (events ++ past) k ids w f.key works is f.at) f.faults.1
+fault_goes header outside doing past k new ids w may (step.WaitReady object) events after works is f = stays_goes header outside doing past k new events after f.faults.2
+fault_goes header outside doing past k new ids w may (step.WaitAnswer key) events after works is f = stays_goes header outside doing past k new events after f.faults.2
+fault_goes header outside doing past k new ids w may step.NeedFrame events after works is f = stays_goes header outside doing past k new events after f.faults.1
+
+pub done_works : (header : Header) (outside : Outside) (doing : Command) (past : List Event) (k new : Parts) (ids : Ids) (w : Waiting) (may : Bool) (events after : List Event) (waits2 : WaitTable) → Works header k ids woken.Nobody (events ++ past)
+    → entry k.waits.rows w.task.0 ≡ Some w → Faulted w.task w.want may step.Done k new events after → PutsEntry w.task.0 None new.waits.rows waits2.rows → Works header (record new { waits = waits2 }) ids woken.Nobody (after ++ past)
+done_works header outside doing past k new ids w may events after waits2 works is f put =
+    works_finished header outside doing past k new ids w f.key events after waits2 works is (finishes header outside doing past k new ids w.task w.want f.key events after (tries_of header (events ++ past) k ids w f.key works is f.at) f.faults) put
+
+pub ready_works : (header : Header) (past : List Event) (k new : Parts) (ids : Ids) (w : Waiting) (may : Bool) (object : ObjectId) (events after : List Event) (waits2 : WaitTable)
+    → Works header k ids woken.Nobody (events ++ past) → entry k.waits.rows w.task.0 ≡ Some w → Faulted w.task w.want may (step.WaitReady object) k new events after → PutsEntry w.task.0 (Some (with_on w (on.Ready object))) new.waits.rows waits2.rows
+    → Works header (record new { waits = waits2 }) ids woken.Nobody (after ++ past)
+ready_works header past k new ids w may object events after waits2 works is f put =
+    stays_works header past k new ids w.task.0 (Some (with_on w (on.Ready f.key.object))) waits2 events after f.faults.2
+    (λ put2. works_ready header (events ++ past) k ids w f.key waits2 works is f.at f.faults.1 f.faults.3 put2)
+    (subst (λ (z : ObjectId). PutsEntry w.task.0 (Some (with_on w (on.Ready z))) new.waits.rows waits2.rows) f.faults.0 put)
+
+-- it waits for a page that is asked now, or was asked before
+pub page_works : (header : Header) (outside : Outside) (doing : Command) (past : List Event) (k new : Parts) (ids : Ids) (w : Waiting) (may : Bool) (answer : FaultStep) (key : PageKey) (events after : List Event) (waits2 : WaitTable)
+    → Works header k ids woken.Nobody (events ++ past) → entry k.waits.rows w.task.0 ≡ Some w → Faulted w.task w.want may answer k new events after → (answer ≡ step.Ask key) ⊎ (answer ≡ step.WaitAnswer key)
+    → PutsEntry w.task.0 (Some (with_on w (on.Page key))) new.waits.rows waits2.rows → Works header (record new { waits = waits2 }) ids woken.Nobody (after ++ past)
+page_works header outside doing past k new ids w may answer key events after waits2 works is faulted (inl asks) put =
+    let f : Faulted w.task w.want may (step.Ask key) k new events after = subst (λ (z : FaultStep). Faulted w.task w.want may z k new events after) asks faulted in
+    works_asked header outside doing past k new ids w f.key waits2 events after works is f.at f.faults.1
+    (subst (λ (z : PageKey). PutsEntry w.task.0 (Some (with_on w (on.Page z))) new.waits.rows waits2.rows) f.faults.0 put)
+page_works header outside doing past k new ids w may answer key events after waits2 works is faulted (inr joins) put =
+    let f : Faulted w.task w.want may (step.WaitAnswer key) k new events after = subst (λ (z : FaultStep). Faulted w.task w.want may z k new events after) joins faulted in
+    stays_works header past k new ids w.task.0 (Some (with_on w (on.Page f.key))) waits2 events after f.faults.2
+    (λ put2. works_joined header (events ++ past) k ids w f.key waits2 works is f.at f.faults.1 put2)
+    (subst (λ (z : PageKey). PutsEntry w.task.0 (Some (with_on w (on.Page z))) new.waits.rows waits2.rows) f.faults.0 put)
+
+pub queued_works : (header : Header) (past : List Event) (k new : Parts) (ids : Ids) (w : Waiting) (may : Bool) (events after : List Event) (waits2 : WaitTable)
+    → Works header k ids woken.Nobody (events ++ past) → entry k.waits.rows w.task.0 ≡ Some w → Faulted w.task w.want may step.NeedFrame k new events after → PutsEntry w.task.0 (Some (with_on w on.Frame)) new.waits.rows waits2.rows
+    → Works header (record new { waits = waits2 }) ids woken.Nobody (after ++ past)
+queued_works header past k new ids w may events after waits2 works is f put =
+    stays_works header past k new ids w.task.0 (Some (with_on w on.Frame)) waits2 events after f.faults.1
+    (λ put2. works_queued header (events ++ past) k ids w f.key waits2 works is f.at f.faults.0.absent put2) put
+
+-- an access that wants a frame stands in the queue, and the counts say so
+pub queues_of : (header : Header) (past : List Event) (k new : Parts) (ids : Ids) (w : Waiting) (may : Bool) (events after : List Event) (waits2 : WaitTable)
+    → Works header k ids woken.Nobody (events ++ past) → entry k.waits.rows w.task.0 ≡ Some w → Faulted w.task w.want may step.NeedFrame k new events after
+    → again waits2.rows + one_again w.on ≡ again new.waits.rows → queued waits2.rows ≡ queued new.waits.rows + (1 - one_frame w.on)
+    → Queues header w may k (record new { waits = waits2 }) (events ++ past) (after ++ past)
+queues_of header past k new ids w may events after waits2 works is f agains queues =
+    let stays = f.faults.1 in
+    let wants = wants_of header (events ++ past) k ids w.task w.want f.key may (tries_of header (events ++ past) k ids w f.key works is f.at) f.faults.0 in
+    record {
+      same = ap (λ z. z ++ past) stays.told;
+      wants = subst (λ (z : List Event). Wants header 0 (z ++ past)) (sym stays.told) wants;
+      none = λ is_so. ap (λ (z : Parts). free z.frames) stays.same ∙ f.faults.0.none is_so;
+      again = agains ∙ ap (λ (z : Parts). again z.waits.rows) stays.same;
+      queued = queues ∙ ap (λ (z : Parts). queued z.waits.rows + (1 - one_frame w.on)) stays.same;
+      claimed = ap (λ (z : Parts). claimed z.frames) stays.same;
+      laundry = ap (λ (z : Parts). z.laundry) stays.same;
+    }
+
+-- those who wait do so still
+
+hits_kept : (task : TaskId) (what : Want) (key : PageKey) (frame : FrameNo) (at : ℕ) (k new : Parts) (before after : List Event) → Hits task what key frame at k new before after → new.waits ≡ k.waits
+hits_kept task (want.Load address n) key frame at k new before after hits = ap (λ (z : Parts). z.waits) hits.2.is
+hits_kept task (want.Store address n value) key frame at k new before after hits = ap (λ (z : Parts). z.waits) hits.2.is ∙ hits.1.plan.waits
+
+ended_kept : (task : TaskId) (what : Want) (key : PageKey) (at : ℕ) (k new : Parts) (before after : List Event) → Ended task what key at k new before after → new.waits ≡ k.waits
+ended_kept task what key at k new before after (AtOnce frame here hits) = hits_kept task what key frame at k new before after hits
+ended_kept task what key at k new before after (AfterZeros frame mid none brought hits) = hits_kept task what key frame at mid new (zeroed key k ∷ before) after hits ∙ brought.plan.waits
+
+faults_kept : (task : TaskId) (what : Want) (may : Bool) (key : PageKey) (answer : FaultStep) (k new : Parts) (before after : List Event) → Faults task what may key answer k new before after → new.waits ≡ k.waits
+faults_kept task what may key step.Done k new before after faults = ended_kept task what key (address_in what % k.size) k new before after faults
+faults_kept task what may key (step.Ask asked) k new before after faults = faults.1.plan.waits
+faults_kept task what may key (step.WaitReady object) k new before after faults = ap (λ (z : Parts). z.waits) faults.2.same
+faults_kept task what may key (step.WaitAnswer asked) k new before after faults = ap (λ (z : Parts). z.waits) faults.2.same
+faults_kept task what may key step.NeedFrame k new before after faults = ap (λ (z : Parts). z.waits) faults.1.same
+
+pub waits_kept : (w : Waiting) (may : Bool) (answer : FaultStep) (k new : Parts) (before after : List Event) → Faulted w.task w.want may answer k new before after → new.waits ≡ k.waits
+waits_kept w may answer k new before after f = faults_kept w.task w.want may f.key answer k new before after f.faults
+
+-- what is said of the row of the access that was run
+pub its_row : (w : Waiting) (may : Bool) (answer : FaultStep) (k new : Parts) (before after : List Event) (P : Waiting → Type 0) → entry k.waits.rows w.task.0 ≡ Some w → Faulted w.task w.want may answer k new before after
+    → IfSome (entry new.waits.rows w.task.0) P → P w
+its_row w may answer k new before after P is f holds =
+    subst (λ z. IfSome z P) (ap (λ (z : WaitTable). entry z.rows w.task.0) (waits_kept w may answer k new before after f) ∙ is) holds

@@ -1,0 +1,244 @@
+-- A load or store begins: its task waits, and the access is to be run.
+use Rattle.std.proofs.Common.{◌≡◌, ℕ, ◌%◌, ◌==◌, ◌∷◌, ◌++◌, Bool, true, false, List, [], refl, ap, sym, ◌∙◌, subst, Some, None, Option, inl, inr}
+use Rattle.std.proofs.lemmas.Bool.Decides.{eqb_tells}
+use Rattle.std.specs.Prelude.{if◌then◌else◌, is_none, is_some, not}
+use Rattle.vm_base.specs.declared.code.Code.{Code}
+use Rattle.vm_base.specs.declared.code.Code.TheVariants as code
+use Rattle.vm_base.specs.declared.entry.Entry.{Entry}
+use Rattle.vm_base.specs.declared.ids.Access.{Access as Need}
+use Rattle.vm_base.specs.declared.ids.TaskId.{TaskId}
+use Rattle.vm_base.specs.Entries.{allows, entry_at}
+use Rattle.vm_model.specs.declared.event.Event.{Event}
+use Rattle.vm_model.specs.declared.event.Event.TheVariants as event
+use Rattle.vm_model.specs.declared.command.Command.{Command}
+use Rattle.vm_model.specs.declared.command.Command.TheVariants as command
+use Rattle.vm_model.specs.declared.script.Header.{Header}
+use Rattle.vm_model.specs.Tasks.{entries_of, host_of}
+use Rattle.vm_model.specs.Waiting.{Access, waiting}
+use Rattle.vm_legal.specs.Follows.{IsDone}
+use Rattle.vm_legal.specs.Outside.{Outside}
+use Rattle.vm_legal.specs.Refusal.{access_refusal, acting, where_true}
+use Rattle.vm_maps.specs.Maps.{Mapped, entries_in}
+use Rattle.vm_objects.specs.Objects.{ObjectTable}
+use Rattle.vm_resident.specs.Resident.{ResidentTable}
+use Rattle.vm_shadow.specs.Chains.{ChainTable}
+use Rattle.vm_shadow.specs.declared.ids.Ids.{Ids}
+use Rattle.vm_supply.specs.declared.woken.Woken.TheVariants as woken
+use Rattle.vm_waits.specs.Waits.{PutsEntry, WaitTable, entry}
+use Rattle.vm_waits.specs.declared.waiting.On.TheVariants as on
+use Rattle.vm_waits.specs.declared.waiting.Waiting.{Waiting}
+use Rattle.vm_waits.specs.declared.waiting.Want.{Want}
+use Rattle.vm_waits.specs.declared.waiting.Want.TheVariants as want
+use Rattle.vm_waits.proofs.Entries.{puts_cases, puts_elsewhere}
+use Rattle.vm_kernel.specs.Begun.{Goes, Grows, Ran, Starts}
+use Rattle.vm_kernel.specs.Changes.{IsAllowed}
+use Rattle.vm_kernel.specs.Matches.{Matches, Rests, Works}
+use Rattle.vm_kernel.specs.Waiters.{Asker, HasWaiters, IsSizedWant, Reason, access_in, address_in, need_in, waiting_in}
+use Rattle.vm_kernel.specs.declared.parts.Parts.{Parts}
+use Rattle.vm_kernel.proofs.Growing.{grows_goes, suffices}
+use Rattle.vm_kernel.proofs.Heads.{grows_one, passed}
+use Rattle.vm_kernel.proofs.Tasks.{lives_of}
+
+-- what tests find of an access that isn't refused
+
+-- the task of a command that isn't refused lives, and doesn't wait
+pub record IsActing (past : List Event) (task : ℕ) (later : Option Code) : Type 0 where
+  pub lives : is_none (host_of task past) ≡ false
+  pub idle : is_some (waiting task past) ≡ false
+  pub passes : later ≡ None
+
+pub acting_of : (past : List Event) (task : ℕ) (later : Option Code) → acting past task later ≡ None → IsActing past task later
+acting_of past task later fine =
+    let one = passed (is_none (host_of task past)) code.NoSuchName (where_true (is_some (waiting task past)) code.Blocked later) fine in
+    let two = passed (is_some (waiting task past)) code.Blocked later one.1 in
+    record { lives = one.0; idle = two.0; passes = two.1 }
+
+found_of : (what : Need) (x : Option Entry) → access_refusal what x ≡ None → (entry : Entry) × (x ≡ Some entry) × (allows what entry.prot ≡ true)
+found_of what None fine = absurd (let bad : Some code.InvalidAddress ≡ None = fine in cc)
+found_of what (Some entry) fine = (entry, refl, go (allows what entry.prot) fine)
+  where
+    go : (b : Bool) → (if b then None else Some code.ProtectionFailure) ≡ None → b ≡ true
+    go true is = refl
+    go false is = absurd (let bad : Some code.ProtectionFailure ≡ None = is in cc)
+
+-- an access that isn't refused is allowed, and within a page
+pub record IsFine (k : Parts) (past : List Event) (task address n : ℕ) (need : Need) : Type 0 where
+  pub idle : is_some (waiting task past) ≡ false
+  pub even : address % n ≡ 0
+  pub allowed : IsAllowed k.maps task address need
+
+pub fine_of : (header : Header) (k : Parts) (ids : Ids) (past : List Event) (task address n : ℕ) (need : Need) → Matches header k ids [] past
+    → acting past task (where_true (not (address % n == 0)) code.InvalidArgument (access_refusal need (entry_at address (entries_of header.size task past)))) ≡ None → IsFine k past task address n need
+fine_of header k ids past task address n need m fine =
+    let acts = acting_of past task (where_true (not (address % n == 0)) code.InvalidArgument (access_refusal need (entry_at address (entries_of header.size task past)))) fine in
+    let test = passed (not (address % n == 0)) code.InvalidArgument (access_refusal need (entry_at address (entries_of header.size task past))) acts.passes in
+    let found = found_of need (entry_at address (entries_of header.size task past)) test.1 in
+    record {
+      idle = acts.idle;
+      even = elim (eqb_tells (address % n) 0) [
+        | inl same ↦ same.1
+        | inr apart ↦ absurd (let bad : true ≡ false = rw apart.0 at test.0 in cc)
+      ];
+      allowed =
+          record {
+            entry = found.0;
+            lives = lives_of (entries_in task k.maps) (host_of task past) (m.tasks.hosts task) acts.lives;
+            found = ap (entry_at address) (sym (m.tasks.rows task)) ∙ found.1;
+            allowed = found.2;
+          };
+    }
+
+-- the command that asks for an access, and the event of its beginning
+
+abbrev pub asks : TaskId → Want → Command
+asks task (want.Load address size) = command.Load task address size
+asks task (want.Store address size value) = command.Store task address size value
+
+abbrev pub begun : TaskId → Want → Event
+begun task (want.Load address size) = event.BegunLoad task address size
+begun task (want.Store address size value) = event.BegunStore task address size value
+
+-- the row of an access that is to be run
+abbrev pub begun_row : TaskId → Want → Waiting
+begun_row task what = record { task = task; want = what; on = on.Again }
+
+-- what is known of an access that begins
+pub record CanBegin (k : Parts) (past : List Event) (task : ℕ) (what : Want) : Type 0 where
+  pub idle : is_some (waiting task past) ≡ false
+  pub allowed : IsAllowed k.maps task (address_in what) (need_in what)
+  pub sized : IsSizedWant what
+
+pub can_begin : (header : Header) (task : TaskId) (what : Want) (past : List Event) (k : Parts) (ids : Ids) (before : List Event) → Starts header (asks task what) past k ids before → CanBegin k past task.0 what
+can_begin header task (want.Load address size) past k ids before s =
+    let fine = fine_of header k ids past task.0 address size (need_in (want.Load address size)) s.rests.matches s.accepted in
+    record { idle = fine.idle; allowed = fine.allowed; sized = (s.range.size, fine.even) }
+can_begin header task (want.Store address size value) past k ids before s =
+    let fine = fine_of header k ids past task.0 address size (need_in (want.Store address size value)) s.rests.matches s.accepted in
+    record { idle = fine.idle; allowed = fine.allowed; sized = (s.range.0.size, fine.even, s.range.1) }
+
+-- a task that doesn't wait has no row
+idle_row : (x : Option Waiting) (w : Option Access) → w ≡ waiting_in x → is_some w ≡ false → x ≡ None
+idle_row None w is idle = refl
+idle_row (Some row) w is idle = absurd (let bad : true ≡ false = sym (ap is_some is) ∙ idle in cc)
+
+pub absent_row : (header : Header) (task : TaskId) (what : Want) (past : List Event) (k : Parts) (ids : Ids) (before : List Event) → Starts header (asks task what) past k ids before → entry k.waits.rows task.0 ≡ None
+absent_row header task what past k ids before s = idle_row (entry k.waits.rows task.0) (waiting task.0 past) (s.rests.waits.is task.0) (can_begin header task what past k ids before s).idle
+
+-- the history in which an access has begun
+begun_matches : (header : Header) (k : Parts) (ids : Ids) (past : List Event) (waits : WaitTable) (task : TaskId) (what : Want) → Matches header k ids [] past → Matches header (record k { waits = waits }) ids [] (begun task what ∷ past)
+begun_matches header k ids past waits task (want.Load address size) m =
+    record {
+      plain = m.plain;
+      size = m.size;
+      host = m.host;
+      fits = record { parts = m.fits.parts; plain = m.fits.plain; buffers = m.fits.buffers };
+      tasks = m.tasks;
+      regions = m.regions;
+      entries = m.entries;
+      pages = m.pages;
+      uses = m.uses;
+      controls = m.controls;
+      settled = refl;
+      laundry = m.laundry;
+      frames = m.frames;
+    }
+begun_matches header k ids past waits task (want.Store address size value) m =
+    record {
+      plain = m.plain;
+      size = m.size;
+      host = m.host;
+      fits = record { parts = m.fits.parts; plain = m.fits.plain; buffers = m.fits.buffers };
+      tasks = m.tasks;
+      regions = m.regions;
+      entries = m.entries;
+      pages = m.pages;
+      uses = m.uses;
+      controls = m.controls;
+      settled = refl;
+      laundry = m.laundry;
+      frames = m.frames;
+    }
+
+begun_waiting : (task : TaskId) (what : Want) (past : List Event) (t : ℕ) → waiting t (begun task what ∷ past) ≡ (if task.0 == t then Some (access_in what) else waiting t past)
+begun_waiting task (want.Load address size) past t = refl
+begun_waiting task (want.Store address size value) past t = refl
+
+begun_grows : (header : Header) (outside : Outside) (k : Parts) (ids : Ids) (past : List Event) (task : TaskId) (what : Want) → Matches header k ids [] past → Grows header outside (asks task what) past (begun task what ∷ [])
+begun_grows header outside k ids past task (want.Load address size) m =
+    grows_one header outside (command.Load task address size) past (event.BegunLoad task address size) refl
+    (record { quiet = m.settled; cause = tt; own_bytes = tt; copies = tt; frames = suffices header k.frames past m.frames; inner = tt; said = tt })
+begun_grows header outside k ids past task (want.Store address size value) m =
+    grows_one header outside (command.Store task address size value) past (event.BegunStore task address size value) refl
+    (record { quiet = m.settled; cause = tt; own_bytes = tt; copies = tt; frames = suffices header k.frames past m.frames; inner = tt; said = tt })
+
+-- a task that didn't wait waits with an access that is to be run
+pub waits_begun : (maps : Mapped) (chains : ChainTable) (resident : ResidentTable) (objects : ObjectTable) (rows new : List Waiting) (task : TaskId) (what : Want) (was : ℕ → Option Access) (now : ℕ → Option Access)
+    → HasWaiters maps chains resident objects rows woken.Nobody was → PutsEntry task.0 (Some (begun_row task what)) rows new → entry rows task.0 ≡ None → IsAllowed maps task.0 (address_in what) (need_in what) → IsSizedWant what
+    → ((t : ℕ) → now t ≡ (if task.0 == t then Some (access_in what) else was t)) → HasWaiters maps chains resident objects new woken.Nobody now
+waits_begun maps chains resident objects rows new task what was now has puts none allowed sized is =
+    record {
+      is = λ t. is t ∙ (both (task.0 == t) t ∙ ap waiting_in (sym (puts.at t)));
+      allowed = λ t w found. puts_cases task.0 t (Some (begun_row task what)) rows new w puts found
+          (λ same row. subst (λ (z : Waiting). IsAllowed maps t (address_in z.want) (need_in z.want)) (some_is (begun_row task what) w row) (subst (λ (z : ℕ). IsAllowed maps z (address_in what) (need_in what)) same allowed))
+          (λ apart old. has.allowed t w old);
+      sized = λ t w found. puts_cases task.0 t (Some (begun_row task what)) rows new w puts found
+          (λ same row. subst (λ (z : Waiting). IsSizedWant z.want) (some_is (begun_row task what) w row) sized)
+          (λ apart old. has.sized t w old);
+      reasons = λ t w found unwoken. puts_cases task.0 t (Some (begun_row task what)) rows new w puts found
+          (λ same row. subst (λ (z : Waiting). Reason maps chains resident objects t z.want z.on) (some_is (begun_row task what) w row) tt)
+          (λ apart old. has.reasons t w old unwoken);
+      aims = λ t w key found on_page. puts_cases task.0 t (Some (begun_row task what)) rows new w puts found
+          (λ same row. absurd (let bad : on.Again ≡ on.Page key = ap (λ (z : Waiting). z.on) (some_is (begun_row task what) w row) ∙ on_page in cc))
+          (λ apart old. has.aims t w key old on_page);
+      askers = λ o p row found away. asks_still o p (has.askers o p row found away);
+    }
+  where
+    some_is : (x y : Waiting) → Some x ≡ Some y → x ≡ y
+    some_is x y e = cc
+
+    both : (b : Bool) (t : ℕ) → (if b then Some (access_in what) else was t) ≡ waiting_in (if b then Some (begun_row task what) else entry rows t)
+    both true t = refl
+    both false t = has.is t
+
+    asks_still : (o p : ℕ) → Asker rows o p → Asker new o p
+    asks_still o p asker =
+        record {
+          task = asker.task;
+          row = asker.row;
+          is = puts_elsewhere task.0 asker.task (Some (begun_row task what)) rows new puts (λ same. let bad : None ≡ Some asker.row = sym none ∙ (ap (entry rows) same ∙ asker.is) in cc) ∙ asker.is;
+          waits = asker.waits;
+        }
+
+begun_log : (task : TaskId) (what : Want) (before log : List Event) → before ≡ [] → log ≡ begun task what ∷ before → log ≡ begun task what ∷ []
+begun_log task what before log none told = told ∙ ap (λ (z : List Event). begun task what ∷ z) none
+
+pub begun_works : (header : Header) (doing : Command) (task : TaskId) (what : Want) (past : List Event) (k : Parts) (ids : Ids) (before log : List Event) (reserved waits : WaitTable) → doing ≡ asks task what → Starts header doing past k ids before
+    → log ≡ begun task what ∷ before → reserved.rows ≡ k.waits.rows → PutsEntry task.0 (Some (begun_row task what)) reserved.rows waits.rows → Works header (record k { waits = waits }) ids woken.Nobody (log ++ past)
+begun_works header doing task what past k ids before log reserved waits is starts told same puts =
+    let s : Starts header (asks task what) past k ids before = subst (λ (z : Command). Starts header z past k ids before) is starts in
+    let can = can_begin header task what past k ids before s in
+    let puts_here : PutsEntry task.0 (Some (begun_row task what)) k.waits.rows waits.rows = subst (λ (z : List Waiting). PutsEntry task.0 (Some (begun_row task what)) z waits.rows) same puts in
+    subst (λ (z : List Event). Works header (record k { waits = waits }) ids woken.Nobody (z ++ past)) (sym (begun_log task what before log s.nothing told))
+    (record {
+      matches = begun_matches header k ids past waits task what s.rests.matches;
+      used = s.rests.used;
+      reached = s.rests.reached;
+      waits = waits_begun k.maps k.chains k.resident k.objects k.waits.rows waits.rows task what (λ t. waiting t past) (λ t. waiting t (begun task what ∷ past)) s.rests.waits puts_here (absent_row header task what past k ids before s) can.allowed can.sized (begun_waiting task what past);
+    })
+
+begun_done : (header : Header) (task : TaskId) (what : Want) (past events : List Event) → IsDone header (asks task what) events past
+begun_done header task (want.Load address size) past events = tt
+begun_done header task (want.Store address size value) past events = tt
+
+-- the access was run, and all that were to be
+pub begun_ran : (header : Header) (outside : Outside) (doing : Command) (task : TaskId) (what : Want) (past : List Event) (k new : Parts) (ids : Ids) (before log after : List Event) → doing ≡ asks task what → Starts header doing past k ids before
+    → log ≡ begun task what ∷ before → Rests header new ids (after ++ past) → Goes header outside doing past log after → Ran header outside doing past new ids after
+begun_ran header outside doing task what past k new ids before log after is starts told rests goes =
+    let first : Grows header outside (asks task what) past (begun task what ∷ []) = begun_grows header outside k ids past task what starts.rests.matches in
+    let grows : Grows header outside doing past log =
+    subst (λ (z : Command). Grows header outside z past log) (sym is) (subst (λ (z : List Event). Grows header outside (asks task what) past z) (sym (begun_log task what before log starts.nothing told)) first) in
+    record {
+      rests = rests;
+      grows = grows_goes header outside doing past log after grows goes;
+      done = subst (λ (z : Command). IsDone header z after past) (sym is) (begun_done header task what past after);
+    }

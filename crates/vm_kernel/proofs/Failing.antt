@@ -1,0 +1,255 @@
+-- Those who wait for a page that its pager can't give are ended.
+use Rattle.std.proofs.Common.{append-nil, append_assoc, ◌≡◌, ℕ, ◌+◌, ◌==◌, ◌&&◌, ◌||◌, Bool, true, false, List, [], ◌∷◌, ◌++◌, refl, ap, sym, ◌∙◌, subst, Some, None, inl, inr}
+use Rattle.std.proofs.lemmas.Bool.Decides.{eqb_tells}
+use Rattle.std.specs.Prelude.{if◌then◌else◌, nat_lt}
+use Rattle.vm_base.specs.declared.ids.PageKey.{PageKey}
+use Rattle.vm_base.specs.declared.ids.TaskId.{TaskId}
+use Rattle.vm_base.specs.Entries.{entry_at, page_at}
+use Rattle.vm_model.specs.declared.command.Command.{Command}
+use Rattle.vm_model.specs.declared.event.Event.{Event}
+use Rattle.vm_model.specs.declared.event.Event.TheVariants as event
+use Rattle.vm_model.specs.declared.script.Header.{Header}
+use Rattle.vm_model.specs.Tasks.{entries_of}
+use Rattle.vm_model.specs.Waiting.{address_of, next_page, waiting}
+use Rattle.vm_legal.specs.Licences.{Fails}
+use Rattle.vm_legal.specs.Living.{tasks as made_tasks}
+use Rattle.vm_legal.specs.Outside.{Outside}
+use Rattle.vm_legal.specs.Steps.{Asked, error_taken, fails_access, since}
+use Rattle.vm_legal.specs.Used.{in_use, is_kept}
+use Rattle.vm_resident.specs.Resident.{page_key}
+use Rattle.vm_shadow.specs.declared.ids.Ids.{Ids}
+use Rattle.vm_supply.specs.declared.woken.Woken.{Woken}
+use Rattle.vm_supply.specs.declared.woken.Woken.TheVariants as who
+use Rattle.vm_waits.specs.Waits.{PutsEntry, WaitTable, entry, woken_page}
+use Rattle.vm_waits.specs.declared.waiting.On.{On}
+use Rattle.vm_waits.specs.declared.waiting.On.TheVariants as on
+use Rattle.vm_waits.specs.declared.waiting.Waiting.{Waiting}
+use Rattle.vm_waits.specs.declared.waiting.Want.{Want}
+use Rattle.vm_waits.specs.declared.waiting.Want.TheVariants as want
+use Rattle.vm_waits.proofs.Entries.{puts_cases}
+use Rattle.vm_kernel.specs.Begun.{AllInner, Goes, IsInner}
+use Rattle.vm_kernel.specs.Counts.{count_by, most_tasks}
+use Rattle.vm_kernel.specs.Matches.{HasUse, Works, host_for}
+use Rattle.vm_kernel.specs.Taking.{FailsNow, HasFailed, IsAnswered, IsErrorPaid}
+use Rattle.vm_kernel.specs.Waiters.{Asker, access_in, address_in, waiting_in}
+use Rattle.vm_kernel.specs.declared.parts.Parts.{Parts}
+use Rattle.vm_kernel.proofs.Growing.{goes_more, suffices}
+use Rattle.vm_kernel.proofs.Rows.{some_is}
+use Rattle.vm_kernel.proofs.Uses.{kept_is}
+
+-- who waits for the page
+pub waits_for : (key : PageKey) (reason : On) → woken_page key reason ≡ true → reason ≡ on.Page key
+waits_for key on.Again is = absurd (let bad : false ≡ true = is in cc)
+waits_for key (on.Ready object) is = absurd (let bad : false ≡ true = is in cc)
+waits_for key (on.Page other) is = elim (eqb_tells other.object.0 key.object.0) [
+  | inl one ↦ elim (eqb_tells other.page.0 key.page.0) [
+    | inl two ↦ λ i. on.Page (page_key (one.1 i) (two.1 i))
+    | inr apart ↦ absurd (let bad : false ≡ true = rw (one.0, apart.0) at is in cc)
+  ]
+  | inr apart ↦ absurd (let bad : false ≡ true = rw apart.0 at is in cc)
+]
+waits_for key on.Frame is = absurd (let bad : false ≡ true = is in cc)
+
+itself : (key : PageKey) → woken_page key (on.Page key) ≡ true
+itself key = elim (eqb_tells key.object.0 key.object.0) [
+  | inl one ↦ elim (eqb_tells key.page.0 key.page.0) [
+    | inl two ↦ rw (one.0, two.0) refl
+    | inr apart ↦ absurd (apart.1 refl)
+  ]
+  | inr apart ↦ absurd (apart.1 refl)
+]
+
+-- where it leads
+aims_at : (size next : ℕ) (what : Want) → address_of size next (access_in what) ≡ address_in what
+aims_at size next (want.Load address bytes) = refl
+aims_at size next (want.Store address bytes value) = refl
+
+fails_cause : (header : Header) (k : Parts) (ids : Ids) (past : List Event) (key : PageKey) (w : Waiting) → Works header k ids (who.Fails key) past → FailsNow header (who.Fails key) past
+    → entry k.waits.rows w.task.0 ≡ Some w → w.on ≡ on.Page key → Fails header w.task.0 key.object.0 key.page.0 past
+fails_cause header k ids past key w works fails found waits =
+    let was = works.matches in
+    let at = works.waits.aims w.task.0 w key found waits in
+    let allowed = works.waits.allowed w.task.0 w found in
+    let address = aims_at header.size (next_page w.task.0 past) w.want in
+    let region = was.regions.rows at.entry.region.0 at.row at.region in
+    record {
+      access = access_in w.want;
+      waits =
+          record {
+            waits = works.waits.is w.task.0 ∙ ap waiting_in found;
+            at =
+                record {
+                  host = 0;
+                  entry = at.entry;
+                  lives = was.tasks.hosts w.task.0 ∙ ap host_for allowed.lives;
+                  found = ap (λ z. entry_at z (entries_of header.size w.task.0 past)) address ∙ (ap (entry_at (address_in w.want)) (was.tasks.rows w.task.0) ∙ at.found);
+                };
+          };
+      error = fails;
+      place =
+          record {
+            top = key.object.0;
+            top_page = key.page.0;
+            steps = 0;
+            is_top =
+                record {
+                  object = ap (λ z. z.top) region ∙ ap (λ z. z.object.0) (sym at.is);
+                  page =
+                      ap (λ z. z.shift + page_at header.size (address_of header.size (next_page w.task.0 past) (access_in w.want)) at.entry) region
+                      ∙ (ap (λ z. at.row.shift + page_at header.size z at.entry) address
+                      ∙ (ap (λ z. at.row.shift + page_at z (address_in w.want) at.entry) (sym was.tasks.sized) ∙ ap (λ z. z.page.0) (sym at.is)));
+                };
+            leads = (refl, refl);
+          };
+    }
+
+-- the table without its row
+waits_less : (task : ℕ) (rows rows2 : List Waiting) (past : List Event) → ((t : ℕ) → waiting t past ≡ waiting_in (entry rows t)) → PutsEntry task None rows rows2
+    → (t : ℕ) → (if task == t then None else waiting t past) ≡ waiting_in (entry rows2 t)
+waits_less task rows rows2 past is puts t = elim (eqb_tells task t) [
+  | inl same ↦ rw same.0 (sym (ap waiting_in (puts.at t ∙ ap (λ b. if b then None else entry rows t) same.0)))
+  | inr apart ↦ rw apart.0 (is t ∙ sym (ap waiting_in (puts.at t ∙ ap (λ b. if b then None else entry rows t) apart.0)))
+]
+
+stood : (task t : ℕ) (rows rows2 : List Waiting) (w : Waiting) → PutsEntry task None rows rows2 → entry rows2 t ≡ Some w → entry rows t ≡ Some w
+stood task t rows rows2 w puts found = puts_cases task t None rows rows2 w puts found (λ same is. absurd (let bad : None ≡ Some w = is in cc)) (λ apart was. was)
+
+stays : (task t : ℕ) (rows rows2 : List Waiting) (w : Waiting) → PutsEntry task None rows rows2 → (task ≡ t → ⊥) → entry rows t ≡ Some w → entry rows2 t ≡ Some w
+stays task t rows rows2 w puts apart found = elim (eqb_tells task t) [
+  | inl same ↦ absurd (apart same.1)
+  | inr other ↦ puts.at t ∙ (ap (λ b. if b then None else entry rows t) other.0 ∙ found)
+]
+
+uses_failed : (header : Header) (k : Parts) (ids : Ids) (past : List Event) (key : PageKey) (task : TaskId) (rows : List Waiting) → Works header k ids (who.Fails key) past
+    → ((t : ℕ) → waiting t (event.Failed task key.object key.page ∷ past) ≡ waiting_in (entry rows t))
+    → HasUse k.maps (λ r. in_use header 0 r (event.Failed task key.object key.page ∷ past)) (made_tasks past)
+uses_failed header k ids past key task rows works is =
+    let was = works.matches in
+    record {
+      used = λ r. both (is_kept header r (event.Failed task key.object key.page ∷ past)) (in_use header 0 r past) (nat_lt 0 (count_by most_tasks r k.maps))
+          (kept_is header r k.maps (event.Failed task key.object key.page ∷ past) was.plain (record { rows = was.tasks.rows; waiting = rows; waits = record { is = is } }) was.entries.most was.uses.among)
+          (was.uses.used r);
+      among = was.uses.among;
+    }
+  where
+    both : (a b c : Bool) → a ≡ c → b ≡ c → (a && b) ≡ c
+    both a b c one two = rw (one, two) (self c)
+      where
+        self : (d : Bool) → (d && d) ≡ d
+        self true = refl
+        self false = refl
+
+-- what holds while they are ended
+pub record Failing (header : Header) (outside : Outside) (doing : Command) (past old events : List Event) (key : PageKey) (k : Parts) (ids : Ids) : Type 0 where
+  pub works : Works header k ids (who.Fails key) (events ++ past)
+  pub fails : FailsNow header (who.Fails key) (events ++ past)
+  pub answered : IsAnswered (who.Fails key) k.resident
+  pub goes : Goes header outside doing past old events
+
+-- one is ended
+pub failed_one : (header : Header) (outside : Outside) (doing : Command) (past old events : List Event) (key : PageKey) (k : Parts) (ids : Ids) (w : Waiting) (waits : WaitTable)
+    → Failing header outside doing past old events key k ids → entry k.waits.rows w.task.0 ≡ Some w → woken_page key w.on ≡ true → PutsEntry w.task.0 None k.waits.rows waits.rows
+    → Failing header outside doing past old (event.Failed w.task key.object key.page ∷ events) key (record k { waits = waits }) ids
+failed_one header outside doing past old events key k ids w waits f found passes puts =
+    let was = f.works.matches in
+    let h = events ++ past in
+    let e = event.Failed w.task key.object key.page in
+    let rows = k.waits.rows in
+    let has = f.works.waits in
+    let is : (t : ℕ) → waiting t (e ∷ h) ≡ waiting_in (entry waits.rows t) = waits_less w.task.0 rows waits.rows h has.is puts in
+    let cause = fails_cause header k ids h key w f.works f.fails found (waits_for key w.on passes) in
+    record {
+      works =
+          record {
+            matches =
+                record {
+                  plain = was.plain;
+                  size = was.size;
+                  host = was.host;
+                  fits = record { parts = was.fits.parts; plain = was.fits.plain; buffers = was.fits.buffers };
+                  tasks = was.tasks;
+                  regions = was.regions;
+                  entries = was.entries;
+                  pages = was.pages;
+                  uses = uses_failed header k ids h key w.task waits.rows f.works is;
+                  controls = was.controls;
+                  settled = refl;
+                  laundry = was.laundry;
+                  frames = was.frames;
+                };
+            used = f.works.used;
+            reached = f.works.reached;
+            waits =
+                record {
+                  is = is;
+                  allowed = λ t v at. has.allowed t v (stood w.task.0 t rows waits.rows v puts at);
+                  sized = λ t v at. has.sized t v (stood w.task.0 t rows waits.rows v puts at);
+                  reasons = λ t v at still. has.reasons t v (stood w.task.0 t rows waits.rows v puts at) still;
+                  aims = λ t v other at waits_on. has.aims t v other (stood w.task.0 t rows waits.rows v puts at) waits_on;
+                  askers = λ o p row at away. asker_stays o p (has.askers o p row at away) (f.answered.at o p row at away);
+                };
+          };
+      fails = f.fails;
+      answered = f.answered;
+      goes = goes_more header outside doing past old events e f.goes was.settled
+          (record { consequence = tt; cause = cause; own_bytes = tt; copies = tt; frames = suffices header k.frames (e ∷ h) was.frames; inner = tt; said = tt });
+    }
+  where
+    asker_stays : (o p : ℕ) → Asker k.waits.rows o p → woken_page key (on.Page (page_key o p)) ≡ false → Asker waits.rows o p
+    asker_stays o p asker still =
+        record {
+          task = asker.task;
+          row = asker.row;
+          is = stays w.task.0 asker.task k.waits.rows waits.rows asker.row puts (λ same.
+              let row : w ≡ asker.row = some_is w asker.row (sym found ∙ (ap (entry k.waits.rows) same ∙ asker.is)) in
+              let bad : true ≡ false = sym passes ∙ (ap (λ z. woken_page key z.on) row ∙ (ap (woken_page key) asker.waits ∙ still)) in
+              cc) asker.is;
+          waits = asker.waits;
+        }
+
+pub since_now : (key : PageKey) (task : TaskId) (past : List Event) → since (fails_access key.object.0 key.page.0) (event.Failed task key.object key.page ∷ past) ≡ true
+since_now key task past = ap (λ b. b || since (fails_access key.object.0 key.page.0) past) (itself key)
+
+-- the error that a step took is paid, and that stays so
+
+error_inner : (size : ℕ) (e : Event) (past : List Event) → IsInner e → error_taken size (e ∷ past) ≡ error_taken size past
+error_inner size (event.Line line) past inner = absurd inner
+error_inner size (event.Taken channel m) past inner = absurd inner
+error_inner size other past inner = refl
+
+error_same : (size : ℕ) (more past : List Event) → AllInner more → error_taken size (more ++ past) ≡ error_taken size past
+error_same size [] past inner = refl
+error_same size (e ∷ more) past inner = error_inner size e (more ++ past) inner.0 ∙ error_same size more past inner.1
+
+either : (a b : Bool) → b ≡ true → (a || b) ≡ true
+either true b is = refl
+either false b is = is
+
+since_inner : (test : Event → Bool) (e : Event) (past : List Event) → IsInner e → since test past ≡ true → since test (e ∷ past) ≡ true
+since_inner test (event.Line line) past inner is = absurd inner
+since_inner test (event.Taken channel m) past inner is = absurd inner
+since_inner test other past inner is = either (test other) (since test past) is
+
+since_more : (test : Event → Bool) (more past : List Event) → AllInner more → since test past ≡ true → since test (more ++ past) ≡ true
+since_more test [] past inner is = is
+since_more test (e ∷ more) past inner is = since_inner test e (more ++ past) inner.0 (since_more test more past inner.1 is)
+
+paid_more : (header : Header) (more past : List Event) → AllInner more → IsErrorPaid header past → IsErrorPaid header (more ++ past)
+paid_more header more past inner paid = λ host object page is. since_more (fails_access object page) more past inner (paid host object page (sym (error_same header.size more past inner) ∙ is))
+
+pub paid_goes : (header : Header) (outside : Outside) (doing : Command) (past old new : List Event) → Goes header outside doing past old new → IsErrorPaid header (old ++ past) → IsErrorPaid header (new ++ past)
+paid_goes header outside doing past old new goes paid =
+    subst (λ (z : List Event). IsErrorPaid header z) (sym (append_assoc goes.more old past) ∙ ap (λ z. z ++ past) (sym goes.is)) (paid_more header goes.more (old ++ past) goes.inner paid)
+
+pub paid_failed : (header : Header) (outside : Outside) (doing : Command) (woke : Woken) (past new : List Event) → FailsNow header woke past → Goes header outside doing past [] new → HasFailed woke (new ++ past) → IsErrorPaid header (new ++ past)
+paid_failed header outside doing who.Nobody past new fails goes failed = paid_goes header outside doing past [] new goes (λ host object page is. absurd (let bad : None ≡ Some (record { host = host; object = object; page = page }) = sym fails ∙ is in cc))
+paid_failed header outside doing (who.ReadyOf object) past new fails goes failed = paid_goes header outside doing past [] new goes (λ host object page is. absurd (let bad : None ≡ Some (record { host = host; object = object; page = page }) = sym fails ∙ is in cc))
+paid_failed header outside doing (who.Page key) past new fails goes failed = paid_goes header outside doing past [] new goes (λ host object page is. absurd (let bad : None ≡ Some (record { host = host; object = object; page = page }) = sym fails ∙ is in cc))
+paid_failed header outside doing (who.Fails key) past new fails goes failed = λ host object page is.
+    let error : error_taken header.size (new ++ past) ≡ error_taken header.size past =
+    ap (error_taken header.size) (ap (λ z. z ++ past) (goes.is ∙ append-nil goes.more)) ∙ error_same header.size goes.more past goes.inner in
+    let same : record { host = 0; object = key.object.0; page = key.page.0 } ≡ record { host = host; object = object; page = page } = asked_same (sym fails ∙ (sym error ∙ is)) in
+    subst (λ (z : Asked). since (fails_access z.object z.page) (new ++ past) ≡ true) same failed
+  where
+    asked_same : {x y : Asked} → Some x ≡ Some y → x ≡ y
+    asked_same {x = x} {y = y} is = some_is x y is

@@ -1,0 +1,665 @@
+-- A message of a pager is taken: what the kernel stands for behind it.
+use Rattle.std.proofs.Common.{◌≡◌, ℕ, ◌-◌, ◌^◌, ◌<◌, ◌==◌, ◌&&◌, Bool, true, false, List, [], ◌∷◌, ◌++◌, refl, ap, sym, ◌∙◌, subst, arith, Some, None, Option, inl, inr}
+use Rattle.std.proofs.lemmas.Bool.Decides.{eqb_tells}
+use Rattle.std.specs.Prelude.{if◌then◌else◌, is_some, not, reverse, slice_get, ◌⊎◌}
+use Rattle.vm_base.specs.Buffers.{BufferStore}
+use Rattle.vm_base.specs.declared.ids.HostId.{HostId}
+use Rattle.vm_base.specs.declared.ids.ObjectId.{ObjectId}
+use Rattle.vm_base.specs.declared.ids.ObjectKind.{ObjectKind}
+use Rattle.vm_base.specs.declared.ids.ObjectKind.TheVariants.{Temp}
+use Rattle.vm_base.specs.declared.ids.PageNo.{PageNo}
+use Rattle.vm_model.specs.declared.event.Event.{Event}
+use Rattle.vm_model.specs.declared.message.Message.{Message}
+use Rattle.vm_model.specs.declared.message.Message.TheVariants as message
+use Rattle.vm_model.specs.declared.script.Header.{Header}
+use Rattle.vm_model.specs.Controls.{is_control, last_control, live_control}
+use Rattle.vm_model.specs.Local.{Effect, Elsewhere, Local, TakesError, TakesNothing, TakesPage, local, moved}
+use Rattle.vm_model.specs.Regions.{Backing, Region, backing_of, next_object, next_region, region_of}
+use Rattle.vm_model.specs.Waiting.{Access, waiting}
+use Rattle.vm_legal.specs.Accesses.{is_ready}
+use Rattle.vm_legal.specs.Frames.{frames_held, frames_wired, returns_out}
+use Rattle.vm_frames.specs.Frames.{FrameTable}
+use Rattle.vm_maps.specs.Maps.{Mapped}
+use Rattle.vm_objects.specs.Objects.{ObjectTable, PutsObject, SameMarks, SameObjects, absent_at, object_at}
+use Rattle.vm_objects.specs.declared.row.ObjectRow.{ObjectRow}
+use Rattle.vm_objects.specs.declared.row.PagerState.{PagerState}
+use Rattle.vm_objects.specs.declared.row.PagerState.TheVariants as state
+use Rattle.vm_parts.specs.Fits.{Fit}
+use Rattle.vm_resident.specs.Resident.{PutsRow, ResidentTable, page_key, row_at}
+use Rattle.vm_resident.specs.declared.page_row.PageRow.{PageRow}
+use Rattle.vm_shadow.specs.Chains.{ChainTable, region_at}
+use Rattle.vm_shadow.specs.declared.ids.Ids.{Ids}
+use Rattle.vm_shadow.specs.declared.region_row.RegionRow.{RegionRow}
+use Rattle.vm_supply.specs.Answers.{Answered, Discarded, IsAnswer, Failed, Fails, Lacked, Lacks, Outcome, Readied, Readies, Supplied, Supplies, key_of, live_outcome, outcome_of, ready_outcome, unavailable_outcome}
+use Rattle.vm_supply.specs.Pages.{Ends, HostParts, asked_row, clean_row, host_parts, lock_of}
+use Rattle.vm_supply.specs.declared.woken.Woken.{Woken}
+use Rattle.vm_supply.specs.declared.woken.Woken.TheVariants as woken
+use Rattle.vm_waits.specs.declared.waiting.On.{On}
+use Rattle.vm_waits.specs.declared.waiting.On.TheVariants as on
+use Rattle.vm_waits.specs.declared.waiting.Waiting.{Waiting}
+use Rattle.vm_waits.specs.declared.waiting.Want.{Want}
+use Rattle.vm_kernel.specs.Fits.{ArePlain, IsPlainRow}
+use Rattle.vm_kernel.specs.Matches.{AllReached, HasControls, HasFrames, HasLaundry, HasPages, HasRegions, IsUnder, Rests, Works}
+use Rattle.vm_kernel.specs.Pagers.{has_pager, is_ready_state, last_in, live_in, ready_in}
+use Rattle.vm_kernel.specs.Places.{has_region, place_of, shown, unlocked}
+use Rattle.vm_kernel.specs.Taking.{FailsNow, HasAsker, IsAnswered, IsTempAnswer}
+use Rattle.vm_kernel.specs.Waiters.{HasWaiters, IsAsked, IsTold, Reason, is_woken}
+use Rattle.vm_kernel.specs.declared.parts.Parts.{Parts}
+use Rattle.vm_kernel.proofs.Answers.{IsLeft, IsNothing, frames_ended, frames_with, hears, laundry_came, laundry_ended, left_failed, left_lacked, lives, nothing_dead, on_page, pages_came, pages_ended, ready_again, unfailed, unlacked, unsupplied}
+use Rattle.vm_kernel.proofs.Rows.{one_case, row_cases, some_is}
+
+-- who waits, where rows of pages and objects are others
+
+waits_heard : (maps : Mapped) (cs : ChainTable) (rs rs2 : ResidentTable) (os os2 : ObjectTable) (rows : List Waiting) (who : Woken) (waiting_at : ℕ → Option Access)
+    → HasWaiters maps cs rs os rows woken.Nobody waiting_at
+    → ((o p : ℕ) → is_woken who (on.Page (page_key o p)) ≡ false → IsAsked rs o p → IsAsked rs2 o p)
+    → ((object : ObjectId) → is_woken who (on.Ready object) ≡ false → IsTold os object.0 → IsTold os2 object.0)
+    → ((o p : ℕ) (row : PageRow) → row_at rs2 o p ≡ Some row → row.here ≡ false → row_at rs o p ≡ Some row)
+    → HasWaiters maps cs rs2 os2 rows who waiting_at
+waits_heard maps cs rs rs2 os os2 rows who waiting_at has asked told were =
+    record {
+      is = has.is;
+      allowed = has.allowed;
+      sized = has.sized;
+      reasons = λ t w is still. by_reason t w.want w.on still (has.reasons t w is refl);
+      aims = has.aims;
+      askers = λ o p row found away_now. has.askers o p row (were o p row found away_now) away_now;
+    }
+  where
+    by_reason : (t : ℕ) (what : Want) (reason : On) → is_woken who reason ≡ false → Reason maps cs rs os t what reason → Reason maps cs rs2 os2 t what reason
+    by_reason t what on.Again still why = tt
+    by_reason t what (on.Ready object) still why = (why.0, why.1, why.2, told object still why.3)
+    by_reason t what (on.Page key) still why = (why.0, asked key.object.0 key.page.0 still why.1)
+    by_reason t what on.Frame still why = tt
+
+-- the parts behind the message
+abbrev pub parts_of : Parts → List Event → HostParts
+parts_of k events = host_parts k.frames k.resident k.queues k.objects events
+
+abbrev pub heard : Parts → HostParts → BufferStore → Parts
+heard k new buffers = record k { frames = new.frames; resident = new.resident; queues = new.queues; objects = new.objects; buffers = buffers }
+
+-- what holds of the parts that may have changed
+pub record Changed (header : Header) (k : Parts) (ids : Ids) (who : Woken) (new : HostParts) (past : List Event) (e : Event) : Type 0 where
+  pub plain : ArePlain new.resident
+  pub regions : HasRegions k.chains new.objects ids (λ r. region_of header r past) (λ o. backing_of header o past) (next_region header past) (next_object header past)
+  pub pages : HasPages new.frames new.resident new.objects k.chains (λ o p. local header.size 0 (place_of o p) (e ∷ past))
+  pub controls : HasControls new.objects (λ o. last_control 0 o past) (λ o. live_control 0 o past) (λ o. is_ready 0 o (e ∷ past))
+  pub laundry : HasLaundry new.frames new.resident k.laundry (returns_out 0 past)
+  pub frames : HasFrames (slice_get (reverse header.frames.items) 0) new.frames (frames_held header.size 0 (e ∷ past)) (frames_wired 0 past)
+  pub reached : AllReached k.chains new.objects
+  pub waits : HasWaiters k.maps k.chains new.resident new.objects k.waits.rows who (λ t. waiting t past)
+  pub fails : FailsNow header who (e ∷ past)
+  pub asker : HasAsker who k.waits.rows
+  pub answered : IsAnswered who new.resident
+
+works_of : (header : Header) (k : Parts) (ids : Ids) (who : Woken) (new : HostParts) (buffers : BufferStore) (past : List Event) (object : ObjectId) (control : ℕ) (m : Message)
+    → Rests header k ids past → Fit k.size new.frames new.resident new.queues new.objects → buffers ≡ k.buffers → Changed header k ids who new past (hears object control m)
+    → Works header (heard k new buffers) ids who (hears object control m ∷ past)
+works_of header k ids who new buffers past object control m rests fit same c =
+    let was = rests.matches in
+    record {
+      matches =
+          record {
+            plain = was.plain;
+            size = was.size;
+            host = was.host;
+            fits = record { parts = fit; plain = c.plain; buffers = ap (λ z. z.size) same ∙ was.fits.buffers };
+            tasks = was.tasks;
+            regions = c.regions;
+            entries = was.entries;
+            pages = c.pages;
+            uses = was.uses;
+            controls = c.controls;
+            settled = refl;
+            laundry = c.laundry;
+            frames = c.frames;
+          };
+      used = rests.used;
+      reached = c.reached;
+      waits = c.waits;
+    }
+
+-- the message changes nothing
+
+regions_of : (cs : ChainTable) (os os2 : ObjectTable) (ids : Ids) (region_from : ℕ → Region) (backing_from : ℕ → Backing) (regions_made objects_made : ℕ)
+    → HasRegions cs os ids region_from backing_from regions_made objects_made → SameObjects os os2 → HasRegions cs os2 ids region_from backing_from regions_made objects_made
+regions_of cs os os2 ids region_from backing_from regions_made objects_made has same =
+    record {
+      region = has.region;
+      object = has.object;
+      equal = has.equal;
+      marks = has.marks;
+      rows = has.rows;
+      tops = has.tops;
+      unbacked = has.unbacked;
+      unmade = has.unmade;
+      unknown = λ o above. same.at o ∙ has.unknown o above;
+      under = λ r row found. subst (IsUnder row) (sym (same.at r)) (has.under r row found);
+    }
+
+controls_of : (os os2 : ObjectTable) (last_at : ℕ → ℕ) (live_at : ℕ → Option ℕ) (ready_at ready_at2 : ℕ → Bool) → HasControls os last_at live_at ready_at → SameObjects os os2
+    → ((o live : ℕ) → live_at o ≡ Some live → ready_at2 o ≡ ready_at o) → HasControls os2 last_at live_at ready_at2
+controls_of os os2 last_at live_at ready_at ready_at2 has same ready =
+    record {
+      last = λ o. has.last o ∙ ap last_in (sym (same.at o));
+      live = λ o. has.live o ∙ ap live_in (sym (same.at o));
+      ready = λ o control is. ready o control is ∙ (has.ready o control is ∙ ap ready_in (sym (same.at o)));
+      all_live = record { at = λ o row found told. has.all_live.at o row (sym (same.at o) ∙ found) told };
+      numbers = record { at = λ o row found. has.numbers.at o row (sym (same.at o) ∙ found) };
+      ended = λ o row found live. has.ended o row (sym (same.at o) ∙ found) live;
+    }
+
+reached_of : (cs : ChainTable) (os os2 : ObjectTable) → AllReached cs os → SameObjects os os2 → AllReached cs os2
+reached_of cs os os2 reached same = λ o row found live. reached o row (sym (same.at o) ∙ found) live
+
+told_of : (os os2 : ObjectTable) (o : ℕ) → SameObjects os os2 → IsTold os o → IsTold os2 o
+told_of os os2 o same told = record { row = told.row; found = same.at o ∙ told.found; sent = told.sent }
+
+itself : (os : ObjectTable) → SameObjects os os
+itself os = record { at = λ o. refl }
+
+pages_eq : (fs : FrameTable) (rs : ResidentTable) (os : ObjectTable) (cs : ChainTable) (local_at local_at2 : ℕ → ℕ → Local) → HasPages fs rs os cs local_at → ((o p : ℕ) → local_at2 o p ≡ local_at o p) → HasPages fs rs os cs local_at2
+pages_eq fs rs os cs local_at local_at2 has same = record { shown = λ o p. same o p ∙ has.shown o p; live = has.live }
+
+changed_none : (header : Header) (k : Parts) (ids : Ids) (events : List Event) (past : List Event) (object : ObjectId) (control : ℕ) (m : Message) → Rests header k ids past → IsNothing header object control m past
+    → Changed header k ids woken.Nobody (parts_of k events) past (hears object control m)
+changed_none header k ids events past object control m rests nothing =
+    let was = rests.matches in
+    record {
+      plain = was.fits.plain;
+      regions = was.regions;
+      pages = pages_eq k.frames k.resident k.objects k.chains (λ o p. local header.size 0 (place_of o p) past) (λ o p. local header.size 0 (place_of o p) (hears object control m ∷ past)) was.pages nothing.pages;
+      controls = controls_of k.objects k.objects (λ o. last_control 0 o past) (λ o. live_control 0 o past) (λ o. is_ready 0 o past) (λ o. is_ready 0 o (hears object control m ∷ past)) was.controls (itself k.objects) nothing.ready;
+      laundry = was.laundry;
+      frames = subst (λ (z : ℕ). HasFrames (slice_get (reverse header.frames.items) 0) k.frames z (frames_wired 0 past)) (sym nothing.held) was.frames;
+      reached = rests.reached;
+      waits = rests.waits;
+      fails = nothing.error;
+      asker = tt;
+      answered = record { at = λ o p row found away_now. refl };
+    }
+
+-- the pager is ready now
+
+regions_ready : (cs : ChainTable) (os os2 : ObjectTable) (ids : Ids) (region_from : ℕ → Region) (backing_from : ℕ → Backing) (regions_made objects_made o : ℕ) (known : ObjectRow)
+    → HasRegions cs os ids region_from backing_from regions_made objects_made → object_at os o ≡ Some known → known.live ≡ true → PutsObject o (Some (record known { state = state.Ready })) os os2
+    → HasRegions cs os2 ids region_from backing_from regions_made objects_made
+regions_ready cs os os2 ids region_from backing_from regions_made objects_made o known has found live put =
+    record {
+      region = has.region;
+      object = has.object;
+      equal = has.equal;
+      marks = has.marks;
+      rows = has.rows;
+      tops = has.tops;
+      unbacked = has.unbacked;
+      unmade = has.unmade;
+      unknown = λ o2 above. elim (one_case o o2 (Some ready) (object_at os o2) (object_at os2 o2) (put.at o2)) [
+        | inl same ↦ absurd (let bad : None ≡ Some known = sym (has.unknown o2 above) ∙ (sym (ap (object_at os) same.0) ∙ found) in cc)
+        | inr other ↦ other.1 ∙ has.unknown o2 above
+      ];
+      under = λ r row is. elim (one_case o r (Some ready) (object_at os r) (object_at os2 r) (put.at r)) [
+        | inl same ↦ subst (IsUnder row) (sym same.1) (under row (subst (λ (z : ℕ). IsUnder row (object_at os z)) (sym same.0) (has.under r row is)))
+        | inr other ↦ subst (IsUnder row) (sym other.1) (has.under r row is)
+      ];
+    }
+  where
+    ready : ObjectRow
+    ready = record known { state = state.Ready }
+
+    under : (row : RegionRow) → IsUnder row (object_at os o) → IsUnder row (Some ready)
+    under row has_under =
+        let same : has_under.object ≡ known = some_is has_under.object known (sym has_under.found ∙ found) in
+        let pager : has_pager known.state ≡ true = sym (subst (λ (z : ObjectRow). z.live ≡ has_pager z.state) same has_under.live) ∙ live in
+        record {
+          object = ready;
+          found = refl;
+          temporary = ap (λ z. z.kind) (sym same) ∙ has_under.temporary;
+          pages = ap (λ z. z.pages) (sym same) ∙ has_under.pages;
+          references = ap (λ z. z.references) (sym same) ∙ has_under.references;
+          live = live;
+          number = subst (λ (z : ObjectRow). z.control ≡ (if has_pager z.state then 1 else 0)) same has_under.number ∙ ap (λ b. if b then 1 else 0) pager;
+        }
+
+controls_ready : (os os2 : ObjectTable) (last_at : ℕ → ℕ) (live_at : ℕ → Option ℕ) (ready_at : ℕ → Bool) (o control : ℕ) (known : ObjectRow) → HasControls os last_at live_at ready_at
+    → object_at os o ≡ Some known → known.live ≡ true → is_control control (live_at o) ≡ true → PutsObject o (Some (record known { state = state.Ready })) os os2
+    → HasControls os2 last_at live_at (λ o2. if o == o2 && is_control control (live_at o2) then true else ready_at o2)
+controls_ready os os2 last_at live_at ready_at o control known has found live lives put =
+    record {
+      last = λ o2. elim (cases o2) [
+        | inl same ↦ has.last o2 ∙ (ap last_in (sym (ap (object_at os) same.0) ∙ found) ∙ sym (ap last_in same.1))
+        | inr other ↦ has.last o2 ∙ sym (ap last_in other.1)
+      ];
+      live = λ o2. elim (cases o2) [
+        | inl same ↦ has.live o2 ∙ (ap live_in (sym (ap (object_at os) same.0) ∙ found) ∙ sym (ap live_in same.1))
+        | inr other ↦ has.live o2 ∙ sym (ap live_in other.1)
+      ];
+      ready = λ o2 number is. elim (eqb_tells o o2) [
+        | inl same ↦ elim (cases o2) [
+          | inl now ↦ rw (same.0, subst (λ (z : ℕ). is_control control (live_at z) ≡ true) same.1 lives) (sym (ap ready_in now.1))
+          | inr other ↦ absurd (other.0 same.1)
+        ]
+        | inr apart ↦ elim (cases o2) [
+          | inl now ↦ absurd (apart.1 now.0)
+          | inr other ↦ rw apart.0 (has.ready o2 number is ∙ sym (ap ready_in other.1))
+        ]
+      ];
+      all_live = record {
+        at = λ o2 row is told. elim (cases o2) [
+          | inl now ↦ ap (λ z. z.live) (sym (some_is ready row (sym now.1 ∙ is))) ∙ live
+          | inr other ↦ has.all_live.at o2 row (sym other.1 ∙ is) told
+        ];
+      };
+      numbers = record {
+        at = λ o2 row is. elim (cases o2) [
+          | inl now ↦ subst (λ (z : ObjectRow). z.control < 2 ^ 32 - 1) (some_is ready row (sym now.1 ∙ is)) (has.numbers.at o known found)
+          | inr other ↦ has.numbers.at o2 row (sym other.1 ∙ is)
+        ];
+      };
+      ended = λ o2 row is lives_on. elim (cases o2) [
+        | inl now ↦ λ none. absurd (let bad : state.Ready ≡ state.Without = ap (λ z. z.state) (some_is ready row (sym now.1 ∙ is)) ∙ none in cc)
+        | inr other ↦ has.ended o2 row (sym other.1 ∙ is) lives_on
+      ];
+    }
+  where
+    ready : ObjectRow
+    ready = record known { state = state.Ready }
+
+    cases : (o2 : ℕ) → ((o ≡ o2) × (object_at os2 o2 ≡ Some ready)) ⊎ ((o ≡ o2 → ⊥) × (object_at os2 o2 ≡ object_at os o2))
+    cases o2 = one_case o o2 (Some ready) (object_at os o2) (object_at os2 o2) (put.at o2)
+
+reached_ready : (cs : ChainTable) (os os2 : ObjectTable) (o : ℕ) (known : ObjectRow) → AllReached cs os → object_at os o ≡ Some known → known.live ≡ true → PutsObject o (Some (record known { state = state.Ready })) os os2 → AllReached cs os2
+reached_ready cs os os2 o known reached found live put o2 row is lives_on = elim (one_case o o2 (Some (record known { state = state.Ready })) (object_at os o2) (object_at os2 o2) (put.at o2)) [
+  | inl now ↦ subst (λ (z : ℕ). has_region cs z ≡ true) now.0 (reached o known found live)
+  | inr other ↦ reached o2 row (sym other.1 ∙ is) lives_on
+]
+
+pages_marked : (fs : FrameTable) (rs : ResidentTable) (os os2 : ObjectTable) (cs : ChainTable) (local_at : ℕ → ℕ → Local) → HasPages fs rs os cs local_at → SameMarks os os2 → HasPages fs rs os2 cs local_at
+pages_marked fs rs os os2 cs local_at has same = record { shown = λ o p. has.shown o p ∙ ap (λ z. shown fs (row_at rs o p) z) (sym (same.at o p)); live = has.live }
+
+told_ready : (os os2 : ObjectTable) (o : ℕ) (known : ObjectRow) (object : ObjectId) → PutsObject o (Some (record known { state = state.Ready })) os os2 → (object.0 == o) ≡ false → IsTold os object.0 → IsTold os2 object.0
+told_ready os os2 o known object put apart told =
+    record {
+      row = told.row;
+      found = elim (one_case o object.0 (Some (record known { state = state.Ready })) (object_at os object.0) (object_at os2 object.0) (put.at object.0)) [
+        | inl now ↦ absurd (elim (eqb_tells object.0 o) [ inl same ↦ let bad : true ≡ false = sym same.0 ∙ apart in cc | inr other ↦ other.1 (sym now.0) ])
+        | inr other ↦ other.1 ∙ told.found
+      ];
+      sent = told.sent;
+    }
+
+changed_ready : (header : Header) (k : Parts) (ids : Ids) (events past : List Event) (object : ObjectId) (control : ℕ) (cache : Bool) (strategy : ℕ) (who : Woken) (new : HostParts)
+    → Rests header k ids past → (readies : Readies object who (parts_of k events) new) → readies.known.live ≡ true → lives object control past ≡ true
+    → Changed header k ids who new past (hears object control (message.Ready cache strategy))
+changed_ready header k ids events past object control cache strategy who new rests readies live lives_now =
+    let was = rests.matches in
+    let known = readies.known in
+    subst (λ (z : Woken). Changed header k ids z new past (hears object control (message.Ready cache strategy))) (sym readies.woken)
+    (subst (λ (z : HostParts). Changed header k ids (woken.ReadyOf object) z past (hears object control (message.Ready cache strategy))) (sym readies.rest)
+    (record {
+      plain = was.fits.plain;
+      regions = regions_ready k.chains k.objects new.objects ids (λ r. region_of header r past) (λ o. backing_of header o past) (next_region header past) (next_object header past) object.0 known was.regions readies.found live readies.ready;
+      pages = pages_marked k.frames k.resident k.objects new.objects k.chains (λ o p. local header.size 0 (place_of o p) (hears object control (message.Ready cache strategy) ∷ past))
+          (pages_eq k.frames k.resident k.objects k.chains (λ o p. local header.size 0 (place_of o p) past) (λ o p. local header.size 0 (place_of o p) (hears object control (message.Ready cache strategy) ∷ past)) was.pages
+          (λ o p. same_effect (object.0 == o && is_control control (live_control 0 o past)) (local header.size 0 (place_of o p) past)))
+          readies.marks;
+      controls = controls_ready k.objects new.objects (λ o. last_control 0 o past) (λ o. live_control 0 o past) (λ o. is_ready 0 o past) object.0 control known was.controls readies.found live lives_now readies.ready;
+      laundry = was.laundry;
+      frames = was.frames;
+      reached = reached_ready k.chains k.objects new.objects object.0 known rests.reached readies.found live readies.ready;
+      waits = waits_heard k.maps k.chains k.resident k.resident k.objects new.objects k.waits.rows (woken.ReadyOf object) (λ t. waiting t past) rests.waits
+          (λ o p still asked. asked)
+          (λ other still told. told_ready k.objects new.objects object.0 known other readies.ready still told)
+          (λ o p row found away_now. found);
+      fails = refl;
+      asker = tt;
+      answered = record { at = λ o p row found away_now. refl };
+    }))
+  where
+    same_effect : (b : Bool) (was : Local) → moved header.size (if b then Elsewhere else Elsewhere) was ≡ was
+    same_effect true was = refl
+    same_effect false was = refl
+
+-- a page that is asked
+
+asked_where : (here : Bool) (row was : PageRow) → (if here then None else Some row) ≡ Some was → (row ≡ was) × (here ≡ false)
+asked_where true row was is = absurd (let bad : None ≡ Some was = is in cc)
+asked_where false row was is = (some_is row was is, refl)
+
+-- it has this row, and isn't here
+asked_is : (x : Option PageRow) (was : PageRow) → asked_row x ≡ Some was → (x ≡ Some was) × (was.here ≡ false)
+asked_is None was is = absurd (let bad : None ≡ Some was = is in cc)
+asked_is (Some row) was is = let both = asked_where row.here row was is in (ap (λ z. Some z) both.0, ap (λ z. z.here) (sym both.0) ∙ both.1)
+
+asks_now : (size : ℕ) (k : Parts) (past : List Event) (o p : ℕ) (was : PageRow) → HasPages k.frames k.resident k.objects k.chains (λ o2 p2. local size 0 (place_of o2 p2) past)
+    → row_at k.resident o p ≡ Some was → was.here ≡ false → (local size 0 (place_of o p) past).asked ≡ true
+asks_now size k past o p was has found away_now = ap (λ z. z.asked) (has.shown o p) ∙ (ap (λ z. (shown k.frames z (absent_at k.objects o p)).asked) found ∙ ap not away_now)
+
+-- the page is another
+
+apart_of : (a b c d : ℕ) → (a == c && b == d) ≡ false → c ≡ a → d ≡ b → ⊥
+apart_of a b c d apart same also = elim (eqb_tells a c) [
+  | inl one ↦ elim (eqb_tells b d) [
+    | inl two ↦ let bad : true ≡ false = rw (one.0, two.0) at apart in cc
+    | inr other ↦ other.1 (sym also)
+  ]
+  | inr other ↦ other.1 (sym same)
+]
+
+test_of : (a b c d : ℕ) → (c ≡ a → d ≡ b → ⊥) → (a == c && b == d) ≡ false
+test_of a b c d apart = elim (eqb_tells a c) [
+  | inl one ↦ elim (eqb_tells b d) [
+    | inl two ↦ absurd (apart (sym one.1) (sym two.1))
+    | inr other ↦ rw (one.0, other.0) refl
+  ]
+  | inr other ↦ rw other.0 refl
+]
+
+asked_other : (rs rs2 : ResidentTable) (o p o2 p2 : ℕ) (x : Option PageRow) → PutsRow o p x rs rs2 → (o2 == o && p2 == p) ≡ false → IsAsked rs o2 p2 → IsAsked rs2 o2 p2
+asked_other rs rs2 o p o2 p2 x put apart asked =
+    record {
+      row = asked.row;
+      found = elim (row_cases o p x rs rs2 put o2 p2) [
+        | inl now ↦ absurd (apart_of o2 p2 o p apart now.object now.page)
+        | inr other ↦ other.is ∙ asked.found
+      ];
+      away = asked.away;
+    }
+
+-- it comes, as its pager supplied it
+
+plain_put : (rs rs2 : ResidentTable) (o p : ℕ) (row : PageRow) → ArePlain rs → PutsRow o p (Some row) rs rs2 → IsPlainRow row → ArePlain rs2
+plain_put rs rs2 o p row plain put is_plain o2 p2 r is = elim (row_cases o p (Some row) rs rs2 put o2 p2) [
+  | inl now ↦ subst IsPlainRow (some_is row r (sym now.is ∙ is)) is_plain
+  | inr other ↦ plain o2 p2 r (sym other.is ∙ is)
+]
+
+plain_gone : (rs rs2 : ResidentTable) (o p : ℕ) → ArePlain rs → PutsRow o p None rs rs2 → ArePlain rs2
+plain_gone rs rs2 o p plain put o2 p2 r is = elim (row_cases o p None rs rs2 put o2 p2) [
+  | inl now ↦ absurd (let bad : None ≡ Some r = sym now.is ∙ is in cc)
+  | inr other ↦ plain o2 p2 r (sym other.is ∙ is)
+]
+
+here_elsewhere : (rs rs2 : ResidentTable) (o p o2 p2 : ℕ) (x : Option PageRow) (r : PageRow) → PutsRow o p x rs rs2 → ((row : PageRow) → x ≡ Some row → row.here ≡ true) → row_at rs2 o2 p2 ≡ Some r → r.here ≡ false
+    → (row_at rs o2 p2 ≡ Some r) × ((o2 == o && p2 == p) ≡ false)
+here_elsewhere rs rs2 o p o2 p2 x r put here is away_now = elim (row_cases o p x rs rs2 put o2 p2) [
+  | inl now ↦ absurd (let bad : true ≡ false = sym (here r (sym now.is ∙ is)) ∙ away_now in cc)
+  | inr other ↦ (sym other.is ∙ is, test_of o2 p2 o p other.apart)
+]
+
+-- what holds of who waits, where the row of a page that is asked is another
+record Waits (k : Parts) (who : Woken) (new : HostParts) (past : List Event) : Type 0 where
+  waits : HasWaiters k.maps k.chains new.resident new.objects k.waits.rows who (λ t. waiting t past)
+  answered : IsAnswered who new.resident
+
+waits_page : (header : Header) (k : Parts) (ids : Ids) (past : List Event) (o p : ℕ) (x : Option PageRow) (who : Woken) (new : HostParts) → Rests header k ids past
+    → ((o2 p2 : ℕ) → is_woken who (on.Page (page_key o2 p2)) ≡ (o2 == o && p2 == p)) → PutsRow o p x k.resident new.resident → ((row : PageRow) → x ≡ Some row → row.here ≡ true) → SameObjects k.objects new.objects
+    → Waits k who new past
+waits_page header k ids past o p x who new rests test put here same =
+    record {
+      waits = waits_heard k.maps k.chains k.resident new.resident k.objects new.objects k.waits.rows who (λ t. waiting t past) rests.waits
+          (λ o2 p2 still asked. asked_other k.resident new.resident o p o2 p2 x put (sym (test o2 p2) ∙ still) asked)
+          (λ other still told. told_of k.objects new.objects other.0 same told)
+          (λ o2 p2 row found away_now. (here_elsewhere k.resident new.resident o p o2 p2 x row put here found away_now).0);
+      answered = record { at = λ o2 p2 row found away_now. test o2 p2 ∙ (here_elsewhere k.resident new.resident o p o2 p2 x row put here found away_now).1 };
+    }
+
+changed_supplied : (header : Header) (k : Parts) (ids : Ids) (events past : List Event) (object : ObjectId) (control : ℕ) (page : PageNo) (lock : ℕ) (precious : Bool) (bytes : List ℕ) (who : Woken) (new : HostParts)
+    → Rests header k ids past → Supplies (key_of object page) lock precious bytes who (parts_of k events) new → lives object control past ≡ true → lock ≡ 0 → precious ≡ false
+    → Changed header k ids who new past (hears object control (message.Supply page lock precious bytes))
+changed_supplied header k ids events past object control page lock precious bytes who new rests supplies lives_now none cheap =
+    let was = rests.matches in
+    let comes = supplies.page in
+    let asked = asked_is (row_at k.resident object.0 page.0) comes.was comes.asked in
+    let same : SameObjects k.objects new.objects = record { at = λ o. ap (λ z. object_at z o) comes.objects } in
+    let put : PutsRow object.0 page.0 (Some (clean_row comes.was.frame unlocked false)) k.resident new.resident =
+    subst (λ (z : Bool). PutsRow object.0 page.0 (Some (clean_row comes.was.frame unlocked z)) k.resident new.resident) cheap
+    (subst (λ (z : ℕ). PutsRow object.0 page.0 (Some (clean_row comes.was.frame (lock_of z) precious)) k.resident new.resident) none comes.row) in
+    let here : (row : PageRow) → Some (clean_row comes.was.frame unlocked false) ≡ Some row → row.here ≡ true = λ row is. ap (λ z. z.here) (sym (some_is (clean_row comes.was.frame unlocked false) row is)) in
+    let waits = waits_page header k ids past object.0 page.0 (Some (clean_row comes.was.frame unlocked false)) (woken.Page (key_of object page)) new rests (λ o2 p2. refl) put here same in
+    let pages = pages_came header.size k.frames new.frames k.resident new.resident k.objects k.chains (λ o p. local header.size 0 (place_of o p) past) object.0 page.0 bytes comes.was was.pages was.fits.parts.owned
+    (was.fits.plain object.0 page.0 comes.was asked.0) asked.0 asked.1 put comes.pages in
+    let moves : (o p : ℕ) → local header.size 0 (place_of o p) (hears object control (message.Supply page lock precious bytes) ∷ past) ≡ moved header.size (if object.0 == o && page.0 == p then TakesPage 0 false bytes else Elsewhere) (local header.size 0 (place_of o p) past) =
+    λ o p. ap (λ z. moved header.size z (local header.size 0 (place_of o p) past))
+    (on_page object.0 o (lives object control past) (is_control control (live_control 0 o past)) (page.0 == p) (TakesPage lock precious bytes) Elsewhere lives_now (λ e. ap (λ z. is_control control (live_control 0 z past)) (sym e)))
+    ∙ (ap (λ z. moved header.size (if object.0 == o && page.0 == p then TakesPage z precious bytes else Elsewhere) (local header.size 0 (place_of o p) past)) none
+    ∙ ap (λ z. moved header.size (if object.0 == o && page.0 == p then TakesPage 0 z bytes else Elsewhere) (local header.size 0 (place_of o p) past)) cheap) in
+    subst (λ (z : Woken). Changed header k ids z new past (hears object control (message.Supply page lock precious bytes))) (sym supplies.woken)
+    (record {
+      plain = plain_put k.resident new.resident object.0 page.0 (clean_row comes.was.frame unlocked false) was.fits.plain put (record { lock = refl; precious = refl; unlock_sent = refl });
+      regions = regions_of k.chains k.objects new.objects ids (λ r. region_of header r past) (λ o. backing_of header o past) (next_region header past) (next_object header past) was.regions same;
+      pages = pages_eq new.frames new.resident new.objects k.chains (λ o p. moved header.size (if object.0 == o && page.0 == p then TakesPage 0 false bytes else Elsewhere) (local header.size 0 (place_of o p) past))
+          (λ o p. local header.size 0 (place_of o p) (hears object control (message.Supply page lock precious bytes) ∷ past))
+          (subst (λ (z : ObjectTable). HasPages new.frames new.resident z k.chains (λ o p. moved header.size (if object.0 == o && page.0 == p then TakesPage 0 false bytes else Elsewhere) (local header.size 0 (place_of o p) past))) (sym comes.objects) pages) moves;
+      controls = controls_of k.objects new.objects (λ o. last_control 0 o past) (λ o. live_control 0 o past) (λ o. is_ready 0 o past) (λ o. is_ready 0 o past) was.controls same (λ o live is. refl);
+      laundry = laundry_came k.frames new.frames k.resident new.resident k.laundry (returns_out 0 past) was.laundry (ap (λ z. z.claims) comes.frames) comes.owners;
+      frames = subst (λ (z : FrameTable). HasFrames (slice_get (reverse header.frames.items) 0) z (frames_held header.size 0 past) (frames_wired 0 past)) (sym comes.frames)
+          (frames_with (slice_get (reverse header.frames.items) 0) k.frames comes.was.frame.0 bytes (frames_held header.size 0 past) (frames_wired 0 past) was.frames);
+      reached = reached_of k.chains k.objects new.objects rests.reached same;
+      waits = waits.waits;
+      fails = refl;
+      asker = tt;
+      answered = waits.answered;
+    })
+
+-- it is asked no more
+
+-- what the message is to the history
+record EndsPage (header : Header) (k : Parts) (who : Woken) (object : ObjectId) (control : ℕ) (page : PageNo) (m : Message) (effect : Effect) (past : List Event) : Type 0 where
+  moves : (o p : ℕ) → local header.size 0 (place_of o p) (hears object control m ∷ past)
+      ≡ moved header.size (if object.0 == o && is_control control (live_control 0 o past) then (if page.0 == p then effect else Elsewhere) else Elsewhere) (local header.size 0 (place_of o p) past)
+  held : frames_held header.size 0 (hears object control m ∷ past) ≡ frames_held header.size 0 past - 1
+  ready : (o : ℕ) → is_ready 0 o (hears object control m ∷ past) ≡ is_ready 0 o past
+  fails : FailsNow header who (hears object control m ∷ past)
+  test : (o p : ℕ) → is_woken who (on.Page (page_key o p)) ≡ (o == object.0 && p == page.0)
+  asker : HasAsker who k.waits.rows
+
+changed_ended : (header : Header) (k : Parts) (ids : Ids) (events past : List Event) (object : ObjectId) (control : ℕ) (page : PageNo) (m : Message) (effect : Effect) (who : Woken) (new : HostParts)
+    → Rests header k ids past → Ends (key_of object page) (parts_of k events) new → lives object control past ≡ true → SameObjects k.objects new.objects → IsLeft header.size effect k.objects new.objects object.0 page.0
+    → EndsPage header k who object control page m effect past → Changed header k ids who new past (hears object control m)
+changed_ended header k ids events past object control page m effect who new rests ends lives_now same left is =
+    let was = rests.matches in
+    let asked = asked_is (row_at k.resident object.0 page.0) ends.was ends.asked in
+    let parts = was.fits.parts in
+    let waits = waits_page header k ids past object.0 page.0 None who new rests is.test ends.row (λ row bad. absurd (let no : None ≡ Some row = bad in cc)) same in
+    let pages = pages_ended header.size effect k.frames new.frames k.resident new.resident k.objects new.objects k.chains (λ o p. local header.size 0 (place_of o p) past) object.0 page.0 ends.was was.pages
+    (was.fits.plain object.0 page.0 ends.was asked.0) asked.0 asked.1 ends.row (ap (λ z. z.pages) ends.frames.is) left in
+    record {
+      plain = plain_gone k.resident new.resident object.0 page.0 was.fits.plain ends.row;
+      regions = regions_of k.chains k.objects new.objects ids (λ r. region_of header r past) (λ o. backing_of header o past) (next_region header past) (next_object header past) was.regions same;
+      pages = pages_eq new.frames new.resident new.objects k.chains (λ o p. moved header.size (if object.0 == o && page.0 == p then effect else Elsewhere) (local header.size 0 (place_of o p) past))
+          (λ o p. local header.size 0 (place_of o p) (hears object control m ∷ past)) pages
+          (λ o p. is.moves o p
+          ∙ ap (λ z. moved header.size z (local header.size 0 (place_of o p) past))
+          (on_page object.0 o (lives object control past) (is_control control (live_control 0 o past)) (page.0 == p) effect Elsewhere lives_now (λ e. ap (λ z. is_control control (live_control 0 z past)) (sym e))));
+      controls = controls_of k.objects new.objects (λ o. last_control 0 o past) (λ o. live_control 0 o past) (λ o. is_ready 0 o past) (λ o. is_ready 0 o (hears object control m ∷ past)) was.controls same (λ o live number. is.ready o);
+      laundry = laundry_ended k.frames new.frames k.resident new.resident k.laundry (returns_out 0 past) ends.was.frame.0 (key_of object page) was.laundry ends.frames ends.owners
+          (parts.owned.at object.0 page.0 ends.was asked.0) (parts.held object.0 page.0 ends.was asked.0);
+      frames = subst (λ (z : ℕ). HasFrames (slice_get (reverse header.frames.items) 0) new.frames z (frames_wired 0 past)) (sym is.held)
+          (frames_ended (slice_get (reverse header.frames.items) 0) k.frames new.frames ends.was.frame.0 (frames_held header.size 0 past) (frames_wired 0 past) was.frames ends.frames);
+      reached = reached_of k.chains k.objects new.objects rests.reached same;
+      waits = waits.waits;
+      fails = is.fails;
+      asker = is.asker;
+      answered = waits.answered;
+    }
+
+and_true : (a b : Bool) → a ≡ true → b ≡ true → (a && b) ≡ true
+and_true a b one two = rw (one, two) refl
+
+changed_lacked : (header : Header) (k : Parts) (ids : Ids) (events past : List Event) (object : ObjectId) (control : ℕ) (page : PageNo) (who : Woken) (new : HostParts)
+    → Rests header k ids past → Lacks (key_of object page) who (parts_of k events) new → lives object control past ≡ true → Changed header k ids who new past (hears object control (message.Unavailable page))
+changed_lacked header k ids events past object control page who new rests lacks lives_now =
+    let asked = asked_is (row_at k.resident object.0 page.0) lacks.page.was lacks.page.asked in
+    let counts_now = and_true (lives object control past) (local header.size 0 (place_of object.0 page.0) past).asked lives_now (asks_now header.size k past object.0 page.0 lacks.page.was rests.matches.pages asked.0 asked.1) in
+    changed_ended header k ids events past object control page (message.Unavailable page) TakesNothing who new rests lacks.page lives_now lacks.objects
+    (left_lacked header.size k.objects new.objects object.0 page.0 lacks.absent)
+    (subst (λ (z : Woken). EndsPage header k z object control page (message.Unavailable page) TakesNothing past) (sym lacks.woken)
+    (record {
+      moves = λ o p. refl;
+      held = rw counts_now refl;
+      ready = λ o. refl;
+      fails = refl;
+      test = λ o p. refl;
+      asker = tt;
+    }))
+
+changed_failed : (header : Header) (k : Parts) (ids : Ids) (events past : List Event) (object : ObjectId) (control : ℕ) (page : PageNo) (reason : ℕ) (who : Woken) (new : HostParts)
+    → Rests header k ids past → Fails (key_of object page) who (parts_of k events) new → lives object control past ≡ true → Changed header k ids who new past (hears object control (message.Error page reason))
+changed_failed header k ids events past object control page reason who new rests fails lives_now =
+    let asked = asked_is (row_at k.resident object.0 page.0) fails.page.was fails.page.asked in
+    let counts_now = and_true (lives object control past) (local header.size 0 (place_of object.0 page.0) past).asked lives_now (asks_now header.size k past object.0 page.0 fails.page.was rests.matches.pages asked.0 asked.1) in
+    changed_ended header k ids events past object control page (message.Error page reason) TakesError who new rests fails.page lives_now (record { at = λ o. ap (λ z. object_at z o) fails.objects })
+    (left_failed header.size k.objects new.objects object.0 page.0 fails.objects)
+    (subst (λ (z : Woken). EndsPage header k z object control page (message.Error page reason) TakesError past) (sym fails.woken)
+    (record {
+      moves = λ o p. refl;
+      held = rw counts_now refl;
+      ready = λ o. refl;
+      fails = rw counts_now refl;
+      test = λ o p. refl;
+      asker = rests.waits.askers object.0 page.0 fails.page.was asked.0 asked.1;
+    }))
+
+-- what an answer comes to
+
+-- it is not for the live control
+dead_none : (os : ObjectTable) (o control : ℕ) (live_at : Option ℕ) → live_at ≡ live_in (object_at os o) → object_at os o ≡ None → is_control control live_at ≡ false
+dead_none os o control live_at is none = ap (is_control control) (is ∙ ap live_in none)
+
+live_test : (control : ℕ) (known : ObjectRow) → is_control control (live_in (Some known)) ≡ (known.live && known.control == control)
+live_test control known = by_live known.live
+  where
+    by_live : (b : Bool) → is_control control (if b then Some known.control else None) ≡ (b && known.control == control)
+    by_live true = refl
+    by_live false = refl
+
+and_left : (a b : Bool) → (a && b) ≡ true → a ≡ true
+and_left true b both = refl
+and_left false b both = both
+
+-- a page that isn't asked
+unasked_shows : (fs : FrameTable) (x : Option PageRow) (lacked : Bool) → asked_row x ≡ None → (shown fs x lacked).asked ≡ false
+unasked_shows fs None lacked none = refl
+unasked_shows fs (Some row) lacked none = by_here row.here none
+  where
+    by_here : (b : Bool) → (if b then None else Some row) ≡ None → not b ≡ false
+    by_here true is = refl
+    by_here false is = absurd (let bad : Some row ≡ None = is in cc)
+
+region_some : (x : Option RegionRow) → is_some x ≡ true → (row : RegionRow) × (x ≡ Some row)
+region_some None some = absurd (let bad : false ≡ true = some in cc)
+region_some (Some row) some = (row, refl)
+
+-- the message has been heard
+pub record Heard (header : Header) (k : Parts) (ids : Ids) (who : Woken) (new : HostParts) (events past : List Event) (e : Event) : Type 0 where
+  pub changed : Changed header k ids who new past e
+  pub nothing : new.events ≡ events
+
+hears_it : (header : Header) (k : Parts) (ids : Ids) (size : ℕ) (host : HostId) (events past : List Event) (object : ObjectId) (control : ℕ) (m : Message) (who : Woken) (new : HostParts)
+    → Rests header k ids past → IsTempAnswer k.size m → Answered size host object (outcome_of (object_at k.objects object.0) control (row_at k.resident object.0) m) who (parts_of k events) new
+    → Heard header k ids who new events past (hears object control m)
+hears_it header k ids size host events past object control m who new rests temp answered = by_known (object_at k.objects object.0) refl answered
+  where
+    Answers : Outcome → Type 0
+    Answers outcome = Answered size host object outcome who (parts_of k events) new
+
+    discards : (said : Message) → IsNothing header object control said past → Answers Discarded → Heard header k ids who new events past (hears object control said)
+    discards said nothing done =
+        subst (λ (z : HostParts). Heard header k ids who z events past (hears object control said)) (sym done.1)
+        (subst (λ (z : Woken). Heard header k ids z (parts_of k events) events past (hears object control said)) (sym done.0)
+        (record { changed = changed_none header k ids events past object control said rests nothing; nothing = refl }))
+
+    lives_is : (known : ObjectRow) → object_at k.objects object.0 ≡ Some known → lives object control past ≡ (known.live && known.control == control)
+    lives_is known found = ap (is_control control) (rests.matches.controls.live object.0 ∙ ap live_in found) ∙ live_test control known
+
+    ready_now : (known : ObjectRow) (cache : Bool) (strategy : ℕ) → object_at k.objects object.0 ≡ Some known → known.live ≡ true → lives object control past ≡ true
+        → Answers Readied → Heard header k ids who new events past (hears object control (message.Ready cache strategy))
+    ready_now known cache strategy found live lives_now done =
+        let same : known ≡ done.known = some_is known done.known (sym found ∙ done.found) in
+        record {
+          changed = changed_ready header k ids events past object control cache strategy who new rests done (sym (ap (λ z. z.live) same) ∙ live) lives_now;
+          nothing = ap (λ z. z.events) done.rest;
+        }
+
+    by_state : (known : ObjectRow) (cache : Bool) (strategy : ℕ) (was : PagerState) → known.state ≡ was → object_at k.objects object.0 ≡ Some known → known.live ≡ true → lives object control past ≡ true
+        → live_control 0 object.0 past ≡ Some known.control → Answers (ready_outcome was) → Heard header k ids who new events past (hears object control (message.Ready cache strategy))
+    by_state known cache strategy state.Without is found live lives_now number done = ready_now known cache strategy found live lives_now done
+    by_state known cache strategy state.Sent is found live lives_now number done = ready_now known cache strategy found live lives_now done
+    by_state known cache strategy state.Ready is found live lives_now number done =
+        discards (message.Ready cache strategy)
+        (ready_again header object control cache strategy past (rests.matches.controls.ready object.0 known.control number ∙ (ap ready_in found ∙ ap is_ready_state is))) done
+
+    -- a page that is asked, or not
+    by_asked : (page : PageNo) (outcome : Outcome) (said : Message) (x : Option PageRow) → asked_row (row_at k.resident object.0 page.0) ≡ x → ((local header.size 0 (place_of object.0 page.0) past).asked ≡ false → IsNothing header object control said past)
+        → ((was : PageRow) → asked_row (row_at k.resident object.0 page.0) ≡ Some was → Answers outcome → Heard header k ids who new events past (hears object control said))
+        → Answers (if is_some x then outcome else Discarded) → Heard header k ids who new events past (hears object control said)
+    by_asked page outcome said None is nothing counts_now done =
+        discards said (nothing (ap (λ z. z.asked) (rests.matches.pages.shown object.0 page.0) ∙ unasked_shows k.frames (row_at k.resident object.0 page.0) (absent_at k.objects object.0 page.0) is)) done
+    by_asked page outcome said (Some was) is nothing counts_now done = counts_now was is done
+
+    temporary : (known : ObjectRow) (page : PageNo) (was : PageRow) → object_at k.objects object.0 ≡ Some known → asked_row (row_at k.resident object.0 page.0) ≡ Some was → known.kind ≡ Temp
+    temporary known page was found asked =
+        let region = region_some (region_at k.chains object.0) (rests.matches.pages.live object.0 page.0 was (asked_is (row_at k.resident object.0 page.0) was asked).0) in
+        let under = rests.matches.regions.under object.0 region.0 region.1 in
+        ap (λ z. z.kind) (some_is known under.object (sym found ∙ under.found)) ∙ under.temporary
+
+    by_message : (known : ObjectRow) (said : Message) → IsTempAnswer k.size said → object_at k.objects object.0 ≡ Some known → known.live ≡ true → lives object control past ≡ true → live_control 0 object.0 past ≡ Some known.control
+        → Answers (live_outcome known (row_at k.resident object.0) said) → Heard header k ids who new events past (hears object control said)
+    by_message known (message.Ready cache strategy) plain found live lives_now number done = by_state known cache strategy known.state refl found live lives_now number done
+    by_message known (message.Supply page lock precious bytes) plain found live lives_now number done =
+        by_asked page (Supplied page lock precious bytes) (message.Supply page lock precious bytes) (asked_row (row_at k.resident object.0 page.0)) refl (unsupplied header object control page lock precious bytes past)
+        (λ was asked supplies. record { changed = changed_supplied header k ids events past object control page lock precious bytes who new rests supplies lives_now plain.0 plain.1; nothing = supplies.events }) done
+    by_message known (message.Unavailable page) plain found live lives_now number done =
+        by_asked page (unavailable_outcome known.kind page) (message.Unavailable page) (asked_row (row_at k.resident object.0 page.0)) refl (unlacked header object control page past)
+        (λ was asked lacks. lacked_now page (subst (λ (z : ObjectKind). Answers (unavailable_outcome z page)) (temporary known page was found asked) lacks)) done
+      where
+        lacked_now : (at : PageNo) → Answers (Lacked at) → Heard header k ids who new events past (hears object control (message.Unavailable at))
+        lacked_now at lacks = record { changed = changed_lacked header k ids events past object control at who new rests lacks lives_now; nothing = lacks.page.events }
+    by_message known (message.Error page reason) plain found live lives_now number done =
+        by_asked page (Failed page) (message.Error page reason) (asked_row (row_at k.resident object.0 page.0)) refl (unfailed header object control page reason past)
+        (λ was asked fails. record { changed = changed_failed header k ids events past object control page reason who new rests fails lives_now; nothing = fails.page.events }) done
+    by_message known other plain found live lives_now number done = absurd plain
+
+    by_test : (known : ObjectRow) (b : Bool) → (known.live && known.control == control) ≡ b → object_at k.objects object.0 ≡ Some known
+        → Answers (if b then live_outcome known (row_at k.resident object.0) m else Discarded) → Heard header k ids who new events past (hears object control m)
+    by_test known true is found done =
+        let live = and_left known.live (known.control == control) is in
+        by_message known m temp found live (lives_is known found ∙ is) (rests.matches.controls.live object.0 ∙ (ap live_in found ∙ ap (λ b. if b then Some known.control else None) live)) done
+    by_test known false is found done = discards m (nothing_dead header object control m past (lives_is known found ∙ is)) done
+
+    by_known : (x : Option ObjectRow) → object_at k.objects object.0 ≡ x → Answers (outcome_of x control (row_at k.resident object.0) m) → Heard header k ids who new events past (hears object control m)
+    by_known None found done = discards m (nothing_dead header object control m past (dead_none k.objects object.0 control (live_control 0 object.0 past) (rests.matches.controls.live object.0) found)) done
+    by_known (Some known) found done = by_test known (known.live && known.control == control) refl found done
+
+-- what the kernel stands for behind it
+pub record Hears (header : Header) (k : Parts) (ids : Ids) (who : Woken) (past : List Event) : Type 0 where
+  pub works : Works header k ids who past
+  pub fails : FailsNow header who past
+  pub asker : HasAsker who k.waits.rows
+  pub answered : IsAnswered who k.resident
+
+pub hears_done : (header : Header) (k : Parts) (ids : Ids) (size : ℕ) (host : HostId) (events past front : List Event) (object : ObjectId) (control : ℕ) (m : Message) (who : Woken) (new : HostParts) (buffers : BufferStore)
+    → Rests header k ids past → front ≡ hears object control m ∷ [] → IsTempAnswer k.size m → Fit buffers.size new.frames new.resident new.queues new.objects → buffers ≡ k.buffers
+    → Answered size host object (outcome_of (object_at k.objects object.0) control (row_at k.resident object.0) m) who (parts_of k events) new → Hears header (heard k new buffers) ids who (front ++ past) × (new.events ≡ events)
+hears_done header k ids size host events past front object control m who new buffers rests is temp fit same answered =
+    let done = hears_it header k ids size host events past object control m who new rests temp answered in
+    let fits : Fit k.size new.frames new.resident new.queues new.objects = subst (λ (z : ℕ). Fit z new.frames new.resident new.queues new.objects) (ap (λ z. z.size) same ∙ rests.matches.fits.buffers) fit in (
+      subst (λ (z : List Event). Hears header (heard k new buffers) ids who (z ++ past)) (sym is)
+          (record {
+            works = works_of header k ids who new buffers past object control m rests fits same done.changed;
+            fails = done.changed.fails;
+            asker = done.changed.asker;
+            answered = done.changed.answered;
+          }),
+      done.nothing,
+    )
+
+-- the message is one that the host can take, and its parts fit
+pub plain_answer : (size : ℕ) (m : Message) → IsTempAnswer size m → IsAnswer size m
+plain_answer size (message.Ready cache strategy) temp = tt
+plain_answer size (message.Supply page lock precious bytes) temp = (subst (λ (z : ℕ). z < 4) (sym temp.0) (omega arith), temp.2)
+plain_answer size (message.Unavailable page) temp = tt
+plain_answer size (message.Error page reason) temp = tt
+plain_answer size other temp = absurd temp

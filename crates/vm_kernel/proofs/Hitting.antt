@@ -1,0 +1,82 @@
+-- Where an access leads, and how it ends that finds its page.
+use Rattle.std.proofs.Common.{◌≡◌, ℕ, ◌+◌, ◌%◌, ◌≤◌, Bool, true, false, List, ◌∷◌, length, refl, ap, sym, ◌∙◌, subst, Some}
+use Rattle.std.specs.Prelude.{IfSome, not, slice_range}
+use Rattle.vm_base.specs.declared.entry.Entry.{Entry}
+use Rattle.vm_base.specs.declared.ids.FrameNo.{FrameNo}
+use Rattle.vm_base.specs.declared.ids.PageKey.{PageKey}
+use Rattle.vm_base.specs.declared.ids.TaskId.{TaskId}
+use Rattle.vm_base.specs.Entries.{entry_at}
+use Rattle.vm_base.specs.Pages.{little_endian, little_endian_bytes, with_bytes}
+use Rattle.vm_model.specs.declared.event.Event.{Event}
+use Rattle.vm_model.specs.declared.event.Event.TheVariants as event
+use Rattle.vm_frames.specs.Frames.{page_in}
+use Rattle.vm_maps.specs.Judge.{place_at}
+use Rattle.vm_maps.specs.Maps.{rows_in}
+use Rattle.vm_maps.specs.declared.place.Place.{Place}
+use Rattle.vm_queues.specs.Queues.{KeepsPages, Queues, touched}
+use Rattle.vm_resident.specs.Resident.{row_at}
+use Rattle.vm_resident.specs.declared.page_row.PageRow.{PageRow}
+use Rattle.vm_shadow.specs.Chains.{region_at}
+use Rattle.vm_shadow.specs.declared.region_row.RegionRow.{RegionRow}
+use Rattle.vm_waits.specs.declared.waiting.Want.{Want}
+use Rattle.vm_waits.specs.declared.waiting.Want.TheVariants as want
+use Rattle.vm_kernel.specs.Changes.{IsHere, Wrote}
+use Rattle.vm_kernel.specs.Faulting.{AtOnce, CanFault, Faulted, Hits, Touched}
+use Rattle.vm_kernel.specs.Fits.{Fits}
+use Rattle.vm_kernel.specs.Waiters.{IsAt, address_in, want_size}
+use Rattle.vm_kernel.specs.declared.parts.Parts.{Parts}
+use Rattle.vm_kernel.specs.declared.steps.FaultStep.TheVariants as step
+use Rattle.vm_kernel.proofs.Brings.{holds_of}
+
+-- what lies within a page lies within a frame
+pub inside_page : (k : Parts) (key : PageKey) (frame : FrameNo) (at : ℕ) (what some : Want) → Fits k → IsHere key frame k → at + want_size what ≤ k.size → what ≡ some → at + want_size some ≤ length (page_in k.frames frame.0)
+inside_page k key frame at what some fits here inside is =
+    subst (λ (z : Want). at + want_size z ≤ length (page_in k.frames frame.0)) is (subst (λ (z : ℕ). at + want_size what ≤ z) (sym (holds_of k key frame fits here).sized) inside)
+
+touched_of : (k : Parts) (f : ℕ) (qs : Queues) → KeepsPages k.queues qs → qs ≡ touched f k.queues → Touched k (record k { queues = qs })
+touched_of k f qs keeps is = record { is = refl; keeps = keeps; frames = ap (λ z. z.frames) is }
+
+pub hits_load : (task : TaskId) (what : Want) (address size : ℕ) (key : PageKey) (frame : FrameNo) (at : ℕ) (old mid : Parts) (qs : Queues) (e : Event) (before after : List Event)
+    → what ≡ want.Load address size → mid ≡ old → e ≡ event.Loaded task key.object key.page (little_endian (slice_range (page_in old.frames frame.0) at (at + size)))
+    → KeepsPages mid.queues qs → qs ≡ touched frame.0 mid.queues → after ≡ e ∷ before
+    → Hits task what key frame at old (record mid { queues = qs }) before after
+hits_load task what address size key frame at old mid qs e before after is same loaded keeps touches told =
+    subst (λ (z : Want). Hits task z key frame at old (record mid { queues = qs }) before after) (sym is)
+    (little_endian (slice_range (page_in old.frames frame.0) at (at + size)), refl, subst (λ (z : Parts). Touched z (record mid { queues = qs })) same (touched_of mid frame.0 qs keeps touches), told ∙ ap (λ z. z ∷ before) loaded)
+
+pub hits_store : (task : TaskId) (what : Want) (address size value : ℕ) (key : PageKey) (frame : FrameNo) (at : ℕ) (old mid mid2 : Parts) (qs : Queues) (e : Event) (before after : List Event)
+    → what ≡ want.Store address size value → mid2 ≡ mid → Wrote key frame (with_bytes at (little_endian_bytes size value) (page_in old.frames frame.0)) old mid → e ≡ event.Stored task key.object key.page at size value
+    → KeepsPages mid2.queues qs → qs ≡ touched frame.0 mid2.queues → after ≡ e ∷ before
+    → Hits task what key frame at old (record mid2 { queues = qs }) before after
+hits_store task what address size value key frame at old mid mid2 qs e before after is same wrote stored keeps touches told =
+    subst (λ (z : Want). Hits task z key frame at old (record mid2 { queues = qs }) before after) (sym is)
+    (mid, wrote, subst (λ (z : Parts). Touched z (record mid2 { queues = qs })) same (touched_of mid2 frame.0 qs keeps touches), told ∙ ap (λ z. z ∷ before) stored)
+
+-- the page of a place
+abbrev pub key_at : RegionRow → Place → PageKey
+key_at row place = record { object = row.top; page = record { 0 = row.shift + place.page.0 } }
+
+-- where an access leads that can be run
+pub leads : (k : Parts) (task : ℕ) (what : Want) (address : ℕ) (place : Place) (key : PageKey) → CanFault k task what → address ≡ address_in what
+    → ((entry : Entry) → entry_at address (rows_in task k.maps) ≡ Some entry → place ≡ place_at k.maps.size address entry) → IfSome (region_at k.chains place.region.0) (λ row. key ≡ key_at row place)
+    → IsAt k.maps k.chains task what key
+leads k task what address place key can is found keyed =
+    let at = can.at in
+    let place_is : place ≡ place_at k.maps.size (address_in what) at.entry = found at.entry (ap (λ z. entry_at z (rows_in task k.maps)) is ∙ at.found) ∙ ap (λ z. place_at k.maps.size z at.entry) is in
+    let there : IfSome (region_at k.chains at.entry.region.0) (λ row. key ≡ key_at row (place_at k.maps.size (address_in what) at.entry)) =
+    subst (λ (z : Place). IfSome (region_at k.chains z.region.0) (λ row. key ≡ key_at row z)) place_is keyed in
+    record { entry = at.entry; found = at.found; row = at.row; region = at.region; is = rw at.region at there }
+
+not_false : (b : Bool) → not b ≡ false → b ≡ true
+not_false true is = refl
+not_false false is = absurd (let bad : true ≡ false = is in cc)
+
+pub done_at_once : (task : TaskId) (what : Want) (may_claim : Bool) (key : PageKey) (at : ℕ) (row : PageRow) (old new : Parts) (before after : List Event)
+    → IsAt old.maps old.chains task.0 what key → row_at old.resident key.object.0 key.page.0 ≡ Some row → not row.here ≡ false → at ≡ address_in what % old.size → Hits task what key row.frame at old new before after
+    → Faulted task what may_claim step.Done old new before after
+done_at_once task what may_claim key at row old new before after leads_to found here at_is hits =
+    record {
+      key = key;
+      at = leads_to;
+      faults = AtOnce row.frame (record { row = row; found = found; is = refl; here = not_false row.here here }) (subst (λ (z : ℕ). Hits task what key row.frame z old new before after) at_is hits);
+    }

@@ -1,0 +1,116 @@
+-- The frame of the oldest return is free, once its pager took it.
+use Rattle.std.proofs.Common.{append_assoc, ◌≡◌, ℕ, zero, suc, ◌+◌, ◌-◌, ◌<◌, Bool, true, false, List, [], ◌∷◌, ◌++◌, get_or, set, length, refl, ap, sym, ◌∙◌, subst, arith, inl, inr}
+use Rattle.std.proofs.lemmas.Bool.Decides.{eqb_tells}
+use Rattle.std.specs.Prelude.{All, reverse, slice_get}
+use Rattle.vm_base.specs.declared.ids.FrameNo.{FrameNo}
+use Rattle.vm_base.specs.declared.ids.ObjectId.{ObjectId}
+use Rattle.vm_base.specs.declared.ids.PageNo.{PageNo}
+use Rattle.vm_model.specs.declared.event.Event.{Event}
+use Rattle.vm_model.specs.declared.event.Event.TheVariants as event
+use Rattle.vm_model.specs.declared.message.Channel.TheVariants.{Up}
+use Rattle.vm_model.specs.declared.message.Message.TheVariants as message
+use Rattle.vm_model.specs.declared.script.Header.{Header}
+use Rattle.vm_model.specs.Local.{Local, local}
+use Rattle.vm_legal.specs.Frames.{frames_held, frames_wired, returns_out}
+use Rattle.vm_frames.specs.Frames.{FrameTable, Releases, is_claimed}
+use Rattle.vm_objects.specs.Objects.{ObjectTable}
+use Rattle.vm_pageout.specs.Laundry.{LaundryList}
+use Rattle.vm_parts.proofs.Fitting.{fit_released}
+use Rattle.vm_queues.specs.Queues.{is_skipped}
+use Rattle.vm_resident.specs.Resident.{ResidentTable}
+use Rattle.vm_shadow.specs.Chains.{ChainTable}
+use Rattle.vm_shadow.specs.declared.ids.Ids.{Ids}
+use Rattle.vm_kernel.specs.Begun.{IsLaundered}
+use Rattle.vm_kernel.specs.Matches.{EachApart, HasLaundry, HasPages, IsWashed, Rests, the_host}
+use Rattle.vm_kernel.specs.Places.{place_of}
+use Rattle.vm_kernel.specs.declared.parts.Parts.{Parts}
+use Rattle.vm_kernel.proofs.Answers.{counts, frames_ended}
+use Rattle.vm_kernel.proofs.Foreign.{rests_foreign}
+use Rattle.vm_kernel.proofs.Rows.{claim_set, claimed_inside, one_case}
+
+-- no frame of the list is this one
+list_apart : (list : List FrameNo) (f : ℕ) → is_skipped list f ≡ false → (i : ℕ) (d : FrameNo) → i < length list → (get_or list i d).0 ≡ f → ⊥
+list_apart [] f none i d below same = omega arith
+list_apart (g ∷ list) f none zero d below same = elim (eqb_tells g.0 f) [
+  | inl is ↦ let bad : true ≡ false = rw is.0 at none in cc
+  | inr apart ↦ apart.1 same
+]
+list_apart (g ∷ list) f none (suc i) d below same = elim (eqb_tells g.0 f) [
+  | inl is ↦ let bad : true ≡ false = rw is.0 at none in cc
+  | inr apart ↦ list_apart list f (rw apart.0 at none) i d (omega arith) same
+]
+
+laundry_less : (fs fs2 : FrameTable) (rs : ResidentTable) (laundry laundry2 : LaundryList) (out : ℕ) (f : FrameNo) → HasLaundry fs rs laundry out → laundry.held ≡ f ∷ laundry2.held → laundry2.room ≡ laundry.room + 1
+    → is_claimed fs f.0 ≡ true → Releases f.0 fs fs2 → HasLaundry fs2 rs laundry2 (out - 1)
+laundry_less fs fs2 rs laundry laundry2 out f has held room claimed releases =
+    let many : length laundry.held ≡ suc (length laundry2.held) = ap length held in
+    record {
+      count = omega (arith, has.count, many);
+      room = omega (arith, has.room, many, room) ∙ sym (counts fs fs2 f.0 releases);
+      washed = λ i d below. still (get_or laundry2.held i d) (list_apart laundry2.held f.0 apart.0 i d below) (washed (suc i) d (omega arith));
+      apart = apart.1;
+    }
+  where
+    apart : EachApart (f ∷ laundry2.held)
+    apart = subst EachApart held has.apart
+
+    washed : All (IsWashed fs rs) (f ∷ laundry2.held)
+    washed = subst (All (IsWashed fs rs)) held has.washed
+
+    still : (g : FrameNo) → (g.0 ≡ f.0 → ⊥) → IsWashed fs rs g → IsWashed fs2 rs g
+    still g other was =
+        record {
+          claimed =
+              ap (λ z. is_claimed z g.0) releases.is
+              ∙ elim (one_case f.0 g.0 false (is_claimed fs g.0) (get_or (set fs.claims f.0 false) g.0 false) (claim_set fs.claims f.0 false (claimed_inside fs.claims f.0 claimed) g.0)) [
+                | inl same ↦ absurd (other (sym same.0))
+                | inr that ↦ that.1 ∙ was.claimed
+              ];
+          unowned = was.unowned;
+        }
+
+pages_same : (fs fs2 : FrameTable) (rs : ResidentTable) (os : ObjectTable) (cs : ChainTable) (local_at : ℕ → ℕ → Local) (f : ℕ) → HasPages fs rs os cs local_at → Releases f fs fs2 → HasPages fs2 rs os cs local_at
+pages_same fs fs2 rs os cs local_at f has releases = subst (λ (z : FrameTable). HasPages z rs os cs local_at) (sym releases.is) (record { shown = has.shown; live = has.live })
+
+-- the frame that is held longest
+pub washed_first : (fs : FrameTable) (rs : ResidentTable) (laundry : LaundryList) (out : ℕ) (f : FrameNo) (more : List FrameNo) → HasLaundry fs rs laundry out → laundry.held ≡ f ∷ more → IsWashed fs rs f
+washed_first fs rs laundry out f more has held = (subst (All (IsWashed fs rs)) held has.washed) 0 f (omega arith)
+
+-- its pager took the return
+rests_taken : (header : Header) (k : Parts) (ids : Ids) (past : List Event) (object : ObjectId) (control : ℕ) (page : PageNo) (dirty : Bool) (bytes : List ℕ) (f : FrameNo) (fs : FrameTable) (laundry : LaundryList)
+    → Rests header k ids past → k.laundry.held ≡ f ∷ laundry.held → laundry.room ≡ k.laundry.room + 1 → Releases f.0 k.frames fs
+    → Rests header (record k { frames = fs; laundry = laundry }) ids (event.Taken (Up the_host object) (message.Return control page dirty false bytes) ∷ past)
+rests_taken header k ids past object control page dirty bytes f fs laundry rests held room releases =
+    let was = rests.matches in
+    let washed = washed_first k.frames k.resident k.laundry (returns_out 0 past) f laundry.held was.laundry held in
+    record {
+      matches =
+          record {
+            plain = was.plain;
+            size = was.size;
+            host = was.host;
+            fits = record { parts = fit_released k.size k.frames fs k.resident k.queues k.objects f.0 was.fits.parts washed.claimed washed.unowned releases; plain = was.fits.plain; buffers = was.fits.buffers };
+            tasks = was.tasks;
+            regions = was.regions;
+            entries = was.entries;
+            pages = pages_same k.frames fs k.resident k.objects k.chains (λ o p. local header.size 0 (place_of o p) past) f.0 was.pages releases;
+            uses = was.uses;
+            controls = was.controls;
+            settled = refl;
+            laundry = laundry_less k.frames fs k.resident k.laundry laundry (returns_out 0 past) f was.laundry held room washed.claimed releases;
+            frames = frames_ended (slice_get (reverse header.frames.items) 0) k.frames fs f.0 (frames_held header.size 0 past) (frames_wired 0 past) was.frames releases;
+          };
+      used = rests.used;
+      reached = rests.reached;
+      waits = rests.waits;
+      idle = rests.idle;
+    }
+
+pub rests_laundered : (header : Header) (k : Parts) (ids : Ids) (front past : List Event) (f : FrameNo) (fs : FrameTable) (laundry : LaundryList)
+    → Rests header k ids past → IsLaundered front → k.laundry.held ≡ f ∷ laundry.held → laundry.room ≡ k.laundry.room + 1 → Releases f.0 k.frames fs
+    → Rests header (record k { frames = fs; laundry = laundry }) ids (front ++ past)
+rests_laundered header k ids front past f fs laundry rests is held room releases =
+    let e = event.Taken (Up the_host is.object) (message.Return is.control is.page is.dirty false is.bytes) in
+    subst (λ (z : List Event). Rests header (record k { frames = fs; laundry = laundry }) ids z) (sym (ap (λ z. z ++ past) is.is ∙ append_assoc is.told (e ∷ []) past))
+    (rests_foreign header (record k { frames = fs; laundry = laundry }) ids is.told (e ∷ past)
+    (rests_taken header k ids past is.object is.control is.page is.dirty is.bytes f fs laundry rests held room releases) is.foreign)

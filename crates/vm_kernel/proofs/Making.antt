@@ -1,0 +1,183 @@
+-- A task is made: it doesn't wait, and who waits goes on waiting; and an object is made, which has no control yet.
+use Rattle.std.proofs.Common.{◌≡◌, ℕ, Bool, true, false, List, [], ◌∷◌, refl, ap, sym, ◌∙◌, subst, arith, Some, None, Option, inl, inr}
+use Rattle.std.proofs.lemmas.Bool.Decides.{eqb_tells}
+use Rattle.std.specs.Prelude.{is_some}
+use Rattle.vm_base.specs.declared.ids.HostId.{HostId}
+use Rattle.vm_base.specs.declared.ids.ObjectKind.TheVariants.{Temp}
+use Rattle.vm_base.specs.declared.ids.TaskId.{TaskId}
+use Rattle.vm_model.specs.declared.event.Event.{Event}
+use Rattle.vm_model.specs.declared.event.Event.TheVariants as event
+use Rattle.vm_model.specs.declared.command.Command.TheVariants as command
+use Rattle.vm_model.specs.declared.script.Header.{Header}
+use Rattle.vm_model.specs.Waiting.{Access, waiting}
+use Rattle.vm_legal.specs.Living.{tasks}
+use Rattle.vm_legal.specs.Outside.{Outside}
+use Rattle.vm_legal.specs.Used.{in_use}
+use Rattle.vm_maps.specs.Maps.{ChangesOnly, Mapped, entries_in, rows_in}
+use Rattle.vm_objects.specs.Objects.{ObjectTable, PutsObject, object_at}
+use Rattle.vm_objects.specs.declared.row.ObjectRow.{ObjectRow}
+use Rattle.vm_objects.specs.declared.row.PagerState.TheVariants.{Without}
+use Rattle.vm_resident.specs.Resident.{ResidentTable}
+use Rattle.vm_shadow.specs.Chains.{ChainTable}
+use Rattle.vm_shadow.specs.declared.ids.Ids.{Ids}
+use Rattle.vm_supply.specs.declared.woken.Woken.{Woken}
+use Rattle.vm_waits.specs.Waits.{entry}
+use Rattle.vm_waits.specs.declared.waiting.On.{On}
+use Rattle.vm_waits.specs.declared.waiting.On.TheVariants as on
+use Rattle.vm_waits.specs.declared.waiting.Waiting.{Waiting}
+use Rattle.vm_waits.specs.declared.waiting.Want.{Want}
+use Rattle.vm_kernel.specs.Begun.{Ran, Starts}
+use Rattle.vm_kernel.specs.Matches.{HasControls, the_host}
+use Rattle.vm_kernel.specs.Pagers.{last_in, live_in, ready_in}
+use Rattle.vm_kernel.specs.Waiters.{HasWaiters, Reason, waiting_in}
+use Rattle.vm_kernel.specs.declared.parts.Parts.{Parts}
+use Rattle.vm_kernel.proofs.Counts.{most_is}
+use Rattle.vm_kernel.proofs.Growing.{suffices}
+use Rattle.vm_kernel.proofs.Heads.{heads_one, ran_head}
+use Rattle.vm_kernel.proofs.Rows.{one_case, some_is}
+use Rattle.vm_kernel.proofs.Tasks.{can_make, entries_made, tasks_made}
+use Rattle.vm_kernel.proofs.Uses.{uses_made}
+use Rattle.vm_kernel.proofs.Waited.{tops_same, waits_changed}
+
+-- who doesn't wait in the history has no row
+pub idle_of : (x : Option Waiting) (w : Option Access) → w ≡ waiting_in x → is_some w ≡ false → x ≡ None
+idle_of None w is none = refl
+idle_of (Some row) w is none = absurd (let bad : true ≡ false = sym (ap is_some is) ∙ none in cc)
+
+-- who waits lives
+pub no_waiter : (maps : Mapped) (cs : ChainTable) (rs : ResidentTable) (os : ObjectTable) (rows : List Waiting) (who : Woken) (waiting_at : ℕ → Option Access) (task : ℕ)
+    → HasWaiters maps cs rs os rows who waiting_at → entries_in task maps ≡ None → entry rows task ≡ None
+no_waiter maps cs rs os rows who waiting_at task has free = by_entry (entry rows task) refl
+  where
+    by_entry : (x : Option Waiting) → entry rows task ≡ x → entry rows task ≡ None
+    by_entry None is = is
+    by_entry (Some w) is = absurd (let bad : None ≡ Some (rows_in task maps) = sym free ∙ (has.allowed task w is).lives in cc)
+
+-- a new task doesn't wait
+pub waits_made : (maps new : Mapped) (cs : ChainTable) (rs : ResidentTable) (os : ObjectTable) (rows : List Waiting) (who : Woken) (task : TaskId) (host : HostId) (past : List Event)
+    → HasWaiters maps cs rs os rows who (λ t. waiting t past) → entries_in task.0 maps ≡ None → ChangesOnly maps new task.0 (Some [])
+    → HasWaiters new cs rs os rows who (λ t. waiting t (event.TaskMade task host ∷ past))
+waits_made maps new cs rs os rows who task host past has free changes =
+    let none = no_waiter maps cs rs os rows who (λ t. waiting t past) task.0 has free in
+    let now = waits_changed maps new cs cs rs os rows who (λ t. waiting t past) task.0 (Some []) has changes none (tops_same cs) in
+    record {
+      is = λ t. elim (eqb_tells task.0 t) [
+        | inl same ↦ rw same.0 (sym (ap waiting_in (ap (entry rows) (sym same.1) ∙ none)))
+        | inr apart ↦ rw apart.0 (has.is t)
+      ];
+      allowed = now.allowed;
+      sized = now.sized;
+      reasons = now.reasons;
+      aims = now.aims;
+      askers = now.askers;
+    }
+
+pub ran_task : (header : Header) (outside : Outside) (task : TaskId) (past : List Event) (k : Parts) (ids : Ids) (before after : List Event) (maps : Mapped) → Starts header (command.Task task the_host) past k ids before
+    → ChangesOnly k.maps maps task.0 (Some []) → after ≡ event.TaskMade task k.host ∷ before → Ran header outside (command.Task task the_host) past (record k { maps = maps }) ids after
+ran_task header outside task past k ids before after maps s changes told =
+    let m = s.rests.matches in
+    let e : Event = event.TaskMade task the_host in
+    let free = can_make header task past k ids before s in
+    let log : after ≡ e ∷ [] = told ∙ (ap (λ z. event.TaskMade task z ∷ before) m.host ∙ ap (λ z. e ∷ z) s.nothing) in
+    subst (λ (z : List Event). Ran header outside (command.Task task the_host) past (record k { maps = maps }) ids z) (sym log)
+    (ran_head header outside (command.Task task the_host) past (record k { maps = maps }) ids (e ∷ []) (e ∷ []) refl refl
+    (heads_one header outside (command.Task task the_host) past e (record { quiet = m.settled; cause = tt; own_bytes = tt; copies = tt; frames = suffices header k.frames past m.frames; inner = tt; said = tt }))
+    tt
+    (record {
+      matches =
+          record {
+            plain = m.plain;
+            size = m.size;
+            host = m.host;
+            fits = record { parts = m.fits.parts; plain = m.fits.plain; buffers = m.fits.buffers };
+            tasks = tasks_made header.size k.maps maps past task m.tasks changes;
+            regions = m.regions;
+            entries = entries_made header.size k.maps maps k.chains task.0 m.entries changes free s.range.0;
+            pages = m.pages;
+            uses = uses_made k.maps maps (λ r. in_use header 0 r past) (tasks past) task.0 m.uses changes free (rw most_is s.range.0);
+            controls = m.controls;
+            settled = refl;
+            laundry = m.laundry;
+            frames = m.frames;
+          };
+      used = s.rests.used;
+      reached = s.rests.reached;
+      waits = waits_made k.maps maps k.chains k.resident k.objects k.waits.rows _ task the_host past s.rests.waits free changes;
+      idle = s.rests.idle;
+    }))
+
+-- the row of a new object
+abbrev pub new_object : ℕ → ObjectRow
+new_object pages = record { kind = Temp; pages = pages; state = Without; control = 0; live = false; references = 1 }
+
+-- a new object has no control
+pub controls_made : (os os2 : ObjectTable) (last_at : ℕ → ℕ) (live_at : ℕ → Option ℕ) (ready_at : ℕ → Bool) (n pages : ℕ) → HasControls os last_at live_at ready_at → object_at os n ≡ None
+    → PutsObject n (Some (new_object pages)) os os2 → HasControls os2 last_at live_at ready_at
+controls_made os os2 last_at live_at ready_at n pages has none put =
+    let cases = λ (o : ℕ). one_case n o (Some (new_object pages)) (object_at os o) (object_at os2 o) (put.at o) in
+    record {
+      last = λ o. elim (cases o) [
+        | inl same ↦ has.last o ∙ (ap last_in (was o same.0) ∙ sym (ap last_in same.1))
+        | inr apart ↦ has.last o ∙ sym (ap last_in apart.1)
+      ];
+      live = λ o. elim (cases o) [
+        | inl same ↦ has.live o ∙ (ap live_in (was o same.0) ∙ sym (ap live_in same.1))
+        | inr apart ↦ has.live o ∙ sym (ap live_in apart.1)
+      ];
+      ready = λ o control live. elim (cases o) [
+        | inl same ↦ absurd (let bad : None ≡ Some control = sym (has.live o ∙ ap live_in (was o same.0)) ∙ live in cc)
+        | inr apart ↦ has.ready o control live ∙ sym (ap ready_in apart.1)
+      ];
+      all_live = record {
+        at = λ o row found told. elim (cases o) [
+          | inl same ↦ absurd (told (sym (ap (λ z. z.state) (some_is (new_object pages) row (sym same.1 ∙ found)))))
+          | inr apart ↦ has.all_live.at o row (sym apart.1 ∙ found) told
+        ];
+      };
+      numbers = record {
+        at = λ o row found. elim (cases o) [
+          | inl same ↦ let number : 0 ≡ row.control = ap (λ z. z.control) (some_is (new_object pages) row (sym same.1 ∙ found)) in omega arith
+          | inr apart ↦ has.numbers.at o row (sym apart.1 ∙ found)
+        ];
+      };
+      ended = λ o row found live. elim (cases o) [
+        | inl same ↦ absurd (let bad : false ≡ true = ap (λ z. z.live) (some_is (new_object pages) row (sym same.1 ∙ found)) ∙ live in cc)
+        | inr apart ↦ has.ended o row (sym apart.1 ∙ found) live
+      ];
+    }
+  where
+    was : (o : ℕ) → n ≡ o → object_at os o ≡ None
+    was o same = subst (λ (z : ℕ). object_at os z ≡ None) same none
+
+-- each object that was known is known as it was
+pub record KnowsMore (old new : ObjectTable) : Type 0 where
+  pub at : (o : ℕ) (row : ObjectRow) → object_at old o ≡ Some row → object_at new o ≡ Some row
+
+pub knows_made : (os os2 : ObjectTable) (n : ℕ) (row : ObjectRow) → object_at os n ≡ None → PutsObject n (Some row) os os2 → KnowsMore os os2
+knows_made os os2 n row none put =
+    record {
+      at = λ o known found. elim (one_case n o (Some row) (object_at os o) (object_at os2 o) (put.at o)) [
+        | inl same ↦ absurd (let bad : None ≡ Some known = sym none ∙ (ap (object_at os) same.0 ∙ found) in cc)
+        | inr apart ↦ apart.1 ∙ found
+      ];
+    }
+
+reason_known : (maps : Mapped) (cs : ChainTable) (rs : ResidentTable) (os os2 : ObjectTable) (task : ℕ) (what : Want) (why : On) → KnowsMore os os2 → Reason maps cs rs os task what why → Reason maps cs rs os2 task what why
+reason_known maps cs rs os os2 task what on.Again more reason = reason
+reason_known maps cs rs os os2 task what (on.Ready object) more reason =
+    let told = reason.3 in
+    (reason.0, reason.1, reason.2, record { row = told.row; found = more.at object.0 told.row told.found; sent = told.sent })
+reason_known maps cs rs os os2 task what (on.Page key) more reason = reason
+reason_known maps cs rs os os2 task what on.Frame more reason = reason
+
+pub waits_known : (maps : Mapped) (cs : ChainTable) (rs : ResidentTable) (os os2 : ObjectTable) (rows : List Waiting) (who : Woken) (waiting_at : ℕ → Option Access)
+    → HasWaiters maps cs rs os rows who waiting_at → KnowsMore os os2 → HasWaiters maps cs rs os2 rows who waiting_at
+waits_known maps cs rs os os2 rows who waiting_at has more =
+    record {
+      is = has.is;
+      allowed = has.allowed;
+      sized = has.sized;
+      reasons = λ t w found apart. reason_known maps cs rs os os2 t w.want w.on more (has.reasons t w found apart);
+      aims = has.aims;
+      askers = has.askers;
+    }

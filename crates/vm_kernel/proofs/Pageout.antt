@@ -1,0 +1,72 @@
+-- A pageout reclaims pages, one after another.
+use Rattle.std.proofs.Common.{◌≡◌, ℕ, ◌+◌, List, [], ◌++◌, refl, ap, sym, ◌∙◌, subst, inl, inr}
+use Rattle.std.specs.Prelude.{◌⊎◌}
+use Rattle.vm_legal.specs.Follows.{IsDone, IsReclaim, head}
+use Rattle.vm_legal.specs.Outside.{Outside}
+use Rattle.vm_legal.specs.Steps.{gone}
+use Rattle.vm_legal.specs.Stretches.{EachOf}
+use Rattle.vm_model.specs.declared.command.Command.{Command}
+use Rattle.vm_model.specs.declared.command.Command.TheVariants as command
+use Rattle.vm_model.specs.declared.event.Event.{Event}
+use Rattle.vm_model.specs.declared.script.Header.{Header}
+use Rattle.vm_pageout.specs.declared.answer.Reclaim.{Reclaim}
+use Rattle.vm_pageout.specs.declared.answer.Reclaim.TheVariants as reclaim
+use Rattle.vm_shadow.specs.declared.ids.Ids.{Ids}
+use Rattle.vm_kernel.specs.Begun.{Goes, Grows, Ran, Starts}
+use Rattle.vm_kernel.specs.Matches.{Rests, the_host}
+use Rattle.vm_kernel.specs.Serving.{Reclaimed}
+use Rattle.vm_kernel.specs.Taking.{EachGone}
+use Rattle.vm_kernel.specs.declared.parts.Parts.{Parts}
+use Rattle.vm_kernel.proofs.Growing.{grows_goes, of_both}
+use Rattle.vm_kernel.proofs.Reclaims.{exhausted}
+
+-- so many pages have gone, and nothing else was done
+pub record Reclaiming (header : Header) (outside : Outside) (doing : Command) (count done : ℕ) (past : List Event) (k : Parts) (ids : Ids) (events : List Event) : Type 0 where
+  pub is : doing ≡ command.Pageout the_host count
+  pub rests : Rests header k ids (events ++ past)
+  pub grows : Grows header outside doing past events
+  pub reclaims : EachOf (IsReclaim 0) events
+  pub went : gone (events ++ past) ≡ done
+
+pub reclaiming_start : (header : Header) (outside : Outside) (doing : Command) (count : ℕ) (past : List Event) (k : Parts) (ids : Ids) (events : List Event) → doing ≡ command.Pageout the_host count → Starts header doing past k ids events
+    → Reclaiming header outside doing count 0 past k ids events
+reclaiming_start header outside doing count past k ids events is s =
+    subst (λ (z : List Event). Reclaiming header outside doing count 0 past k ids z) (sym s.nothing)
+    (record {
+      is = is;
+      rests = s.rests;
+      grows = record { first = []; more = []; head = ap (head header past) is; is = refl; follows = tt; licensed = tt; own_bytes = tt; copies = tt; frames = tt; inner = tt; said = tt };
+      reclaims = tt;
+      went = ap gone s.begins.is;
+    })
+
+-- one more has gone
+pub reclaiming_more : (header : Header) (outside : Outside) (doing : Command) (count done : ℕ) (past : List Event) (k k2 : Parts) (ids : Ids) (answer : Reclaim) (events after : List Event) → Reclaiming header outside doing count done past k ids events
+    → Rests header k2 ids (after ++ past) → Goes header outside doing past events after → EachGone events after → Reclaimed answer k k2 (events ++ past) (after ++ past) → (answer ≡ reclaim.Freed) ⊎ (answer ≡ reclaim.Returned)
+    → Reclaiming header outside doing count (done + 1) past k2 ids after
+reclaiming_more header outside doing count done past k k2 ids answer events after r rests goes each reclaimed which =
+    record {
+      is = r.is;
+      rests = rests;
+      grows = grows_goes header outside doing past events after r.grows goes;
+      reclaims = subst (EachOf (IsReclaim 0)) (sym each.is) (of_both (IsReclaim 0) each.more events each.each r.reclaims);
+      went = more which ∙ ap (λ z. z + 1) r.went;
+    }
+  where
+    more : (answer ≡ reclaim.Freed) ⊎ (answer ≡ reclaim.Returned) → gone (after ++ past) ≡ gone (events ++ past) + 1
+    more (inl freed) = (reclaimed.freed freed).1
+    more (inr returned) = (reclaimed.returned returned).1
+
+-- no page is here any more
+pub ran_out : (header : Header) (outside : Outside) (doing : Command) (count done : ℕ) (past : List Event) (k k2 : Parts) (ids : Ids) (answer : Reclaim) (events after : List Event) → Reclaiming header outside doing count done past k ids events
+    → Rests header k2 ids (after ++ past) → Goes header outside doing past events after → EachGone events after → Reclaimed answer k k2 (events ++ past) (after ++ past) → answer ≡ reclaim.Nothing
+    → Ran header outside doing past k2 ids after
+ran_out header outside doing count done past k k2 ids answer events after r rests goes each reclaimed nothing =
+    record {
+      rests = rests;
+      grows = grows_goes header outside doing past events after r.grows goes;
+      done = subst (λ (z : Command). IsDone header z after past) (sym r.is) (inr (record { later = []; front = after; is = refl; reclaims = all; exhausted = exhausted header k2 ids past (after ++ past) rests.matches (reclaimed.nothing nothing).1 }));
+    }
+  where
+    all : EachOf (IsReclaim 0) after
+    all = subst (EachOf (IsReclaim 0)) (sym each.is) (of_both (IsReclaim 0) each.more events each.each r.reclaims)

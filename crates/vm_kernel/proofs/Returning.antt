@@ -1,0 +1,288 @@
+-- A page goes back to its pager, which is told of its object first where it wasn't.
+use Rattle.std.proofs.Common.{◌≡◌, ℕ, ◌+◌, ◌==◌, ◌&&◌, Bool, true, false, List, [], ◌∷◌, refl, ap, sym, ◌∙◌, subst, arith, Some, None, Option, inl, inr}
+use Rattle.std.proofs.lemmas.Bool.Decides.{eqb_tells}
+use Rattle.std.specs.Prelude.{if◌then◌else◌, is_some, not, ◌||◌}
+use Rattle.vm_base.specs.declared.ids.ObjectKind.TheVariants.{Temp}
+use Rattle.vm_frames.specs.Frames.{FrameTable}
+use Rattle.vm_model.specs.declared.event.Event.{Event}
+use Rattle.vm_model.specs.declared.event.Event.TheVariants as event
+use Rattle.vm_model.specs.declared.message.Channel.TheVariants.{Up, Down}
+use Rattle.vm_model.specs.declared.message.Message.{Message}
+use Rattle.vm_model.specs.declared.message.Message.TheVariants as message
+use Rattle.vm_model.specs.Controls.{is_control, live_control, without_control}
+use Rattle.vm_model.specs.Local.{Asks, Begins, Drops, Effect, Elsewhere, Ends, Local, Raises, Returns, Stores, TakesError, TakesLock, TakesNothing, TakesPage, Unlocks, Zeroes, away, came, local, moved, taken_effect}
+use Rattle.vm_model.specs.Regions.{Backing, Region}
+use Rattle.vm_objects.specs.Objects.{ObjectTable, PutsAbsent, PutsObject, absent_at, object_at}
+use Rattle.vm_objects.specs.declared.row.ObjectRow.{ObjectRow}
+use Rattle.vm_objects.specs.declared.row.PagerState.{PagerState}
+use Rattle.vm_objects.specs.declared.row.PagerState.TheVariants as state
+use Rattle.vm_pageout.specs.Reclaims.{with_control}
+use Rattle.vm_parts.specs.Controls.{AllLive}
+use Rattle.vm_resident.specs.Resident.{PutsRow, ResidentTable, row_at}
+use Rattle.vm_resident.specs.declared.page_row.PageRow.{PageRow}
+use Rattle.vm_shadow.specs.Chains.{ChainTable, region_at}
+use Rattle.vm_shadow.specs.declared.ids.Ids.{Ids}
+use Rattle.vm_shadow.specs.declared.region_row.RegionRow.{RegionRow}
+use Rattle.vm_kernel.specs.Matches.{AllReached, HasControls, HasPages, HasRegions, IsUnder}
+use Rattle.vm_kernel.specs.Pagers.{has_pager, last_in, live_in, ready_in}
+use Rattle.vm_kernel.specs.Places.{has_region, place_of, shown}
+use Rattle.vm_kernel.specs.Waiters.{IsTold}
+use Rattle.vm_kernel.proofs.Rows.{one_case, row_cases, some_is}
+
+-- nothing is asked of an object without a live control
+
+-- what asks for no page
+abbrev IsCalm : Effect → Type 0
+IsCalm Asks = ⊥
+IsCalm other = Unit {0}
+
+either : (b : Bool) (x y : Local) → x.asked ≡ false → y.asked ≡ false → (if b then x else y).asked ≡ false
+either true x y one other = one
+either false x y one other = other
+
+calm : (size : ℕ) (e : Effect) (was : Local) → IsCalm e → was.asked ≡ false → (moved size e was).asked ≡ false
+calm size Zeroes was none is = is
+calm size (Raises bytes) was none is = is
+calm size (Stores at bytes) was none is = is
+calm size Drops was none is = is
+calm size (Returns true) was none is = is
+calm size (Returns false) was none is = is
+calm size Asks was none is = absurd none
+calm size Unlocks was none is = is
+calm size (TakesPage lock precious bytes) was none is = either was.asked (record (came bytes lock false precious was) { asked = false }) was refl is
+calm size TakesNothing was none is = either was.asked (record was { asked = false; absent = true }) was refl is
+calm size TakesError was none is = refl
+calm size (TakesLock lock flush) was none is = either was.here (record was { lock = if flush || lock == 8 then was.lock else lock; unlocking = false }) was is is
+calm size Begins was none is = refl
+calm size Ends was none is = refl
+calm size Elsewhere was none is = is
+
+calm_if : (b : Bool) (e : Effect) → IsCalm e → IsCalm (if b then e else Elsewhere)
+calm_if true e none = none
+calm_if false e none = tt
+
+calm_taken : (page : ℕ) (m : Message) → IsCalm (taken_effect page m)
+calm_taken page (message.Supply at lock precious bytes) = calm_if _ (TakesPage lock precious bytes) tt
+calm_taken page (message.Unavailable at) = calm_if _ TakesNothing tt
+calm_taken page (message.Error at reason) = calm_if _ TakesError tt
+calm_taken page (message.Lock at count returns flush lock reply) = calm_if _ (TakesLock lock flush) tt
+calm_taken page other = tt
+
+-- the object gets a control
+begun : (size control : ℕ) (b : Bool) (live : Option ℕ) (was : Local) → (if b then Some control else live) ≡ None → (live ≡ None → was.asked ≡ false) → (moved size (if b then Begins else Elsewhere) was).asked ≡ false
+begun size control true live was none before = refl
+begun size control false live was none before = before none
+
+-- its control may end
+ended : (size control : ℕ) (b : Bool) (live : Option ℕ) (was : Local) → (if b then without_control control live else live) ≡ None → (live ≡ None → was.asked ≡ false)
+    → (moved size (if b then (if is_control control live then Ends else Elsewhere) else Elsewhere) was).asked ≡ false
+ended size control false live was none before = before none
+ended size control true None was none before = before refl
+ended size control true (Some number) was none before = go (number == control) none
+  where
+    go : (b : Bool) → (if b then None else Some number) ≡ None → (moved size (if b then Ends else Elsewhere) was).asked ≡ false
+    go true is = refl
+    go false is = absurd (let bad : Some number ≡ None = is in cc)
+
+-- nothing is asked where no control lives
+requested : (size control : ℕ) (b at : Bool) (live : Option ℕ) (was : Local) → live ≡ None → was.asked ≡ false → (moved size (if b then (if at && is_control control live then Asks else Elsewhere) else Elsewhere) was).asked ≡ false
+requested size control b at (Some number) was none is = absurd (let bad : Some number ≡ None = none in cc)
+requested size control true true None was none is = is
+requested size control true false None was none is = is
+requested size control false at None was none is = is
+
+pub unasked : (size host o p : ℕ) (past : List Event) → live_control host o past ≡ None → (local size host (place_of o p) past).asked ≡ false
+unasked size host o p [] none = refl
+unasked size host o p (event.Zeroed at object page ∷ past) none = calm size _ _ (calm_if _ Zeroes tt) (unasked size host o p past none)
+unasked size host o p (event.Raised at lower lower_page upper upper_page ∷ past) none = calm size _ _ (calm_if _ (Raises _) tt) (unasked size host o p past none)
+unasked size host o p (event.CopiedPage task page object object_page target ∷ past) none = calm size _ _ (calm_if _ (Raises _) tt) (unasked size host o p past none)
+unasked size host o p (event.Stored task object page at bytes value ∷ past) none = calm size _ _ (calm_if _ (Stores at _) tt) (unasked size host o p past none)
+unasked size host o p (event.Dropped at object page ∷ past) none = calm size _ _ (calm_if _ Drops tt) (unasked size host o p past none)
+unasked size host o p (event.Sent (Up at object) (message.Init control bytes) ∷ past) none = begun size control _ _ _ none (unasked size host o p past)
+unasked size host o p (event.Sent (Up at object) (message.Create control bytes) ∷ past) none = begun size control _ _ _ none (unasked size host o p past)
+unasked size host o p (event.Sent (Up at object) (message.Terminate control) ∷ past) none = ended size control _ _ _ none (unasked size host o p past)
+unasked size host o p (event.Sent (Up at object) (message.Request control page access) ∷ past) none = requested size control _ _ _ _ none (unasked size host o p past none)
+unasked size host o p (event.Sent (Up at object) (message.Unlock control page access) ∷ past) none = calm size _ _ (calm_if (at.0 == host && object.0 == o) (if page.0 == p then Unlocks else Elsewhere) (calm_if (page.0 == p) Unlocks tt)) (unasked size host o p past none)
+unasked size host o p (event.Sent (Up at object) (message.Return control page dirty keep bytes) ∷ past) none = calm size _ _ (calm_if (at.0 == host && object.0 == o) (if page.0 == p then Returns keep else Elsewhere) (calm_if (page.0 == p) (Returns keep) tt)) (unasked size host o p past none)
+unasked size host o p (event.Sent (Up at object) m ∷ past) none = calm size _ _ (calm_if _ Elsewhere tt) (unasked size host o p past none)
+unasked size host o p (event.Taken (Down at object control) m ∷ past) none = calm size _ _ (calm_if _ _ (calm_taken p m)) (unasked size host o p past none)
+unasked size host o p (e ∷ past) none = unasked size host o p past none
+
+-- the pager is told of the object, of which nothing is asked
+pub pages_created : (size : ℕ) (fs : FrameTable) (rs : ResidentTable) (os : ObjectTable) (cs : ChainTable) (local_at : ℕ → ℕ → Local) (o : ℕ)
+    → HasPages fs rs os cs local_at → ((p : ℕ) → (local_at o p).asked ≡ false) → HasPages fs rs os cs (λ o2 p2. moved size (if o == o2 then Begins else Elsewhere) (local_at o2 p2))
+pages_created size fs rs os cs local_at o has none =
+    record {
+      shown = λ o2 p2. elim (eqb_tells o o2) [
+        | inl same ↦
+            ap (λ b. moved size (if b then Begins else Elsewhere) (local_at o2 p2)) same.0
+            ∙ (ap (λ z. record (local_at o2 p2) { asked = z }) (sym (subst (λ (z : ℕ). (local_at z p2).asked ≡ false) same.1 (none p2))) ∙ has.shown o2 p2)
+        | inr apart ↦ ap (λ b. moved size (if b then Begins else Elsewhere) (local_at o2 p2)) apart.0 ∙ has.shown o2 p2
+      ];
+      live = has.live;
+    }
+
+-- a page goes to its pager, which has it then
+pub pages_returned : (size : ℕ) (fs : FrameTable) (rs rs2 : ResidentTable) (os os2 : ObjectTable) (cs : ChainTable) (local_at : ℕ → ℕ → Local) (o p : ℕ) (row : PageRow)
+    → row_at rs o p ≡ Some row → row.here ≡ true → HasPages fs rs os cs local_at → PutsRow o p None rs rs2 → PutsAbsent o p false os os2
+    → HasPages fs rs2 os2 cs (λ o2 p2. moved size (if o == o2 then (if p == p2 then Returns false else Elsewhere) else Elsewhere) (local_at o2 p2))
+pages_returned size fs rs rs2 os os2 cs local_at o p row found here has put present =
+    record {
+      shown = λ o2 p2. ap (λ e. moved size e (local_at o2 p2)) (nested (o == o2) (p == p2)) ∙ elim (row_cases o p None rs rs2 put o2 p2) [
+        | inl now ↦
+            let was : row_at rs o2 p2 ≡ Some row = subst (λ (z : ℕ). row_at rs o2 z ≡ Some row) now.page (subst (λ (z : ℕ). row_at rs z p ≡ Some row) now.object found) in
+            let had : local_at o2 p2 ≡ shown fs (Some row) (absent_at os o2 p2) = has.shown o2 p2 ∙ ap (λ z. shown fs z (absent_at os o2 p2)) was in
+            let known : absent_at os2 o2 p2 ≡ false = present.at o2 p2 ∙ ap (λ b. if b then false else absent_at os o2 p2) now.test in
+            ap (λ b. moved size (if b then Returns false else Elsewhere) (local_at o2 p2)) now.test
+            ∙ (ap (moved size (Returns false)) had
+            ∙ (ap (λ z. record away { asked = not z }) here ∙ (sym (ap (λ z. shown fs None z) known) ∙ sym (ap (λ z. shown fs z (absent_at os2 o2 p2)) now.is))))
+        | inr other ↦
+            let known : absent_at os2 o2 p2 ≡ absent_at os o2 p2 = present.at o2 p2 ∙ ap (λ b. if b then false else absent_at os o2 p2) other.test in
+            ap (λ b. moved size (if b then Returns false else Elsewhere) (local_at o2 p2)) other.test
+            ∙ (has.shown o2 p2 ∙ (sym (ap (λ z. shown fs (row_at rs o2 p2) z) known) ∙ sym (ap (λ z. shown fs z (absent_at os2 o2 p2)) other.is)))
+      ];
+      live = λ o2 p2 r is. elim (row_cases o p None rs rs2 put o2 p2) [
+        | inl now ↦ absurd (let bad : None ≡ Some r = sym now.is ∙ is in cc)
+        | inr other ↦ has.live o2 p2 r (sym other.is ∙ is)
+      ];
+    }
+  where
+    nested : (a b : Bool) → (if a then (if b then Returns false else Elsewhere) else Elsewhere) ≡ (if a && b then Returns false else Elsewhere)
+    nested true b = refl
+    nested false b = refl
+
+-- an object with a pager, which begins where it had none
+
+under_controlled : (pager : PagerState) (row : ObjectRow) (x : RegionRow) → row.state ≡ pager → IsUnder x (Some row) → IsUnder x (Some (with_control pager row))
+under_controlled state.Sent row x is under = under
+under_controlled state.Ready row x is under = under
+under_controlled state.Without row x is under =
+    let same : under.object ≡ row = sym (some_is row under.object under.found) in
+    let number : row.control ≡ (if has_pager row.state then 1 else 0) = subst (λ (z : ObjectRow). z.control ≡ (if has_pager z.state then 1 else 0)) same under.number in
+    record {
+      object = with_control state.Without row;
+      found = refl;
+      temporary = subst (λ (z : ObjectRow). z.kind ≡ Temp) same under.temporary;
+      pages = subst (λ (z : ObjectRow). z.pages ≡ x.pages) same under.pages;
+      references = subst (λ (z : ObjectRow). z.references ≡ 1) same under.references;
+      live = refl;
+      number = ap (λ z. z + 1) (number ∙ ap (λ z. if has_pager z then 1 else 0) is);
+    }
+
+pub regions_controlled : (cs : ChainTable) (os os2 : ObjectTable) (ids : Ids) (region_from : ℕ → Region) (backing_from : ℕ → Backing) (regions_made objects_made o : ℕ) (row : ObjectRow)
+    → HasRegions cs os ids region_from backing_from regions_made objects_made → object_at os o ≡ Some row → PutsObject o (Some (with_control row.state row)) os os2
+    → HasRegions cs os2 ids region_from backing_from regions_made objects_made
+regions_controlled cs os os2 ids region_from backing_from regions_made objects_made o row has found put =
+    record {
+      region = has.region;
+      object = has.object;
+      equal = has.equal;
+      marks = has.marks;
+      rows = has.rows;
+      tops = has.tops;
+      unbacked = has.unbacked;
+      unmade = has.unmade;
+      unknown = λ k beyond. elim (one_case o k (Some (with_control row.state row)) (object_at os k) (object_at os2 k) (put.at k)) [
+        | inl same ↦ absurd (let bad : None ≡ Some row = sym (has.unknown k beyond) ∙ (sym (ap (object_at os) same.0) ∙ found) in cc)
+        | inr other ↦ other.1 ∙ has.unknown k beyond
+      ];
+      under = λ r x is. elim (one_case o r (Some (with_control row.state row)) (object_at os r) (object_at os2 r) (put.at r)) [
+        | inl same ↦ subst (λ (z : Option ObjectRow). IsUnder x z) (sym same.1) (under_controlled row.state row x refl (subst (λ (z : Option ObjectRow). IsUnder x z) (sym (ap (object_at os) same.0) ∙ found) (has.under r x is)))
+        | inr other ↦ subst (λ (z : Option ObjectRow). IsUnder x z) (sym other.1) (has.under r x is)
+      ];
+    }
+
+-- those whose pagers were told of them are told still
+pub told_controlled : (os os2 : ObjectTable) (o : ℕ) (row : ObjectRow) → object_at os o ≡ Some row → PutsObject o (Some (with_control row.state row)) os os2 → (object : ℕ) → IsTold os object → IsTold os2 object
+told_controlled os os2 o row found put object told = elim (one_case o object (Some (with_control row.state row)) (object_at os object) (object_at os2 object) (put.at object)) [
+  | inl same ↦
+      let one : told.row ≡ row = some_is told.row row (sym told.found ∙ (sym (ap (object_at os) same.0) ∙ found)) in
+      let sent : row.state ≡ state.Sent = sym (ap (λ z. z.state) one) ∙ told.sent in
+      record { row = row; found = same.1 ∙ ap (λ z. Some (with_control z row)) sent; sent = sent }
+  | inr other ↦ record { row = told.row; found = other.1 ∙ told.found; sent = told.sent }
+]
+
+-- the objects are as they were, as the pager was told of this one
+
+pub controls_same : (os os2 : ObjectTable) (last_at : ℕ → ℕ) (live_at : ℕ → Option ℕ) (ready_at : ℕ → Bool) → HasControls os last_at live_at ready_at → ((o : ℕ) → object_at os2 o ≡ object_at os o) → HasControls os2 last_at live_at ready_at
+controls_same os os2 last_at live_at ready_at has same =
+    record {
+      last = λ o. has.last o ∙ sym (ap last_in (same o));
+      live = λ o. has.live o ∙ sym (ap live_in (same o));
+      ready = λ o control is. has.ready o control is ∙ sym (ap ready_in (same o));
+      all_live = record { at = λ o row is sent. has.all_live.at o row (sym (same o) ∙ is) sent };
+      numbers = record { at = λ o row is. has.numbers.at o row (sym (same o) ∙ is) };
+      ended = λ o row is. has.ended o row (sym (same o) ∙ is);
+    }
+
+pub controls_told : (os os2 : ObjectTable) (o : ℕ) (row : ObjectRow) → object_at os o ≡ Some row → (with_control row.state row ≡ row) → PutsObject o (Some (with_control row.state row)) os os2 → (k : ℕ) → object_at os2 k ≡ object_at os k
+controls_told os os2 o row found told put k = elim (one_case o k (Some (with_control row.state row)) (object_at os k) (object_at os2 k) (put.at k)) [
+  | inl same ↦ same.1 ∙ (ap Some told ∙ (sym found ∙ ap (object_at os) same.0))
+  | inr other ↦ other.1
+]
+
+-- a control begins, of an object that had none
+pub controls_begun : (os os2 : ObjectTable) (last_at : ℕ → ℕ) (live_at : ℕ → Option ℕ) (ready_at : ℕ → Bool) (o : ℕ) (row : ObjectRow) → HasControls os last_at live_at ready_at
+    → AllLive os2 → row.control ≡ 0 → PutsObject o (Some (with_control state.Without row)) os os2
+    → HasControls os2 (λ k. if o == k then row.control + 1 else last_at k) (λ k. if o == k then Some (row.control + 1) else live_at k) (λ k. if o == k then false else ready_at k)
+controls_begun os os2 last_at live_at ready_at o row has live none put =
+    record {
+      last = λ k. elim (eqb_tells o k) [
+        | inl same ↦ ap (λ b. if b then row.control + 1 else last_at k) same.0 ∙ sym (ap last_in (now k same.0))
+        | inr apart ↦ ap (λ b. if b then row.control + 1 else last_at k) apart.0 ∙ (has.last k ∙ sym (ap last_in (was k apart.0)))
+      ];
+      live = λ k. elim (eqb_tells o k) [
+        | inl same ↦ ap (λ b. if b then Some (row.control + 1) else live_at k) same.0 ∙ sym (ap live_in (now k same.0))
+        | inr apart ↦ ap (λ b. if b then Some (row.control + 1) else live_at k) apart.0 ∙ (has.live k ∙ sym (ap live_in (was k apart.0)))
+      ];
+      ready = λ k control is. elim (eqb_tells o k) [
+        | inl same ↦ ap (λ b. if b then false else ready_at k) same.0 ∙ sym (ap ready_in (now k same.0))
+        | inr apart ↦ ap (λ b. if b then false else ready_at k) apart.0 ∙ (has.ready k control (sym (ap (λ b. if b then Some (row.control + 1) else live_at k) apart.0) ∙ is) ∙ sym (ap ready_in (was k apart.0)))
+      ];
+      all_live = live;
+      numbers = record {
+        at = λ k r is. elim (eqb_tells o k) [
+          | inl same ↦
+              let one : with_control state.Without row ≡ r = some_is (with_control state.Without row) r (sym (now k same.0) ∙ is) in
+              let number : row.control + 1 ≡ r.control = ap (λ z. z.control) one in
+              omega (arith, number, none)
+          | inr apart ↦ has.numbers.at k r (sym (was k apart.0) ∙ is)
+        ];
+      };
+      ended = λ k r is alive. elim (eqb_tells o k) [
+        | inl same ↦ λ without.
+            let one : with_control state.Without row ≡ r = some_is (with_control state.Without row) r (sym (now k same.0) ∙ is) in
+            let bad : state.Sent ≡ state.Without = ap (λ z. z.state) one ∙ without in
+            cc
+        | inr apart ↦ has.ended k r (sym (was k apart.0) ∙ is) alive
+      ];
+    }
+  where
+    now : (k : ℕ) → (o == k) ≡ true → object_at os2 k ≡ Some (with_control state.Without row)
+    now k same = put.at k ∙ ap (λ b. if b then Some (with_control state.Without row) else object_at os k) same
+
+    was : (k : ℕ) → (o == k) ≡ false → object_at os2 k ≡ object_at os k
+    was k apart = put.at k ∙ ap (λ b. if b then Some (with_control state.Without row) else object_at os k) apart
+
+-- a control that lives is that of an object under a region
+pub reached_controlled : (cs : ChainTable) (os os2 : ObjectTable) (o : ℕ) (row : ObjectRow) → AllReached cs os → has_region cs o ≡ true → PutsObject o (Some row) os os2 → AllReached cs os2
+reached_controlled cs os os2 o row all region put k r is alive = elim (one_case o k (Some row) (object_at os k) (object_at os2 k) (put.at k)) [
+  | inl same ↦ subst (λ (z : ℕ). has_region cs z ≡ true) same.0 region
+  | inr other ↦ all k r (sym other.1 ∙ is) alive
+]
+
+-- an object under a region has its first control exactly where its pager was told of it
+pub record IsFirst (row : ObjectRow) : Type 0 where
+  pub live : row.live ≡ has_pager row.state
+  pub number : row.control ≡ (if has_pager row.state then 1 else 0)
+
+pub first_of_object : (cs : ChainTable) (os : ObjectTable) (ids : Ids) (region_from : ℕ → Region) (backing_from : ℕ → Backing) (regions_made objects_made o : ℕ) (row : ObjectRow)
+    → HasRegions cs os ids region_from backing_from regions_made objects_made → has_region cs o ≡ true → object_at os o ≡ Some row → IsFirst row
+first_of_object cs os ids region_from backing_from regions_made objects_made o row has region found = go (region_at cs o) refl region
+  where
+    go : (x : Option RegionRow) → region_at cs o ≡ x → is_some x ≡ true → IsFirst row
+    go None is none = absurd (let bad : false ≡ true = none in cc)
+    go (Some x) is some =
+        let under = has.under o x is in
+        let same : under.object ≡ row = some_is under.object row (sym under.found ∙ found) in
+        subst (λ (z : ObjectRow). IsFirst z) same (record { live = under.live; number = under.number })

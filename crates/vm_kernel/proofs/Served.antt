@@ -1,0 +1,31 @@
+-- Accesses are run again, and the frame queue is served.
+use Rattle.std.proofs.Common.{◌≡◌, Bool, true, false, List, arith}
+use Rattle.std.specs.Prelude.{OnOk, Result, Ok, Err}
+use Rattle.vm_model.specs.declared.event.Event.{Event}
+use Rattle.vm_model.specs.declared.script.Header.{Header}
+use Rattle.vm_shadow.specs.declared.ids.Ids.{Ids}
+use Rattle.vm_supply.specs.declared.woken.Woken.TheVariants as woken
+use Rattle.vm_waits.specs.Waits.{again}
+use Rattle.vm_waits.specs.declared.waiting.Waiting.{Waiting}
+use Rattle.vm_kernel.specs.Matches.{Rests, Works}
+use Rattle.vm_kernel.specs.Serving.{Attempts}
+use Rattle.vm_kernel.specs.declared.parts.Parts.{Parts}
+
+-- what follows from two facts, where a call was Ok
+pub both_ok : {A B : Type 0} (r : Result A B) (P Q R : Type 0) → (P → Q → R) → OnOk r P → OnOk r Q → OnOk r R
+both_ok (Ok x) P Q R f p q = f p q
+both_ok (Err e) P Q R f p q = tt
+
+-- what follows from three
+pub three_ok : {A B : Type 0} (r : Result A B) (P Q R S : Type 0) → (P → Q → R → S) → OnOk r P → OnOk r Q → OnOk r R → OnOk r S
+three_ok (Ok x) P Q R S f p q s = f p q s
+three_ok (Err e) P Q R S f p q s = tt
+
+-- nothing is left that is to be run again
+pub rests_of : (header : Header) (k : Parts) (ids : Ids) (past : List Event) → Works header k ids woken.Nobody past → again k.waits.rows ≡ 0 → Rests header k ids past
+rests_of header k ids past works idle = record { matches = works.matches; used = works.used; reached = works.reached; waits = works.waits; idle = idle }
+
+-- running an access leaves no other to be run again
+pub attempts_idle : (header : Header) (was : Waiting) (may_claim needs : Bool) (old new : Parts) (before after : List Event) → Attempts header was may_claim needs old new before after → again old.waits.rows ≡ 0 → again new.waits.rows ≡ 0
+attempts_idle header was may_claim true old new before after attempts idle = let step = attempts.again in omega arith
+attempts_idle header was may_claim false old new before after attempts idle = let step = attempts.again in omega arith

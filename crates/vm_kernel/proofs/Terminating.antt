@@ -1,0 +1,216 @@
+-- An object to which no region leads any more: its control ends, where one lives.
+use Rattle.std.proofs.Common.{◌≡◌, ℕ, ◌-◌, ◌<◌, ◌==◌, ◌^◌, Bool, true, false, List, ◌∷◌, ◌++◌, length, refl, ap, sym, ◌∙◌, subst, arith, Some, None, Option, inl, inr}
+use Rattle.std.proofs.lemmas.Bool.Decides.{eqb_tells}
+use Rattle.std.specs.Prelude.{if◌then◌else◌, ◌⊎◌}
+use Rattle.vm_base.specs.declared.entry.Entry.{Entry}
+use Rattle.vm_base.specs.declared.ids.ObjectId.{ObjectId}
+use Rattle.vm_model.specs.declared.event.Event.{Event}
+use Rattle.vm_model.specs.declared.event.Event.TheVariants as event
+use Rattle.vm_model.specs.declared.command.Command.{Command}
+use Rattle.vm_model.specs.declared.message.Channel.TheVariants.{Up}
+use Rattle.vm_model.specs.declared.message.Message.TheVariants as message
+use Rattle.vm_model.specs.declared.script.Header.{Header}
+use Rattle.vm_model.specs.Controls.{is_control, last_control, live_control, without_control}
+use Rattle.vm_model.specs.Local.{Local, away, local, moved, Elsewhere, Ends as EndsControl}
+use Rattle.vm_model.specs.Regions.{Backing, Region}
+use Rattle.vm_model.specs.Waiting.{waiting}
+use Rattle.vm_legal.specs.Accesses.{is_ready}
+use Rattle.vm_legal.specs.Licences.{Caused}
+use Rattle.vm_legal.specs.Outside.{Outside}
+use Rattle.vm_frames.specs.Frames.{FrameTable}
+use Rattle.vm_objects.specs.Objects.{ObjectTable, PutsObject, SameMarks, absent_at, object_at}
+use Rattle.vm_objects.specs.declared.row.ObjectRow.{ObjectRow}
+use Rattle.vm_objects.specs.declared.row.PagerState.TheVariants as state
+use Rattle.vm_parts.proofs.Fitting.{fit_objects, same_pages}
+use Rattle.vm_resident.specs.Resident.{ResidentTable, row_at}
+use Rattle.vm_shadow.specs.Chains.{ChainTable, region_at}
+use Rattle.vm_shadow.specs.declared.ids.Ids.{Ids}
+use Rattle.vm_supply.specs.declared.woken.Woken.TheVariants as woken
+use Rattle.vm_kernel.specs.Matches.{HasControls, HasPages, HasRegions, IsUnder, Matches, the_host}
+use Rattle.vm_kernel.specs.Pagers.{last_in, live_in, ready_in}
+use Rattle.vm_kernel.specs.Places.{place_of, shown}
+use Rattle.vm_kernel.specs.Sweeping.{Strands, Sweeps}
+use Rattle.vm_kernel.specs.declared.parts.Parts.{Parts}
+use Rattle.vm_kernel.proofs.Growing.{grows_more, suffices}
+use Rattle.vm_kernel.proofs.Rows.{one_case, some_is}
+use Rattle.vm_kernel.proofs.Strands.{StillTold, at_region, itself, waits_told}
+use Rattle.vm_kernel.proofs.Walking.{unreached}
+
+-- a control ends
+
+-- the row of an object whose control has ended
+abbrev quiet_row : ObjectRow → ObjectRow
+quiet_row row = record row { live = false; state = state.Without }
+
+pages_quiet : (size control o : ℕ) (fs : FrameTable) (rs : ResidentTable) (os os2 : ObjectTable) (cs : ChainTable) (local_at : ℕ → ℕ → Local) (live_at : ℕ → Option ℕ) → HasPages fs rs os cs local_at → live_at o ≡ Some control → ((p : ℕ) → row_at rs o p ≡ None) → SameMarks os os2
+    → HasPages fs rs os2 cs (λ o2 p. moved size (if o == o2 then (if is_control control (live_at o2) then EndsControl else Elsewhere) else Elsewhere) (local_at o2 p))
+pages_quiet size control o fs rs os os2 cs local_at live_at has live bare marks =
+    record {
+      shown = λ o2 p. elim (eqb_tells o o2) [
+        | inl same ↦
+            let none : row_at rs o2 p ≡ None = subst (λ (z : ℕ). row_at rs z p ≡ None) same.1 (bare p) in
+            let had : local_at o2 p ≡ shown fs None (absent_at os o2 p) = has.shown o2 p ∙ ap (λ z. shown fs z (absent_at os o2 p)) none in
+            let its : is_control control (live_at o2) ≡ true = ap (λ z. is_control control (live_at z)) (sym same.1) ∙ (ap (is_control control) live ∙ itself control) in
+            ap (λ b. moved size (if b then (if is_control control (live_at o2) then EndsControl else Elsewhere) else Elsewhere) (local_at o2 p)) same.0
+            ∙ (ap (λ b. moved size (if b then EndsControl else Elsewhere) (local_at o2 p)) its
+            ∙ (ap (moved size EndsControl) had ∙ (ap (λ z. record away { absent = z }) (sym (marks.at o2 p)) ∙ sym (ap (λ z. shown fs z (absent_at os2 o2 p)) none))))
+        | inr apart ↦
+            ap (λ b. moved size (if b then (if is_control control (live_at o2) then EndsControl else Elsewhere) else Elsewhere) (local_at o2 p)) apart.0
+            ∙ (has.shown o2 p ∙ ap (shown fs (row_at rs o2 p)) (sym (marks.at o2 p)))
+      ];
+      live = has.live;
+    }
+
+controls_quiet : (control o : ℕ) (row : ObjectRow) (os os2 : ObjectTable) (last_at : ℕ → ℕ) (live_at : ℕ → Option ℕ) (ready_at : ℕ → Bool) → HasControls os last_at live_at ready_at → object_at os o ≡ Some row → live_at o ≡ Some control
+    → PutsObject o (Some (quiet_row row)) os os2 → HasControls os2 last_at (λ o2. if o == o2 then without_control control (live_at o2) else live_at o2) ready_at
+controls_quiet control o row os os2 last_at live_at ready_at has found live put =
+    record {
+      last = λ o2. elim (cases o2) [
+        | inl this ↦ has.last o2 ∙ (ap last_in (was o2 this.0) ∙ sym (ap last_in this.1))
+        | inr other ↦ has.last o2 ∙ sym (ap last_in other.1)
+      ];
+      live = λ o2. elim (eqb_tells o o2) [
+        | inl same ↦
+            ap (λ b. if b then without_control control (live_at o2) else live_at o2) same.0
+            ∙ (ap (without_control control) (alive o2 same.1) ∙ (ended ∙ sym (ap live_in (now o2 same.1))))
+        | inr apart ↦ ap (λ b. if b then without_control control (live_at o2) else live_at o2) apart.0 ∙ (has.live o2 ∙ sym (ap live_in (kept o2 apart.1)))
+      ];
+      ready = λ o2 number is. elim (eqb_tells o o2) [
+        | inl same ↦
+            let none : (if o == o2 then without_control control (live_at o2) else live_at o2) ≡ None = ap (λ b. if b then without_control control (live_at o2) else live_at o2) same.0 ∙ (ap (without_control control) (alive o2 same.1) ∙ ended) in
+            absurd (let bad : None ≡ Some number = sym none ∙ is in cc)
+        | inr apart ↦
+            let still : (if o == o2 then without_control control (live_at o2) else live_at o2) ≡ live_at o2 = ap (λ b. if b then without_control control (live_at o2) else live_at o2) apart.0 in
+            has.ready o2 number (sym still ∙ is) ∙ sym (ap ready_in (kept o2 apart.1))
+      ];
+      all_live = record {
+        at = λ o2 row2 is told. elim (cases o2) [
+          | inl this ↦ absurd (told (ap (λ z. z.state) (some_is row2 (quiet_row row) (sym is ∙ this.1))))
+          | inr other ↦ has.all_live.at o2 row2 (sym other.1 ∙ is) told
+        ];
+      };
+      numbers = record {
+        at = λ o2 row2 is. elim (cases o2) [
+          | inl this ↦ subst (λ (z : ℕ). z < 2 ^ 32 - 1) (ap (λ z. z.control) (some_is (quiet_row row) row2 (sym this.1 ∙ is))) (has.numbers.at o row found)
+          | inr other ↦ has.numbers.at o2 row2 (sym other.1 ∙ is)
+        ];
+      };
+      ended = λ o2 row2 is lives none. elim (cases o2) [
+        | inl this ↦ absurd (let bad : true ≡ false = sym lives ∙ ap (λ z. z.live) (some_is row2 (quiet_row row) (sym is ∙ this.1)) in cc)
+        | inr other ↦ has.ended o2 row2 (sym other.1 ∙ is) lives none
+      ];
+    }
+  where
+    cases : (o2 : ℕ) → ((o ≡ o2) × (object_at os2 o2 ≡ Some (quiet_row row))) ⊎ ((o ≡ o2 → ⊥) × (object_at os2 o2 ≡ object_at os o2))
+    cases o2 = one_case o o2 (Some (quiet_row row)) (object_at os o2) (object_at os2 o2) (put.at o2)
+
+    was : (o2 : ℕ) → o ≡ o2 → object_at os o2 ≡ Some row
+    was o2 same = subst (λ (z : ℕ). object_at os z ≡ Some row) same found
+
+    now : (o2 : ℕ) → o ≡ o2 → object_at os2 o2 ≡ Some (quiet_row row)
+    now o2 same = elim (cases o2) [ inl this ↦ this.1 | inr other ↦ absurd (other.0 same) ]
+
+    kept : (o2 : ℕ) → (o ≡ o2 → ⊥) → object_at os2 o2 ≡ object_at os o2
+    kept o2 apart = elim (cases o2) [ inl this ↦ absurd (apart this.0) | inr other ↦ other.1 ]
+
+    alive : (o2 : ℕ) → o ≡ o2 → live_at o2 ≡ Some control
+    alive o2 same = subst (λ (z : ℕ). live_at z ≡ Some control) same live
+
+    ended : without_control control (Some control) ≡ None
+    ended = ap (λ b. if b then None else Some control) (itself control)
+
+told_quiet : (header : Header) (k : Parts) (ids : Ids) (rest : List Entry) (h : List Event) (o : ℕ) (row : ObjectRow) (os2 : ObjectTable) → Matches header k ids rest h → region_at k.chains o ≡ None
+    → PutsObject o (Some (quiet_row row)) k.objects os2 → StillTold k.maps k.chains k.objects os2
+told_quiet header k ids rest h o row os2 m none put =
+    record {
+      at = λ task what key at told. elim (one_case o key.object.0 (Some (quiet_row row)) (object_at k.objects key.object.0) (object_at os2 key.object.0) (put.at key.object.0)) [
+        | inl this ↦
+            let region : o ≡ at.entry.region.0 = this.0 ∙ at_region k.maps k.chains k.objects ids _ _ _ _ task what key m.regions at in
+            absurd (let bad : None ≡ Some at.row = sym none ∙ (ap (region_at k.chains) region ∙ at.region) in cc)
+        | inr other ↦ record { row = told.row; found = other.1 ∙ told.found; sent = told.sent }
+      ];
+    }
+
+regions_quiet : (o : ℕ) (row : ObjectRow) (cs : ChainTable) (os os2 : ObjectTable) (ids : Ids) (region_from : ℕ → Region) (backing_from : ℕ → Backing) (regions_made objects_made : ℕ)
+    → region_at cs o ≡ None → object_at os o ≡ Some row → PutsObject o (Some (quiet_row row)) os os2
+    → HasRegions cs os ids region_from backing_from regions_made objects_made → HasRegions cs os2 ids region_from backing_from regions_made objects_made
+regions_quiet o row cs os os2 ids region_from backing_from regions_made objects_made none found put has =
+    record {
+      region = has.region;
+      object = has.object;
+      equal = has.equal;
+      marks = has.marks;
+      rows = has.rows;
+      tops = has.tops;
+      unbacked = has.unbacked;
+      unmade = has.unmade;
+      unknown = λ o2 le. elim (one_case o o2 (Some (quiet_row row)) (object_at os o2) (object_at os2 o2) (put.at o2)) [
+        | inl this ↦ absurd (let bad : None ≡ Some row = sym (has.unknown o2 le) ∙ subst (λ (z : ℕ). object_at os z ≡ Some row) this.0 found in cc)
+        | inr other ↦ other.1 ∙ has.unknown o2 le
+      ];
+      under = λ r region there. elim (one_case o r (Some (quiet_row row)) (object_at os r) (object_at os2 r) (put.at r)) [
+        | inl this ↦ absurd (let bad : None ≡ Some region = sym none ∙ (ap (region_at cs) this.0 ∙ there) in cc)
+        | inr other ↦ subst (IsUnder region) (sym other.1) (has.under r region there)
+      ];
+    }
+
+-- the control ends, and its pager is told
+pub sweeps_told : (header : Header) (outside : Outside) (doing : Command) (past : List Event) (k : Parts) (ids : Ids) (rest : List Entry) (object : ObjectId) (events after : List Event) (row : ObjectRow) (objects : ObjectTable)
+    → Strands header outside doing past k ids rest object.0 events → object_at k.objects object.0 ≡ Some row → row.live ≡ true → PutsObject object.0 (Some (record row { live = false; state = state.Without })) k.objects objects → SameMarks k.objects objects
+    → after ≡ event.Sent (Up k.host object) (message.Terminate row.control) ∷ events → Sweeps header outside doing past (record k { objects = objects }) ids rest after
+sweeps_told header outside doing past k ids rest object events after row objects s found live put marks told =
+    subst (λ (z : List Event). Sweeps header outside doing past (record k { objects = objects }) ids rest z) (ap (λ z. event.Sent (Up z object) (message.Terminate row.control) ∷ events) (sym m.host) ∙ sym told) (record {
+      runs = record {
+        begins = s.runs.begins;
+        matches = record {
+          plain = m.plain;
+          size = m.size;
+          host = m.host;
+          fits = record { parts = fit_objects k.size k.frames k.resident k.queues k.objects objects m.fits.parts (same_pages k.objects objects o row (quiet_row row) found refl put); plain = m.fits.plain; buffers = m.fits.buffers };
+          tasks = m.tasks;
+          regions = regions_quiet o row k.chains k.objects objects ids _ _ _ _ s.none found put m.regions;
+          entries = m.entries;
+          pages = pages_quiet header.size row.control o k.frames k.resident k.objects objects k.chains (λ o2 p. local header.size 0 (place_of o2 p) h) (λ o2. live_control 0 o2 h) m.pages alive s.pages marks;
+          uses = m.uses;
+          controls = controls_quiet row.control o row k.objects objects (λ o2. last_control 0 o2 h) (λ o2. live_control 0 o2 h) (λ o2. is_ready 0 o2 h) m.controls found alive put;
+          settled = refl;
+          laundry = m.laundry;
+          frames = m.frames;
+        };
+        waits = waits_told k.maps k.chains k.resident k.objects objects k.waits.rows woken.Nobody (λ t. waiting t h) s.runs.waits (told_quiet header k ids rest h o row objects m s.none put);
+        idle = s.runs.idle;
+        grows = grows_more header outside doing past events ending s.runs.grows m.settled (record { consequence = tt; cause = cause; own_bytes = tt; copies = tt; frames = suffices header k.frames (ending ∷ h) m.frames; inner = tt; said = refl });
+      };
+      used = s.used;
+      reached = λ o2 row2 found2 lives. elim (one_case o o2 (Some (quiet_row row)) (object_at k.objects o2) (object_at objects o2) (put.at o2)) [
+        | inl this ↦ absurd (let bad : true ≡ false = sym lives ∙ ap (λ z. z.live) (some_is row2 (quiet_row row) (sym found2 ∙ this.1)) in cc)
+        | inr other ↦ s.others o2 row2 (λ same. other.0 (sym same)) (sym other.1 ∙ found2) lives
+      ];
+    })
+  where
+    h : List Event
+    h = events ++ past
+
+    o : ℕ
+    o = object.0
+
+    m : Matches header k ids rest (events ++ past)
+    m = s.runs.matches
+
+    ending : Event
+    ending = event.Sent (Up the_host object) (message.Terminate row.control)
+
+    alive : live_control 0 object.0 (events ++ past) ≡ Some row.control
+    alive = m.controls.live object.0 ∙ (ap live_in found ∙ ap (λ b. if b then Some row.control else None) live)
+
+    bare : (p : ℕ) → local header.size 0 (place_of object.0 p) (events ++ past) ≡ shown k.frames None (absent_at k.objects object.0 p)
+    bare p = m.pages.shown object.0 p ∙ ap (λ z. shown k.frames z (absent_at k.objects object.0 p)) (s.pages p)
+
+    cause : Caused header outside doing (event.Sent (Up the_host object) (message.Terminate row.control)) (events ++ past)
+    cause = λ paged. record {
+      live = alive;
+      unreached = λ le. unreached header object.0 (events ++ past) m.regions.tops m.regions.unbacked s.unused;
+      unmapped = λ less. absurd (let none = ap length m.plain.objects in omega arith);
+      away = λ p. ap (λ z. z.here) (bare p);
+      unasked = λ p. ap (λ z. z.asked) (bare p);
+    }

@@ -1,0 +1,159 @@
+-- The frames that returns hold, once a page has left its frame.
+use Rattle.std.proofs.Common.{◌≡◌, ℕ, zero, suc, ◌+◌, ◌<◌, ◌≤◌, ◌==◌, Bool, true, false, List, [], ◌∷◌, ◌++◌, length, get_or, set, refl, ap, sym, ◌∙◌, subst, arith, Some, None, inl, inr, length-append, length-set}
+use Rattle.std.proofs.lemmas.Bool.Decides.{eqb_tells, nat_tests}
+use Rattle.std.proofs.lemmas.List.{get_or-set_other}
+use Rattle.std.proofs.lemmas.List.Elements.{All-append, All-cons, All-head, All-nil, All-tail}
+use Rattle.std.specs.Prelude.{All, ◌||◌}
+use Rattle.vm_base.specs.declared.ids.FrameNo.{FrameNo}
+use Rattle.vm_base.specs.declared.ids.PageKey.{PageKey}
+use Rattle.vm_frames.specs.Frames.{FrameTable, Releases, claimed, count_claims, frame_count, is_claimed}
+use Rattle.vm_pageout.specs.Laundry.{LaundryList}
+use Rattle.vm_queues.specs.Queues.{is_skipped}
+use Rattle.vm_resident.specs.Resident.{PutsOwner, ResidentTable, owner_of}
+use Rattle.vm_kernel.specs.Matches.{EachApart, HasLaundry, IsWashed}
+use Rattle.vm_kernel.proofs.Rows.{one_case}
+
+-- a frame that is held is one of those that are claimed, and no page's
+pub washed_at : (fs : FrameTable) (rs : ResidentTable) (held : List FrameNo) (g : ℕ) → All (IsWashed fs rs) held → is_skipped held g ≡ true → IsWashed fs rs (record { 0 = g })
+washed_at fs rs [] g all there = absurd (let bad : false ≡ true = there in cc)
+washed_at fs rs (f ∷ held) g all there = elim (eqb_tells f.0 g) [
+  | inl same ↦ subst (λ (z : ℕ). IsWashed fs rs (record { 0 = z })) same.1 (All-head (IsWashed fs rs) f held all)
+  | inr apart ↦ washed_at fs rs held g (All-tail (IsWashed fs rs) f held all) (rw apart.0 at there)
+]
+
+-- so a page's frame is not held
+pub unheld : (fs : FrameTable) (rs : ResidentTable) (held : List FrameNo) (f : ℕ) (key : PageKey) → All (IsWashed fs rs) held → owner_of rs f ≡ Some key → is_skipped held f ≡ false
+unheld fs rs held f key all owner = go (is_skipped held f) refl
+  where
+    go : (b : Bool) → is_skipped held f ≡ b → is_skipped held f ≡ false
+    go true is = absurd (let bad : None ≡ Some key = sym (washed_at fs rs held f all is).unowned ∙ owner in cc)
+    go false is = is
+
+count_unset : (claims : List Bool) (f : ℕ) → get_or claims f false ≡ true → count_claims claims ≡ suc (count_claims (set claims f false))
+count_unset [] f is = absurd (let bad : false ≡ true = is in cc)
+count_unset (true ∷ claims) zero is = refl
+count_unset (false ∷ claims) zero is = absurd (let bad : false ≡ true = is in cc)
+count_unset (true ∷ claims) (suc f) is = ap suc (count_unset claims f is)
+count_unset (false ∷ claims) (suc f) is = count_unset claims f is
+
+-- frames that stand there once each, and are claimed, are no more than there are claims
+each_counted : (claims : List Bool) (fs : List FrameNo) → ((g : ℕ) → is_skipped fs g ≡ true → get_or claims g false ≡ true) → EachApart fs → length fs ≤ count_claims claims
+each_counted claims [] all apart = omega arith
+each_counted claims (f ∷ fs) all apart =
+    let mine : get_or claims f.0 false ≡ true = all f.0 (first (f.0 == f.0) (is_skipped fs f.0) (itself f.0)) in
+    let fewer = each_counted (set claims f.0 false) fs others apart.1 in
+    let count = count_unset claims f.0 mine in
+    omega (arith, fewer, count)
+  where
+    itself : (n : ℕ) → (n == n) ≡ true
+    itself n = grind (arith, nat_tests)
+
+    first : (a b : Bool) → a ≡ true → (a || b) ≡ true
+    first a b is = rw is refl
+
+    second : (a b : Bool) → b ≡ true → (a || b) ≡ true
+    second true b is = refl
+    second false b is = is
+
+    others : (g : ℕ) → is_skipped fs g ≡ true → get_or (set claims f.0 false) g false ≡ true
+    others g there = elim (eqb_tells f.0 g) [
+      | inl same ↦ absurd (let bad : false ≡ true = sym apart.0 ∙ (ap (is_skipped fs) same.1 ∙ there) in cc)
+      | inr apart ↦ get_or-set_other claims f.0 g false false (λ e. apart.1 (sym e)) ∙ all g (second (f.0 == g) (is_skipped fs g) there)
+    ]
+
+-- while some page has a frame there is room for one more
+pub laundry_room : (fs : FrameTable) (rs : ResidentTable) (laundry : LaundryList) (out f : ℕ) (key : PageKey) → HasLaundry fs rs laundry out → claimed fs ≤ frame_count fs → is_claimed fs f ≡ true → owner_of rs f ≡ Some key → 0 < laundry.room
+laundry_room fs rs laundry out f key has most mine owner =
+    let count = each_counted fs.claims (record { 0 = f } ∷ laundry.held) all (unheld fs rs laundry.held f key has.washed owner, has.apart) in
+    omega (arith, count, has.room, most)
+  where
+    all : (g : ℕ) → is_skipped (record { 0 = f } ∷ laundry.held) g ≡ true → get_or fs.claims g false ≡ true
+    all g there = elim (eqb_tells f g) [
+      | inl same ↦ subst (λ (z : ℕ). is_claimed fs z ≡ true) same.1 mine
+      | inr apart ↦ (washed_at fs rs laundry.held g has.washed (rw apart.0 at there)).claimed
+    ]
+
+-- all are as they were, where a page has left another frame
+washed_kept : (fs fs2 : FrameTable) (rs rs2 : ResidentTable) (held : List FrameNo) (f : ℕ) → is_skipped held f ≡ false → ((g : ℕ) → (f ≡ g → ⊥) → is_claimed fs2 g ≡ is_claimed fs g) → PutsOwner f None rs rs2 → All (IsWashed fs rs) held
+    → All (IsWashed fs2 rs2) held
+washed_kept fs fs2 rs rs2 [] f none claims owner all = All-nil (IsWashed fs2 rs2)
+washed_kept fs fs2 rs rs2 (g ∷ held) f none claims owner all = All-cons (IsWashed fs2 rs2) g held first (washed_kept fs fs2 rs rs2 held f (right (g.0 == f) (is_skipped held f) none) claims owner (All-tail (IsWashed fs rs) g held all))
+  where
+    right : (a b : Bool) → (a || b) ≡ false → b ≡ false
+    right true b is = absurd (let bad : true ≡ false = is in cc)
+    right false b is = is
+
+    left : (a b : Bool) → (a || b) ≡ false → a ≡ false
+    left true b is = absurd (let bad : true ≡ false = is in cc)
+    left false b is = refl
+
+    apart : f ≡ g.0 → ⊥
+    apart same = elim (eqb_tells g.0 f) [
+      | inl also ↦ let bad : true ≡ false = sym also.0 ∙ left (g.0 == f) (is_skipped held f) none in cc
+      | inr other ↦ other.1 (sym same)
+    ]
+
+    was : IsWashed fs rs g
+    was = All-head (IsWashed fs rs) g held all
+
+    first : IsWashed fs2 rs2 g
+    first = record {
+      claimed = claims g.0 apart ∙ was.claimed;
+      unowned = elim (one_case f g.0 None (owner_of rs g.0) (owner_of rs2 g.0) (owner.at g.0)) [ inl same ↦ same.1 | inr other ↦ other.1 ∙ was.unowned ];
+    }
+
+-- a page has gone, and its frame is free
+pub laundry_lost : (fs fs2 : FrameTable) (rs rs2 : ResidentTable) (laundry : LaundryList) (out f : ℕ) (key : PageKey) → HasLaundry fs rs laundry out → owner_of rs f ≡ Some key → is_claimed fs f ≡ true → Releases f fs fs2 → PutsOwner f None rs rs2
+    → HasLaundry fs2 rs2 laundry out
+laundry_lost fs fs2 rs rs2 laundry out f key has owner mine releases put =
+    record {
+      count = has.count;
+      room = has.room ∙ sym (ap frame_count releases.is ∙ length_set);
+      washed = washed_kept fs fs2 rs rs2 laundry.held f (unheld fs rs laundry.held f key has.washed owner) claims put has.washed;
+      apart = has.apart;
+    }
+  where
+    length_set : length (set fs.claims f false) ≡ length fs.claims
+    length_set = length-set fs.claims f false
+
+    claims : (g : ℕ) → (f ≡ g → ⊥) → is_claimed fs2 g ≡ is_claimed fs g
+    claims g apart = ap (λ z. is_claimed z g) releases.is ∙ get_or-set_other fs.claims f g false false (λ e. apart (sym e))
+
+-- each stands there once still, behind them one that did not
+apart_push : (held : List FrameNo) (f : FrameNo) → EachApart held → is_skipped held f.0 ≡ false → EachApart (held ++ f ∷ [])
+apart_push [] f apart new = (refl, tt)
+apart_push (g ∷ held) f apart new = (unskipped held apart.0, apart_push held f apart.1 (right (g.0 == f.0) (is_skipped held f.0) new))
+  where
+    right : (a b : Bool) → (a || b) ≡ false → b ≡ false
+    right true b is = absurd (let bad : true ≡ false = is in cc)
+    right false b is = is
+
+    left : (a b : Bool) → (a || b) ≡ false → a ≡ false
+    left true b is = absurd (let bad : true ≡ false = is in cc)
+    left false b is = refl
+
+    turned : (a b : ℕ) → (a == b) ≡ false → (b == a) ≡ false
+    turned a b is = grind (arith, nat_tests)
+
+    unskipped : (held : List FrameNo) → is_skipped held g.0 ≡ false → is_skipped (held ++ f ∷ []) g.0 ≡ false
+    unskipped [] none = rw (turned g.0 f.0 (left (g.0 == f.0) (is_skipped held f.0) new)) refl
+    unskipped (h ∷ rest) none = rw (left (h.0 == g.0) (is_skipped rest g.0) none) (unskipped rest (right (h.0 == g.0) (is_skipped rest g.0) none))
+
+-- a page has gone to its pager, and its frame is held
+pub laundry_returned : (fs : FrameTable) (rs rs2 : ResidentTable) (laundry laundry2 : LaundryList) (out : ℕ) (f : FrameNo) (key : PageKey) → HasLaundry fs rs laundry out → owner_of rs f.0 ≡ Some key → is_claimed fs f.0 ≡ true → PutsOwner f.0 None rs rs2
+    → laundry2.held ≡ laundry.held ++ f ∷ [] → laundry2.room + 1 ≡ laundry.room → HasLaundry fs rs2 laundry2 (out + 1)
+laundry_returned fs rs rs2 laundry laundry2 out f key has owner mine put held room =
+    let new = unheld fs rs laundry.held f.0 key has.washed owner in
+    let long : length laundry2.held ≡ length laundry.held + 1 = ap length held ∙ length-append laundry.held (f ∷ []) in
+    record {
+      count = omega (arith, has.count, long);
+      room = omega (arith, has.room, long, room);
+      washed = subst (All (IsWashed fs rs2)) (sym held) (All-append (IsWashed fs rs2) laundry.held (f ∷ []) (washed_kept fs fs rs rs2 laundry.held f.0 new (λ g apart. refl) put has.washed) (All-cons (IsWashed fs rs2) f [] last (All-nil (IsWashed fs rs2))));
+      apart = subst EachApart (sym held) (apart_push laundry.held f has.apart new);
+    }
+  where
+    last : IsWashed fs rs2 f
+    last = record {
+      claimed = mine;
+      unowned = elim (one_case f.0 f.0 None (owner_of rs f.0) (owner_of rs2 f.0) (put.at f.0)) [ inl same ↦ same.1 | inr other ↦ absurd (other.0 refl) ];
+    }

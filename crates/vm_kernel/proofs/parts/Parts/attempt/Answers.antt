@@ -1,0 +1,61 @@
+use Rattle.std.proofs.Common.{◌≡◌, ◌+◌, Some, rules, arith, false, ap, subst}
+use Rattle.std.specs.Prelude.{◌⊎◌}
+use Rattle.vm_base.specs.declared.ids.PageKey.{PageKey}
+use Rattle.vm_waits.specs.Waits.{PutsEntry, again, one_again, one_frame, with_on, is_frame}
+use Rattle.vm_waits.specs.declared.waiting.On.{On}
+use Rattle.vm_waits.specs.declared.waiting.On.TheVariants as on
+use Rattle.vm_kernel.specs.declared.steps.FaultStep.TheVariants as step
+use Rattle.vm_kernel.proofs.Attempting.{done_works, fault_goes, its_row, page_works, queued_works, queues_of, ready_works}
+use Rattle.vm_kernel.proofs.Leading.{can_fault}
+use Rattle.vm_kernel.proofs.parts.Parts.attempt.Goals as goal
+use Rattle.vm_kernel.proofs.parts.Parts.attempt.Goals.{in-WaitReady, in-Ask, in-Ask-2}
+
+pub fault-requires : goal.fault-requires
+fault-requires g c = can_fault _ _ _ _ _ _ c.args.waiting c.requires.0.matches c.requires.0.waits c.requires.1
+
+pub returns-in-Done-clause-works : goal.returns-in-Done-clause-works
+returns-in-Done-clause-works g c =
+    done_works _ g.given.outside g.given.command _ _ _ _ c.args.waiting c.args.may_claim _ _ c.remove.new.self c.requires.0 c.requires.1 (rw c.in-Done.is at c.in_ok-fault.ensures) c.remove.ensures.entry
+
+pub returns-in-Done-clause-goes : goal.returns-in-Done-clause-goes
+returns-in-Done-clause-goes g c = fault_goes _ _ _ _ _ _ _ c.args.waiting c.args.may_claim c.in_ok-fault.field-0 _ _ c.requires.0 c.requires.1 c.in_ok-fault.ensures
+
+pub returns-then-ne-clause-works : goal.returns-then-ne-clause-works
+returns-then-ne-clause-works g c =
+    let w = c.args.waiting in
+    queued_works _ _ _ _ _ w c.args.may_claim _ _ c.join_queue.new.self c.requires.0 c.requires.1 (rw c.in-NeedFrame.is at c.in_ok-fault.ensures)
+    (its_row w c.args.may_claim c.in_ok-fault.field-0 _ _ _ _ (λ was. PutsEntry w.task.0 (Some (with_on was on.Frame)) c.fault.new.self.waits.rows c.join_queue.new.self.rows) c.requires.1 c.in_ok-fault.ensures c.join_queue.ensures.entry)
+
+pub returns-then-ne-clause-attempts : goal.returns-then-ne-clause-attempts
+returns-then-ne-clause-attempts g c =
+    let w = c.args.waiting in
+    let other : is_frame w.on ≡ false = search rules in
+    queues_of _ _ _ _ _ w c.args.may_claim _ _ c.join_queue.new.self c.requires.0 c.requires.1 (rw c.in-NeedFrame.is at c.in_ok-fault.ensures)
+    (its_row w c.args.may_claim c.in_ok-fault.field-0 _ _ _ _ (λ was. again c.join_queue.new.self.rows + one_again was.on ≡ again c.fault.new.self.waits.rows) c.requires.1 c.in_ok-fault.ensures c.join_queue.ensures.again)
+    (rw other c.join_queue.ensures.queued)
+
+pub returns-else-ne-clause-attempts : goal.returns-else-ne-clause-attempts
+returns-else-ne-clause-attempts g c =
+    let w = c.args.waiting in
+    let same : w.on ≡ on.Frame = search rules in
+    let none : one_again w.on ≡ 0 = ap one_again same in
+    let one : one_frame w.on ≡ 1 = ap one_frame same in
+    queues_of _ _ _ _ _ w c.args.may_claim _ _ c.fault.new.self.waits c.requires.0 c.requires.1 (rw c.in-NeedFrame.is at c.in_ok-fault.ensures) (omega (arith, none)) (omega (arith, one))
+
+pub returns-clause-works : goal.returns-clause-works
+returns-clause-works g c =
+    let w = c.args.waiting in
+    let row = its_row w c.args.may_claim c.in_ok-fault.field-0 _ _ _ _ (λ was. PutsEntry w.task.0 (Some (with_on was c.match-branch-2.on)) c.fault.new.self.waits.rows c.set_on.new.self.rows) c.requires.1 c.in_ok-fault.ensures c.set_on.ensures.entry in
+    let turns = λ (reason : On) (is : c.match-branch-2.on ≡ reason). subst (λ (z : On). PutsEntry w.task.0 (Some (with_on w z)) c.fault.new.self.waits.rows c.set_on.new.self.rows) is row in
+    let page = λ (key : PageKey) (comes : (c.in_ok-fault.field-0 ≡ step.Ask key) ⊎ (c.in_ok-fault.field-0 ≡ step.WaitAnswer key)) (is : c.match-branch-2.on ≡ on.Page key).
+    page_works _ g.given.outside g.given.command _ _ _ _ w c.args.may_claim c.in_ok-fault.field-0 key _ _ c.set_on.new.self c.requires.0 c.requires.1 c.in_ok-fault.ensures comes (turns (on.Page key) is) in
+    elim c.match-branch-2.branch [
+      | in-WaitReady at ↦
+          ready_works _ _ _ _ _ w c.args.may_claim at.in-WaitReady.object _ _ c.set_on.new.self c.requires.0 c.requires.1 (rw at.in-WaitReady.is at c.in_ok-fault.ensures)
+          (turns (on.Ready at.in-WaitReady.object) at.on-is)
+      | in-Ask at ↦ page at.in-Ask.key at.in-Ask.is at.on-is
+      | in-Ask-2 at ↦ page at.in-Ask.key at.in-Ask.is at.on-is
+    ]
+
+pub returns-clause-goes : goal.returns-clause-goes
+returns-clause-goes g c = fault_goes _ _ _ _ _ _ _ c.args.waiting c.args.may_claim c.in_ok-fault.field-0 _ _ c.requires.0 c.requires.1 c.in_ok-fault.ensures

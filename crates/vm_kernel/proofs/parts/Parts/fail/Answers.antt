@@ -1,0 +1,25 @@
+use Rattle.std.proofs.Common.{◌≡◌, ◌++◌, true, List, inl, sym, subst}
+use Rattle.vm_model.specs.declared.event.Event.{Event}
+use Rattle.vm_legal.specs.Steps.{fails_access, since}
+use Rattle.vm_kernel.proofs.Failing.{Failing, failed_one, since_now}
+use Rattle.vm_kernel.proofs.parts.Parts.fail.Goals as goal
+
+pub all-preserved : goal.all-preserved
+all-preserved g c =
+    let key = c.args.key in
+    let w = c.in-Some.waiting in
+    let was = c.all.invariant in
+    let one =
+    failed_one g.given.header g.given.outside g.given.command g.given.past c.args.log.now.items c.all.log.items key c.all.self c.args.ids.now w c.remove.new.self
+    (record { works = was.works; fails = was.fails; answered = was.answered; goes = was.goes }) c.in-Some.ensures.row.0 c.in-Some.ensures.row.1 c.remove.ensures.entry in
+    let now = subst (λ (z : List Event). Failing g.given.header g.given.outside g.given.command g.given.past c.args.log.now.items z key (record c.all.self { waits = c.remove.new.self }) c.args.ids.now) (sym c.in_ok-push.ensures.ok) one in
+    record {
+      works = now.works;
+      fails = now.fails;
+      answered = now.answered;
+      goes = now.goes;
+      some =
+          inl
+          (subst (λ (z : List Event). since (fails_access key.object.0 key.page.0) (z ++ g.given.past) ≡ true) (sym c.in_ok-push.ensures.ok)
+          (since_now key w.task (c.all.log.items ++ g.given.past)));
+    }

@@ -1,0 +1,20 @@
+use Rattle.std.proofs.Common.{◌≡◌, ◌++◌, ◌⊎◌, true, length}
+use Rattle.vm_legal.specs.Steps.{fails_access, since}
+use Rattle.vm_supply.specs.declared.woken.Woken.TheVariants as woken
+use Rattle.vm_kernel.specs.Begun.{Goes}
+use Rattle.vm_kernel.specs.Matches.{Works}
+use Rattle.vm_kernel.specs.Taking.{FailsNow, IsAnswered}
+use Rattle.vm_kernel.specs.Waiters.{Asker}
+use Rattle.vm_kernel.proofs.parts.Parts.fail.Given as goal
+
+abbrev pub invariant-all : goal.invariant-all
+invariant-all g l = record {
+  works : Works g.given.header l.self l.ids (woken.Fails l.key) (l.log.items ++ g.given.past);
+  fails : FailsNow g.given.header (woken.Fails l.key) (l.log.items ++ g.given.past);
+  answered : IsAnswered (woken.Fails l.key) l.self.resident;
+  goes : Goes g.given.header g.given.outside g.given.command g.given.past l.fn.log.items l.log.items;
+  some : (since (fails_access l.key.object.0 l.key.page.0) (l.log.items ++ g.given.past) ≡ true) ⊎ Asker l.self.waits.rows l.key.object.0 l.key.page.0;
+}
+
+abbrev pub decreases-all : goal.decreases-all
+decreases-all g l = length l.self.waits.rows

@@ -1,0 +1,29 @@
+use Rattle.std.proofs.Common.{◌∙◌}
+use Rattle.vm_waits.specs.declared.waiting.Want.TheVariants as want
+use Rattle.vm_kernel.proofs.Hitting.{hits_load, hits_store, inside_page}
+use Rattle.vm_kernel.proofs.Growing.{on_ok}
+use Rattle.vm_kernel.proofs.parts.Parts.hit.Goals as goal
+use Rattle.vm_kernel.proofs.parts.Parts.hit.Goals.{in-Load, in-Store}
+
+pub loaded-event-requires-clause-inside : goal.loaded-event-requires-clause-inside
+loaded-event-requires-clause-inside c =
+    inside_page c.args.self.now c.args.key c.args.frame c.args.at c.args.want (want.Load c.in-Load.address c.in-Load.size) c.requires.fits c.requires.here c.requires.inside c.in-Load.is
+
+pub write-requires-clause-inside : goal.write-requires-clause-inside
+write-requires-clause-inside c =
+    inside_page c.args.self.now c.args.key c.args.frame c.args.at c.args.want (want.Store c.in-Store.address c.in-Store.size c.in-Store.value) c.requires.fits c.requires.here c.requires.inside c.in-Store.is
+
+pub returns : goal.returns
+returns c =
+    let k = c.args.self.now in
+    let log = c.args.log.now.items in
+    on_ok c.push.result _ _
+    (λ told. elim c.match-want.branch [
+      | in-Load w ↦
+          hits_load c.args.task c.args.want w.in-Load.address w.in-Load.size c.args.key c.args.frame c.args.at k c.match-want.self c.touch.new.self c.match-want.event log c.push.new.self.items
+          w.in-Load.is w.self-is (w.event-is ∙ w.loaded-event.ensures) c.touch.ensures.pages c.touch.ensures.queues told
+      | in-Store w ↦
+          hits_store c.args.task c.args.want w.in-Store.address w.in-Store.size w.in-Store.value c.args.key c.args.frame c.args.at k w.write.new.self c.match-want.self c.touch.new.self c.match-want.event log c.push.new.self.items
+          w.in-Store.is w.self-is w.write.ensures w.event-is c.touch.ensures.pages c.touch.ensures.queues told
+    ])
+    c.push.ensures.ok

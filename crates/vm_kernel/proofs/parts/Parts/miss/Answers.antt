@@ -1,0 +1,28 @@
+use Rattle.std.proofs.Common.{◌≡◌, ◌∙◌, sym, true, false, inl, inr}
+use Rattle.std.specs.Prelude.{◌⊎◌}
+use Rattle.vm_objects.specs.Objects.{absent_at}
+use Rattle.vm_objects.specs.declared.row.PagerState.TheVariants as state
+use Rattle.vm_kernel.proofs.Missing.{ended_zeroed, unavailable, wants_one}
+use Rattle.vm_kernel.proofs.parts.Parts.miss.Goals as goal
+use Rattle.vm_kernel.proofs.parts.Parts.miss.Goals.{then-not-may_claim-via-then-not-may_claim, then-not-may_claim-via-else-not-may_claim+then-free-eq0, else-eq-2-via-then-eq-2+else-not-known_absent, else-eq-2-via-else-eq-2}
+
+pub returns-then-not-may_claim : goal.returns-then-not-may_claim
+returns-then-not-may_claim c =
+    wants_one c.args.self.now c.args.key c.args.may_claim c.in-Some.known c.args.log.now.items c.requires.absent (sym c.find.ensures ∙ c.in-Some.is) (λ e. (let bad : false ≡ true = rw e at c.if-eq.ensures in cc))
+    (λ may. elim c.then-not-may_claim.branch [
+      | then-not-may_claim-via-then-not-may_claim w ↦ absurd (let bad : false ≡ true = sym w.if-not-may_claim.true ∙ may in cc)
+      | then-not-may_claim-via-else-not-may_claim+then-free-eq0 w ↦ sym w.free.ensures.value ∙ w.if-free-eq0.true
+    ])
+
+pub returns : goal.returns
+returns c =
+    let k = c.args.self.now in
+    let key = c.args.key in
+    let lacks : (c.in-Some.known.state ≡ state.Ready → ⊥) ⊎ (absent_at k.objects key.object.0 key.page.0 ≡ true) =
+    elim c.else-eq-2.branch [
+      | else-eq-2-via-then-eq-2+else-not-known_absent w ↦ inr (sym w.known_absent.ensures.mark ∙ w.if-not-known_absent.false)
+      | else-eq-2-via-else-eq-2 w ↦ inl (λ e. (let bad : false ≡ true = rw e at (sym w.if-eq-2.false ∙ c.eq-2.ensures) in cc))
+    ] in
+    ended_zeroed c.args.task c.args.want key c.args.at c.in_ok-frame.frame k c.bring.new.self c.hit.new.self c.reserve.new.self c.args.log.now.items c.bring.new.log.items c.hit.new.log.items
+    (unavailable k key c.in-Some.known (sym c.find.ensures ∙ c.in-Some.is) (λ e. (let bad : false ≡ true = rw e at c.if-eq.ensures in cc)) lacks)
+    c.in_ok-reserve.ensures.rows c.requires.at c.in_ok-frame.ensures.brought c.in_ok-frame.ensures.told c.in_ok-hit.ensures

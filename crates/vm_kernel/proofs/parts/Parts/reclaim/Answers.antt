@@ -1,0 +1,33 @@
+use Rattle.std.specs.Prelude.{◌++◌}
+use Rattle.std.proofs.Common.{ap, refl}
+use Rattle.vm_kernel.proofs.Reclaims.{Took, none_queued, reclaimed_touched, rests_touched, room_for, took}
+use Rattle.vm_kernel.proofs.parts.Parts.reclaim.Given.{Over}
+use Rattle.vm_kernel.proofs.parts.Parts.reclaim.Goals as goal
+
+pub returns-in_default-clause-reclaimed : goal.returns-in_default-clause-reclaimed
+returns-in_default-clause-reclaimed g c = none_queued g.given.header c.args.self.now c.victim.new.self c.args.ids.now (c.args.log.now.items ++ g.given.past) c.requires.0 c.in_default.ensures.none
+
+pub reclaim-requires-clause-room : goal.reclaim-requires-clause-room
+reclaim-requires-clause-room g c = room_for g.given.header c.args.self.now c.args.ids.now (c.args.log.now.items ++ g.given.past) c.in-Some.field-0.0 c.requires.0 c.in-Some.ensures.none.0
+
+took_it : (g : Over) (c : goal.In_ok-answer g)
+    → Took g.given.header g.given.outside g.given.command g.given.past c.args.ids.now c.in_ok-answer.answer (record c.args.self.now { queues = c.victim.new.self })
+    (record c.args.self.now { frames = c.reclaim.new.frames; resident = c.reclaim.new.resident; queues = c.reclaim.new.queues; objects = c.reclaim.new.objects; buffers = c.reclaim.new.buffers; laundry = c.reclaim.new.laundry })
+    c.args.log.now.items c.reclaim.new.log.items
+took_it g c =
+    took g.given.header g.given.outside g.given.command g.given.past c.args.ids.now c.in_ok-answer.answer _ _ c.args.log.now.items c.reclaim.new.log.items
+    (rests_touched g.given.header c.args.ids.now c.args.self.now c.victim.new.self (c.args.log.now.items ++ g.given.past) c.requires.0 c.victim.ensures.pages (ap (λ z. z.frames) c.victim.ensures.queues))
+    (record { host = refl; size = refl; maps = refl; chains = refl; waits = refl; buffers = c.in_ok-answer.ensures.size; fit = c.in_ok-answer.ensures.fit; live = c.in_ok-answer.ensures.live })
+    c.requires.1 c.in_ok-answer.ensures.ok
+
+pub returns-clause-rests : goal.returns-clause-rests
+returns-clause-rests g c = (took_it g c).rests
+
+pub returns-clause-goes : goal.returns-clause-goes
+returns-clause-goes g c = (took_it g c).goes
+
+pub returns-clause-reclaims : goal.returns-clause-reclaims
+returns-clause-reclaims g c = (took_it g c).gone
+
+pub returns-clause-reclaimed : goal.returns-clause-reclaimed
+returns-clause-reclaimed g c = reclaimed_touched c.in_ok-answer.answer c.args.self.now _ c.victim.new.self _ _ (took_it g c).reclaimed

@@ -1,0 +1,18 @@
+use Rattle.std.proofs.Common.{◌+◌, ◌*◌, ◌++◌}
+use Rattle.vm_frames.specs.Frames.{claimed, frame_count}
+use Rattle.vm_kernel.specs.Begun.{Goes}
+use Rattle.vm_kernel.specs.Matches.{Rests}
+use Rattle.vm_waits.specs.Waits.{queued}
+use Rattle.vm_kernel.proofs.parts.Parts.serve.Given as goal
+
+abbrev pub ghost-attempt : goal.ghost-attempt
+ghost-attempt g a = g.given
+
+abbrev pub ghost-stops : goal.ghost-stops
+ghost-stops g a = g.given
+
+abbrev pub invariant-serve : goal.invariant-serve
+invariant-serve g l = record { rests : Rests g.given.header l.self l.ids (l.log.items ++ g.given.past); goes : Goes g.given.header g.given.outside g.given.command g.given.past l.fn.log.items l.log.items }
+
+abbrev pub decreases-serve : goal.decreases-serve
+decreases-serve g l = queued l.self.waits.rows * (frame_count l.self.frames + 1) + claimed l.self.frames

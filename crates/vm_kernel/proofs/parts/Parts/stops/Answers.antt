@@ -1,0 +1,15 @@
+use Rattle.std.specs.Prelude.{◌++◌}
+use Rattle.std.proofs.Common.{◌≡◌, true, false}
+use Rattle.vm_kernel.proofs.Reclaims.{full_after}
+use Rattle.vm_kernel.proofs.parts.Parts.stops.Goals as goal
+
+pub returns-in-Returned : goal.returns-in-Returned
+returns-in-Returned g c =
+    let all = c.in_ok-reclaim.ensures in
+    record {
+      rests = all.rests;
+      goes = all.goes;
+      waits = all.reclaimed.waits;
+      freed = λ bad. absurd (let clash : true ≡ false = bad in cc);
+      full = λ same. full_after g.given.header c.args.self.now c.reclaim.new.self c.args.ids.now c.in_ok-reclaim.field-0 (c.args.log.now.items ++ g.given.past) (c.reclaim.new.log.items ++ g.given.past) all.rests c.requires.1.1 all.reclaimed c.in-Returned.is;
+    }

@@ -1,0 +1,21 @@
+use Rattle.std.proofs.Common.{◌++◌, List, [], subst}
+use Rattle.vm_model.specs.declared.event.Event.{Event}
+use Rattle.vm_kernel.specs.Begun.{Goes}
+use Rattle.vm_kernel.proofs.Failing.{paid_failed, paid_goes}
+use Rattle.vm_kernel.proofs.Growing.{goes_both, on_ok}
+use Rattle.vm_kernel.proofs.parts.Parts.take.Given as given
+use Rattle.vm_kernel.proofs.parts.Parts.take.Goals as goal
+
+-- what waking adds
+woken_goes : (g : given.Over) (c : goal.After-restart g) → Goes g.given.header g.given.outside g.given.command (g.given.front ++ g.given.past) [] c.wake.new.log.items
+woken_goes g c = subst (λ (z : List Event). Goes g.given.header g.given.outside g.given.command (g.given.front ++ g.given.past) z c.wake.new.log.items) c.in_ok-woken.ensures.nothing c.in_ok-wake.ensures.goes
+
+pub returns-clause-goes : goal.returns-clause-goes
+returns-clause-goes g c = on_ok c.restart.result _ _ (λ goes. goes_both g.given.header g.given.outside g.given.command (g.given.front ++ g.given.past) [] c.wake.new.log.items c.restart.new.log.items (woken_goes g c) goes) c.restart.ensures.goes
+
+pub returns-clause-failed : goal.returns-clause-failed
+returns-clause-failed g c =
+    let past = g.given.front ++ g.given.past in
+    let paid =
+    paid_failed g.given.header g.given.outside g.given.command c.in_ok-woken.woken past c.wake.new.log.items c.in_ok-woken.ensures.fails (woken_goes g c) c.in_ok-wake.ensures.failed in
+    on_ok c.restart.result _ _ (λ goes. paid_goes g.given.header g.given.outside g.given.command past c.wake.new.log.items c.restart.new.log.items goes paid) c.restart.ensures.goes

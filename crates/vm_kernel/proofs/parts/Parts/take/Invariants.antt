@@ -1,0 +1,11 @@
+use Rattle.std.proofs.Common.{◌++◌}
+use Rattle.vm_kernel.proofs.parts.Parts.take.Given as goal
+
+abbrev pub ghost-hear : goal.ghost-hear
+ghost-hear g a = g.given
+
+abbrev pub ghost-wake : goal.ghost-wake
+ghost-wake g a = record { header = g.given.header; outside = g.given.outside; past = g.given.front ++ g.given.past; command = g.given.command }
+
+abbrev pub ghost-restart : goal.ghost-restart
+ghost-restart g a = record { header = g.given.header; outside = g.given.outside; past = g.given.front ++ g.given.past; command = g.given.command }

@@ -1,0 +1,48 @@
+-- Accesses are run, and the frame queue is served.
+use Rattle.std.specs.Prelude.{ℕ, ◌+◌, ◌-◌, ◌<◌, ◌≡◌, ◌⊎◌, Bool, true, false, List, Some}
+use Rattle.vm_frames.specs.Frames.{claimed, free}
+use Rattle.vm_model.specs.declared.event.Event.{Event}
+use Rattle.vm_model.specs.declared.script.Header.{Header}
+use Rattle.vm_legal.specs.Accesses.{Wants}
+use Rattle.vm_legal.specs.Frames.{returns_out}
+use Rattle.vm_legal.specs.Prompt.{IsFull}
+use Rattle.vm_legal.specs.Steps.{gone}
+use Rattle.vm_pageout.specs.declared.answer.Reclaim.{Reclaim}
+use Rattle.vm_pageout.specs.declared.answer.Reclaim.TheVariants as reclaim
+use Rattle.vm_resident.specs.Resident.{row_at}
+use Rattle.vm_resident.specs.declared.page_row.PageRow.{PageRow}
+use Rattle.vm_waits.specs.Waits.{again, one_again, one_frame, queued}
+use Rattle.vm_waits.specs.declared.waiting.Waiting.{Waiting}
+use Rattle.vm_kernel.specs.declared.parts.Parts.{Parts}
+
+-- an access was run: it has ended, or waits for something else than a frame
+pub record Leaves (was : Waiting) (old new : Parts) : Type 0 where
+  pub again : again new.waits.rows + one_again was.on ≡ again old.waits.rows
+  pub queued : queued new.waits.rows + one_frame was.on ≡ queued old.waits.rows
+  pub laundry : new.laundry ≡ old.laundry
+
+-- an access wants a frame, and stands in the queue
+pub record Queues (header : Header) (was : Waiting) (may_claim : Bool) (old new : Parts) (before after : List Event) : Type 0 where
+  pub same : after ≡ before
+  pub wants : Wants header 0 after
+  pub none : may_claim ≡ true → free new.frames ≡ 0
+  pub again : again new.waits.rows + one_again was.on ≡ again old.waits.rows
+  pub queued : queued new.waits.rows ≡ queued old.waits.rows + (1 - one_frame was.on)
+  pub claimed : claimed new.frames ≡ claimed old.frames
+  pub laundry : new.laundry ≡ old.laundry
+
+-- an access was run, and it needs a frame or not
+abbrev pub Attempts : Header → Waiting → Bool → Bool → Parts → Parts → List Event → List Event → Type 0
+Attempts header was may_claim true old new before after = Queues header was may_claim old new before after
+Attempts header was may_claim false old new before after = Leaves was old new
+
+-- some page was reclaimed, and is dropped or on its way
+pub record Reclaimed (answer : Reclaim) (old new : Parts) (before after : List Event) : Type 0 where
+  pub waits : new.waits ≡ old.waits
+  pub freed : answer ≡ reclaim.Freed → (claimed old.frames ≡ claimed new.frames + 1) × (gone after ≡ gone before + 1)
+  pub returned : answer ≡ reclaim.Returned → (claimed new.frames ≡ claimed old.frames) × (gone after ≡ gone before + 1) × (free new.frames ≡ free old.frames) × (0 < returns_out 0 after)
+  pub nothing : answer ≡ reclaim.Nothing → (after ≡ before) × ((o p : ℕ) (row : PageRow) → row_at new.resident o p ≡ Some row → row.here ≡ false) × (free new.frames ≡ free old.frames)
+
+-- the frame queue is empty, or can't go on
+abbrev pub IsServed : Header → Parts → List Event → Type 0
+IsServed header k past = (queued k.waits.rows ≡ 0) ⊎ IsFull header 0 past

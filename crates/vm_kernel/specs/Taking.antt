@@ -1,0 +1,53 @@
+-- A message of a pager is taken.
+use Rattle.std.specs.Prelude.{ℕ, ◌≡◌, ◌++◌, true, false, List, length, Some, None}
+use Rattle.vm_model.specs.declared.event.Event.{Event}
+use Rattle.vm_model.specs.declared.message.Message.{Message}
+use Rattle.vm_model.specs.declared.message.Message.TheVariants as message
+use Rattle.vm_model.specs.declared.script.Header.{Header}
+use Rattle.vm_legal.specs.Steps.{error_taken, fails_access, since}
+use Rattle.vm_legal.specs.Stretches.{EachOf}
+use Rattle.vm_legal.specs.Follows.{IsReclaim}
+use Rattle.vm_resident.specs.Resident.{ResidentTable, page_key, row_at}
+use Rattle.vm_resident.specs.declared.page_row.PageRow.{PageRow}
+use Rattle.vm_supply.specs.declared.woken.Woken.{Woken}
+use Rattle.vm_supply.specs.declared.woken.Woken.TheVariants as woken
+use Rattle.vm_waits.specs.declared.waiting.On.TheVariants as on
+use Rattle.vm_waits.specs.declared.waiting.Waiting.{Waiting}
+use Rattle.vm_kernel.specs.Waiters.{Asker, is_woken}
+
+-- what the default pager may say, where a page has so many bytes
+abbrev pub IsTempAnswer : ℕ → Message → Type 0
+IsTempAnswer size (message.Ready cache strategy) = Unit {0}
+IsTempAnswer size (message.Supply page lock precious bytes) = (lock ≡ 0) × (precious ≡ false) × (length bytes ≡ size)
+IsTempAnswer size (message.Unavailable page) = Unit {0}
+IsTempAnswer size (message.Error page reason) = Unit {0}
+IsTempAnswer size other = ⊥
+
+-- the step took the error that ends those who wait for a page; or it took none that counts
+abbrev pub FailsNow : Header → Woken → List Event → Type 0
+FailsNow header (woken.Fails key) past = error_taken header.size past ≡ Some (record { host = 0; object = key.object.0; page = key.page.0 })
+FailsNow header other past = error_taken header.size past ≡ None
+
+-- some access waits for the page that failed
+abbrev pub HasAsker : Woken → List Waiting → Type 0
+HasAsker (woken.Fails key) rows = Asker rows key.object.0 key.page.0
+HasAsker other rows = Unit {0}
+
+-- whom an answer wakes or ends waits for a page that is asked no more, or for a pager
+pub record IsAnswered (who : Woken) (resident : ResidentTable) : Type 0 where
+  pub at : (o p : ℕ) (row : PageRow) → row_at resident o p ≡ Some row → row.here ≡ false → is_woken who (on.Page (page_key o p)) ≡ false
+
+-- and some access was ended by it
+abbrev pub HasFailed : Woken → List Event → Type 0
+HasFailed (woken.Fails key) past = since (fails_access key.object.0 key.page.0) past ≡ true
+HasFailed other past = Unit {0}
+
+-- an error that the step took has ended some access
+abbrev pub IsErrorPaid : Header → List Event → Type 0
+IsErrorPaid header past = (host object page : ℕ) → error_taken header.size past ≡ Some (record { host = host; object = object; page = page }) → since (fails_access object page) past ≡ true
+
+-- all events that were added take pages from the host
+pub record EachGone (old new : List Event) : Type 0 where
+  pub more : List Event
+  pub is : new ≡ more ++ old
+  pub each : EachOf (IsReclaim 0) more

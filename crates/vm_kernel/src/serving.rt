@@ -1,0 +1,115 @@
+// Accesses that wait are run again, and the frame queue is served.
+ghost use Rattle.std.specs.Prelude.{◌≡◌, ◌+◌, ◌++◌, true, false, IfOk, OnOk, Some};
+ghost use Rattle.vm_frames.specs.Frames.{claimed, free};
+ghost use Rattle.vm_legal.specs.Accesses.{Wants};
+ghost use Rattle.vm_legal.specs.Prompt.{IsFull, Prompt};
+ghost use Rattle.vm_supply.specs.declared.woken.Woken.TheVariants as woken;
+ghost use Rattle.vm_waits.specs.Waits.{entry};
+ghost use Rattle.vm_kernel.specs.Begun.{Doing, Goes};
+ghost use Rattle.vm_kernel.specs.Matches.{Rests, Works};
+ghost use Rattle.vm_kernel.specs.Serving.{Attempts, IsServed};
+
+use crate::parts::Parts;
+use crate::steps::FaultStep;
+use vm_base::NoMemory;
+use vm_model::Events;
+use vm_pageout::Reclaim;
+use vm_shadow::Ids;
+use vm_waits::{On, Waiting};
+
+impl Parts {
+    // Runs an access once; true where it wants a frame and has none.
+    fn attempt(
+        &mut self,
+        ids: &Ids,
+        waiting: Waiting,
+        may_claim: bool,
+        log: &mut Events,
+    ) -> Result<bool, NoMemory>
+        ghost given: { Doing }
+        requires works { Works given.header self.old ids.now woken.Nobody (log.old.items ++ given.past) }
+        requires waits { entry self.old.waits.rows waiting.task.0 ≡ Some waiting }
+        ensures works { OnOk result (Works given.header self.new ids.now woken.Nobody (log.new.items ++ given.past)) }
+        ensures goes { OnOk result (Goes given.header given.outside given.command given.past log.old.items log.new.items) }
+        ensures attempts { IfOk result (λ needs. Attempts given.header waiting may_claim needs self.old self.new (log.old.items ++ given.past) (log.new.items ++ given.past)) }
+    {
+        let on = match self.fault(waiting.task, waiting.want, may_claim, log)? {
+            FaultStep::Done => {
+                self.waits.remove(waiting.task);
+                return Ok(false);
+            }
+            FaultStep::NeedFrame => {
+                if waiting.on != On::Frame {
+                    self.waits.join_queue(waiting.task);
+                }
+                return Ok(true);
+            }
+            FaultStep::WaitReady { object } => On::Ready { object },
+            FaultStep::Ask { key } | FaultStep::WaitAnswer { key } => On::Page { key },
+        };
+        self.waits.set_on(waiting.task, on);
+        Ok(false)
+    }
+
+    /// Runs each access again that is to be, in the order in which they began.
+    pub fn restart(&mut self, ids: &Ids, log: &mut Events) -> Result<(), NoMemory>
+        ghost given: { Doing }
+        requires works { Works given.header self.old ids.now woken.Nobody (log.old.items ++ given.past) }
+        ensures rests { OnOk result (Rests given.header self.new ids.now (log.new.items ++ given.past)) }
+        ensures goes { OnOk result (Goes given.header given.outside given.command given.past log.old.items log.new.items) }
+    {
+        'again: while let Some(waiting) = self.waits.next_again() {
+            let may_claim = !self.waits.has_queue();
+            self.attempt(ids, waiting, may_claim, log)?;
+        }
+        Ok(())
+    }
+
+    /// Serves the queue of accesses that want a frame, as far as it goes.
+    pub fn serve(&mut self, ids: &Ids, log: &mut Events) -> Result<(), NoMemory>
+        ghost given: { Doing }
+        requires rests { Rests given.header self.old ids.now (log.old.items ++ given.past) }
+        ensures rests { OnOk result (Rests given.header self.new ids.now (log.new.items ++ given.past)) }
+        ensures goes { OnOk result (Goes given.header given.outside given.command given.past log.old.items log.new.items) }
+        ensures served { OnOk result (IsServed given.header self.new (log.new.items ++ given.past)) }
+    {
+        'serve: while let Some(waiting) = self.waits.front() {
+            if self.attempt(ids, waiting, true, log)? && self.stops(ids, log)? {
+                return Ok(());
+            }
+        }
+        Ok(())
+    }
+
+    // The front wants a frame and none is free: a page is reclaimed, unless a return is on its way. True where the front has to wait.
+    fn stops(&mut self, ids: &Ids, log: &mut Events) -> Result<bool, NoMemory>
+        ghost given: { Doing }
+        requires rests { Rests given.header self.old ids.now (log.old.items ++ given.past) }
+        requires wants { Wants given.header 0 (log.old.items ++ given.past) }
+        requires none { free self.old.frames ≡ 0 }
+        ensures rests { OnOk result (Rests given.header self.new ids.now (log.new.items ++ given.past)) }
+        ensures goes { OnOk result (Goes given.header given.outside given.command given.past log.old.items log.new.items) }
+        ensures waits { OnOk result (self.new.waits ≡ self.old.waits) }
+        ensures freed { IfOk result (λ stops. stops ≡ false → claimed self.old.frames ≡ claimed self.new.frames + 1) }
+        ensures full { IfOk result (λ stops. stops ≡ true → IsFull given.header 0 (log.new.items ++ given.past)) }
+    {
+        if !self.laundry.is_empty() {
+            return Ok(true);
+        }
+        match self.reclaim(ids, log)? {
+            Reclaim::Freed => Ok(false),
+            Reclaim::Returned | Reclaim::Nothing => Ok(true),
+        }
+    }
+
+    /// Serves the frame queue at the end of a step that no command of this host began.
+    pub fn go_on(&mut self, ids: &Ids, log: &mut Events) -> Result<(), NoMemory>
+        ghost given: { Doing }
+        requires rests { Rests given.header self.old ids.now (log.old.items ++ given.past) }
+        ensures rests { OnOk result (Rests given.header self.new ids.now (log.new.items ++ given.past)) }
+        ensures goes { OnOk result (Goes given.header given.outside given.command given.past log.old.items log.new.items) }
+        ensures prompt { OnOk result (Prompt given.header (log.new.items ++ given.past)) }
+    {
+        self.serve(ids, log)
+    }
+}

@@ -1,0 +1,136 @@
+// What a host does with messages of its pager, and with returns that its pager took.
+ghost use Rattle.std.specs.Prelude.{◌≡◌, ◌≢◌, ◌++◌, ◌∷◌, [], IfOk, OnOk};
+ghost use Rattle.vm_model.specs.declared.event.Event.TheVariants as event;
+ghost use Rattle.vm_model.specs.declared.message.Channel.TheVariants.{Down};
+ghost use Rattle.vm_supply.specs.declared.woken.Woken.TheVariants as who;
+ghost use Rattle.vm_kernel.specs.Begun.{Doing, Goes, IsLaundered, Passing};
+ghost use Rattle.vm_kernel.specs.Matches.{Rests, Works, the_host};
+ghost use Rattle.vm_kernel.specs.Taking.{FailsNow, HasAsker, HasFailed, IsAnswered, IsErrorPaid, IsTempAnswer};
+
+use crate::parts::Parts;
+use vm_base::{NoMemory, ObjectId, PageKey};
+use vm_model::{Event, Events, Message};
+use vm_shadow::Ids;
+use vm_supply::{Woken, answer};
+
+impl Parts {
+    // Does to the pages and objects what an answer says.
+    fn hear(
+        &mut self,
+        ids: &Ids,
+        object: ObjectId,
+        control: u32,
+        message: &Message,
+        log: &mut Events,
+    ) -> Result<Woken, NoMemory>
+        ghost given: { Passing }
+        requires rests { Rests given.header self.old ids.now given.past }
+        requires front { given.front ≡ event.Taken (Down the_host object control) message.now ∷ [] }
+        requires answer { IsTempAnswer self.old.size message.now }
+        requires nothing { log.old.items ≡ [] }
+        ensures works { IfOk result (λ woken. Works given.header self.new ids.now woken (given.front ++ given.past)) }
+        ensures fails { IfOk result (λ woken. FailsNow given.header woken (given.front ++ given.past)) }
+        ensures asker { IfOk result (λ woken. HasAsker woken self.new.waits.rows) }
+        ensures answered { IfOk result (λ woken. IsAnswered woken self.new.resident) }
+        ensures nothing { OnOk result (log.new.items ≡ []) }
+    {
+        let woken = answer(
+            self.alloc,
+            self.host,
+            object,
+            control,
+            message,
+            &mut self.frames,
+            &mut self.resident,
+            &mut self.queues,
+            &mut self.objects,
+            &mut self.buffers,
+            log,
+        )?;
+        Ok(woken)
+    }
+
+    // Lets those be run again whom an answer wakes, and ends those whose page has failed.
+    fn wake(&mut self, ids: &Ids, woken: Woken, log: &mut Events) -> Result<(), NoMemory>
+        ghost given: { Doing }
+        requires works { Works given.header self.old ids.now woken (log.old.items ++ given.past) }
+        requires fails { FailsNow given.header woken (log.old.items ++ given.past) }
+        requires asker { HasAsker woken self.old.waits.rows }
+        requires answered { IsAnswered woken self.old.resident }
+        ensures works { OnOk result (Works given.header self.new ids.now who.Nobody (log.new.items ++ given.past)) }
+        ensures goes { OnOk result (Goes given.header given.outside given.command given.past log.old.items log.new.items) }
+        ensures failed { OnOk result (HasFailed woken (log.new.items ++ given.past)) }
+    {
+        match woken {
+            Woken::Nobody => Ok(()),
+            Woken::ReadyOf { object } => {
+                self.waits.wake_ready(object);
+                Ok(())
+            }
+            Woken::Page { key } => {
+                self.waits.wake_page(key);
+                Ok(())
+            }
+            Woken::Fails { key } => self.fail(ids, key, log),
+        }
+    }
+
+    // Ends each access that waits for a page that its pager can't give.
+    fn fail(&mut self, ids: &Ids, key: PageKey, log: &mut Events) -> Result<(), NoMemory>
+        ghost given: { Doing }
+        requires works { Works given.header self.old ids.now (who.Fails key) (log.old.items ++ given.past) }
+        requires fails { FailsNow given.header (who.Fails key) (log.old.items ++ given.past) }
+        requires asker { HasAsker (who.Fails key) self.old.waits.rows }
+        requires answered { IsAnswered (who.Fails key) self.old.resident }
+        ensures works { OnOk result (Works given.header self.new ids.now who.Nobody (log.new.items ++ given.past)) }
+        ensures goes { OnOk result (Goes given.header given.outside given.command given.past log.old.items log.new.items) }
+        ensures failed { OnOk result (HasFailed (who.Fails key) (log.new.items ++ given.past)) }
+    {
+        'all: while let Some(waiting) = self.waits.next_on(key) {
+            log.push(Event::Failed {
+                task: waiting.task,
+                object: key.object,
+                page: key.page,
+            })?;
+            self.waits.remove(waiting.task);
+        }
+        Ok(())
+    }
+
+    // Whom an answer wakes is run again.
+    pub fn take(
+        &mut self,
+        ids: &Ids,
+        object: ObjectId,
+        control: u32,
+        message: &Message,
+        log: &mut Events,
+    ) -> Result<(), NoMemory>
+        ghost given: { Passing }
+        requires rests { Rests given.header self.old ids.now given.past }
+        requires front { given.front ≡ event.Taken (Down the_host object control) message.now ∷ [] }
+        requires answer { IsTempAnswer self.old.size message.now }
+        requires nothing { log.old.items ≡ [] }
+        ensures rests { OnOk result (Rests given.header self.new ids.now (log.new.items ++ (given.front ++ given.past))) }
+        ensures goes { OnOk result (Goes given.header given.outside given.command (given.front ++ given.past) [] log.new.items) }
+        ensures failed { OnOk result (IsErrorPaid given.header (log.new.items ++ (given.front ++ given.past))) }
+    {
+        let woken = self.hear(ids, object, control, message, log)?;
+        self.wake(ids, woken, log)?;
+        self.restart(ids, log)
+    }
+
+    // The frame of the oldest return is free.
+    pub fn launder(&mut self, ids: &Ids)
+        ghost given: { Passing }
+        requires rests { Rests given.header self.old ids.now given.past }
+        requires front { IsLaundered given.front }
+        requires held { self.old.laundry.held ≢ [] }
+        ensures { Rests given.header self.new ids.now (given.front ++ given.past) }
+    {
+        let Some(frame) = self.laundry.first() else {
+            unreachable!()
+        };
+        self.frames.release(frame);
+    }
+}

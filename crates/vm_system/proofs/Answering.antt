@@ -1,0 +1,259 @@
+-- What a pager answers, as events of a step.
+use Rattle.std.proofs.Common.{◌≡◌, ◌⊎◌, ℕ, ◌+◌, ◌≤◌, ◌==◌, ◌&&◌, not, Bool, true, false, List, [], ◌∷◌, ◌++◌, Option, Some, None, Ok, Err, if◌then◌else◌, refl, sym, ◌∙◌, ap, subst, arith, inl, inr}
+use Rattle.std.proofs.lemmas.Bool.Decides.{nat_tests}
+use Rattle.std.specs.Prelude.{IsSome, is_some}
+use Rattle.pg_slots.specs.Contents.{Carries, Content, Fits, IsTold, PutTold, area_name, same_content}
+use Rattle.pg_slots.specs.Slots.{KeepsShape, Leaves, SlotTable, held_at, slot_at, slot_of}
+use Rattle.pg_slots.specs.declared.answers.Put.{Put}
+use Rattle.pg_slots.specs.declared.answers.Put.TheVariants as put
+use Rattle.pg_slots.specs.declared.slot_row.Held.{Held}
+use Rattle.pg_slots.specs.declared.slot_row.Held.TheVariants as held
+use Rattle.pg_default.specs.Answers.{Answered, IsToPager, LeavesAreas, Requested, ReturnsWhole, TellsFault, after_message, became, told_of}
+use Rattle.vm_base.specs.Listing.{Listed}
+use Rattle.vm_base.specs.declared.failure.NoMemory.{NoMemory}
+use Rattle.vm_base.specs.declared.ids.HostId.{HostId}
+use Rattle.vm_base.specs.declared.ids.ObjectId.{ObjectId}
+use Rattle.vm_base.specs.declared.ids.PageNo.{PageNo}
+use Rattle.vm_model.specs.declared.event.Event.{Event}
+use Rattle.vm_model.specs.declared.event.Event.TheVariants as event
+use Rattle.vm_model.specs.declared.message.Channel.TheVariants.{Up, Down}
+use Rattle.vm_model.specs.declared.message.Message.{Message}
+use Rattle.vm_model.specs.declared.message.Message.TheVariants as message
+use Rattle.vm_model.specs.declared.script.Header.{Header}
+use Rattle.vm_legal.specs.Bytes.{CopiesCurrent, OwnBytes}
+use Rattle.vm_legal.specs.Follows.{IsConsequence}
+use Rattle.vm_legal.specs.Frames.{Suffice}
+use Rattle.vm_legal.specs.Outside.{Outside}
+use Rattle.vm_legal.specs.Stretches.{EachIn, EachOf, MomentsIn}
+use Rattle.vm_outside.specs.Areas.{SameAreas, Told}
+use Rattle.vm_kernel.specs.Begun.{AllInner, IsForeign, IsInner, IsLaundered}
+use Rattle.vm_kernel.specs.Matches.{the_host}
+use Rattle.vm_system.specs.Orderly.{IsWordUp, is_washed}
+use Rattle.vm_system.specs.Steps.{devices}
+
+-- what the host says to the pager
+pub word_up : (size : ℕ) (made : ℕ → Bool) (m : Message) → IsWordUp size made m → IsToPager m × ReturnsWhole size m
+word_up size made (message.Create control bytes) word = (tt, tt)
+word_up size made (message.Request control page access) word = (tt, tt)
+word_up size made (message.Return control page dirty keep bytes) word = (tt, word)
+word_up size made (message.Terminate control) word = (tt, tt)
+word_up size made other word = absurd word
+
+-- the event is a pager's: it tells that a page was lost, or sends down
+abbrev pub IsReply : Event → Type 0
+IsReply (event.Sent (Down host object control) (message.Create number size)) = ⊥
+IsReply (event.Sent (Down host object control) m) = Unit {0}
+IsReply (event.NoSlot object page) = Unit {0}
+IsReply (event.DeviceFailed who way object page) = Unit {0}
+IsReply other = ⊥
+
+requested : (size host : ℕ) (object : ObjectId) (control : ℕ) (page : PageNo) (has : Option Held) (events : List Event) → Requested size host object control page has events → EachOf IsReply events
+requested size host object control page None events is = subst (λ (z : List Event). EachOf IsReply z) (sym is) (tt, tt)
+requested size host object control page (Some held.Lost) events is = subst (λ (z : List Event). EachOf IsReply z) (sym is) (tt, tt)
+requested size host object control page (Some (held.Torn s)) events is = subst (λ (z : List Event). EachOf IsReply z) (sym is) (tt, tt)
+requested size host object control page (Some (held.Kept s)) events (inl is) = subst (λ (z : List Event). EachOf IsReply z) (sym is.2) (tt, tt)
+requested size host object control page (Some (held.Kept s)) events (inr is) = subst (λ (z : List Event). EachOf IsReply z) (sym is) (tt, (tt, tt))
+
+told : (p : Put) (object : ObjectId) (page : PageNo) → EachOf IsReply (told_of p object page)
+told put.Kept object page = tt
+told put.NoSlot object page = (tt, tt)
+told put.Failed object page = (tt, tt)
+
+pub replies : (m : Message) (object : ObjectId) (old new : SlotTable) (events : List Event) → Answered m object old new events → EachOf IsReply events
+replies (message.Init control size) object old new events a = subst (λ (z : List Event). EachOf IsReply z) (sym a.1) (tt, tt)
+replies (message.Create control size) object old new events a = subst (λ (z : List Event). EachOf IsReply z) (sym a.1) (tt, tt)
+replies (message.Request control page access) object old new events a = requested old.size old.host object control page (held_at old object.0 page.0) events a.1
+replies (message.Return control page dirty keep bytes) object old new events a = subst (λ (z : List Event). EachOf IsReply z) (sym a.told) (told (became events) object page)
+replies (message.Terminate control) object old new events a = subst (λ (z : List Event). EachOf IsReply z) (sym a.1) tt
+replies (message.Unlock control page access) object old new events a = subst (λ (z : List Event). EachOf IsReply z) (sym a.1) tt
+replies (message.Completed control page count) object old new events a = subst (λ (z : List Event). EachOf IsReply z) (sym a.1) tt
+replies (message.Changed control cache strategy) object old new events a = subst (λ (z : List Event). EachOf IsReply z) (sym a.1) tt
+replies other object old new events a = absurd a
+
+-- one such event
+
+consequence_one : (e : Event) → IsReply e → IsConsequence e
+consequence_one (event.Sent channel m) reply = tt
+consequence_one (event.NoSlot object page) reply = tt
+consequence_one (event.DeviceFailed who way object page) reply = tt
+consequence_one other reply = absurd reply
+
+inner_one : (e : Event) → IsReply e → IsInner e
+inner_one (event.Sent channel m) reply = tt
+inner_one (event.NoSlot object page) reply = tt
+inner_one (event.DeviceFailed who way object page) reply = tt
+inner_one other reply = absurd reply
+
+sent_foreign : (host : HostId) (object : ObjectId) (control : ℕ) (m : Message) → IsReply (event.Sent (Down host object control) m) → IsForeign (event.Sent (Down host object control) m)
+sent_foreign host object control (message.Create number size) reply = absurd reply
+sent_foreign host object control other reply = tt
+
+foreign_one : (e : Event) → IsReply e → IsForeign e
+foreign_one (event.Sent (Down host object control) m) reply = sent_foreign host object control m reply
+foreign_one (event.Sent (Up host object) m) reply = absurd reply
+foreign_one (event.NoSlot object page) reply = tt
+foreign_one (event.DeviceFailed who way object page) reply = tt
+foreign_one other reply = absurd reply
+
+own_one : (header : Header) (e : Event) (past : List Event) → IsReply e → OwnBytes header e past
+own_one header (event.Sent channel m) past reply = tt
+own_one header (event.NoSlot object page) past reply = tt
+own_one header (event.DeviceFailed who way object page) past reply = tt
+own_one header other past reply = absurd reply
+
+copies_one : (header : Header) (outside : Outside) (e : Event) (past : List Event) → IsReply e → CopiesCurrent header outside e past
+copies_one header outside (event.Sent channel m) past reply = tt
+copies_one header outside (event.NoSlot object page) past reply = tt
+copies_one header outside (event.DeviceFailed who way object page) past reply = tt
+copies_one header outside other past reply = absurd reply
+
+-- it takes no frame
+suffice_one : (header : Header) (e : Event) (past : List Event) → IsReply e → Suffice header 0 past → Suffice header 0 (e ∷ past)
+suffice_one header (event.Sent (Down host object control) m) past reply one = one
+suffice_one header (event.Sent (Up host object) m) past reply one = absurd reply
+suffice_one header (event.NoSlot object page) past reply one = one
+suffice_one header (event.DeviceFailed who way object page) past reply one = one
+suffice_one header other past reply one = absurd reply
+
+-- all of an answer
+
+pub reply_consequences : (events : List Event) → EachOf IsReply events → EachOf IsConsequence events
+reply_consequences [] reply = tt
+reply_consequences (e ∷ events) reply = (consequence_one e reply.0, reply_consequences events reply.1)
+
+pub reply_inner : (events : List Event) → EachOf IsReply events → AllInner events
+reply_inner [] reply = tt
+reply_inner (e ∷ events) reply = (inner_one e reply.0, reply_inner events reply.1)
+
+pub reply_foreign : (events : List Event) → EachOf IsReply events → EachOf IsForeign events
+reply_foreign [] reply = tt
+reply_foreign (e ∷ events) reply = (foreign_one e reply.0, reply_foreign events reply.1)
+
+pub reply_own : (header : Header) (events past : List Event) → EachOf IsReply events → EachIn (OwnBytes header) events past
+reply_own header [] past reply = tt
+reply_own header (e ∷ events) past reply = (own_one header e (events ++ past) reply.0, reply_own header events past reply.1)
+
+pub reply_copies : (header : Header) (outside : Outside) (events past : List Event) → EachOf IsReply events → EachIn (CopiesCurrent header outside) events past
+reply_copies header outside [] past reply = tt
+reply_copies header outside (e ∷ events) past reply = (copies_one header outside e (events ++ past) reply.0, reply_copies header outside events past reply.1)
+
+reply_last : (header : Header) (events past : List Event) → EachOf IsReply events → Suffice header 0 past → Suffice header 0 (events ++ past)
+reply_last header [] past reply one = one
+reply_last header (e ∷ events) past reply one = suffice_one header e (events ++ past) reply.0 (reply_last header events past reply.1 one)
+
+pub reply_frames : (header : Header) (events past : List Event) → EachOf IsReply events → Suffice header 0 past → MomentsIn (Suffice header 0) events past
+reply_frames header [] past reply one = tt
+reply_frames header (e ∷ events) past reply one = (reply_last header (e ∷ events) past reply one, reply_frames header events past reply.1 one)
+
+-- the kernel launders exactly behind the return of a page that isn't kept
+
+pub reply_laundered : (object : ObjectId) (m : Message) (events : List Event) → EachOf IsReply events → is_washed m ≡ true → IsLaundered (events ++ event.Taken (Up the_host object) m ∷ [])
+reply_laundered object (message.Return control page dirty keep bytes) events reply washed = by keep washed
+  where
+    by : (k : Bool) → not k ≡ true → IsLaundered (events ++ event.Taken (Up the_host object) (message.Return control page dirty k bytes) ∷ [])
+    by false is = record { object = object; control = control; page = page; dirty = dirty; bytes = bytes; told = events; is = refl; foreign = reply_foreign events reply }
+    by true is = absurd (let bad : false ≡ true = is in cc)
+reply_laundered object other events reply washed = absurd (let bad : false ≡ true = washed in cc)
+
+kept_foreign : (keep : Bool) → not keep ≡ false → keep ≡ true
+kept_foreign true is = refl
+kept_foreign false is = absurd (let bad : true ≡ false = is in cc)
+
+taken_foreign : (object : ObjectId) (m : Message) → is_washed m ≡ false → IsForeign (event.Taken (Up the_host object) m)
+taken_foreign object (message.Return control page dirty keep bytes) is = kept_foreign keep is
+taken_foreign object other is = tt
+
+pub front_foreign : (object : ObjectId) (m : Message) (events : List Event) → EachOf IsReply events → is_washed m ≡ false → EachOf IsForeign (events ++ event.Taken (Up the_host object) m ∷ [])
+front_foreign object m [] reply is = (taken_foreign object m is, tt)
+front_foreign object m (e ∷ events) reply is = (foreign_one e reply.0, front_foreign object m events reply.1 is)
+
+-- an answer tells of at most one fault
+pub record Faults (events past : List Event) : Type 0 where
+  pub few : devices (events ++ past) ≤ devices past + 1
+  pub none : (devices (events ++ past) ≡ devices past) ⊎ TellsFault events
+
+no_fault : (events past : List Event) → devices (events ++ past) ≡ devices past → Faults events past
+no_fault events past none = record { few = omega (arith, none); none = inl none }
+
+one_fault : (events past : List Event) → devices (events ++ past) ≡ devices past + 1 → TellsFault events → Faults events past
+one_fault events past one tells = record { few = omega (arith, one); none = inr tells }
+
+faults_at : (events is past : List Event) → events ≡ is → Faults is past → Faults events past
+faults_at events is past same faults = subst (λ (z : List Event). Faults z past) (sym same) faults
+
+request_faults : (size host : ℕ) (object : ObjectId) (control : ℕ) (page : PageNo) (has : Option Held) (events past : List Event) → Requested size host object control page has events → Faults events past
+request_faults size host object control page None events past is = faults_at events _ past is (no_fault _ past refl)
+request_faults size host object control page (Some held.Lost) events past is = faults_at events _ past is (no_fault _ past refl)
+request_faults size host object control page (Some (held.Torn s)) events past is = faults_at events _ past is (no_fault _ past refl)
+request_faults size host object control page (Some (held.Kept s)) events past (inl is) = faults_at events _ past is.2 (no_fault _ past refl)
+request_faults size host object control page (Some (held.Kept s)) events past (inr is) = faults_at events _ past is (one_fault _ past refl tt)
+
+told_faults : (p : Put) (object : ObjectId) (page : PageNo) (past : List Event) → Faults (told_of p object page) past
+told_faults put.Kept object page past = no_fault [] past refl
+told_faults put.NoSlot object page past = no_fault _ past refl
+told_faults put.Failed object page past = one_fault _ past refl tt
+
+pub faults : (m : Message) (object : ObjectId) (old new : SlotTable) (events past : List Event) → Answered m object old new events → Faults events past
+faults (message.Init control size) object old new events past a = faults_at events _ past a.1 (no_fault _ past refl)
+faults (message.Create control size) object old new events past a = faults_at events _ past a.1 (no_fault _ past refl)
+faults (message.Request control page access) object old new events past a = request_faults old.size old.host object control page (held_at old object.0 page.0) events past a.1
+faults (message.Return control page dirty keep bytes) object old new events past a = faults_at events (told_of (became events) object page) past a.told (told_faults (became events) object page past)
+faults (message.Terminate control) object old new events past a = faults_at events [] past a.1 (no_fault [] past refl)
+faults (message.Unlock control page access) object old new events past a = faults_at events [] past a.1 (no_fault [] past refl)
+faults (message.Completed control page count) object old new events past a = faults_at events [] past a.1 (no_fault [] past refl)
+faults (message.Changed control cache strategy) object old new events past a = faults_at events [] past a.1 (no_fault [] past refl)
+faults other object old new events past a = absurd a
+
+-- the host's area stays told
+
+some_of : {A : Type 0} → (x : Option A) → IsSome x → (a : A) × (x ≡ Some a)
+some_of None is = absurd (let bad : false ≡ true = is in cc)
+some_of (Some a) is = (a, refl)
+
+some_is : {A : Type 0} → (x : Option A) (a : A) → x ≡ Some a → IsSome x
+some_is x a is = ap is_some is
+
+same_told : (before after : List ℕ → Told) (old new : SlotTable) → new.host ≡ old.host → SameAreas before after → IsTold before old → IsTold after new
+same_told before after old new host same is =
+    let was = some_of (before (area_name old.host)) is in
+    some_is (after (area_name new.host)) was.0 (ap (λ (z : ℕ). after (area_name z)) host ∙ same (area_name old.host) was.0 was.1)
+
+own_place : (o p : ℕ) → (o == o && p == p) ≡ true
+own_place o p = grind (arith, nat_tests)
+
+put_told : (p : Put) (object page : ℕ) (bytes : List ℕ) (before after : List ℕ → Told) (old new : SlotTable) → new.host ≡ old.host → Leaves p object page old new → PutTold (Ok p) before after new (slot_at new object page) bytes
+    → IsTold before old → IsTold after new
+put_told put.Kept object page bytes before after old new host leaves put is =
+    let was = some_of (before (area_name old.host)) is in
+    let at : slot_at new object page ≡ Some leaves.0 = ap slot_of (leaves.2.at object page ∙ ap (λ (z : Bool). if z then Some (held.Kept leaves.0) else held_at old object page) (own_place object page)) in
+    let wrote = put leaves.0 at in
+    some_is (after (area_name new.host)) _ (wrote.written was.0 (ap (λ (z : ℕ). before (area_name z)) host ∙ was.1))
+put_told put.Failed object page bytes before after old new host leaves put is =
+    let was = some_of (before (area_name old.host)) is in
+    let at : slot_at new object page ≡ Some leaves.0 = ap slot_of (leaves.2.at object page ∙ ap (λ (z : Bool). if z then Some (held.Torn leaves.0) else held_at old object page) (own_place object page)) in
+    let wrote = put leaves.0 at in
+    let now = wrote.failed was.0 (ap (λ (z : ℕ). before (area_name z)) host ∙ was.1) refl in
+    some_is (after (area_name new.host)) now.0 now.1
+put_told put.NoSlot object page bytes before after old new host leaves put is = same_told before after old new host put is
+
+pub told_after : (m : Message) (object : ObjectId) (before after : List ℕ → Told) (old new : SlotTable) (events : Listed Event) → KeepsShape old new → Answered m object old new events.items → LeavesAreas m object new before after (Ok events)
+    → IsTold before old → IsTold after new
+told_after (message.Return control page dirty keep bytes) object before after old new events shape a leaves is = put_told (became events.items) object.0 page.0 bytes before after old new shape.host a.held leaves is
+told_after other object before after old new events shape a leaves is = same_told before after old new shape.host leaves is
+
+-- where memory ended in the pager
+
+failed_areas : (m : Message) (object : ObjectId) (before after : List ℕ → Told) (slots : SlotTable) (e : NoMemory) → LeavesAreas m object slots before after (Err e) → SameAreas before after
+failed_areas (message.Return control page dirty keep bytes) object before after slots e leaves = leaves
+failed_areas other object before after slots e leaves = leaves
+
+failed_content : (m : Message) (object : ObjectId) (e : NoMemory) → after_message m object (Err e) ≡ same_content
+failed_content (message.Return control page dirty keep bytes) object e = refl
+failed_content (message.Terminate control) object e = refl
+failed_content other object e = refl
+
+pub failed_fits : (m : Message) (object : ObjectId) (before after : List ℕ → Told) (old new : SlotTable) (e : NoMemory) (content : Content) → new ≡ old → LeavesAreas m object new before after (Err e)
+    → Carries before after old new (after_message m object (Err e)) → IsTold before old → Fits before old content → IsTold after new × Fits after new content
+failed_fits m object before after old new e content same leaves carries is fits =
+    let stays : Carries before after old new same_content = subst (λ (z : Content → Content). Carries before after old new z) (failed_content m object e) carries in
+    (same_told before after old new (ap (λ (z : SlotTable). z.host) same) (failed_areas m object before after new e leaves) is, stays.fits content is fits)

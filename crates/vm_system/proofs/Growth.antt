@@ -1,0 +1,113 @@
+-- A step makes the history longer, and begins where it may.
+use Rattle.std.proofs.Common.{◌≡◌, ℕ, ◌<◌, List, [], ◌∷◌, ◌++◌, ◌+◌, length, refl, ap, sym, ◌∙◌, subst, append_assoc, Some, None, Option, inl, inr}
+use Rattle.vm_base.specs.declared.code.Code.{Code}
+use Rattle.vm_model.specs.declared.event.Event.{Event}
+use Rattle.vm_model.specs.declared.event.Event.TheVariants as event
+use Rattle.vm_model.specs.Moments.{BeforeSteps, before_last_line}
+use Rattle.vm_legal.specs.Steps.{before_step, takings}
+use Rattle.vm_kernel.specs.Begun.{AllInner, IsInner}
+use Rattle.vm_system.specs.Steps.{Grew, IsBelowLimit, MayBegin, Taking, event_limit, lined}
+use Rattle.vm_system.specs.Takings.{MayBeCut, TakesStep}
+
+-- events inside a step begin none
+
+begins_same : (P : List Event → Type 0) (e : Event) (past : List Event) → IsInner e → BeforeSteps P past → BeforeSteps P (e ∷ past)
+begins_same P (event.Line line) past inner rest = absurd inner
+begins_same P (event.Taken channel m) past inner rest = absurd inner
+begins_same P other past inner rest = rest
+
+begins_all : (P : List Event → Type 0) (events past : List Event) → AllInner events → BeforeSteps P past → BeforeSteps P (events ++ past)
+begins_all P [] past inner rest = rest
+begins_all P (e ∷ events) past inner rest = begins_same P e (events ++ past) inner.0 (begins_all P events past inner.1 rest)
+
+line_same : (e : Event) (past : List Event) → IsInner e → before_last_line (e ∷ past) ≡ before_last_line past
+line_same (event.Line line) past inner = absurd inner
+line_same other past inner = refl
+
+line_all : (events past : List Event) → AllInner events → before_last_line (events ++ past) ≡ before_last_line past
+line_all [] past inner = refl
+line_all (e ∷ events) past inner = line_same e (events ++ past) inner.0 ∙ line_all events past inner.1
+
+step_same : (e : Event) (past : List Event) → IsInner e → before_step (e ∷ past) ≡ before_step past
+step_same (event.Line line) past inner = absurd inner
+step_same (event.Taken channel m) past inner = absurd inner
+step_same other past inner = refl
+
+step_all : (events past : List Event) → AllInner events → before_step (events ++ past) ≡ before_step past
+step_all [] past inner = refl
+step_all (e ∷ events) past inner = step_same e (events ++ past) inner.0 ∙ step_all events past inner.1
+
+takings_same : (e : Event) (past : List Event) → IsInner e → takings (e ∷ past) ≡ takings past
+takings_same (event.Line line) past inner = absurd inner
+takings_same (event.Taken channel m) past inner = absurd inner
+takings_same other past inner = refl
+
+takings_all : (events past : List Event) → AllInner events → takings (events ++ past) ≡ takings past
+takings_all [] past inner = refl
+takings_all (e ∷ events) past inner = takings_same e (events ++ past) inner.0 ∙ takings_all events past inner.1
+
+-- nothing was told
+pub grew_none : (old new : List Event) → new ≡ old → Grew old new
+grew_none old new same = record { more = []; is = same; limit = λ below before. subst IsBelowLimit (sym same) before }
+
+-- a line, and what stands behind it in its step
+pub grew_begun : (line : ℕ) (events old new : List Event) → new ≡ events ++ event.Line line ∷ old → AllInner events → Grew old new
+grew_begun line events old new is inner =
+    record {
+      more = events ++ event.Line line ∷ [];
+      is = is ∙ sym (append_assoc events (event.Line line ∷ []) old);
+      limit = λ below before. subst IsBelowLimit (sym is) (begins_all MayBegin events (event.Line line ∷ old) inner (inl below, before));
+    }
+
+pub front_begun : (line : ℕ) (events old new : List Event) → new ≡ events ++ event.Line line ∷ old → AllInner events → before_last_line new ≡ old
+front_begun line events old new is inner = ap before_last_line is ∙ line_all events (event.Line line ∷ old) inner
+
+-- the line alone, or the code of a refusal behind it
+
+pub grew_line : (line : ℕ) (old new : List Event) → new ≡ event.Line line ∷ old → Grew old new
+grew_line line old new is = grew_begun line [] old new is tt
+
+pub front_line : (line : ℕ) (old new : List Event) → new ≡ event.Line line ∷ old → before_last_line new ≡ old
+front_line line old new is = front_begun line [] old new is tt
+
+pub grew_code : (line : ℕ) (why : Code) (old new : List Event) → new ≡ event.Refused why ∷ event.Line line ∷ old → Grew old new
+grew_code line why old new is = grew_begun line (event.Refused why ∷ []) old new is (tt, tt)
+
+pub front_code : (line : ℕ) (why : Code) (old new : List Event) → new ≡ event.Refused why ∷ event.Line line ∷ old → before_last_line new ≡ old
+front_code line why old new is = front_begun line (event.Refused why ∷ []) old new is (tt, tt)
+
+-- a taking, behind a line or not
+
+lined_more : (line : Option ℕ) (old : List Event) → (more : List Event) × (lined line old ≡ more ++ old)
+lined_more None old = ([], refl)
+lined_more (Some line) old = (event.Line line ∷ [], refl)
+
+lined_may : (line : Option ℕ) (old : List Event) → length old < event_limit → IsBelowLimit old → MayBegin (lined line old) × IsBelowLimit (lined line old)
+lined_may None old below before = (inl below, before)
+lined_may (Some line) old below before = (inr (line, old, refl, below), (inl below, before))
+
+pub grew_taken : (given : Taking) (line : Option ℕ) (old new : List Event) → TakesStep given new → given.past ≡ lined line old → Grew old new
+grew_taken given line old new step past =
+    let taken = event.Taken step.channel step.m in
+    let whole : new ≡ step.more ++ taken ∷ lined line old = step.is ∙ ap (λ z. step.more ++ taken ∷ z) past in
+    let front = lined_more line old in
+    record {
+      more = step.more ++ taken ∷ front.0;
+      is = whole ∙ (ap (λ z. step.more ++ taken ∷ z) front.1 ∙ sym (append_assoc step.more (taken ∷ front.0) old));
+      limit = λ below before. subst IsBelowLimit (sym whole) (begins_all MayBegin step.more (taken ∷ lined line old) step.inner (lined_may line old below before));
+    }
+
+pub step_taken : (given : Taking) (new : List Event) → TakesStep given new → before_step new ≡ given.past
+step_taken given new step = ap before_step step.is ∙ step_all step.more (event.Taken step.channel step.m ∷ given.past) step.inner
+
+pub line_taken : (given : Taking) (line : ℕ) (old new : List Event) → TakesStep given new → given.past ≡ lined (Some line) old → before_last_line new ≡ old
+line_taken given line old new step past =
+    ap before_last_line step.is ∙ (line_all step.more (event.Taken step.channel step.m ∷ given.past) step.inner ∙ ap before_last_line past)
+
+pub takings_taken : (given : Taking) (new : List Event) → TakesStep given new → takings new ≡ takings given.past + 1
+takings_taken given new step = ap takings step.is ∙ takings_all step.more (event.Taken step.channel step.m ∷ given.past) step.inner
+
+-- whole or cut
+pub grew_cut : (given : Taking) (line : Option ℕ) (old new : List Event) → MayBeCut given old new → given.past ≡ lined line old → Grew old new
+grew_cut given line old new (inl same) past = grew_none old new same
+grew_cut given line old new (inr step) past = grew_taken given line old new step past

@@ -1,0 +1,199 @@
+-- A history stays legal with one message more taken.
+use Rattle.std.proofs.Common.{append_assoc, ◌≡◌, ℕ, true, false, List, [], ◌∷◌, ◌++◌, None, Some, refl, sym, ◌∙◌, ap, subst, inl, inr}
+use Rattle.std.specs.Prelude.{is_some}
+use Rattle.vm_base.specs.declared.ids.ChannelId.{ChannelId}
+use Rattle.vm_model.specs.declared.command.Command.{Command}
+use Rattle.vm_model.specs.declared.command.Command.TheVariants as command
+use Rattle.vm_model.specs.declared.command.Numbered.{Numbered}
+use Rattle.vm_model.specs.declared.event.Event.{Event}
+use Rattle.vm_model.specs.declared.event.Event.TheVariants as event
+use Rattle.vm_model.specs.declared.message.Channel.{Channel}
+use Rattle.vm_model.specs.declared.message.Message.{Message}
+use Rattle.vm_model.specs.declared.script.Header.{Header}
+use Rattle.vm_model.specs.Channels.{queue}
+use Rattle.vm_model.specs.Moments.{BeforeSteps, EachEvent, EachMoment}
+use Rattle.vm_legal.specs.Bytes.{CopiesCurrent, OwnBytes}
+use Rattle.vm_legal.specs.Debts.{IsPaid}
+use Rattle.vm_legal.specs.Follows.{FollowsSoFar, IsConsequence, IsGroup}
+use Rattle.vm_legal.specs.Frames.{FramesSuffice}
+use Rattle.vm_legal.specs.Legal.{Holds}
+use Rattle.vm_legal.specs.Licences.{AllLicensed, HasCause}
+use Rattle.vm_legal.specs.Outside.{Outside}
+use Rattle.vm_legal.specs.Prompt.{Prompt}
+use Rattle.vm_legal.specs.Stretches.{EachOf}
+use Rattle.vm_legal.specs.Steps.{Letter, takings}
+use Rattle.vm_legal.specs.Undelivered.{channel_of_first, oldest, undelivered}
+use Rattle.vm_ports.specs.Ports.{oldest as oldest_on}
+use Rattle.vm_ports.specs.declared.letter.Letter.{Letter as Posted}
+use Rattle.vm_quiet.proofs.Letters.{queue_is}
+use Rattle.vm_quiet.specs.Letters.{messages_on}
+use Rattle.vm_legal.proofs.Groups.{so_far}
+use Rattle.vm_flat.proofs.Loads.{answers}
+use Rattle.vm_kernel.specs.Begun.{AllInner, IsInner}
+use Rattle.vm_kernel.specs.Matches.{IsPlain}
+use Rattle.vm_system.specs.Channels.{number_in}
+use Rattle.vm_system.specs.Posts.{AreSame}
+use Rattle.vm_system.specs.Stands.{Stands}
+use Rattle.vm_system.specs.Steps.{HasMore, KeepsOpen, LegalOpen, MayCutOpen, Taking}
+use Rattle.vm_system.specs.Takings.{May, MayBeCut, TakesStep, Took}
+use Rattle.vm_system.specs.declared.state.State.{State}
+use Rattle.vm_system.proofs.Taken.{is_itself}
+use Rattle.vm_system.proofs.Stretched.{each_whole, licensed_both, moments_whole, of_both, steps_whole}
+
+-- what holds in front of a taking
+pub record HoldsUpTo (header : Header) (outside : Outside) (past : List Event) : Type 0 where
+  pub plain : IsPlain header
+  pub own_bytes : EachEvent (OwnBytes header) past
+  pub copies : EachEvent (CopiesCurrent header outside) past
+  pub frames : EachMoment (FramesSuffice header) past
+  pub prompts : BeforeSteps (Prompt header) past
+  pub prompt : Prompt header past
+  pub payments : BeforeSteps (IsPaid header) past
+  pub paid : IsPaid header past
+
+-- the events of a step that took a message, on what stands in front of it
+pub step_is : (given : Taking) (new : List Event) → (step : TakesStep given new) → new ≡ (step.more ++ event.Taken step.channel step.m ∷ []) ++ given.past
+step_is given new step = step.is ∙ sym (append_assoc step.more (event.Taken step.channel step.m ∷ []) given.past)
+
+pub holds_taken : (given : Taking) (new : List Event) → TakesStep given new → EachEvent (HasCause given.header given.outside) new → HoldsUpTo given.header given.outside given.past → Holds given.header given.outside new
+holds_taken given new step caused front =
+    let header = given.header in
+    let outside = given.outside in
+    let past = given.past in
+    let stretch = step.more ++ event.Taken step.channel step.m ∷ [] in
+    let is = step_is given new step in
+    let own : EachEvent (OwnBytes header) new = rw is (each_whole (OwnBytes header) stretch past step.own_bytes front.own_bytes) in
+    let copies : EachEvent (CopiesCurrent header outside) new = rw is (each_whole (CopiesCurrent header outside) stretch past step.copies front.copies) in
+    record {
+      own_bytes = own;
+      flat_bytes = answers header outside new caused own copies;
+      frames = rw is (moments_whole header stretch past front.plain step.frames front.frames);
+      prompt = rw step.is (steps_whole (Prompt header) step.more (event.Taken step.channel step.m ∷ past) step.inner (front.prompt, front.prompts));
+      paid = rw step.is (steps_whole (IsPaid header) step.more (event.Taken step.channel step.m ∷ past) step.inner (front.paid, front.payments));
+    }
+
+-- the number of messages taken
+
+takings_inner : (e : Event) (past : List Event) → IsInner e → takings (e ∷ past) ≡ takings past
+takings_inner (event.Line line) past inner = absurd inner
+takings_inner (event.Taken channel m) past inner = absurd inner
+takings_inner other past inner = refl
+
+takings_more : (events past : List Event) → AllInner events → takings (events ++ past) ≡ takings past
+takings_more [] past inner = refl
+takings_more (e ∷ events) past inner = takings_inner e (events ++ past) inner.0 ∙ takings_more events past inner.1
+
+-- the group of a settle grows
+grown : (header : Header) (outside : Outside) (count line : ℕ) (past group stretch : List Event) → EachOf IsConsequence stretch → AllLicensed header outside (command.Settle count) stretch (group ++ event.Line line ∷ past)
+    → IsGroup header outside past (record { line = line; command = command.Settle count }) group → IsGroup header outside past (record { line = line; command = command.Settle count }) (stretch ++ group)
+grown header outside count line past group stretch follows licensed made = record {
+  more = stretch ++ made.more;
+  is = ap (λ (z : List Event). stretch ++ z) made.is ∙ sym (append_assoc stretch made.more []);
+  follows = of_both IsConsequence stretch made.more follows made.follows;
+  licensed = licensed_both header outside (command.Settle count) stretch group (event.Line line ∷ past) licensed made.licensed;
+}
+
+-- and so does what a settle made so far
+pub settled_more : (header : Header) (outside : Outside) (count line : ℕ) (run : List Numbered) (old new stretch : List Event) → new ≡ stretch ++ old → EachOf IsConsequence stretch → AllLicensed header outside (command.Settle count) stretch old
+    → FollowsSoFar header outside (record { line = line; command = command.Settle count } ∷ run) old → FollowsSoFar header outside (record { line = line; command = command.Settle count } ∷ run) new
+settled_more header outside count line run old new stretch is follows licensed (past, group, was, made, before) =
+    let licensed_on : AllLicensed header outside (command.Settle count) stretch (group ++ event.Line line ∷ past) = subst (λ (z : List Event). AllLicensed header outside (command.Settle count) stretch z) was licensed in
+    (past, stretch ++ group, is ∙ ap (λ (z : List Event). stretch ++ z) was ∙ sym (append_assoc stretch group (event.Line line ∷ past)), grown header outside count line past group stretch follows licensed_on made, before)
+
+-- what holds of an open history that has a kernel
+pub up_to_open : (header : Header) (outside : Outside) (run : List Numbered) (s : State) → Stands header outside s → LegalOpen header outside run s.history.items → HoldsUpTo header outside s.history.items
+up_to_open header outside run s stands legal = record {
+  plain = stands.plain;
+  own_bytes = legal.holds.own_bytes;
+  copies = stands.agrees.copies;
+  frames = legal.holds.frames;
+  prompts = legal.holds.prompt;
+  prompt = legal.rests.prompt;
+  payments = legal.holds.paid;
+  paid = legal.rests.paid;
+}
+
+abbrev settling : Header → Outside → ℕ → List Event → Taking
+settling header outside count past = record { header = header; outside = outside; command = command.Settle count; past = past }
+
+follows_open : (header : Header) (outside : Outside) (count line : ℕ) (run : List Numbered) (old new : List Event) → TakesStep (settling header outside count old) new → FollowsSoFar header outside (record { line = line; command = command.Settle count } ∷ run) old
+    → FollowsSoFar header outside (record { line = line; command = command.Settle count } ∷ run) new
+follows_open header outside count line run old new step follows =
+    settled_more header outside count line run old new (step.more ++ event.Taken step.channel step.m ∷ []) (step_is (settling header outside count old) new step)
+    (of_both IsConsequence step.more (event.Taken step.channel step.m ∷ []) step.follows (tt, tt)) step.licensed follows
+
+pub keeps_open : (header : Header) (outside : Outside) (count : ℕ) (s new : State) → Stands header outside s → Took (settling header outside count s.history.items) new → KeepsOpen header outside (command.Settle count) s.history.items new.history.items
+keeps_open header outside count s new stands took line run legal =
+    let given = settling header outside count s.history.items in
+    let numbered : Numbered = record { line = line; command = command.Settle count } in
+    let items = new.history.items in
+    let step = took.step in
+    let follows : FollowsSoFar header outside (numbered ∷ run) items = follows_open header outside count line run s.history.items items step legal.follows in
+    record {
+      so_far = record {
+        follows = follows;
+        holds = holds_taken given items step (so_far header outside (numbered ∷ run) items follows) (up_to_open header outside (numbered ∷ run) s stands legal);
+        rests = record { prompt = took.prompt; paid = took.paid };
+      };
+      more = ap takings step.is ∙ takings_more step.more (event.Taken step.channel step.m ∷ s.history.items) step.inner;
+    }
+
+pub cuts_open : (header : Header) (outside : Outside) (count : ℕ) (s : State) (new : List Event) → Stands header outside s → MayBeCut (settling header outside count s.history.items) s.history.items new → MayCutOpen header outside (command.Settle count) s.history.items new
+cuts_open header outside count s new stands (inl same) = inl same
+cuts_open header outside count s new stands (inr step) = inr (λ line run legal.
+    let given = settling header outside count s.history.items in
+    let numbered : Numbered = record { line = line; command = command.Settle count } in
+    let follows : FollowsSoFar header outside (numbered ∷ run) new = follows_open header outside count line run s.history.items new step legal.follows in
+    record { follows = follows; holds = holds_taken given new step (so_far header outside (numbered ∷ run) new follows) (up_to_open header outside (numbered ∷ run) s stands legal) })
+
+-- the oldest letter of all has its channel
+pub record Foremost (made : List Channel) (number : ChannelId) (letters : List Letter) : Type 0 where
+  pub letter : Letter
+  pub more : List Letter
+  pub is : letters ≡ letter ∷ more
+  pub at : number_in letter.channel made ≡ Some number.0
+
+foremost : (made : List Channel) (posted : List (Posted Message)) (letters : List Letter) (number : ChannelId) → AreSame made posted letters → oldest_on posted ≡ Some number → Foremost made number letters
+foremost made [] [] number same is = absurd (let bad : false ≡ true = ap is_some is in cc)
+foremost made [] (letter ∷ letters) number same is = absurd same
+foremost made (p ∷ posted) [] number same is = absurd same
+foremost made (p ∷ posted) (letter ∷ letters) number same is =
+    let one : p.channel ≡ number = cc in
+    record { letter = letter; more = letters; is = refl; at = same.0 ∙ ap (λ (z : ChannelId). Some z.0) one }
+
+first_on : (letter : Letter) (letters : List Letter) → messages_on letter.channel (letter ∷ letters) ≡ letter.message ∷ messages_on letter.channel letters
+first_on letter letters = rw (is_itself letter.channel) refl
+
+pub may_settle : (given : Taking) (number : ChannelId) (s : State) → Stands given.header given.outside s → given.past ≡ s.history.items → HasMore given.command s.history.items → oldest_on s.ports.letters ≡ Some number
+    → (channel : Channel) × May given None number channel s
+may_settle given number s stands past more is =
+    let items = s.history.items in
+    let f = foremost s.channels.made s.ports.letters (undelivered items) number stands.agrees.posts.letters is in
+    let channel = f.letter.channel in
+    let ahead : oldest given.past ≡ Some channel = ap oldest past ∙ ap channel_of_first f.is in
+    let queued : queue channel items ≡ f.letter.message ∷ messages_on channel f.more = queue_is channel items ∙ ap (λ (z : List Letter). messages_on channel z) f.is ∙ first_on f.letter f.more in (
+      channel,
+      record {
+        stands = stands;
+        past = past;
+        made = f.at;
+        may = rw more.is (ahead, rw past more.more);
+        some = λ none. absurd (let bad : f.letter.message ∷ messages_on channel f.more ≡ [] = sym queued ∙ none in cc);
+      },
+    )
+
+-- a settle goes on
+
+pub keeps_settle : (given : Taking) (s new : State) → Stands given.header given.outside s → given.past ≡ s.history.items → HasMore given.command s.history.items → Took given new
+    → KeepsOpen given.header given.outside given.command s.history.items new.history.items
+keeps_settle given s new stands past more took =
+    let same : Took (settling given.header given.outside more.count s.history.items) new = subst (λ (z : Command). Took (record { header = given.header; outside = given.outside; command = z; past = s.history.items }) new) more.is
+    (subst (λ (z : List Event). Took (record { header = given.header; outside = given.outside; command = given.command; past = z }) new) past took) in
+    subst (λ (z : Command). KeepsOpen given.header given.outside z s.history.items new.history.items) (sym more.is) (keeps_open given.header given.outside more.count s new stands same)
+
+pub cuts_settle : (given : Taking) (s : State) (new : List Event) → Stands given.header given.outside s → given.past ≡ s.history.items → HasMore given.command s.history.items → MayBeCut given s.history.items new
+    → MayCutOpen given.header given.outside given.command s.history.items new
+cuts_settle given s new stands past more cut =
+    let same : MayBeCut (settling given.header given.outside more.count s.history.items) s.history.items new = subst (λ (z : Command). MayBeCut (record { header = given.header; outside = given.outside; command = z; past = s.history.items }) s.history.items new) more.is
+    (subst (λ (z : List Event). MayBeCut (record { header = given.header; outside = given.outside; command = given.command; past = z }) s.history.items new) past cut) in
+    subst (λ (z : Command). MayCutOpen given.header given.outside z s.history.items new) (sym more.is) (cuts_open given.header given.outside more.count s new stands same)

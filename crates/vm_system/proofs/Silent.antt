@@ -1,0 +1,270 @@
+-- What holds at the end of a step doesn't change with a line, or with the code of a refusal.
+use Rattle.std.proofs.Common.{◌≡◌, ℕ, Bool, List, [], ◌∷◌, ◌++◌, refl, sym, ◌∙◌, Some, None, Option, inl, inr}
+use Rattle.vm_base.specs.declared.code.Code.{Code}
+use Rattle.vm_model.specs.declared.event.Event.{Event}
+use Rattle.vm_model.specs.declared.event.Event.TheVariants as event
+use Rattle.vm_model.specs.declared.script.Header.{Header}
+use Rattle.vm_model.specs.Waiting.{Access, is_store}
+use Rattle.vm_legal.specs.Accesses.{Comes, Copies, Elsewhere, HasPlace, Nowhere, Raises, Waits, WaitsUnlocked, WantsFrame, page_of}
+use Rattle.vm_legal.specs.Debts.{IsPaid}
+use Rattle.vm_legal.specs.Licences.{created}
+use Rattle.vm_legal.specs.Prompt.{AReady, AnAnswer, AnUnlock, Awaits, IsExhausted, IsFull, IsSource, NoneInVain, Prompt, WaitsForPager}
+use Rattle.vm_legal.specs.Steps.{Asked, Letter, absence_taken, error_taken, taken}
+use Rattle.vm_shadow.specs.declared.ids.Ids.{Ids}
+use Rattle.vm_kernel.specs.Begun.{AllInner, IsInner}
+use Rattle.vm_kernel.specs.Matches.{Matches, Rests}
+use Rattle.vm_kernel.specs.declared.parts.Parts.{Parts}
+
+-- a line
+matches_line : (header : Header) (k : Parts) (ids : Ids) (line : ℕ) (h : List Event) → Matches header k ids [] h → Matches header k ids [] (event.Line line ∷ h)
+matches_line header k ids line h m = record {
+  plain = m.plain;
+  size = m.size;
+  host = m.host;
+  fits = m.fits;
+  tasks = m.tasks;
+  regions = m.regions;
+  entries = m.entries;
+  pages = m.pages;
+  uses = m.uses;
+  controls = m.controls;
+  settled = refl;
+  laundry = m.laundry;
+  frames = m.frames;
+}
+
+pub rests_line : (header : Header) (k : Parts) (ids : Ids) (line : ℕ) (h : List Event) → Rests header k ids h → Rests header k ids (event.Line line ∷ h)
+rests_line header k ids line h rests = record { matches = matches_line header k ids line h rests.matches; used = rests.used; reached = rests.reached; waits = rests.waits; idle = rests.idle }
+
+-- the accesses that wait, and what they wait for
+
+abbrev waits_line : (header : Header) (task : ℕ) (access : Access) (line : ℕ) (h : List Event) → Waits header task access h → Waits header task access (event.Line line ∷ h)
+waits_line header task access line h w = record { waits = w.waits; at = record { host = w.at.host; entry = w.at.entry; lives = w.at.lives; found = w.at.found } }
+
+abbrev waits_of_line : (header : Header) (task : ℕ) (access : Access) (line : ℕ) (h : List Event) → Waits header task access (event.Line line ∷ h) → Waits header task access h
+waits_of_line header task access line h w = record { waits = w.waits; at = record { host = w.at.host; entry = w.at.entry; lives = w.at.lives; found = w.at.found } }
+
+place_line : (header : Header) (region page object object_page : ℕ) (line : ℕ) (h : List Event) → HasPlace header region page object object_page h → HasPlace header region page object object_page (event.Line line ∷ h)
+place_line header region page object object_page line h is = record { top = is.top; top_page = is.top_page; steps = is.steps; is_top = is.is_top; leads = is.leads }
+
+comes_line : (header : Header) (host region page object object_page : ℕ) (line : ℕ) (h : List Event) → Comes header host region page object object_page h → Comes header host region page object object_page (event.Line line ∷ h)
+comes_line header host region page object object_page line h is = record { top = is.top; top_page = is.top_page; steps = is.steps; is_top = is.is_top; walks = is.walks }
+
+wants_line : (header : Header) (host task : ℕ) (access : Access) (region page : ℕ) (line : ℕ) (h : List Event) → WantsFrame header host task access region page h → WantsFrame header host task access region page (event.Line line ∷ h)
+wants_line header host task access region page line h (Nowhere top top_page steps is sinks) = Nowhere top top_page steps is sinks
+wants_line header host task access region page line h (Elsewhere object object_page comes away unasked may ready) =
+    Elsewhere object object_page (comes_line header host region page object object_page line h comes) away unasked may ready
+wants_line header host task access region page line h (Copies object object_page comes here address bytes to is) =
+    Copies object object_page (comes_line header host region page object object_page line h comes) here address bytes to is
+wants_line header host task access region page line h (Raises top top_page steps object object_page is walks here store) = Raises top top_page steps object object_page is walks here store
+
+awaits_line : (header : Header) (host : ℕ) (store : Bool) (object page : ℕ) (line : ℕ) (h : List Event) → Awaits header host store object page h → Awaits header host store object page (event.Line line ∷ h)
+awaits_line header host store object page line h (AnAnswer asked) = AnAnswer asked
+awaits_line header host store object page line h (AReady control live unready) = AReady control live unready
+awaits_line header host store object page line h (AnUnlock here named unlocking) = AnUnlock here named unlocking
+
+for_pager_line : (header : Header) (host task : ℕ) (access : Access) (line : ℕ) (h : List Event) → WaitsForPager header host task access h → WaitsForPager header host task access (event.Line line ∷ h)
+for_pager_line header host task access line h is = record {
+  waits = waits_line header task access line h is.waits;
+  on_host = is.on_host;
+  object = is.object;
+  page = is.page;
+  place = place_line header is.waits.at.entry.region.0 (page_of header task access h is.waits.at.entry) is.object is.page line h is.place;
+  what = awaits_line header host (is_store access) is.object is.page line h is.what;
+}
+
+unlocked_line : (header : Header) (host object page : ℕ) (line : ℕ) (h : List Event) → WaitsUnlocked header host object page h → WaitsUnlocked header host object page (event.Line line ∷ h)
+unlocked_line header host object page line h is = record {
+  task = is.task;
+  access = is.access;
+  waits = waits_line header is.task is.access line h is.waits;
+  on_host = is.on_host;
+  place = place_line header is.waits.at.entry.region.0 (page_of header is.task is.access h is.waits.at.entry) object page line h is.place;
+  here = is.here;
+  named = is.named;
+  unlocking = is.unlocking;
+}
+
+source_line : (header : Header) (host object page : ℕ) (line : ℕ) (h : List Event) → IsSource header host object page h → IsSource header host object page (event.Line line ∷ h)
+source_line header host object page line h is = record {
+  task = is.task;
+  access = is.access;
+  waits = waits_line header is.task is.access line h is.waits;
+  on_host = is.on_host;
+  comes = comes_line header host is.waits.at.entry.region.0 (page_of header is.task is.access h is.waits.at.entry) object page line h is.comes;
+  wants = wants_line header host is.task is.access is.waits.at.entry.region.0 (page_of header is.task is.access h is.waits.at.entry) line h is.wants;
+}
+
+exhausted_line : (header : Header) (host : ℕ) (line : ℕ) (h : List Event) → IsExhausted header host h h → IsExhausted header host (event.Line line ∷ h) (event.Line line ∷ h)
+exhausted_line header host line h is = record {
+  held = λ o p here. elim (is.held o p here) [ inl waits ↦ inl (unlocked_line header host o p line h waits) | inr source ↦ inr (source_line header host o p line h source) ];
+  one = λ o p q r here there none nor. is.one o p q r here there (λ waits. none (unlocked_line header host o p line h waits)) (λ waits. nor (unlocked_line header host q r line h waits));
+}
+
+full_line : (header : Header) (host : ℕ) (line : ℕ) (h : List Event) → IsFull header host h → IsFull header host (event.Line line ∷ h)
+full_line header host line h is = record { none = is.none; why = elim (is.why) [ inl out ↦ inl out | inr exhausted ↦ inr (exhausted_line header host line h exhausted) ] }
+
+not_in_vain_line : (header : Header) (host : ℕ) (line : ℕ) (h : List Event) → NoneInVain header host h → NoneInVain header host (event.Line line ∷ h)
+not_in_vain_line header host line h none task access waits on = elim (none task access (waits_of_line header task access line h waits) on) [
+  | inl for ↦ inl (for_pager_line header host task access line h for)
+  | inr full ↦ inr (full_line header host line h full)
+]
+
+pub prompt_line : (header : Header) (line : ℕ) (h : List Event) → Prompt header h → Prompt header (event.Line line ∷ h)
+prompt_line header line h prompt = record {
+  waits = λ host below. not_in_vain_line header host line h (prompt.waits host below);
+  swept = λ host below. let swept = prompt.swept host below in record { pages = swept.pages; controls = swept.controls };
+}
+
+-- a code
+matches_code : (header : Header) (k : Parts) (ids : Ids) (why : Code) (h : List Event) → Matches header k ids [] h → Matches header k ids [] (event.Refused why ∷ h)
+matches_code header k ids why h m = record {
+  plain = m.plain;
+  size = m.size;
+  host = m.host;
+  fits = m.fits;
+  tasks = m.tasks;
+  regions = m.regions;
+  entries = m.entries;
+  pages = m.pages;
+  uses = m.uses;
+  controls = m.controls;
+  settled = refl;
+  laundry = m.laundry;
+  frames = m.frames;
+}
+
+pub rests_code : (header : Header) (k : Parts) (ids : Ids) (why : Code) (h : List Event) → Rests header k ids h → Rests header k ids (event.Refused why ∷ h)
+rests_code header k ids why h rests = record { matches = matches_code header k ids why h rests.matches; used = rests.used; reached = rests.reached; waits = rests.waits; idle = rests.idle }
+
+-- the accesses that wait, and what they wait for
+
+abbrev waits_code : (header : Header) (task : ℕ) (access : Access) (why : Code) (h : List Event) → Waits header task access h → Waits header task access (event.Refused why ∷ h)
+waits_code header task access why h w = record { waits = w.waits; at = record { host = w.at.host; entry = w.at.entry; lives = w.at.lives; found = w.at.found } }
+
+abbrev waits_of_code : (header : Header) (task : ℕ) (access : Access) (why : Code) (h : List Event) → Waits header task access (event.Refused why ∷ h) → Waits header task access h
+waits_of_code header task access why h w = record { waits = w.waits; at = record { host = w.at.host; entry = w.at.entry; lives = w.at.lives; found = w.at.found } }
+
+place_code : (header : Header) (region page object object_page : ℕ) (why : Code) (h : List Event) → HasPlace header region page object object_page h → HasPlace header region page object object_page (event.Refused why ∷ h)
+place_code header region page object object_page why h is = record { top = is.top; top_page = is.top_page; steps = is.steps; is_top = is.is_top; leads = is.leads }
+
+comes_code : (header : Header) (host region page object object_page : ℕ) (why : Code) (h : List Event) → Comes header host region page object object_page h → Comes header host region page object object_page (event.Refused why ∷ h)
+comes_code header host region page object object_page why h is = record { top = is.top; top_page = is.top_page; steps = is.steps; is_top = is.is_top; walks = is.walks }
+
+wants_code : (header : Header) (host task : ℕ) (access : Access) (region page : ℕ) (why : Code) (h : List Event) → WantsFrame header host task access region page h → WantsFrame header host task access region page (event.Refused why ∷ h)
+wants_code header host task access region page why h (Nowhere top top_page steps is sinks) = Nowhere top top_page steps is sinks
+wants_code header host task access region page why h (Elsewhere object object_page comes away unasked may ready) =
+    Elsewhere object object_page (comes_code header host region page object object_page why h comes) away unasked may ready
+wants_code header host task access region page why h (Copies object object_page comes here address bytes to is) =
+    Copies object object_page (comes_code header host region page object object_page why h comes) here address bytes to is
+wants_code header host task access region page why h (Raises top top_page steps object object_page is walks here store) = Raises top top_page steps object object_page is walks here store
+
+awaits_code : (header : Header) (host : ℕ) (store : Bool) (object page : ℕ) (why : Code) (h : List Event) → Awaits header host store object page h → Awaits header host store object page (event.Refused why ∷ h)
+awaits_code header host store object page why h (AnAnswer asked) = AnAnswer asked
+awaits_code header host store object page why h (AReady control live unready) = AReady control live unready
+awaits_code header host store object page why h (AnUnlock here named unlocking) = AnUnlock here named unlocking
+
+for_pager_code : (header : Header) (host task : ℕ) (access : Access) (why : Code) (h : List Event) → WaitsForPager header host task access h → WaitsForPager header host task access (event.Refused why ∷ h)
+for_pager_code header host task access why h is = record {
+  waits = waits_code header task access why h is.waits;
+  on_host = is.on_host;
+  object = is.object;
+  page = is.page;
+  place = place_code header is.waits.at.entry.region.0 (page_of header task access h is.waits.at.entry) is.object is.page why h is.place;
+  what = awaits_code header host (is_store access) is.object is.page why h is.what;
+}
+
+unlocked_code : (header : Header) (host object page : ℕ) (why : Code) (h : List Event) → WaitsUnlocked header host object page h → WaitsUnlocked header host object page (event.Refused why ∷ h)
+unlocked_code header host object page why h is = record {
+  task = is.task;
+  access = is.access;
+  waits = waits_code header is.task is.access why h is.waits;
+  on_host = is.on_host;
+  place = place_code header is.waits.at.entry.region.0 (page_of header is.task is.access h is.waits.at.entry) object page why h is.place;
+  here = is.here;
+  named = is.named;
+  unlocking = is.unlocking;
+}
+
+source_code : (header : Header) (host object page : ℕ) (why : Code) (h : List Event) → IsSource header host object page h → IsSource header host object page (event.Refused why ∷ h)
+source_code header host object page why h is = record {
+  task = is.task;
+  access = is.access;
+  waits = waits_code header is.task is.access why h is.waits;
+  on_host = is.on_host;
+  comes = comes_code header host is.waits.at.entry.region.0 (page_of header is.task is.access h is.waits.at.entry) object page why h is.comes;
+  wants = wants_code header host is.task is.access is.waits.at.entry.region.0 (page_of header is.task is.access h is.waits.at.entry) why h is.wants;
+}
+
+exhausted_code : (header : Header) (host : ℕ) (why : Code) (h : List Event) → IsExhausted header host h h → IsExhausted header host (event.Refused why ∷ h) (event.Refused why ∷ h)
+exhausted_code header host why h is = record {
+  held = λ o p here. elim (is.held o p here) [ inl waits ↦ inl (unlocked_code header host o p why h waits) | inr source ↦ inr (source_code header host o p why h source) ];
+  one = λ o p q r here there none nor. is.one o p q r here there (λ waits. none (unlocked_code header host o p why h waits)) (λ waits. nor (unlocked_code header host q r why h waits));
+}
+
+full_code : (header : Header) (host : ℕ) (why : Code) (h : List Event) → IsFull header host h → IsFull header host (event.Refused why ∷ h)
+full_code header host why h is = record { none = is.none; why = elim (is.why) [ inl out ↦ inl out | inr exhausted ↦ inr (exhausted_code header host why h exhausted) ] }
+
+not_in_vain_code : (header : Header) (host : ℕ) (why : Code) (h : List Event) → NoneInVain header host h → NoneInVain header host (event.Refused why ∷ h)
+not_in_vain_code header host why h none task access waits on = elim (none task access (waits_of_code header task access why h waits) on) [
+  | inl for ↦ inl (for_pager_code header host task access why h for)
+  | inr full ↦ inr (full_code header host why h full)
+]
+
+pub prompt_code : (header : Header) (why : Code) (h : List Event) → Prompt header h → Prompt header (event.Refused why ∷ h)
+prompt_code header why h prompt = record {
+  waits = λ host below. not_in_vain_code header host why h (prompt.waits host below);
+  swept = λ host below. let swept = prompt.swept host below in record { pages = swept.pages; controls = swept.controls };
+}
+
+-- a step that takes nothing owes nothing
+
+taken_inner : (e : Event) (past : List Event) → IsInner e → taken (e ∷ past) ≡ taken past
+taken_inner (event.Line line) past inner = absurd inner
+taken_inner (event.Taken channel m) past inner = absurd inner
+taken_inner other past inner = refl
+
+error_inner : (size : ℕ) (e : Event) (past : List Event) → IsInner e → error_taken size (e ∷ past) ≡ error_taken size past
+error_inner size (event.Line line) past inner = absurd inner
+error_inner size (event.Taken channel m) past inner = absurd inner
+error_inner size other past inner = refl
+
+absence_inner : (size : ℕ) (e : Event) (past : List Event) → IsInner e → absence_taken size (e ∷ past) ≡ absence_taken size past
+absence_inner size (event.Line line) past inner = absurd inner
+absence_inner size (event.Taken channel m) past inner = absurd inner
+absence_inner size other past inner = refl
+
+record TakesNothing (size : ℕ) (past : List Event) : Type 0 where
+  pub taken : taken past ≡ None
+  pub error : error_taken size past ≡ None
+  pub absence : absence_taken size past ≡ None
+
+takes_nothing : (size line : ℕ) (h events : List Event) → AllInner events → TakesNothing size (events ++ event.Line line ∷ h)
+takes_nothing size line h [] inner = record { taken = refl; error = refl; absence = refl }
+takes_nothing size line h (e ∷ events) inner =
+    let past = events ++ event.Line line ∷ h in
+    let nothing = takes_nothing size line h events inner.1 in
+    record {
+      taken = taken_inner e past inner.0 ∙ nothing.taken;
+      error = error_inner size e past inner.0 ∙ nothing.error;
+      absence = absence_inner size e past inner.0 ∙ nothing.absence;
+    }
+
+no_letter : {B : Type 0} (x : Option Letter) (letter : Letter) → x ≡ None → x ≡ Some letter → B
+no_letter x letter none some = absurd (let bad : None ≡ Some letter = sym none ∙ some in cc)
+
+no_asked : {B : Type 0} (x : Option Asked) (asked : Asked) → x ≡ None → x ≡ Some asked → B
+no_asked x asked none some = absurd (let bad : None ≡ Some asked = sym none ∙ some in cc)
+
+pub paid_inner : (header : Header) (line : ℕ) (h events : List Event) → AllInner events → created (events ++ event.Line line ∷ h) ≡ None → IsPaid header (events ++ event.Line line ∷ h)
+paid_inner header line h events inner none =
+    let nothing = takes_nothing header.size line h events inner in
+    record {
+      returned = none;
+      init = λ host object control size paged is. no_letter _ _ nothing.taken is;
+      create = λ host object control size paged is. no_letter _ _ nothing.taken is;
+      request = λ host object control page access paged is. no_letter _ _ nothing.taken is;
+      error = λ host object page is. no_asked _ _ nothing.error is;
+      absence = λ host object page declared is. no_asked _ _ nothing.absence is;
+      slot = λ host object control page dirty keep bytes temporary is lacks. no_letter _ _ nothing.taken is;
+    }

@@ -1,0 +1,276 @@
+-- A message is taken: what stands in front of that, and its cause.
+use Rattle.std.proofs.Common.{◌≡◌, ℕ, zero, suc, ◌<◌, ◌≤◌, ◌==◌, ◌&&◌, Bool, true, false, List, [], ◌∷◌, ◌++◌, length, Option, Some, None, if◌then◌else◌, option_map, MatchOption, refl, sym, ◌∙◌, ap, subst, arith}
+use Rattle.std.proofs.lemmas.Bool.Decides.{nat_tests}
+use Rattle.std.specs.Prelude.{IfSome, reverse, slice_get}
+use Rattle.pg_slots.specs.Slots.{SlotTable}
+use Rattle.pg_default.proofs.Others.{others}
+use Rattle.pg_default.specs.Stands.{Stands as PagerStands, content_of}
+use Rattle.vm_base.specs.declared.ids.ChannelId.{ChannelId}
+use Rattle.vm_model.specs.declared.command.Command.{Command}
+use Rattle.vm_model.specs.declared.event.Event.{Event}
+use Rattle.vm_model.specs.declared.event.Event.TheVariants as event
+use Rattle.vm_model.specs.declared.message.Channel.{Channel}
+use Rattle.vm_model.specs.declared.message.Channel.TheVariants.{Up, Down}
+use Rattle.vm_model.specs.declared.message.Message.{Message}
+use Rattle.vm_model.specs.declared.message.Message.TheVariants as message
+use Rattle.vm_model.specs.declared.script.Header.{Header}
+use Rattle.vm_model.specs.Channels.{is_channel, queue}
+use Rattle.vm_model.specs.Controls.{is_control, live_control}
+use Rattle.vm_model.specs.Local.{local}
+use Rattle.vm_model.specs.Moments.{EachEvent}
+use Rattle.vm_model.specs.Server.{first}
+use Rattle.vm_legal.specs.Bytes.{CopiesCurrent, OwnBytes}
+use Rattle.vm_legal.specs.Follows.{IsConsequence}
+use Rattle.vm_legal.specs.Frames.{Gives, Suffice, changed, frames_held, frames_used, taken_down, taken_up, where_true}
+use Rattle.vm_legal.specs.Licences.{AllLicensed, Licensed, MayTake, ReturnsOn, created}
+use Rattle.vm_legal.specs.Outside.{Outside}
+use Rattle.vm_legal.specs.Steps.{Letter}
+use Rattle.vm_legal.specs.Stretches.{EachIn, EachOf, MomentsIn}
+use Rattle.vm_legal.specs.Undelivered.{undelivered}
+use Rattle.vm_quiet.proofs.Letters.{queue_is, same_channel}
+use Rattle.vm_quiet.specs.Letters.{messages_on}
+use Rattle.vm_ports.specs.Ports.{queue as queue_on}
+use Rattle.vm_ports.specs.declared.letter.Letter.{Letter as Posted}
+use Rattle.vm_shadow.specs.declared.ids.Ids.{Ids}
+use Rattle.vm_kernel.specs.Begun.{AllInner}
+use Rattle.vm_kernel.specs.Matches.{IsPlain, Rests}
+use Rattle.vm_kernel.specs.declared.parts.Parts.{Parts}
+use Rattle.vm_system.specs.Channels.{number_in}
+use Rattle.vm_system.specs.Orderly.{IsOrderly}
+use Rattle.vm_system.specs.Posts.{AreSame}
+use Rattle.vm_system.specs.Steps.{Taking, devices, lined}
+use Rattle.vm_system.specs.Takings.{May, TakesStep}
+use Rattle.vm_system.specs.declared.state.State.{State}
+use Rattle.vm_system.proofs.Letters.{orderly_line}
+use Rattle.vm_system.proofs.Silent.{rests_line}
+use Rattle.vm_system.proofs.Stretched.{each_both, licensed_both, moments_both}
+
+-- the numbers of channels
+
+itself : (n : ℕ) → (n == n) ≡ true
+itself n = grind (arith, nat_tests)
+
+pub is_itself : (c : Channel) → is_channel c c ≡ true
+is_itself (Up host object) = rw (itself host.0, itself object.0) refl
+is_itself (Down host object control) = rw (itself host.0, itself object.0, itself control) refl
+
+-- a channel has its number
+pub number_at : (c : Channel) (made : List Channel) (n : ℕ) → number_in c made ≡ Some n → slice_get made n ≡ Some c
+number_at c [] n is = absurd (cc)
+number_at c (k ∷ made) n is = by (is_channel c k) refl (λ m at. number_at c made m at) is
+  where
+    later : (x : Option ℕ) (n : ℕ) → ((m : ℕ) → x ≡ Some m → slice_get made m ≡ Some c) → option_map suc x ≡ Some n → slice_get (k ∷ made) n ≡ Some c
+    later None n all is = absurd (cc)
+    later (Some m) n all is = subst (λ (z : ℕ). slice_get (k ∷ made) z ≡ Some c) (let e : suc m ≡ n = cc in e) (all m refl)
+
+    by : (b : Bool) → is_channel c k ≡ b → ((m : ℕ) → number_in c made ≡ Some m → slice_get made m ≡ Some c) → (if b then Some 0 else option_map suc (number_in c made)) ≡ Some n → slice_get (k ∷ made) n ≡ Some c
+    by true same all is = subst (λ (z : ℕ). slice_get (k ∷ made) z ≡ Some c) (let e : 0 ≡ n = cc in e) (ap (λ (z : Channel). Some z) (same_channel c k same))
+    by false other all is = later (number_in c made) n all is
+
+-- two channels with one number are the same
+same_number : (c d : Channel) (made : List Channel) (n : ℕ) → number_in c made ≡ Some n → number_in d made ≡ Some n → d ≡ c
+same_number c d made n one two =
+    let both : Some d ≡ Some c = sym (number_at d made n two) ∙ number_at c made n one in
+    cc
+
+-- the letters of a number are those of its channel
+pub posted_queue : (made : List Channel) (posted : List (Posted Message)) (letters : List Letter) (c : Channel) (n : ℕ) → number_in c made ≡ Some n → AreSame made posted letters → queue_on n posted ≡ messages_on c letters
+posted_queue made [] [] c n is same = refl
+posted_queue made [] (letter ∷ letters) c n is same = absurd same
+posted_queue made (p ∷ posted) [] c n is same = absurd same
+posted_queue made (p ∷ posted) (letter ∷ letters) c n is same = by (p.channel.0 == n) (is_channel c letter.channel) refl refl (posted_queue made posted letters c n is same.2)
+  where
+    by : (a b : Bool) → (p.channel.0 == n) ≡ a → is_channel c letter.channel ≡ b → queue_on n posted ≡ messages_on c letters
+        → (if a then p.message ∷ queue_on n posted else queue_on n posted) ≡ (if b then letter.message ∷ messages_on c letters else messages_on c letters)
+    by true true here there rest = ap (λ (z : Message). z ∷ queue_on n posted) same.1 ∙ ap (λ (z : List Message). letter.message ∷ z) rest
+    by false false here there rest = rest
+    by true false here there rest =
+        let at : p.channel.0 ≡ n = grind (arith, nat_tests, here) in
+        let on : letter.channel ≡ c = same_number c letter.channel made n is (same.0 ∙ ap (λ (z : ℕ). Some z) at) in
+        absurd (let bad : true ≡ false = sym (is_itself c) ∙ ap (λ (z : Channel). is_channel c z) (sym on) ∙ there in cc)
+    by false true here there rest =
+        let on : letter.channel ≡ c = same_channel c letter.channel there in
+        let equal : Some p.channel.0 ≡ Some n = sym same.0 ∙ ap (λ (z : Channel). number_in z made) on ∙ is in
+        let at : p.channel.0 ≡ n = cc in
+        absurd (let bad : true ≡ false = sym (itself n) ∙ ap (λ (z : ℕ). z == n) (sym at) ∙ here in cc)
+
+pub head_is : (made : List Channel) (posted : List (Posted Message)) (c : Channel) (n : ℕ) (past : List Event) → number_in c made ≡ Some n → AreSame made posted (undelivered past) → queue_on n posted ≡ queue c past
+head_is made posted c n past is same = posted_queue made posted (undelivered past) c n is same ∙ sym (queue_is c past)
+
+-- the first of a list is what stands at its place 0
+pub first_at : {A : Type 0} → (xs : List A) → slice_get xs 0 ≡ first xs
+first_at [] = refl
+first_at (x ∷ xs) = refl
+
+-- a line in front changes nothing
+
+pub queue_lined : (c : Channel) (line : Option ℕ) (past : List Event) → queue c (lined line past) ≡ queue c past
+queue_lined c None past = refl
+queue_lined c (Some line) past = refl
+
+pub undelivered_lined : (line : Option ℕ) (past : List Event) → undelivered (lined line past) ≡ undelivered past
+undelivered_lined None past = refl
+undelivered_lined (Some line) past = refl
+
+pub devices_lined : (line : Option ℕ) (past : List Event) → devices (lined line past) ≡ devices past
+devices_lined None past = refl
+devices_lined (Some line) past = refl
+
+pub content_lined : (header : Header) (line : Option ℕ) (past : List Event) → content_of header 0 (lined line past) ≡ content_of header 0 past
+content_lined header None past = refl
+content_lined header (Some line) past = refl
+
+pub rests_lined : (header : Header) (k : Parts) (ids : Ids) (line : Option ℕ) (past : List Event) → Rests header k ids past → Rests header k ids (lined line past)
+rests_lined header k ids None past rests = rests
+rests_lined header k ids (Some line) past rests = rests_line header k ids line past rests
+
+pub orderly_lined : (header : Header) (line : Option ℕ) (past : List Event) → IsOrderly header past → IsOrderly header (lined line past)
+orderly_lined header None past orderly = orderly
+orderly_lined header (Some line) past orderly = orderly_line header line past orderly
+
+pub pager_lined : (header : Header) (slots : SlotTable) (line : Option ℕ) (past : List Event) → PagerStands header 0 slots past → PagerStands header 0 slots (lined line past)
+pager_lined header slots None past stands = stands
+pager_lined header slots (Some line) past stands = others header 0 slots (event.Line line) past tt stands
+
+pub copies_lined : (header : Header) (outside : Outside) (line : Option ℕ) (past : List Event) → EachEvent (CopiesCurrent header outside) past → EachEvent (CopiesCurrent header outside) (lined line past)
+copies_lined header outside None past copies = copies
+copies_lined header outside (Some line) past copies = (tt, copies)
+
+-- the frames
+
+pub rests_suffice : (header : Header) (k : Parts) (ids : Ids) (past : List Event) → Rests header k ids past → Suffice header 0 past
+rests_suffice header k ids past rests =
+    let has = rests.matches.frames in
+    subst (λ (z : Option ℕ). IfSome z (λ frames. frames_used header.size 0 past ≤ frames)) (sym has.total) (omega (arith, has.held, has.wired, has.fits))
+
+gives_less : (test : Bool) (held : ℕ) → changed (where_true test Gives) held ≤ held
+gives_less true held = omega arith
+gives_less false held = omega arith
+
+keeps_same : (held : ℕ) → held ≤ held
+keeps_same held = omega arith
+
+up_less : (here : Bool) (m : Message) (held : ℕ) → changed (taken_up here m) held ≤ held
+up_less here (message.Return control page dirty keep bytes) held = gives_less _ held
+up_less here other held = keeps_same held
+
+down_less : (asked : ℕ → Bool) (m : Message) (held : ℕ) → changed (taken_down asked m) held ≤ held
+down_less asked (message.Unavailable page) held = gives_less _ held
+down_less asked (message.Error page reason) held = gives_less _ held
+down_less asked other held = keeps_same held
+
+-- a taking takes no frame
+taken_less : (size : ℕ) (channel : Channel) (m : Message) (past : List Event) → frames_used size 0 (event.Taken channel m ∷ past) ≤ frames_used size 0 past
+taken_less size (Up at object) m past =
+    let less = up_less (at.0 == 0) m (frames_held size 0 past) in
+    omega (arith, less)
+taken_less size (Down at object control) m past =
+    let asked : ℕ → Bool = λ page. at.0 == 0 && (is_control control (live_control 0 object.0 past) && (local size 0 (record { object = object.0; page = page }) past).asked) in
+    let less = down_less asked m (frames_held size 0 past) in
+    omega (arith, less)
+
+fewer : (most : Option ℕ) (more less : ℕ) → less ≤ more → IfSome most (λ frames. more ≤ frames) → IfSome most (λ frames. less ≤ frames)
+fewer None more less le is = tt
+fewer (Some frames) more less le is = omega (arith, le, is)
+
+pub taken_suffice : (header : Header) (channel : Channel) (m : Message) (past : List Event) → Suffice header 0 past → Suffice header 0 (event.Taken channel m ∷ past)
+taken_suffice header channel m past one = fewer (slice_get (reverse header.frames.items) 0) _ _ (taken_less header.size channel m past) one
+
+-- the cause of a taking
+pub taken_licensed : (header : Header) (outside : Outside) (doing : Command) (channel : Channel) (m : Message) (past : List Event) → first (queue channel past) ≡ Some m → MayTake doing channel past → created past ≡ None
+    → Licensed header outside doing (event.Taken channel m) past
+taken_licensed header outside doing channel m past is may settled = ((is, may), subst (λ (z : Option Channel). MatchOption z (Unit {0}) (λ c. ReturnsOn c (event.Taken channel m))) (sym settled) tt)
+
+-- a step that begins with a taking, from what it says behind that
+pub takes_step : (given : Taking) (channel : Channel) (m : Message) (more new : List Event) → new ≡ more ++ event.Taken channel m ∷ given.past → first (queue channel given.past) ≡ Some m → MayTake given.command channel given.past
+    → created given.past ≡ None → Suffice given.header 0 given.past → EachOf IsConsequence more → AllLicensed given.header given.outside given.command more (event.Taken channel m ∷ given.past)
+    → EachIn (OwnBytes given.header) more (event.Taken channel m ∷ given.past) → EachIn (CopiesCurrent given.header given.outside) more (event.Taken channel m ∷ given.past)
+    → MomentsIn (Suffice given.header 0) more (event.Taken channel m ∷ given.past) → AllInner more → TakesStep given new
+takes_step given channel m more new is head may settled suffice follows licensed own copies frames inner =
+    let taken : List Event = event.Taken channel m ∷ [] in
+    let past = given.past in
+    record {
+      channel = channel;
+      m = m;
+      more = more;
+      is = is;
+      follows = follows;
+      licensed = licensed_both given.header given.outside given.command more taken past licensed (taken_licensed given.header given.outside given.command channel m past head may settled, tt);
+      own_bytes = each_both (OwnBytes given.header) more taken past own (tt, tt);
+      copies = each_both (CopiesCurrent given.header given.outside) more taken past copies (tt, tt);
+      frames = moments_both (Suffice given.header 0) more taken past frames (taken_suffice given.header channel m past suffice, tt);
+      inner = inner;
+    }
+
+-- what stands in front of a taking
+pub record Front (given : Taking) (s : State) : Type 0 where
+  pub plain : IsPlain given.header
+  pub rests : Rests given.header s.kernel s.ids given.past
+  pub pager : PagerStands given.header 0 s.pager given.past
+  pub orderly : IsOrderly given.header given.past
+  pub copies : EachEvent (CopiesCurrent given.header given.outside) given.past
+
+pub front_of : (given : Taking) (line : Option ℕ) (number : ChannelId) (channel : Channel) (s : State) → May given line number channel s → Front given s
+front_of given line number channel s may =
+    let stands = may.stands in
+    let agrees = stands.agrees in
+    let items = s.history.items in
+    record {
+      plain = stands.plain;
+      rests = rw may.past (rests_lined given.header s.kernel s.ids line items stands.rests);
+      pager = rw may.past (pager_lined given.header s.pager line items agrees.pager);
+      orderly = rw may.past (orderly_lined given.header line items agrees.orderly);
+      copies = rw may.past (copies_lined given.header given.outside line items agrees.copies);
+    }
+
+-- the channel's queue is that of its number
+may_queue : (given : Taking) (line : Option ℕ) (number : ChannelId) (channel : Channel) (s : State) → May given line number channel s → queue_on number.0 s.ports.letters ≡ queue channel s.history.items
+may_queue given line number channel s may = head_is s.channels.made s.ports.letters channel number.0 s.history.items may.made may.stands.agrees.posts.letters
+
+pub may_some : (given : Taking) (line : Option ℕ) (number : ChannelId) (channel : Channel) (s : State) → May given line number channel s → queue_on number.0 s.ports.letters ≡ [] → ⊥
+may_some given line number channel s may none = may.some (sym (may_queue given line number channel s may) ∙ none)
+
+pub may_head : (given : Taking) (line : Option ℕ) (number : ChannelId) (channel : Channel) (m : Message) (s : State) → May given line number channel s → slice_get (queue_on number.0 s.ports.letters) 0 ≡ Some m
+    → first (queue channel given.past) ≡ Some m
+may_head given line number channel m s may head =
+    let items = s.history.items in
+    let same : queue channel given.past ≡ queue_on number.0 s.ports.letters = ap (λ (z : List Event). queue channel z) may.past ∙ queue_lined channel line items ∙ sym (may_queue given line number channel s may) in
+    ap (λ (z : List Message). first z) same ∙ sym (first_at (queue_on number.0 s.ports.letters)) ∙ head
+
+inside : {A : Type 0} → (xs : List A) (n : ℕ) (x : A) → slice_get xs n ≡ Some x → n < length xs
+inside [] n x is = absurd (cc)
+inside (y ∷ xs) zero x is = omega arith
+inside (y ∷ xs) (suc n) x is = let low = inside xs n x is in omega (arith, low)
+
+pub may_there : (given : Taking) (line : Option ℕ) (number : ChannelId) (channel : Channel) (s : State) → May given line number channel s → number.0 < length s.channels.made
+may_there given line number channel s may = inside s.channels.made number.0 channel (number_at channel s.channels.made number.0 may.made)
+
+-- no other channel has the number
+pub may_only : (given : Taking) (line : Option ℕ) (number : ChannelId) (channel other : Channel) (s : State) → May given line number channel s → slice_get s.channels.made number.0 ≡ Some other → other ≡ channel
+may_only given line number channel other s may is =
+    let both : Some other ≡ Some channel = sym is ∙ number_at channel s.channels.made number.0 may.made in
+    cc
+
+-- the message that was taken is the one that was looked at
+pub first_told : (given : Taking) (line : Option ℕ) (number : ChannelId) (channel : Channel) (m : Message) (s mid new : State) → May given line number channel s → first (queue channel given.past) ≡ Some m
+    → mid.history.items ≡ s.history.items → mid.channels.made ≡ s.channels.made
+    → ((c : Channel) → slice_get mid.channels.made number.0 ≡ Some c → (n : Message) × (first (queue c mid.history.items) ≡ Some n) × (new.history.items ≡ event.Taken c n ∷ lined line mid.history.items))
+    → new.history.items ≡ event.Taken channel m ∷ given.past
+first_told given line number channel m s mid new may head items made told =
+    let at : slice_get mid.channels.made number.0 ≡ Some channel = ap (λ (z : List Channel). slice_get z number.0) made ∙ number_at channel s.channels.made number.0 may.made in
+    let t = told channel at in
+    let past : given.past ≡ lined line mid.history.items = may.past ∙ ap (λ (z : List Event). lined line z) (sym items) in
+    let queued : first (queue channel given.past) ≡ Some t.0 = ap (λ (z : List Event). first (queue channel z)) past ∙ ap (λ (z : List Message). first z) (queue_lined channel line mid.history.items) ∙ t.1 in
+    let both : Some t.0 ≡ Some m = sym queued ∙ head in
+    let one : t.0 ≡ m = cc in
+    t.2 ∙ ap (λ (z : Message). event.Taken channel z ∷ lined line mid.history.items) one ∙ ap (λ (z : List Event). event.Taken channel m ∷ z) (sym past)
+
+pub front_suffice : (given : Taking) (s : State) → Front given s → Suffice given.header 0 given.past
+front_suffice given s front = rests_suffice given.header s.kernel s.ids given.past front.rests
+
+pub may_port : (given : Taking) (line : Option ℕ) (number : ChannelId) (channel : Channel) (s : State) → May given line number channel s → number.0 < s.ports.channels
+may_port given line number channel s may = subst (λ (z : ℕ). number.0 < z) may.stands.agrees.posts.count (may_there given line number channel s may)
+
+-- the channel is the one that was found
+pub may_found : (given : Taking) (line : Option ℕ) (number : ChannelId) (channel other : Channel) (s : State) → May given line number channel s → slice_get s.channels.made number.0 ≡ Some other → May given line number other s
+may_found given line number channel other s may is = subst (λ (z : Channel). May given line number z s) (sym (may_only given line number channel other s may is)) may

@@ -1,0 +1,101 @@
+-- A `take` is run.
+use Rattle.std.proofs.Common.{◌≡◌, ℕ, true, false, List, [], ◌∷◌, ◌++◌, None, Some, refl, sym, ap, subst, inl, inr}
+use Rattle.std.specs.Prelude.{is_some}
+use Rattle.vm_model.specs.declared.command.Command.TheVariants as command
+use Rattle.vm_model.specs.declared.command.Numbered.{Numbered}
+use Rattle.vm_model.specs.declared.event.Event.{Event}
+use Rattle.vm_model.specs.declared.event.Event.TheVariants as event
+use Rattle.vm_model.specs.declared.message.Channel.{Channel}
+use Rattle.vm_model.specs.declared.script.Header.{Header}
+use Rattle.vm_model.specs.Channels.{queue}
+use Rattle.vm_model.specs.Server.{first}
+use Rattle.vm_legal.specs.Debts.{IsPaid}
+use Rattle.vm_legal.specs.Follows.{Follows, FollowsSoFar, IsGroup, IsRun, IsWhole, head, take_head}
+use Rattle.vm_legal.specs.Frames.{FramesSuffice}
+use Rattle.vm_legal.specs.Legal.{Holds, IsAtRest, LegalFor}
+use Rattle.vm_legal.specs.Outside.{Outside}
+use Rattle.vm_legal.specs.Refusal.{refusal}
+use Rattle.vm_legal.proofs.Groups.{so_far}
+use Rattle.vm_system.specs.Stands.{Stands}
+use Rattle.vm_system.specs.Steps.{KeepsLegal, MayCut, Taking}
+use Rattle.vm_system.specs.Takings.{MayBeCut, TakesStep, Took}
+use Rattle.vm_system.specs.declared.state.State.{State}
+use Rattle.vm_system.proofs.Opening.{HoldsUpTo, holds_taken, step_is}
+use Rattle.vm_system.proofs.Silent.{prompt_line}
+use Rattle.vm_system.proofs.Stretched.{licensed_front, moment_last}
+
+some_none : {A : Type 0} → {x : A} → Some x ≡ None → ⊥
+some_none is = absurd (let bad : true ≡ false = ap is_some is in cc)
+
+abbrev pub taking_of : Header → Outside → ℕ → Channel → List Event → Taking
+taking_of header outside line channel past = record { header = header; outside = outside; command = command.Take channel; past = event.Line line ∷ past }
+
+-- the group of the command
+
+follows_take : (header : Header) (outside : Outside) (line : ℕ) (channel : Channel) (run : List Numbered) (old new : List Event) → refusal header old (command.Take channel) ≡ None → TakesStep (taking_of header outside line channel old) new
+    → Follows header outside run old → Follows header outside (record { line = line; command = command.Take channel } ∷ run) new
+follows_take header outside line channel run old new fine step follows =
+    let numbered : Numbered = record { line = line; command = command.Take channel } in
+    let stretch = step.more ++ event.Taken step.channel step.m ∷ [] in
+    let past = event.Line line ∷ old in
+    let cause = (licensed_front header outside (command.Take channel) step.more (event.Taken step.channel step.m) past step.licensed).0 in
+    let first_is : first (queue channel old) ≡ Some step.m = subst (λ (z : Channel). first (queue z old) ≡ Some step.m) cause.1.0 cause.0 in
+    let headed : head header old (command.Take channel) ≡ Some (event.Taken channel step.m ∷ []) = ap (take_head channel) first_is in
+    let run_is : IsRun header outside old numbered (event.Taken channel step.m ∷ []) stretch = record { more = step.more; is = ap (λ (z : Channel). step.more ++ event.Taken z step.m ∷ []) cause.1.0; follows = step.follows; licensed = step.licensed } in
+    let group : IsGroup header outside old numbered stretch = rw (fine, headed) run_is in
+    let whole : IsWhole header old numbered stretch = rw fine tt in
+    (old, stretch, step_is (taking_of header outside line channel old) new step, group, whole, follows)
+
+open_take : (header : Header) (outside : Outside) (numbered : Numbered) (run : List Numbered) (new : List Event) → Follows header outside (numbered ∷ run) new → FollowsSoFar header outside (numbered ∷ run) new
+open_take header outside numbered run new (past, group, is, made, whole, follows) = (past, group, is, made, follows)
+
+-- a line owes nothing
+paid_line : (header : Header) (line : ℕ) (past : List Event) → IsPaid header (event.Line line ∷ past)
+paid_line header line past = record {
+  returned = refl;
+  init = λ host object control size paged is. absurd (some_none (sym is));
+  create = λ host object control size paged is. absurd (some_none (sym is));
+  request = λ host object control page access paged is. absurd (some_none (sym is));
+  error = λ host object page is. absurd (some_none (sym is));
+  absence = λ host object page declared is. absurd (some_none (sym is));
+  slot = λ host object control page dirty keep bytes temporary is lacks. absurd (some_none (sym is));
+}
+
+up_to_line : (header : Header) (outside : Outside) (line : ℕ) (run : List Numbered) (s : State) → Stands header outside s → LegalFor header outside run s.history.items → HoldsUpTo header outside (event.Line line ∷ s.history.items)
+up_to_line header outside line run s stands legal =
+    let items = s.history.items in
+    record {
+      plain = stands.plain;
+      own_bytes = (tt, legal.holds.own_bytes);
+      copies = (tt, stands.agrees.copies);
+      frames = (moment_last (FramesSuffice header) items legal.holds.frames, legal.holds.frames);
+      prompts = (legal.rests.prompt, legal.holds.prompt);
+      prompt = prompt_line header line items legal.rests.prompt;
+      payments = (legal.rests.paid, legal.holds.paid);
+      paid = paid_line header line items;
+    }
+
+pub keeps_taken : (header : Header) (outside : Outside) (line : ℕ) (channel : Channel) (s new : State) → Stands header outside s → refusal header s.history.items (command.Take channel) ≡ None
+    → Took (taking_of header outside line channel s.history.items) new → KeepsLegal header outside (record { line = line; command = command.Take channel }) s.history.items new.history.items
+keeps_taken header outside line channel s new stands fine took run legal =
+    let given = taking_of header outside line channel s.history.items in
+    let numbered : Numbered = record { line = line; command = command.Take channel } in
+    let items = new.history.items in
+    let follows : Follows header outside (numbered ∷ run) items = follows_take header outside line channel run s.history.items items fine took.step legal.follows in
+    let opened : FollowsSoFar header outside (numbered ∷ run) items = open_take header outside numbered run items follows in
+    let holds : Holds header outside items = holds_taken given items took.step (so_far header outside (numbered ∷ run) items opened) (up_to_line header outside line run s stands legal) in
+    let rests : IsAtRest header items = record { prompt = took.prompt; paid = took.paid } in
+    record {
+      so_far = record { follows = opened; holds = holds; rests = rests };
+      whole = λ none. record { follows = follows; holds = holds; rests = rests };
+      none = inr refl;
+    }
+
+pub cuts_taken : (header : Header) (outside : Outside) (line : ℕ) (channel : Channel) (s : State) (new : List Event) → Stands header outside s → refusal header s.history.items (command.Take channel) ≡ None
+    → MayBeCut (taking_of header outside line channel s.history.items) s.history.items new → MayCut header outside (record { line = line; command = command.Take channel }) s.history.items new
+cuts_taken header outside line channel s new stands fine (inl same) = inl same
+cuts_taken header outside line channel s new stands fine (inr step) = inr (λ run legal.
+    let given = taking_of header outside line channel s.history.items in
+    let numbered : Numbered = record { line = line; command = command.Take channel } in
+    let opened : FollowsSoFar header outside (numbered ∷ run) new = open_take header outside numbered run new (follows_take header outside line channel run s.history.items new fine step legal.follows) in
+    record { follows = opened; holds = holds_taken given new step (so_far header outside (numbered ∷ run) new opened) (up_to_line header outside line run s stands legal) })

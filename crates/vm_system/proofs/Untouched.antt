@@ -1,0 +1,54 @@
+-- The paging area is asked only where a pager took a message.
+use Rattle.std.proofs.Common.{◌≡◌, ℕ, false, List, [], ◌∷◌, ◌++◌, refl, ap, sym, ◌∙◌}
+use Rattle.std.proofs.lemmas.Option.{same_Some}
+use Rattle.vm_model.specs.declared.command.Command.{Command}
+use Rattle.vm_model.specs.declared.command.Command.TheVariants as command
+use Rattle.vm_model.specs.declared.event.Event.{Event}
+use Rattle.vm_model.specs.declared.event.Event.TheVariants as event
+use Rattle.vm_model.specs.declared.message.Channel.{Channel}
+use Rattle.vm_model.specs.declared.message.Channel.TheVariants.{Up, Down}
+use Rattle.vm_model.specs.declared.message.Message.{Message}
+use Rattle.vm_model.specs.declared.script.Header.{Header}
+use Rattle.vm_legal.specs.Licences.{MayTake}
+use Rattle.vm_legal.specs.Outside.{Outside}
+use Rattle.vm_kernel.specs.Begun.{AllInner, IsInner}
+use Rattle.vm_system.specs.Steps.{Taking, takes_up, took_up}
+use Rattle.vm_system.specs.Takings.{TakesStep}
+use Rattle.vm_system.proofs.Stretched.{licensed_front}
+use Rattle.vm_system.proofs.TakenFrom.{taking_of}
+
+-- events inside a step leave what it began with
+
+took_one : (e : Event) (past : List Event) → IsInner e → took_up (e ∷ past) ≡ took_up past
+took_one (event.Line line) past inner = absurd inner
+took_one (event.Taken channel m) past inner = absurd inner
+took_one other past inner = refl
+
+took_all : (events past : List Event) → AllInner events → took_up (events ++ past) ≡ took_up past
+took_all [] past inner = refl
+took_all (e ∷ events) past inner = took_one e (events ++ past) inner.0 ∙ took_all events past inner.1
+
+took_of : (channel : Channel) (m : Message) (past : List Event) → took_up (event.Taken channel m ∷ past) ≡ takes_up (command.Take channel)
+took_of (Up host object) m past = refl
+took_of (Down host object control) m past = refl
+
+took_step : (given : Taking) (new : List Event) → (step : TakesStep given new) → took_up new ≡ takes_up (command.Take step.channel)
+took_step given new step = ap took_up step.is ∙ (took_all step.more (event.Taken step.channel step.m ∷ given.past) step.inner ∙ took_of step.channel step.m given.past)
+
+-- a command takes from one channel
+
+one_channel : (doing : Command) (c d : Channel) (past : List Event) → MayTake doing c past → MayTake doing d past → c ≡ d
+one_channel (command.Take of) c d past one two = one.0 ∙ sym two.0
+one_channel (command.Settle count) c d past one two = same_Some c d (sym one.0 ∙ two.0)
+one_channel other c d past one two = absurd one
+
+taken_on : (given : Taking) (channel : Channel) (new : List Event) → MayTake given.command channel given.past → (step : TakesStep given new) → step.channel ≡ channel
+taken_on given channel new may step =
+    one_channel given.command step.channel channel given.past (licensed_front given.header given.outside given.command step.more (event.Taken step.channel step.m) given.past step.licensed).0.1 may
+
+-- so a step that began with no message up took from no channel up
+pub not_up : (given : Taking) (channel : Channel) (new : List Event) → MayTake given.command channel given.past → TakesStep given new → took_up new ≡ false → takes_up (command.Take channel) ≡ false
+not_up given channel new may step none = ap (λ (z : Channel). takes_up (command.Take z)) (sym (taken_on given channel new may step)) ∙ (sym (took_step given new step) ∙ none)
+
+pub not_up_from : (header : Header) (outside : Outside) (line : ℕ) (channel : Channel) (old new : List Event) → TakesStep (taking_of header outside line channel old) new → took_up new ≡ false → takes_up (command.Take channel) ≡ false
+not_up_from header outside line channel old new step none = not_up (taking_of header outside line channel old) channel new (refl, refl) step none

@@ -1,0 +1,34 @@
+use Rattle.std.proofs.Common.{ℕ, ◌≡◌, ◌+◌, ◌∷◌, ◌++◌, [], List, length, ap, sym, subst, ◌∙◌, append_assoc, length-append}
+use Rattle.vm_model.specs.declared.event.Event.{Event}
+use Rattle.vm_system.proofs.Posting.{oldest_told}
+use Rattle.vm_system.specs.Posts.{CanTellAll, HasRoom}
+use Rattle.vm_system.proofs.state.State.commit.Goals as goal
+
+pub tell-requires-clause-can : goal.tell-requires-clause-can
+tell-requires-clause-can c =
+    let s = c.all.self in
+    let e = c.in-Some.event in
+    let more = c.take_first.new.self.items in
+    (oldest_told s.size e more s.history.items (subst (λ (all : List Event). CanTellAll s.size all s.history.items) c.in-Some.ensures.taken c.all.invariant.can)).can
+
+pub all-preserved : goal.all-preserved
+all-preserved c =
+    let s = c.all.self in
+    let t = c.tell.new.self in
+    let e = c.in-Some.event in
+    let more = c.take_first.new.self.items in
+    let told = oldest_told s.size e more s.history.items (subst (λ (all : List Event). CanTellAll s.size all s.history.items) c.in-Some.ensures.taken c.all.invariant.can) in
+    let long : length c.all.events.items ≡ length more + 1 = ap length c.in-Some.ensures.taken ∙ length-append more (e ∷ []) in
+    let was = c.all.invariant.host in
+    let now = c.tell.ensures.host in
+    record {
+      posts = c.tell.ensures.posts;
+      can = subst (λ (n : ℕ). CanTellAll n more t.history.items) (sym now.size) (subst (λ (all : List Event). CanTellAll s.size more all) (sym c.tell.ensures.history) told.rest);
+      room = c.tell.ensures.room (length more) (subst (λ (n : ℕ). HasRoom n s) long c.all.invariant.room);
+      host = record { size = now.size ∙ was.size; kernel = now.kernel ∙ was.kernel; pager = now.pager ∙ was.pager; ids = now.ids ∙ was.ids };
+      history =
+          ap (λ (all : List Event). more ++ all) c.tell.ensures.history
+          ∙ sym (append_assoc more (e ∷ []) s.history.items)
+          ∙ ap (λ (all : List Event). all ++ s.history.items) (sym c.in-Some.ensures.taken)
+          ∙ c.all.invariant.history;
+    }

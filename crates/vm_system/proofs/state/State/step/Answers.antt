@@ -1,0 +1,35 @@
+use Rattle.std.proofs.Common.{inl, refl, subst, sym}
+use Rattle.vm_model.specs.declared.command.Command.{Command}
+use Rattle.vm_system.specs.Steps.{MayCut}
+use Rattle.std.proofs.lemmas.Result.{on_err_weaker, on_ok_weaker}
+use Rattle.vm_outside.specs.Arming.{armed_later_same}
+use Rattle.vm_system.proofs.Beginning.{causes_same, files_same, paging_same, paging_taken}
+use Rattle.vm_system.proofs.state.State.step.Goals as goal
+
+pub returns-in-Some-clause-devices : goal.returns-in-Some-clause-devices
+returns-in-Some-clause-devices g c = causes_same _ _ _ c.refuse.ensures.devices
+
+pub returns-in-Take-clause-paging : goal.returns-in-Take-clause-paging
+returns-in-Take-clause-paging g c = on_ok_weaker c.take_from.result (λ stands. paging_taken c.args.command.now c.in-Take.channel _ _ c.in-Take.is c.take_from.ensures.paging) c.take_from.ensures.stands
+
+pub returns-in-Take-clause-memory : goal.returns-in-Take-clause-memory
+returns-in-Take-clause-memory g c =
+    let doing : Command = c.args.command.now in
+    on_err_weaker c.take_from.result
+    (λ cut. subst (λ (z : Command). MayCut g.given.header g.given.outside (record { line = c.args.line; command = z }) c.args.self.now.history.items c.take_from.new.self.history.items) (sym c.in-Take.is) cut) c.take_from.ensures.memory
+
+pub returns-in_default-command : goal.returns-in_default-command
+returns-in_default-command g c = record {
+  stands = c.begin.ensures.stands;
+  legal = c.begin.ensures.legal;
+  longer = c.begin.ensures.longer;
+  grew = c.begin.ensures.grew;
+  front = c.begin.ensures.front;
+  memory = on_err_weaker c.begin.result (λ same. inl same) c.begin.ensures.err;
+  kept = c.begin.ensures.kept (g.P.Backing.area c.args.paging.now.inner) c.requires.1.1.1.0;
+  files = on_ok_weaker c.begin.result (λ stands. files_same c.args.command.now c.args.files.now c.in_default-command.not-FailFiles) c.begin.ensures.stands;
+  paging = on_ok_weaker c.begin.result (λ stands. paging_same c.args.command.now c.args.paging.now c.in_default-command.not-FailPaging) c.begin.ensures.stands;
+  unasked = on_ok_weaker c.begin.result (λ stands unarmed none. refl) c.begin.ensures.stands;
+  later = on_ok_weaker c.begin.result (λ stands unarmed. (g.met.P.Backing.later_same c.args.paging.now.inner, armed_later_same c.args.paging.now.left c.args.paging.now.reached)) c.begin.ensures.stands;
+  devices = causes_same _ _ _ c.begin.ensures.devices;
+}

@@ -1,0 +1,20 @@
+use Rattle.vm_model.specs.declared.command.Command.TheVariants as command
+use Rattle.vm_system.proofs.state.State.step.Given as goal
+
+abbrev pub ghost-refusal : goal.ghost-refusal
+ghost-refusal g a = g.given
+
+abbrev pub ghost-refuse : goal.ghost-refuse
+ghost-refuse g a = g.given
+
+abbrev pub ghost-take_from : goal.ghost-take_from
+ghost-take_from g a = record { header = g.given.header; outside = g.given.outside; command = command.Take a.channel }
+
+abbrev pub ghost-settle : goal.ghost-settle
+ghost-settle g a = g.given
+
+abbrev pub ghost-pass : goal.ghost-pass
+ghost-pass g a = g.given
+
+abbrev pub ghost-begin : goal.ghost-begin
+ghost-begin g a = g.given

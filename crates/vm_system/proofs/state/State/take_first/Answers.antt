@@ -1,0 +1,39 @@
+use Rattle.std.proofs.Common.{◌≡◌, ◌∷◌, Some, ap, sym, subst, ◌∙◌}
+use Rattle.std.proofs.lemmas.Option.{same_Some}
+use Rattle.vm_model.specs.Channels.{queue}
+use Rattle.vm_model.specs.Server.{first}
+use Rattle.vm_model.specs.declared.event.Event.TheVariants as event
+use Rattle.vm_model.specs.declared.message.Channel.{Channel}
+use Rattle.vm_model.specs.declared.message.Message.{Message}
+use Rattle.vm_system.proofs.Posting.{first_taken, none_taken, posts_taken}
+use Rattle.vm_system.specs.Steps.{lined}
+use Rattle.vm_ports.specs.Ports as ports
+use Rattle.vm_ports.specs.Ports.{PortTable}
+use Rattle.vm_system.proofs.state.State.take_first.Goals as goal
+
+pub unreachable-requires : goal.unreachable-requires
+unreachable-requires c =
+    let channel = c.channel-channel.result in
+    c.requires.some channel c.channel-channel.ensures.channel
+    (none_taken channel c.args.number.0 c.args.self.now c.args.self.now.history.items c.channel-channel.ensures.number c.requires.posts c.in_default.ensures.taken)
+
+pub returns-clause-posts : goal.returns-clause-posts
+returns-clause-posts c =
+    let channel = c.channel-channel.result in
+    let same = c.start.ensures.same in
+    posts_taken channel c.in-Some.message c.args.number.0 c.args.line c.args.self.now _ c.args.self.now.history.items c.push.new.self.items c.channel-channel.ensures.number c.requires.posts
+    (c.in-Ok.ensures.ok ∙ ap (λ past. event.Taken channel c.in-Some.message ∷ past) c.start.ensures.history)
+    (ap (λ (table : PortTable Message). table.letters) same.ports ∙ c.take.ensures.letters)
+    (ap (λ (table : PortTable Message). table.channels) same.ports ∙ c.take.ensures.channels)
+    same.channels same.buffers c.start.ensures.host.size
+
+pub returns-clause-history : goal.returns-clause-history
+returns-clause-history c = λ channel is.
+    let mine = c.channel-channel.result in
+    let s = c.args.self.now in
+    let past = s.history.items in
+    let m = c.in-Some.message in
+    let same : mine ≡ channel = same_Some mine channel (sym c.channel-channel.ensures.channel ∙ is) in
+    let head : first (queue mine past) ≡ Some m = first_taken mine m c.args.number.0 (ports.queue c.args.number.0 c.take.new.self.letters) s past c.channel-channel.ensures.number c.requires.posts c.in-Some.ensures.taken in
+    let all : c.push.new.self.items ≡ event.Taken mine m ∷ lined c.args.line past = c.in-Ok.ensures.ok ∙ ap (λ past. event.Taken mine m ∷ past) c.start.ensures.history in
+    subst (λ (k : Channel). (x : Message) × (first (queue k past) ≡ Some x) × (c.push.new.self.items ≡ event.Taken k x ∷ lined c.args.line past)) same (m, head, all)

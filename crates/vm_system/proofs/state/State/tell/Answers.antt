@@ -1,0 +1,15 @@
+use Rattle.std.proofs.Common.{ap, arith}
+use Rattle.vm_base.specs.Listing.{Listed}
+use Rattle.vm_model.specs.declared.event.Event.{Event}
+use Rattle.vm_system.proofs.state.State.tell.Goals as goal
+
+pub returns-clause-room : goal.returns-clause-room
+returns-clause-room c = λ n has.
+    let mid = c.post.ensures.room n has in
+    record {
+      history = omega (arith, has.history, ap (λ (h : Listed Event). h.room) c.post.ensures.history, c.push.ensures.room);
+      channels = mid.channels;
+      numbers = mid.numbers;
+      letters = mid.letters;
+      buffers = mid.buffers;
+    }

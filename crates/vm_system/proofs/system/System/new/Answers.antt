@@ -1,0 +1,27 @@
+use Rattle.std.proofs.Common.{refl}
+use Rattle.vm_system.proofs.Starting.{new_kept, new_stands}
+use Rattle.vm_system.proofs.system.System.new.Goals as goal
+
+pub returns-clause-stands : goal.returns-clause-stands
+returns-clause-stands c = λ outside. new_stands c.args.header.now outside _ c.requires.plain (record {
+  size = refl;
+  rests = c.in_ok-kernel.ensures;
+  pager = c.in_ok-pager.ensures.value;
+  channels = c.new-3.ensures.channels;
+  letters = c.new-3.ensures.letters;
+  made = c.new-4.ensures;
+  buffers = c.new-5.ensures;
+  history = c.new-6.ensures;
+})
+
+pub returns-clause-kept : goal.returns-clause-kept
+returns-clause-kept c = λ outside areas told. new_kept c.args.header.now outside areas _ (record {
+  size = refl;
+  rests = c.in_ok-kernel.ensures;
+  pager = c.in_ok-pager.ensures.value;
+  channels = c.new-3.ensures.channels;
+  letters = c.new-3.ensures.letters;
+  made = c.new-4.ensures;
+  buffers = c.new-5.ensures;
+  history = c.new-6.ensures;
+}) (c.in_ok-pager.ensures.fits areas) told

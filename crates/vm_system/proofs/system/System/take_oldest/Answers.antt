@@ -1,0 +1,68 @@
+use Rattle.std.proofs.Common.{◌+◌, None, ◌≡◌, ◌∙◌, sym, ap, subst}
+use Rattle.vm_legal.specs.Steps.{takings}
+use Rattle.vm_system.specs.Stands.{Stands}
+use Rattle.vm_system.specs.Steps.{Grew, HasMore, MayCutOpen}
+use Rattle.vm_system.specs.declared.state.State.{State}
+use Rattle.vm_system.proofs.Following.{kept_same}
+use Rattle.vm_system.proofs.Growth.{grew_cut, grew_taken, step_taken, takings_taken}
+use Rattle.vm_system.proofs.Numbers.{number_read}
+use Rattle.vm_system.proofs.Untouched.{not_up}
+use Rattle.vm_system.proofs.Opening.{cuts_settle, keeps_settle, may_settle}
+use Rattle.vm_system.proofs.system.System.take_oldest.Goals as goal
+
+pub take-requires : goal.take-requires
+take-requires g c κs within =
+    let given = g.given in
+    let s = c.self.inside.state in
+    let view : c.args.self.now ≡ s = sym c.self.view_is in
+    let stands : Stands given.header given.outside s = subst (λ (z : State). Stands given.header given.outside z) view c.requires.1.1.0 in
+    let kept = kept_same given.header given.outside (g.P.Backing.area c.args.paging.now.inner) c.args.self.now s (ap (λ (z : State). z.pager) (sym view)) (ap (λ (z : State). z.history.items) (sym view)) c.requires.1.1.1.0 in
+    let past = c.requires.1.1.1.1.0 ∙ ap (λ (z : State). z.history.items) view in
+    let more : HasMore given.command s.history.items = subst (λ (z : State). HasMore given.command z.history.items) view c.requires.1.1.1.1.1 in
+    (within, (may_settle given c.in-Some.number s stands past more (sym c.oldest.ensures.oldest ∙ c.in-Some.is), kept))
+
+pub returns-in_err-take-clause-memory : goal.returns-in_err-take-clause-memory
+returns-in_err-take-clause-memory g c =
+    let given = g.given in
+    let s = c.self.inside.state in
+    let view : c.args.self.now ≡ s = sym c.self.view_is in
+    let stands : Stands given.header given.outside s = subst (λ (z : State). Stands given.header given.outside z) view c.requires.1.1.0 in
+    let past = c.requires.1.1.1.1.0 ∙ ap (λ (z : State). z.history.items) view in
+    let more : HasMore given.command s.history.items = subst (λ (z : State). HasMore given.command z.history.items) view c.requires.1.1.1.1.1 in
+    λ none. subst (λ (z : State). MayCutOpen given.header given.outside given.command z.history.items c.take.new.self.history.items) (sym view)
+    (cuts_settle given s c.take.new.self.history.items stands past more c.in_err-take.ensures.cut)
+
+pub returns-clause-legal : goal.returns-clause-legal
+returns-clause-legal g c =
+    let stands = c.requires.1.1.0 in
+    let past = c.requires.1.1.1.1.0 in
+    let more = c.requires.1.1.1.1.1 in
+    λ took. keeps_settle g.given c.args.self.now c.take.new.self stands past more c.in_ok-take.ensures.took
+
+pub returns-in_err-take-clause-grew : goal.returns-in_err-take-clause-grew
+returns-in_err-take-clause-grew g c =
+    let given = g.given in
+    let s = c.self.inside.state in
+    let view : c.args.self.now ≡ s = sym c.self.view_is in
+    let past = c.requires.1.1.1.1.0 ∙ ap (λ (z : State). z.history.items) view in
+    subst (λ (z : State). Grew z.history.items c.take.new.self.history.items) (sym view) (grew_cut given None s.history.items c.take.new.self.history.items c.in_err-take.ensures.cut past)
+
+pub returns-clause-grew : goal.returns-clause-grew
+returns-clause-grew g c = grew_taken g.given None c.args.self.now.history.items c.take.new.self.history.items c.in_ok-take.ensures.took.step c.requires.1.1.1.1.0
+
+pub returns-clause-front : goal.returns-clause-front
+returns-clause-front g c = λ took. step_taken g.given c.take.new.self.history.items c.in_ok-take.ensures.took.step ∙ c.requires.1.1.1.1.0
+
+pub returns-clause-count : goal.returns-clause-count
+returns-clause-count g c = λ took. takings_taken g.given c.take.new.self.history.items c.in_ok-take.ensures.took.step ∙ ap (λ z. takings z + 1) c.requires.1.1.1.1.0
+
+pub returns-clause-unasked : goal.returns-clause-unasked
+returns-clause-unasked g c =
+    let given = g.given in
+    let s = c.self.inside.state in
+    let view : c.args.self.now ≡ s = sym c.self.view_is in
+    let stands : Stands given.header given.outside s = subst (λ (z : State). Stands given.header given.outside z) view c.requires.1.1.0 in
+    let past = c.requires.1.1.1.1.0 ∙ ap (λ (z : State). z.history.items) view in
+    let more : HasMore given.command s.history.items = subst (λ (z : State). HasMore given.command z.history.items) view c.requires.1.1.1.1.1 in
+    let may = may_settle given c.in-Some.number s stands past more (sym c.oldest.ensures.oldest ∙ c.in-Some.is) in
+    λ took none. c.take.ensures.paging may.0 (number_read may.0 s.channels.made c.in-Some.number.0 may.1.made) (not_up given may.0 c.take.new.self.history.items may.1.may c.in_ok-take.ensures.took.step none)

@@ -1,0 +1,11 @@
+pub mod Channels
+pub mod Keeping
+pub mod Noted
+pub mod Orderly
+pub mod Posts
+pub mod Refusing
+pub mod Sends
+pub mod Settling
+pub mod Stands
+pub mod Steps
+pub mod Takings

@@ -1,0 +1,63 @@
+-- What a sending makes of channels and letters.
+use Rattle.std.specs.Prelude.{◌≡◌, ◌≤◌, ◌+◌, List, [], ◌∷◌, ◌++◌, length, Some, None}
+use Rattle.vm_base.specs.declared.ids.ChannelId.{ChannelId}
+use Rattle.vm_model.specs.declared.message.Channel.{Channel}
+use Rattle.vm_model.specs.declared.message.Channel.TheVariants.{Up, Down}
+use Rattle.vm_model.specs.declared.message.Message.{Message}
+use Rattle.vm_model.specs.declared.message.Message.TheVariants as message
+use Rattle.vm_system.specs.Channels.{number_in}
+use Rattle.vm_system.specs.Posts.{SameHost}
+use Rattle.vm_system.specs.declared.state.State.{State}
+
+-- the channels that a message makes
+abbrev pub made_by : Channel → Message → List Channel
+made_by (Up host object) (message.Create control size) = Up host object ∷ Down host object control ∷ []
+made_by channel m = []
+
+-- none of these was made, and each is another
+abbrev pub AreFresh : List Channel → List Channel → Type 0
+AreFresh [] made = Unit {0}
+AreFresh (channel ∷ more) made = (number_in channel made ≡ None) × AreFresh more (made ++ channel ∷ [])
+
+-- channels were added, and nothing else was changed
+pub record Added (channels : List Channel) (old new : State) : Type 0 where
+  pub made : new.channels.made ≡ old.channels.made ++ channels
+  pub count : new.ports.channels ≡ old.ports.channels + length channels
+  pub room : old.channels.room ≤ new.channels.room + length channels
+  pub letters : new.ports.letters ≡ old.ports.letters
+  pub letter_room : new.ports.room ≡ old.ports.room
+  pub buffers : new.buffers ≡ old.buffers
+  pub history : new.history ≡ old.history
+  pub host : SameHost old new
+
+-- a message was sent, and nothing else was changed
+pub record HasSent (channel : Channel) (m : Message) (old new : State) : Type 0 where
+  pub number : ChannelId
+  pub is : number_in channel old.channels.made ≡ Some number.0
+  pub letters : new.ports.letters ≡ old.ports.letters ++ record { channel = number; message = m } ∷ []
+  pub room : old.ports.room ≤ new.ports.room + 1
+  pub count : new.ports.channels ≡ old.ports.channels
+  pub channels : new.channels ≡ old.channels
+  pub buffers : new.buffers ≡ old.buffers
+  pub history : new.history ≡ old.history
+  pub host : SameHost old new
+
+-- a message was sent with the channels that it makes
+pub record Delivered (channel : Channel) (m : Message) (old new : State) : Type 0 where
+  pub made : new.channels.made ≡ old.channels.made ++ made_by channel m
+  pub count : new.ports.channels ≡ old.ports.channels + length (made_by channel m)
+  pub room : old.channels.room ≤ new.channels.room + length (made_by channel m)
+  pub number : ChannelId
+  pub is : number_in channel new.channels.made ≡ Some number.0
+  pub letters : new.ports.letters ≡ old.ports.letters ++ record { channel = number; message = m } ∷ []
+  pub letter_room : old.ports.room ≤ new.ports.room + 1
+  pub size : new.buffers.size ≡ old.buffers.size
+  pub buffers : old.buffers.count ≤ new.buffers.count + 1
+  pub history : new.history ≡ old.history
+  pub host : SameHost old new
+
+-- channels, letters and buffers are as they were
+pub record SameLetters (old new : State) : Type 0 where
+  pub ports : new.ports ≡ old.ports
+  pub channels : new.channels ≡ old.channels
+  pub buffers : new.buffers ≡ old.buffers

@@ -1,0 +1,24 @@
+-- A settle goes on, taking message after message.
+use Rattle.std.specs.Prelude.{ℕ, ◌+◌, ◌≤◌, ◌≡◌, List, ◌∷◌}
+use Rattle.vm_model.specs.declared.event.Event.{Event}
+use Rattle.vm_model.specs.declared.command.Command.{Command}
+use Rattle.vm_model.specs.declared.command.Command.TheVariants as command
+use Rattle.vm_model.specs.declared.command.Numbered.{Numbered}
+use Rattle.vm_model.specs.declared.script.Header.{Header}
+use Rattle.vm_legal.specs.Outside.{Outside}
+use Rattle.vm_legal.specs.Steps.{takings}
+use Rattle.vm_system.specs.Steps.{LegalCut, LegalOpen}
+
+-- a settle has so many takings left, or more
+pub record HasLeft (doing : Command) (n : ℕ) (history : List Event) : Type 0 where
+  pub count : ℕ
+  pub is : doing ≡ command.Settle count
+  pub left : takings history + n ≤ count
+
+-- legal with these commands, of which the settle is the last, it stays so
+abbrev pub StaysOpen : Header → Outside → Command → List Event → List Event → Type 0
+StaysOpen header outside doing old new = (line : ℕ) (run : List Numbered) → LegalOpen header outside (record { line = line; command = doing } ∷ run) old → LegalOpen header outside (record { line = line; command = doing } ∷ run) new
+
+-- the same, where memory ended and the last step may be cut
+abbrev pub EndsCut : Header → Outside → Command → List Event → List Event → Type 0
+EndsCut header outside doing old new = (line : ℕ) (run : List Numbered) → LegalOpen header outside (record { line = line; command = doing } ∷ run) old → LegalCut header outside (record { line = line; command = doing } ∷ run) new

@@ -1,0 +1,169 @@
+-- What a system's steps make of its history, and of the backings.
+use Rattle.std.specs.Prelude.{ℕ, ◌+◌, ◌<◌, ◌≤◌, ◌≡◌, ◌⊎◌, Bool, true, false, List, [], ◌∷◌, ◌++◌, length, Option, Some, None, is_none, ◌&&◌}
+use Rattle.vm_model.specs.declared.event.Event.{Event}
+use Rattle.vm_model.specs.declared.event.Event.TheVariants as event
+use Rattle.vm_model.specs.declared.command.Command.{Command}
+use Rattle.vm_model.specs.declared.command.Command.TheVariants as command
+use Rattle.vm_model.specs.declared.command.Numbered.{Numbered}
+use Rattle.vm_model.specs.declared.message.Channel.TheVariants.{Up}
+use Rattle.vm_model.specs.declared.script.Header.{Header}
+use Rattle.vm_model.specs.Moments.{BeforeSteps}
+use Rattle.vm_legal.specs.Follows.{FollowsSoFar}
+use Rattle.vm_legal.specs.Refusal.{refusal}
+use Rattle.vm_kernel.specs.Built.{copies_entries}
+use Rattle.vm_legal.specs.Legal.{Holds, IsAtRest, LegalFor}
+use Rattle.vm_legal.specs.Outside.{Outside}
+use Rattle.vm_legal.specs.Steps.{takings}
+use Rattle.vm_kernel.specs.Built.{is_built as is_run}
+use Rattle.vm_outside.specs.Arming.{Arming}
+use Rattle.vm_outside.specs.Causes.{Rose}
+
+-- no step begins once the history has so many events
+abbrev pub event_limit : ℕ
+event_limit = 200000
+
+-- what is told to calls: the script's header, and what is told of the outside
+pub record Setting : Type 0 where
+  pub header : Header
+  pub outside : Outside
+
+-- the command of the step, too
+pub record Stepping : Type 0 where
+  pub header : Header
+  pub outside : Outside
+  pub command : Command
+
+-- the command in whose step a message is taken, and the history in front of the taking
+pub record Taking : Type 0 where
+  pub header : Header
+  pub outside : Outside
+  pub command : Command
+  pub past : List Event
+
+-- legal for these commands, of which the last may have more to do
+pub record LegalOpen (header : Header) (outside : Outside) (run : List Numbered) (history : List Event) : Type 0 where
+  pub follows : FollowsSoFar header outside run history
+  pub holds : Holds header outside history
+  pub rests : IsAtRest header history
+
+-- the same, where the last step may be cut: what it owes, and who waits then, is not claimed
+pub record LegalCut (header : Header) (outside : Outside) (run : List Numbered) (history : List Event) : Type 0 where
+  pub follows : FollowsSoFar header outside run history
+  pub holds : Holds header outside history
+
+-- the number of messages that a settle is to take
+abbrev pub settles : Command → Option ℕ
+settles (command.Settle count) = Some count
+settles other = None
+
+-- a legal history stays so with one command more; a settle has not begun to take
+pub record IsNext (header : Header) (outside : Outside) (numbered : Numbered) (run : List Numbered) (new : List Event) : Type 0 where
+  pub so_far : LegalOpen header outside (numbered ∷ run) new
+  pub whole : settles numbered.command ≡ None → LegalFor header outside (numbered ∷ run) new
+  pub none : takings new ≡ 0 ⊎ (settles numbered.command ≡ None)
+
+abbrev pub KeepsLegal : Header → Outside → Numbered → List Event → List Event → Type 0
+KeepsLegal header outside numbered old new = (run : List Numbered) → LegalFor header outside run old → IsNext header outside numbered run new
+
+-- where memory ended in the step of a command, the history is as it was, or its last step is cut
+abbrev pub MayCut : Header → Outside → Numbered → List Event → List Event → Type 0
+MayCut header outside numbered old new = (new ≡ old) ⊎ ((run : List Numbered) → LegalFor header outside run old → LegalCut header outside (numbered ∷ run) new)
+
+-- a settle that has more to take goes on being legal with one message more taken
+pub record TakesMore (header : Header) (outside : Outside) (numbered : Numbered) (run : List Numbered) (old new : List Event) : Type 0 where
+  pub so_far : LegalOpen header outside (numbered ∷ run) new
+  pub more : takings new ≡ takings old + 1
+
+abbrev pub KeepsOpen : Header → Outside → Command → List Event → List Event → Type 0
+KeepsOpen header outside doing old new = (line : ℕ) (run : List Numbered) → LegalOpen header outside (record { line = line; command = doing } ∷ run) old
+    → TakesMore header outside (record { line = line; command = doing }) run old new
+
+abbrev pub MayCutOpen : Header → Outside → Command → List Event → List Event → Type 0
+MayCutOpen header outside doing old new =
+    (new ≡ old) ⊎ ((line : ℕ) (run : List Numbered) → LegalOpen header outside (record { line = line; command = doing } ∷ run) old → LegalCut header outside (record { line = line; command = doing } ∷ run) new)
+
+-- a settle has more to take
+pub record HasMore (doing : Command) (history : List Event) : Type 0 where
+  pub count : ℕ
+  pub is : doing ≡ command.Settle count
+  pub more : takings history < count
+
+-- how many times a backing failed
+abbrev pub devices : List Event → ℕ
+devices [] = 0
+devices (event.DeviceFailed who way object page ∷ past) = devices past + 1
+devices (e ∷ past) = devices past
+
+-- a backing's failure is told only where its count of faults rose, once for a step
+pub record DevicesHaveCause (before now : ℕ) (old new : List Event) : Type 0 where
+  pub later : before ≤ now
+  pub few : devices new ≤ devices old + 1
+  pub cause : (devices new ≡ devices old) ⊎ Rose before now
+
+-- a step may begin: the history has few enough events; the taking of a `take` begins with its line
+abbrev pub MayBegin : List Event → Type 0
+MayBegin past = (length past < event_limit) ⊎ ((line : ℕ) × (before : List Event) × (past ≡ event.Line line ∷ before) × (length before < event_limit))
+
+abbrev pub IsBelowLimit : List Event → Type 0
+IsBelowLimit history = BeforeSteps MayBegin history
+
+-- the new history has events more
+pub record IsLonger (old new : List Event) : Type 0 where
+  pub more : List Event
+  pub is : new ≡ more ++ old
+
+-- so it does, and each step began where it might
+pub record Grew (old new : List Event) : Type 0 where
+  pub more : List Event
+  pub is : new ≡ more ++ old
+  pub limit : length old < event_limit → IsBelowLimit old → IsBelowLimit new
+
+-- a line, where the step begins with one
+abbrev pub lined : Option ℕ → List Event → List Event
+lined None past = past
+lined (Some line) past = event.Line line ∷ past
+
+-- what a command leaves of the files: `fail` arms them, and nothing else is done to them
+abbrev pub LeavesFiles : {B : Type 0} → Command → Arming B → Arming B → Type 0
+LeavesFiles (command.FailFiles count) old new = new ≡ record { inner = old.inner; left = count; reached = old.reached }
+LeavesFiles other old new = new ≡ old
+
+-- the step began with a message that a pager took
+abbrev pub took_up : List Event → Bool
+took_up [] = false
+took_up (event.Line line ∷ past) = false
+took_up (event.Taken (Up host object) m ∷ past) = true
+took_up (event.Taken channel m ∷ past) = false
+took_up (e ∷ past) = took_up past
+
+-- the command takes a message that goes to a pager
+abbrev pub takes_up : Command → Bool
+takes_up (command.Take (Up host object)) = true
+takes_up other = false
+
+abbrev pub arms_paging : Command → Option ℕ
+arms_paging (command.FailPaging count) = Some count
+arms_paging other = None
+
+-- what a command leaves of the paging area's arming
+pub record LeavesPaging {B : Type 0} (doing : Command) (old new : Arming B) : Type 0 where
+  pub armed : (count : ℕ) → arms_paging doing ≡ Some count → new ≡ record { inner = old.inner; left = count; reached = old.reached }
+  pub same : arms_paging doing ≡ None → takes_up doing ≡ false → new ≡ old
+
+-- the command is nothing to the host
+abbrev pub is_idle : Command → Bool
+is_idle (command.FailFiles count) = true
+is_idle (command.FailPaging count) = true
+is_idle other = false
+
+-- the commands that a system runs
+abbrev pub is_built : Command → Bool
+is_built (command.Take channel) = true
+is_built (command.Settle count) = true
+is_built (command.FailFiles count) = true
+is_built (command.FailPaging count) = true
+is_built other = is_run other
+
+-- a fork that isn't refused, and would copy an entry
+abbrev pub is_held_up : Header → List Event → Command → Bool
+is_held_up header past doing = is_none (refusal header past doing) && copies_entries header past doing

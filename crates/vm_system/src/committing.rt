@@ -1,0 +1,182 @@
+// Events are told, and the messages that they tell of are sent.
+ghost use Rattle.std.specs.Prelude.{◌≡◌, ◌≢◌, ◌+◌, ◌<◌, ◌≤◌, ◌∷◌, ◌++◌, [], ℕ, true, Option, None, Some, is_some, length, slice_get, OnOk};
+ghost use Rattle.vm_model.specs.declared.event.Event.TheVariants as event;
+ghost use Rattle.vm_model.specs.Channels.{queue};
+ghost use Rattle.vm_model.specs.Server.{first};
+ghost use Rattle.vm_model.specs.declared.message.Channel.{Channel};
+ghost use Rattle.vm_model.specs.declared.message.Message.{Message};
+ghost use Rattle.vm_model.specs.Copies.{HasPageOf};
+ghost use Rattle.vm_ports.specs.Ports.{spare_channels};
+ghost use Rattle.vm_system.specs.Channels.{number_in};
+ghost use Rattle.vm_system.specs.Posts.{CanTell, CanTellAll, HasRoom, Posts, SameHost};
+ghost use Rattle.vm_system.specs.Sends.{Added, AreFresh, Delivered, HasSent, SameLetters, made_by};
+ghost use Rattle.vm_system.specs.Steps.{lined};
+
+use crate::state::State;
+use vm_base::{ChannelId, NoMemory};
+use vm_model::{Channel, Event, Events, Message};
+
+impl State {
+    // Makes room for so many events, with their messages and channels.
+    pub fn reserve(&mut self, count: u32) -> Result<(), NoMemory>
+        ensures room { OnOk result (HasRoom count self.new) }
+        ensures host { SameHost self.old self.new }
+        ensures history { self.new.history.items ≡ self.old.history.items }
+        ensures made { self.new.channels.made ≡ self.old.channels.made }
+        ensures numbers { self.new.ports.channels ≡ self.old.ports.channels }
+        ensures letters { self.new.ports.letters ≡ self.old.ports.letters }
+        ensures buffers { self.new.buffers.size ≡ self.old.buffers.size }
+    {
+        let Some(channels) = count.checked_mul(2) else {
+            return Err(NoMemory);
+        };
+        self.history.reserve(count)?;
+        self.channels.reserve(channels)?;
+        self.ports.reserve(channels, count)?;
+        self.buffers.reserve(count)
+    }
+
+    // Tells these events, oldest first.
+    pub fn commit(&mut self, mut events: Events)
+        requires posts { Posts self.old self.old.history.items }
+        requires can { CanTellAll self.old.size events.items self.old.history.items }
+        requires room { HasRoom (length events.items) self.old }
+        ensures posts { Posts self.new self.new.history.items }
+        ensures host { SameHost self.old self.new }
+        ensures history { self.new.history.items ≡ events.items ++ self.old.history.items }
+    {
+        'all: while let Some(event) = events.take_first() {
+            self.tell(event);
+        }
+    }
+
+    // Tells one event, for which there is room.
+    pub fn tell(&mut self, event: Event)
+        requires posts { Posts self.old self.old.history.items }
+        requires can { CanTell self.old.size event self.old.history.items }
+        requires room { HasRoom 1 self.old }
+        ensures posts { Posts self.new self.new.history.items }
+        ensures host { SameHost self.old self.new }
+        ensures history { self.new.history.items ≡ event ∷ self.old.history.items }
+        ensures room { (n : ℕ) → HasRoom (n + 1) self.old → HasRoom n self.new }
+    {
+        self.post(&event);
+        let Ok(()) = self.history.push(event) else {
+            unreachable!()
+        };
+    }
+
+    // Sends the message that an event tells of, if it tells of one.
+    #[tactic(auto, using(crate::proofs::Posting::posts_other))]
+    fn post(&mut self, event: &Event)
+        requires posts { Posts self.old self.old.history.items }
+        requires can { CanTell self.old.size event.now self.old.history.items }
+        requires room { HasRoom 1 self.old }
+        ensures posts { Posts self.new (event.now ∷ self.old.history.items) }
+        ensures host { SameHost self.old self.new }
+        ensures history { self.new.history ≡ self.old.history }
+        ensures room { (n : ℕ) → HasRoom (n + 1) self.old → HasRoom n self.new }
+    {
+        let Event::Sent { channel, message } = event else {
+            return;
+        };
+        self.deliver(*channel, message);
+    }
+
+    // Sends a message once more, on its channel, which it makes if it is a create.
+    fn deliver(&mut self, channel: Channel, message: &Message)
+        requires fresh { AreFresh (made_by channel message.now) self.old.channels.made }
+        requires known { is_some (number_in channel (self.old.channels.made ++ made_by channel message.now)) ≡ true }
+        requires count { length self.old.channels.made ≡ self.old.ports.channels }
+        requires size { HasPageOf self.old.buffers.size message.now }
+        requires room { HasRoom 1 self.old }
+        ensures { Delivered channel message.now self.old self.new }
+    {
+        self.open(channel, message);
+        let copy = message.copy(&mut self.buffers);
+        self.send(channel, copy);
+    }
+
+    // A create makes its two channels.
+    fn open(&mut self, channel: Channel, message: &Message)
+        requires fresh { AreFresh (made_by channel message.now) self.old.channels.made }
+        requires room { 2 ≤ self.old.channels.room }
+        requires spare { 2 ≤ spare_channels self.old.ports }
+        ensures { Added (made_by channel message.now) self.old self.new }
+    {
+        if let (Channel::Up { host, object }, Message::Create { control, .. }) = (
+            channel, message,
+        ) {
+            self.add(channel);
+            self.add(Channel::Down {
+                host,
+                object,
+                control: *control,
+            });
+        }
+    }
+
+    // Makes a channel, for which there is room.
+    fn add(&mut self, channel: Channel)
+        requires fresh { number_in channel self.old.channels.made ≡ None }
+        requires room { 0 < self.old.channels.room }
+        requires spare { 0 < spare_channels self.old.ports }
+        ensures { Added (channel ∷ []) self.old self.new }
+    {
+        let Ok(_) = self.ports.add_channel() else {
+            unreachable!()
+        };
+        self.channels.add(channel);
+    }
+
+    // Sends a message on a channel that was made.
+    fn send(&mut self, channel: Channel, message: Message)
+        requires known { is_some (number_in channel self.old.channels.made) ≡ true }
+        requires count { length self.old.channels.made ≡ self.old.ports.channels }
+        requires room { 0 < self.old.ports.room }
+        ensures { HasSent channel message self.old self.new }
+    {
+        let Some(number) = self.channels.number(channel) else {
+            unreachable!()
+        };
+        self.ports.send_spare(number, message);
+    }
+
+    // Takes the first message of a channel, and tells that, behind a line if the step begins with one.
+    pub fn take_first(&mut self, line: Option<u32>, number: ChannelId)
+        requires posts { Posts self.old self.old.history.items }
+        requires there { number.0 < length self.old.channels.made }
+        requires some { (channel : Channel) → slice_get self.old.channels.made number.0 ≡ Some channel → queue channel self.old.history.items ≢ [] }
+        requires room { HasRoom 2 self.old }
+        ensures posts { Posts self.new self.new.history.items }
+        ensures host { SameHost self.old self.new }
+        ensures history { (channel : Channel) → slice_get self.old.channels.made number.0 ≡ Some channel
+            → (m : Message) × (first (queue channel self.old.history.items) ≡ Some m) × (self.new.history.items ≡ event.Taken channel m ∷ lined line self.old.history.items) }
+        ensures room { (n : ℕ) → HasRoom (n + 2) self.old → HasRoom n self.new }
+    {
+        let channel = self.channels.channel(number);
+        let Some(message) = self.ports.take(number) else {
+            unreachable!()
+        };
+        self.start(line);
+        let Ok(()) = self.history.push(Event::Taken { channel, message }) else {
+            unreachable!()
+        };
+    }
+
+    // Tells the line that a step begins with, if it begins with one.
+    fn start(&mut self, line: Option<u32>)
+        requires { 0 < self.old.history.room }
+        ensures history { self.new.history.items ≡ lined line self.old.history.items }
+        ensures room { self.old.history.room ≤ self.new.history.room + 1 }
+        ensures same { SameLetters self.old self.new }
+        ensures host { SameHost self.old self.new }
+    {
+        let Some(line) = line else {
+            return;
+        };
+        let Ok(()) = self.history.push(Event::Line { line }) else {
+            unreachable!()
+        };
+    }
+}

@@ -1,0 +1,23 @@
+//! The whole system: the kernel of a host, its default pager, the channels between them, and the history.
+#![tactic(auto)]
+
+mod channels;
+mod committing;
+mod limit;
+mod noted;
+mod refusing;
+mod running;
+mod settling;
+mod shares;
+mod state;
+mod stepping;
+mod stop;
+mod system;
+mod taking;
+
+pub use settling::settle;
+pub use stop::SystemStop;
+pub use system::System;
+
+#[cfg(test)]
+mod tests;

@@ -1,0 +1,93 @@
+// One command's step.
+ghost use Rattle.std.specs.Prelude.{◌≡◌, false, true, None, Some, OnErr, OnOk};
+ghost use Rattle.vm_model.specs.Moments.{before_last_line};
+ghost use Rattle.vm_model.specs.Ranges.{InRange};
+ghost use Rattle.vm_legal.specs.Refusal.{refusal};
+ghost use Rattle.vm_model.specs.declared.message.Channel.{Channel};
+ghost use Rattle.vm_model.specs.declared.command.Command.TheVariants as command;
+ghost use Rattle.vm_system.specs.Stands.{Kept, Stands};
+ghost use Rattle.vm_system.specs.Steps.{DevicesHaveCause, Grew, IsLonger, KeepsLegal, LeavesFiles, LeavesPaging, MayCut, Setting, Stepping, arms_paging, is_built, is_held_up, takes_up, took_up};
+
+use crate::state::State;
+use vm_base::NoMemory;
+use vm_model::{Channel, Command};
+use vm_outside::{Armed, Backing};
+
+impl State {
+    /// Makes one command's step; of a settle that is its line alone.
+    pub fn step<F: Backing, P: Backing>(
+        &mut self,
+        line: u32,
+        command: &Command,
+        files: &mut Armed<F>,
+        paging: &mut Armed<P>,
+    ) -> Result<(), NoMemory>
+        ghost given: { Setting }
+        requires stands { Stands given.header given.outside self.old }
+        requires kept { Kept given.header given.outside (P.area paging.old.inner) self.old }
+        requires range { InRange given.header command.now }
+        requires built { is_built command.now ≡ true }
+        requires free { is_held_up given.header self.old.history.items command.now ≡ false }
+        ensures stands { OnOk result (Stands given.header given.outside self.new) }
+        ensures legal { OnOk result (KeepsLegal given.header given.outside (record { line = line; command = command.now }) self.old.history.items self.new.history.items) }
+        ensures longer { OnOk result (IsLonger self.old.history.items self.new.history.items) }
+        ensures grew { Grew self.old.history.items self.new.history.items }
+        ensures front { OnOk result (before_last_line self.new.history.items ≡ self.old.history.items) }
+        ensures memory { OnErr result (MayCut given.header given.outside (record { line = line; command = command.now }) self.old.history.items self.new.history.items) }
+        ensures kept { Kept given.header given.outside (P.area paging.new.inner) self.new }
+        ensures files { OnOk result (LeavesFiles command.now files.old files.new) }
+        ensures paging { OnOk result (LeavesPaging command.now paging.old paging.new) }
+        ensures unasked { OnOk result (arms_paging command.now ≡ None → took_up self.new.history.items ≡ false → paging.new ≡ paging.old) }
+        ensures later { OnOk result (arms_paging command.now ≡ None → ⟦<Armed<P> as Backing>⟧.later paging.old paging.new) }
+        ensures devices { DevicesHaveCause (⟦<Armed<P> as Backing>⟧.faults paging.old) (⟦<Armed<P> as Backing>⟧.faults paging.new) self.old.history.items self.new.history.items }
+    {
+        if let Some(code) = self.refusal(command) {
+            return self.refuse(line, command, code);
+        }
+        match command {
+            Command::Take { channel } => self.take_from(line, *channel, paging),
+            Command::Settle { count } => self.settle(line, *count),
+            Command::FailFiles { count } => {
+                self.pass(line, command)?;
+                files.arm(u64::from(*count));
+                Ok(())
+            }
+            Command::FailPaging { count } => {
+                self.pass(line, command)?;
+                paging.arm(u64::from(*count));
+                Ok(())
+            }
+            _ => self.begin(line, command),
+        }
+    }
+
+    // The first message of a channel that isn't empty is taken, for the command of a line.
+    fn take_from<P: Backing>(
+        &mut self,
+        line: u32,
+        channel: Channel,
+        paging: &mut Armed<P>,
+    ) -> Result<(), NoMemory>
+        ghost given: { Stepping }
+        requires is { given.command ≡ command.Take channel }
+        requires stands { Stands given.header given.outside self.old }
+        requires kept { Kept given.header given.outside (P.area paging.old.inner) self.old }
+        requires accepted { refusal given.header self.old.history.items (command.Take channel) ≡ None }
+        ensures stands { OnOk result (Stands given.header given.outside self.new) }
+        ensures legal { OnOk result (KeepsLegal given.header given.outside (record { line = line; command = command.Take channel }) self.old.history.items self.new.history.items) }
+        ensures longer { OnOk result (IsLonger self.old.history.items self.new.history.items) }
+        ensures grew { Grew self.old.history.items self.new.history.items }
+        ensures front { OnOk result (before_last_line self.new.history.items ≡ self.old.history.items) }
+        ensures memory { OnErr result (MayCut given.header given.outside (record { line = line; command = command.Take channel }) self.old.history.items self.new.history.items) }
+        ensures kept { Kept given.header given.outside (P.area paging.new.inner) self.new }
+        ensures paging { takes_up (command.Take channel) ≡ false → paging.new ≡ paging.old }
+        ensures unasked { OnOk result (took_up self.new.history.items ≡ false → paging.new ≡ paging.old) }
+        ensures later { ⟦<Armed<P> as Backing>⟧.later paging.old paging.new }
+        ensures devices { DevicesHaveCause (⟦<Armed<P> as Backing>⟧.faults paging.old) (⟦<Armed<P> as Backing>⟧.faults paging.new) self.old.history.items self.new.history.items }
+    {
+        let Some(number) = self.channels.number(channel) else {
+            unreachable!()
+        };
+        self.take(Some(line), number, paging)
+    }
+}

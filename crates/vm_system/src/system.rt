@@ -1,0 +1,207 @@
+// The system of one host.
+ghost use Rattle.std.specs.Prelude.{◌≡◌, ◌≢◌, ◌+◌, ◌≤◌, ◌<◌, ◌↔◌, ◌⊎◌, ℕ, List, [], true, false, None, Ok, Some, IfOk, IsErrOf, IsOkAnd, IsTrue, OnOk, OnErr, length};
+ghost use Rattle.vm_base.specs.declared.code.Code.{Code};
+ghost use Rattle.vm_model.specs.Ranges.{InRange};
+ghost use Rattle.vm_legal.specs.Refusal.{refusal};
+ghost use Rattle.vm_legal.specs.Outside.{Outside};
+ghost use Rattle.vm_legal.specs.Undelivered.{undelivered};
+ghost use Rattle.vm_outside.specs.Areas.{Told};
+ghost use Rattle.pg_slots.specs.Contents.{IsTold};
+ghost use Rattle.vm_legal.specs.Steps.{before_step, takings};
+ghost use Rattle.vm_model.specs.Moments.{before_last_line};
+ghost use Rattle.vm_kernel.specs.Matches.{IsPlain};
+ghost use Rattle.vm_system.specs.Stands.{Kept, Stands};
+ghost use Rattle.vm_system.specs.Steps.{DevicesHaveCause, Grew, HasMore, KeepsLegal, KeepsOpen, LeavesFiles, LeavesPaging, MayCut, MayCutOpen, Setting, Taking, arms_paging, event_limit, is_built, is_held_up, took_up};
+
+use crate::channels::Channels;
+use crate::limit::MOST_EVENTS;
+use crate::state::State;
+use crate::stop::SystemStop;
+use pg_default::DefaultPager;
+use std::alloc::Global;
+use std::marker::Model;
+use vm_base::{Buffers, Code, HostId, NoMemory};
+use vm_kernel::Kernel;
+use vm_model::{Command, Header, History};
+use vm_outside::{Armed, Backing};
+use vm_ports::Ports;
+use vm_shadow::Ids;
+
+const HOST: HostId = HostId(0);
+
+/// One host with its kernel and its default pager, the channels between them, and what happened.
+///
+/// Contracts see its parts, which stand for the history.
+#[derive(Drop)]
+pub struct System {
+    state: State,
+}
+
+impl Model for System {
+    ghost use Rattle.vm_system.specs.declared.state.State.{State};
+
+    ghost Value = { State };
+
+    ghost view = { λ s. s.state };
+}
+
+impl System {
+    /// Nothing has happened yet; the host's frames are taken.
+    pub fn new(alloc: Global, header: &Header) -> Result<System, NoMemory>
+        requires plain { IsPlain header.now }
+        requires few { header.now.slots ≤ 65536 }
+        ensures stands { (outside : Outside) → IfOk result (λ system. Stands header.now outside system) }
+        ensures kept { (outside : Outside) → (areas : List ℕ → Told) → IfOk result (λ system. (outside.paging ≡ true → IsTold areas system.pager) → Kept header.now outside areas system) }
+        ensures nothing { IfOk result (λ system. system.history.items ≡ []) }
+        ensures host { IfOk result (λ system. system.pager.host ≡ 0) }
+    {
+        let kernel = Kernel::new(alloc, HOST, header)?;
+        let pager = DefaultPager::new(alloc, HOST, header.slots, header.size)?;
+        let state = State {
+            alloc,
+            size: header.size,
+            kernel,
+            pager,
+            ports: Ports::new(alloc),
+            channels: Channels::new(alloc),
+            buffers: Buffers::new(alloc, header.size),
+            ids: Ids {
+                next_object: 0,
+                next_region: 0,
+                marks: 0,
+            },
+            history: History::new(alloc),
+        };
+        Ok(System { state })
+    }
+
+    /// Why a command is refused now, if it is. It takes no memory.
+    pub fn refusal(&self, command: &Command) -> Option<Code>
+        ghost given: { Setting }
+        requires stands { Stands given.header given.outside self.now }
+        requires range { InRange given.header command.now }
+        requires built { is_built command.now ≡ true }
+        ensures { result ≡ refusal given.header self.now.history.items command.now }
+    {
+        self.state.refusal(command)
+    }
+
+    /// Whether a command can't be run yet, though it isn't refused: a fork that would copy an entry.
+    pub fn is_held_up(&self, command: &Command) -> bool
+        ghost given: { Setting }
+        requires stands { Stands given.header given.outside self.now }
+        requires range { InRange given.header command.now }
+        requires built { is_built command.now ≡ true }
+        ensures { result ≡ is_held_up given.header self.now.history.items command.now }
+    {
+        self.state.refusal(command).is_none() && self.state.copies_entries(command)
+    }
+
+    /// Makes one command's step, and gives the number of events that it added; of a `settle` that
+    /// is its line alone.
+    ///
+    /// `EventLimit` comes exactly where the history has 200,000 events or more, and then nothing has
+    /// changed. After `NoMemory` the system is asked for its history alone.
+    pub fn step<F: Backing, P: Backing>(
+        &mut self,
+        line: u32,
+        command: &Command,
+        files: &mut Armed<F>,
+        paging: &mut Armed<P>,
+    ) -> Result<u32, SystemStop>
+        ghost given: { Setting }
+        requires stands { Stands given.header given.outside self.old }
+        requires kept { Kept given.header given.outside (P.area paging.old.inner) self.old }
+        requires range { InRange given.header command.now }
+        requires built { is_built command.now ≡ true }
+        requires free { is_held_up given.header self.old.history.items command.now ≡ false }
+        ensures stands { OnOk result (Stands given.header given.outside self.new) }
+        ensures legal { OnOk result (KeepsLegal given.header given.outside (record { line = line; command = command.now }) self.old.history.items self.new.history.items) }
+        ensures count { IfOk result (λ n. length self.new.history.items ≡ length self.old.history.items + n) }
+        ensures full { IsErrOf result SystemStop.EventLimit ↔ (event_limit ≤ length self.old.history.items) }
+        ensures below { OnOk result (length self.old.history.items < event_limit) }
+        ensures grew { Grew self.old.history.items self.new.history.items }
+        ensures front { OnOk result (before_last_line self.new.history.items ≡ self.old.history.items) }
+        ensures unchanged { IsErrOf result SystemStop.EventLimit → (self.new ≡ self.old) × (files.new ≡ files.old) × (paging.new ≡ paging.old) }
+        ensures memory { IsErrOf result SystemStop.NoMemory → MayCut given.header given.outside (record { line = line; command = command.now }) self.old.history.items self.new.history.items }
+        ensures kept { Kept given.header given.outside (P.area paging.new.inner) self.new }
+        ensures files { OnOk result (LeavesFiles command.now files.old files.new) }
+        ensures paging { OnOk result (LeavesPaging command.now paging.old paging.new) }
+        ensures unasked { OnOk result (arms_paging command.now ≡ None → took_up self.new.history.items ≡ false → paging.new ≡ paging.old) }
+        ensures later { OnOk result ((arms_paging command.now ≡ None) → ⟦<Armed<P> as Backing>⟧.later paging.old paging.new) }
+        ensures devices { DevicesHaveCause (⟦<Armed<P> as Backing>⟧.faults paging.old) (⟦<Armed<P> as Backing>⟧.faults paging.new) self.old.history.items self.new.history.items }
+    {
+        if self.state.history.len() >= MOST_EVENTS {
+            return Err(SystemStop::EventLimit);
+        }
+        let before = self.state.history.len();
+        self.state.step(line, command, files, paging)?;
+        Ok(self.state.history.len() - before)
+    }
+
+    /// Takes the undelivered message that was sent first, in the step of a settle; false exactly where
+    /// nothing is undelivered.
+    ///
+    /// `EventLimit` comes exactly where something is undelivered and the history has 200,000 events or
+    /// more, and then nothing has changed. After `NoMemory` the system is asked for its history alone.
+    pub fn take_oldest<F: Backing, P: Backing>(
+        &mut self,
+        files: &mut Armed<F>,
+        paging: &mut Armed<P>,
+    ) -> Result<bool, SystemStop>
+        ghost given: { Taking }
+        requires stands { Stands given.header given.outside self.old }
+        requires kept { Kept given.header given.outside (P.area paging.old.inner) self.old }
+        requires past { given.past ≡ self.old.history.items }
+        requires more { HasMore given.command self.old.history.items }
+        ensures stands { OnOk result (Stands given.header given.outside self.new) }
+        ensures legal { IfOk result (λ took. took ≡ true → KeepsOpen given.header given.outside given.command self.old.history.items self.new.history.items) }
+        ensures quiet { IfOk result (λ took. took ≡ false → (undelivered self.old.history.items ≡ []) × (self.new ≡ self.old) × (paging.new ≡ paging.old)) }
+        ensures some { IfOk result (λ took. took ≡ true → undelivered self.old.history.items ≢ []) }
+        ensures calm { undelivered self.old.history.items ≡ [] → result ≡ Ok false }
+        ensures count { IfOk result (λ took. took ≡ true → takings self.new.history.items ≡ takings self.old.history.items + 1) }
+        ensures below { IfOk result (λ took. took ≡ true → length self.old.history.items < event_limit) }
+        ensures grew { Grew self.old.history.items self.new.history.items }
+        ensures front { IfOk result (λ took. took ≡ true → before_step self.new.history.items ≡ self.old.history.items) }
+        ensures files { files.new ≡ files.old }
+        ensures unasked { IfOk result (λ took. took ≡ true → took_up self.new.history.items ≡ false → paging.new ≡ paging.old) }
+        ensures full { IsErrOf result SystemStop.EventLimit ↔ ((event_limit ≤ length self.old.history.items) × (undelivered self.old.history.items ≢ [])) }
+        ensures unchanged { IsErrOf result SystemStop.EventLimit → (self.new ≡ self.old) × (paging.new ≡ paging.old) }
+        ensures memory { IsErrOf result SystemStop.NoMemory → MayCutOpen given.header given.outside given.command self.old.history.items self.new.history.items }
+        ensures kept { Kept given.header given.outside (P.area paging.new.inner) self.new }
+        ensures later { ⟦<Armed<P> as Backing>⟧.later paging.old paging.new }
+        ensures devices { DevicesHaveCause (⟦<Armed<P> as Backing>⟧.faults paging.old) (⟦<Armed<P> as Backing>⟧.faults paging.new) self.old.history.items self.new.history.items }
+    {
+        let Some(number) = self.state.ports.oldest() else {
+            return Ok(false);
+        };
+        if self.state.history.len() >= MOST_EVENTS {
+            return Err(SystemStop::EventLimit);
+        }
+        self.state.take(None, number, paging)?;
+        Ok(true)
+    }
+
+    /// What happened.
+    pub fn history(&self) -> &History
+        ensures { result.now ≡ self.now.history }
+    {
+        &self.state.history
+    }
+
+    /// What happened, given up.
+    pub fn into_history(self) -> History
+        ensures { result ≡ self.history }
+    {
+        self.state.history
+    }
+
+    /// Whether nothing is undelivered.
+    pub fn quiet(&self) -> bool
+        ghost given: { Setting }
+        requires { Stands given.header given.outside self.now }
+        ensures { IsTrue result ↔ (undelivered self.now.history.items ≡ []) }
+    {
+        self.state.ports.oldest().is_none()
+    }
+}

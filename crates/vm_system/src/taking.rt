@@ -1,0 +1,154 @@
+// Messages are taken.
+ghost use Rattle.std.specs.Prelude.{◌≡◌, ◌≢◌, ◌+◌, ◌<◌, ◌∷◌, ◌++◌, ℕ, List, None, Some, OnOk, OnErr, true, false, [], IfOk, length, slice_get};
+ghost use Rattle.vm_model.specs.declared.command.Command.TheVariants as command;
+ghost use Rattle.vm_model.specs.declared.message.Channel.{Channel};
+ghost use Rattle.vm_model.specs.declared.message.Channel.TheVariants as channels;
+ghost use Rattle.vm_model.specs.Channels.{queue};
+ghost use Rattle.vm_outside.specs.Areas.{Told};
+ghost use Rattle.vm_legal.specs.Stretches.{EachOf};
+ghost use Rattle.vm_kernel.specs.Begun.{IsForeign, IsLaundered, Passed, Passing};
+ghost use Rattle.vm_kernel.specs.Matches.{Rests};
+ghost use Rattle.vm_system.specs.Stands.{Kept, Stands};
+ghost use Rattle.vm_base.specs.declared.ids.HostId.{HostId};
+ghost use Rattle.vm_system.specs.Orderly.{is_washed};
+ghost use Rattle.vm_system.specs.Steps.{DevicesHaveCause, Taking, devices, takes_up};
+ghost use Rattle.vm_system.specs.Takings.{Answered, Followed, May, MayBeCut, Took};
+
+use crate::state::State;
+use vm_base::{ChannelId, NoMemory, ObjectId};
+use vm_kernel::Kernel;
+use vm_model::{Channel, Events, Message};
+use vm_outside::{Armed, Backing};
+use vm_shadow::Ids;
+
+// Whether a message returns a page that isn't kept: its frame is free once its pager has it.
+fn is_washed(message: &Message) -> bool
+    ensures { result ≡ is_washed message.now }
+{
+    match message {
+        Message::Return { keep, .. } => !*keep,
+        _ => false,
+    }
+}
+
+impl State {
+    // Takes the first message of a channel, in the step of a command.
+    pub fn take<P: Backing>(
+        &mut self,
+        line: Option<u32>,
+        number: ChannelId,
+        paging: &mut Armed<P>,
+    ) -> Result<(), NoMemory>
+        ghost given: { Taking }
+        requires may { (channel : Channel) × May given line number channel self.old }
+        requires kept { Kept given.header given.outside (P.area paging.old.inner) self.old }
+        ensures took { OnOk result (Took given self.new) }
+        ensures cut { OnErr result (MayBeCut given self.old.history.items self.new.history.items) }
+        ensures kept { Kept given.header given.outside (P.area paging.new.inner) self.new }
+        ensures devices { DevicesHaveCause (⟦<Armed<P> as Backing>⟧.faults paging.old) (⟦<Armed<P> as Backing>⟧.faults paging.new) self.old.history.items self.new.history.items }
+        ensures paging { (channel : Channel) → slice_get self.old.channels.made number.0 ≡ Some channel → takes_up (command.Take channel) ≡ false → paging.new ≡ paging.old }
+        ensures later { ⟦<Armed<P> as Backing>⟧.later paging.old paging.new }
+    {
+        let channel = self.channels.channel(number);
+        match channel {
+            Channel::Up { object, .. } => self.take_up(line, number, object, paging),
+            Channel::Down {
+                object,
+                control,
+                ..
+            } => self.take_down(line, number, object, control),
+        }
+    }
+
+    // An answer of a pager is taken: the host does what it says, and goes on.
+    fn take_down(
+        &mut self,
+        line: Option<u32>,
+        number: ChannelId,
+        object: ObjectId,
+        control: u32,
+    ) -> Result<(), NoMemory>
+        ghost given: { Taking }
+        requires { (host : HostId) × May given line number (channels.Down host object control) self.old }
+        ensures took { OnOk result (Took given self.new) }
+        ensures err { OnErr result (self.new.history.items ≡ self.old.history.items) }
+        ensures kept { (areas : List ℕ → Told) → Kept given.header given.outside areas self.old → Kept given.header given.outside areas self.new }
+        ensures devices { OnOk result (devices self.new.history.items ≡ devices self.old.history.items) }
+    {
+        let Some(message) = self.ports.head(number) else {
+            unreachable!()
+        };
+        let events = self.kernel.take(object, control, message, &mut self.ids)?;
+        let Some(count) = events.len().checked_add(2) else {
+            return Err(NoMemory);
+        };
+        self.reserve(count)?;
+        self.take_first(line, number);
+        self.commit(events);
+        Ok(())
+    }
+
+    // The pager takes a message and answers, and then the host goes on.
+    fn take_up<P: Backing>(
+        &mut self,
+        line: Option<u32>,
+        number: ChannelId,
+        object: ObjectId,
+        paging: &mut Armed<P>,
+    ) -> Result<(), NoMemory>
+        ghost given: { Taking }
+        requires may { (host : HostId) × May given line number (channels.Up host object) self.old }
+        requires kept { Kept given.header given.outside (P.area paging.old.inner) self.old }
+        ensures took { OnOk result (Took given self.new) }
+        ensures cut { OnErr result (MayBeCut given self.old.history.items self.new.history.items) }
+        ensures kept { Kept given.header given.outside (P.area paging.new.inner) self.new }
+        ensures devices { DevicesHaveCause (⟦<Armed<P> as Backing>⟧.faults paging.old) (⟦<Armed<P> as Backing>⟧.faults paging.new) self.old.history.items self.new.history.items }
+        ensures later { ⟦<Armed<P> as Backing>⟧.later paging.old paging.new }
+    {
+        self.reserve(4)?;
+        let Some(message) = self.ports.head(number) else {
+            unreachable!()
+        };
+        let washed = is_washed(message);
+        let answers = self.pager.answer(object, message, paging)?;
+        let fresh = answers.len() + 1;
+        self.take_first(line, number);
+        self.commit(answers);
+        self.follow(fresh, washed)
+    }
+
+    // The host goes on behind the taking of a message by a pager, of which so many events were told.
+    fn follow(&mut self, fresh: u32, washed: bool) -> Result<(), NoMemory>
+        ghost given: { Passing }
+        requires front { length given.front ≡ fresh }
+        requires answered { Answered given washed self.old }
+        ensures followed { OnOk result (Followed given self.new) }
+        ensures err { OnErr result (self.new.history.items ≡ self.old.history.items) }
+        ensures pager { self.new.pager ≡ self.old.pager }
+        ensures kept { (areas : List ℕ → Told) → Kept given.header given.outside areas self.old → Kept given.header given.outside areas self.new }
+        ensures devices { devices self.new.history.items ≡ devices self.old.history.items }
+    {
+        let events = go_on(&mut self.kernel, washed, &mut self.ids)?;
+        self.reserve(events.len())?;
+        self.commit(events);
+        Ok(())
+    }
+}
+
+// What the kernel gives behind the taking of a message by a pager.
+fn go_on(kernel: &mut Kernel, washed: bool, ids: &mut Ids) -> Result<Events, NoMemory>
+    ghost given: { Passing }
+    requires rests { Rests given.header kernel.old ids.old given.past }
+    requires laundered { washed ≡ true → IsLaundered given.front }
+    requires held { washed ≡ true → kernel.old.laundry.held ≢ [] }
+    requires foreign { washed ≡ false → EachOf IsForeign given.front }
+    ensures { IfOk result (λ events. Passed given.header given.outside given.command (given.front ++ given.past) kernel.new ids.new events.items) }
+{
+    if washed {
+        let events = kernel.laundered(ids)?;
+        Ok(events)
+    } else {
+        let events = kernel.serve(ids)?;
+        Ok(events)
+    }
+}

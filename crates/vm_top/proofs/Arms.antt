@@ -1,0 +1,110 @@
+-- How steps leave the backings armed, and what failed.
+use Rattle.std.proofs.Common.{◌≡◌, ℕ, ◌+◌, ◌<◌, ◌≤◌, ◌⊎◌, inl, List, ◌∷◌, true, false, Option, Some, None, refl, ap, sym, ◌∙◌, subst, arith}
+use Rattle.vm_model.specs.declared.event.Event.{Event}
+use Rattle.vm_model.specs.declared.command.Command.{Command}
+use Rattle.vm_model.specs.declared.command.Command.TheVariants as command
+use Rattle.vm_model.specs.declared.command.Numbered.{Numbered}
+use Rattle.vm_model.specs.declared.script.Header.{Header}
+use Rattle.vm_model.specs.Moments.{before_last_line}
+use Rattle.vm_model.specs.Ranges.{InRange}
+use Rattle.vm_legal.specs.Steps.{before_step, takings}
+use Rattle.vm_outside.specs.Arming.{Arming, ArmedLater}
+use Rattle.vm_outside.specs.Causes.{Rose, next_count}
+use Rattle.vm_system.specs.Steps.{DevicesHaveCause, LeavesFiles, LeavesPaging, arms_paging, devices, took_up}
+use Rattle.vm_top.specs.Arming.{FailuresCounted, FilesLeft, is_untouched, last_arming, ran_of}
+use Rattle.vm_top.specs.Running.{Arms, PagingRuns, Running}
+use Rattle.vm_top.proofs.Counting.{untouched_line, untouched_taking}
+
+-- the last arming command
+last_some : (arms : Command → Option ℕ) (n : Numbered) (run : List Numbered) (count : ℕ) → arms n.command ≡ Some count → last_arming arms (n ∷ run) ≡ Some count
+last_some arms n run count is = rw (is, last_arming) refl
+
+last_none : (arms : Command → Option ℕ) (n : Numbered) (run : List Numbered) → arms n.command ≡ None → last_arming arms (n ∷ run) ≡ last_arming arms run
+last_none arms n run is = rw (is, last_arming) refl
+
+-- a command leaves the files as they were, or arms them
+files_of : {B : Type 0} (line : ℕ) (c : Command) (run : List Numbered) (start old new : Arming B) → LeavesFiles c old new → FilesLeft run start old → FilesLeft (record { line = line; command = c } ∷ run) start new
+files_of line (command.FailFiles count) run start old new is was = record {
+  inner = ap (λ z. z.inner) is ∙ was.inner;
+  reached = ap (λ z. z.reached) is ∙ was.reached;
+  none = λ none. absurd (cc);
+  some = λ k some. let same : count ≡ k = cc in ap (λ z. z.left) is ∙ same;
+}
+files_of line other run start old new is was = subst (FilesLeft (record { line = line; command = other } ∷ run) start) (sym is) (record { inner = was.inner; reached = was.reached; none = was.none; some = was.some })
+
+pub files_step : {B : Type 0} (n : Numbered) (run : List Numbered) (start old new : Arming B) → LeavesFiles n.command old new → FilesLeft run start old → FilesLeft (n ∷ run) start new
+files_step n run start old new is was = files_of n.line n.command run start old new is was
+
+arms_some : (header : Header) (c : Command) (count : ℕ) → arms_paging c ≡ Some count → InRange header c → 0 < count
+arms_some header (command.FailPaging k) count is range = let same : k ≡ count = cc in let least = range.0 in omega arith
+arms_some header other count is range = absurd (cc)
+
+-- the paging area is armed
+paging_armed : {B : Type 0} (n : Numbered) (run : List Numbered) (old_h new_h : List Event) (start old new : Arming B) (count : ℕ) → arms_paging n.command ≡ Some count → 0 < count
+    → new ≡ record { inner = old.inner; left = count; reached = old.reached } → PagingRuns run old_h start old → PagingRuns (n ∷ run) new_h start new
+paging_armed n run old_h new_h start old new count arms some is was =
+    let last = last_some arms_paging n run count arms in
+    let left : new.left ≡ count = ap (λ z. z.left) is in
+    let reached : new.reached ≡ old.reached = ap (λ z. z.reached) is in
+    record {
+      left = record {
+        none = λ none. absurd (cc);
+        some = λ k more. inl (omega arith);
+        untouched = λ k more un. let same : count ≡ k = cc in left ∙ same;
+      };
+      rising = rw reached was.rising;
+    }
+
+later_rises : (start l r m s : ℕ) → ArmedLater l r m s → next_count start ≤ next_count r → next_count start ≤ next_count s
+later_rises start l r m s later was = grind arith
+
+later_some : (start l r m s : ℕ) → ArmedLater l r m s → next_count start ≤ next_count r → (0 < l) ⊎ Rose start r → (0 < m) ⊎ Rose start s
+later_some start l r m s later rising was = grind arith
+
+later_none : (start l r m s : ℕ) → ArmedLater l r m s → (l ≡ 0) × (r ≡ start) → (m ≡ 0) × (s ≡ start)
+later_none start l r m s later was = let l0 = was.0 in let r0 = was.1 in (grind arith, grind arith)
+
+-- calls go to the paging area, or none does
+paging_later : {B : Type 0} (run more : List Numbered) (old_h new_h : List Event) (start old new : Arming B) → last_arming arms_paging more ≡ last_arming arms_paging run
+    → ArmedLater old.left old.reached new.left new.reached → (is_untouched more new_h ≡ true → (new ≡ old) × (is_untouched run old_h ≡ true))
+    → PagingRuns run old_h start old → PagingRuns more new_h start new
+paging_later run more old_h new_h start old new last later un was = record {
+  left = record {
+    none = λ none. later_none start.reached old.left old.reached new.left new.reached later (was.left.none (sym last ∙ none));
+    some = λ k some. later_some start.reached old.left old.reached new.left new.reached later was.rising (was.left.some k (sym last ∙ some));
+    untouched = λ k some is. let both = un is in ap (λ z. z.left) both.0 ∙ was.left.untouched k (sym last ∙ some) both.1;
+  };
+  rising = later_rises start.reached old.left old.reached new.left new.reached later was.rising;
+}
+
+-- a command's step
+pub paging_step : {B : Type 0} (header : Header) (n : Numbered) (run : List Numbered) (old_h new_h : List Event) (start old new : Arming B) → InRange header n.command → LeavesPaging n.command old new
+    → (arms_paging n.command ≡ None → ArmedLater old.left old.reached new.left new.reached) → (arms_paging n.command ≡ None → took_up new_h ≡ false → new ≡ old)
+    → before_last_line new_h ≡ old_h → PagingRuns run old_h start old → PagingRuns (n ∷ run) new_h start new
+paging_step header n run old_h new_h start old new range leaves later unasked front was = by_arming (arms_paging n.command) refl
+  where
+    by_arming : (a : Option ℕ) → arms_paging n.command ≡ a → PagingRuns (n ∷ run) new_h start new
+    by_arming None is =
+        paging_later run (n ∷ run) old_h new_h start old new (last_none arms_paging n run is) (later is)
+        (λ un. let both = untouched_line n run new_h old_h is front un in (unasked is both.0, both.1)) was
+    by_arming (Some count) is = paging_armed n run old_h new_h start old new count is (arms_some header n.command count is range) (leaves.armed count is) was
+
+-- a taking of a settle
+pub paging_taking : {B : Type 0} (n : Numbered) (run : List Numbered) (old_h new_h : List Event) (start old new : Arming B) → ArmedLater old.left old.reached new.left new.reached
+    → (took_up new_h ≡ false → new ≡ old) → before_step new_h ≡ old_h → takings new_h ≡ takings old_h + 1 → PagingRuns (n ∷ run) old_h start old → PagingRuns (n ∷ run) new_h start new
+paging_taking n run old_h new_h start old new later unasked front more was =
+    paging_later (n ∷ run) (n ∷ run) old_h new_h start old new refl later (λ un. let both = untouched_taking n run new_h old_h front more un in (unasked both.0, both.1)) was
+
+-- the failures of a step are counted
+counted_more : (before was now a b : ℕ) → was ≤ now → (a ≡ b) ⊎ Rose was now → a ≤ b + 1 → (b + before ≤ was) ⊎ Rose was was → (a + before ≤ now) ⊎ Rose now now
+counted_more before was now a b later cause few old = grind arith
+
+pub failures_step : (before was now : ℕ) (old new : List Event) → DevicesHaveCause was now old new → FailuresCounted before was old → FailuresCounted before now new
+failures_step before was now old new step counted = counted_more before was now (devices new) (devices old) step.later step.cause step.few counted
+
+-- of the commands that have a line
+pub arms_of : {F P : Type 0} (given : Running F P) (run : List Numbered) (h : List Event) (f : Arming F) (p : Arming P) → ran_of given.script h ≡ run → FilesLeft run given.files f → PagingRuns run h given.paging p → Arms given h f p
+arms_of given run h f p here files paging = record {
+  files = subst (λ z. FilesLeft z given.files f) (sym here) files;
+  paging = subst (λ z. PagingRuns z h given.paging p) (sym here) paging;
+}

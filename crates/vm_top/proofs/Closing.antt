@@ -1,0 +1,99 @@
+-- A run that has ended is legal as far as it goes.
+use Rattle.std.proofs.Common.{◌≡◌, ℕ, ◌≤◌, inl, inr, List, [], ◌∷◌, ◌++◌, reverse, refl, sym, arith, slice_get, None, Some, Option, append-nil}
+use Rattle.std.specs.Prelude.{IfSome}
+use Rattle.vm_model.specs.declared.event.Event.{Event}
+use Rattle.vm_model.specs.declared.command.Numbered.{Numbered}
+use Rattle.vm_model.specs.declared.script.Header.{Header}
+use Rattle.vm_model.specs.declared.script.Script.{Script}
+use Rattle.vm_legal.specs.Debts.{IsPaid}
+use Rattle.vm_legal.specs.Follows.{Follows, FollowsSoFar}
+use Rattle.vm_legal.specs.Legal.{LegalSoFar}
+use Rattle.vm_legal.specs.Outside.{Outside}
+use Rattle.vm_legal.specs.Prompt.{NoneInVain}
+use Rattle.vm_top.specs.Run.{IsFull, IsPart, IsWhole}
+
+some_frames : (frames : Option ℕ) → IfSome frames (λ count. 0 ≤ count)
+some_frames None = tt
+some_frames (Some count) = omega arith
+
+-- nothing has happened
+none_waits : (header : Header) (host : ℕ) → NoneInVain header host []
+none_waits header host task access waits on = let bad : None ≡ Some access = waits.waits in cc
+
+none_owed : (header : Header) → IsPaid header []
+none_owed header = record {
+  returned = refl;
+  init = λ host object control size paged is. absurd (nothing is);
+  create = λ host object control size paged is. absurd (nothing is);
+  request = λ host object control page access paged is. absurd (nothing is);
+  error = λ host object page is. absurd (nothing is);
+  absence = λ host object page declared is. absurd (nothing is);
+  slot = λ host object control page dirty keep bytes temporary is lacks. absurd (nothing is);
+}
+  where
+    nothing : {A : Type 0} {x : A} → None ≡ Some x → ⊥
+    nothing is = cc
+
+-- no event is legal as far as it goes, for no command of a script
+pub none_legal : (script : Script) (outside : Outside) → LegalSoFar script outside []
+none_legal script outside = record {
+  later = script.commands.items;
+  run = [];
+  order = sym (append-nil script.commands.items);
+  follows = refl;
+  holds = record {
+    own_bytes = tt;
+    flat_bytes = tt;
+    frames = λ host. some_frames (slice_get (reverse script.header.frames.items) host);
+    prompt = tt;
+    paid = tt;
+  };
+  rests = record {
+    prompt = record {
+      waits = λ host below. none_waits script.header host;
+      swept = λ host below. record { pages = λ object page temporary away. refl; controls = λ object temporary away. refl };
+    };
+    paid = none_owed script.header;
+  };
+}
+
+-- what follows its commands whole does so as far as it goes
+follows_so_far : (header : Header) (outside : Outside) (run : List Numbered) (h : List Event) → Follows header outside run h → FollowsSoFar header outside run h
+follows_so_far header outside [] h is = is
+follows_so_far header outside (n ∷ before) h (past, group, is, made, whole, follows) = (past, group, is, made, follows)
+
+-- a run that was made of a part is legal as far as it goes
+pub part_so_far : (script : Script) (outside : Outside) (later run : List Numbered) (h : List Event) → IsPart script outside later run h → LegalSoFar script outside h
+part_so_far script outside later run h part = record {
+  later = later;
+  run = run;
+  order = part.order;
+  follows = follows_so_far script.header outside run h part.legal.follows;
+  holds = part.legal.holds;
+  rests = part.legal.rests;
+}
+
+-- and so is a run of the whole script
+pub whole_so_far : (script : Script) (outside : Outside) (h : List Event) → IsWhole script outside h → LegalSoFar script outside h
+whole_so_far script outside h is = record {
+  later = [];
+  run = script.commands.items;
+  order = refl;
+  follows = follows_so_far script.header outside script.commands.items h is.legal.follows;
+  holds = is.legal.holds;
+  rests = is.legal.rests;
+}
+
+-- and one that came to a full history, also where that is in a settle
+pub full_so_far : (script : Script) (outside : Outside) (h : List Event) → IsFull script outside h → LegalSoFar script outside h
+full_so_far script outside h is = elim is.left [
+  | inl left ↦ part_so_far script outside (left.later ++ left.next ∷ []) left.run h left.part
+  | inr on ↦ record {
+    later = on.later;
+    run = on.next ∷ on.run;
+    order = on.order;
+    follows = on.legal.follows;
+    holds = on.legal.holds;
+    rests = on.legal.rests;
+  }
+]

@@ -1,0 +1,62 @@
+-- What the paging area keeps, in terms of the history alone.
+use Rattle.std.proofs.Common.{◌≡◌, ℕ, ◌*◌, ◌<◌, Bool, true, false, List, [], Option, Some, None, refl, ap, sym, ◌∙◌, subst, arith, nat_lt}
+use Rattle.std.specs.Prelude.{IsSome, unwrap_or}
+use Rattle.std.proofs.lemmas.Bool.Decides.{nat_tests}
+use Rattle.vm_model.specs.declared.event.Event.{Event}
+use Rattle.vm_model.specs.declared.script.Header.{Header}
+use Rattle.vm_model.specs.Named.{named}
+use Rattle.vm_legal.specs.Outside.{Outside}
+use Rattle.vm_legal.specs.Pagers.{is_lost, last_return, slot_at}
+use Rattle.vm_outside.specs.Areas.{Told, read_at}
+use Rattle.pg_slots.specs.Contents.{IsHeldAs, IsTold, Kept, area_name}
+use Rattle.pg_slots.specs.Slots.{SlotTable, held_at, slot_of}
+use Rattle.pg_slots.specs.declared.slot_row.Held.{Held}
+use Rattle.pg_slots.specs.declared.slot_row.Held.TheVariants as held
+use Rattle.pg_default.specs.Stands.{Stands, content_of, is_ended}
+use Rattle.vm_system.specs.Keeping.{KeepsPages}
+use Rattle.vm_system.specs.Stands.{Kept as SystemKept}
+use Rattle.vm_top.specs.Run.{outside_of}
+use Rattle.vm_system.specs.declared.state.State.{State}
+
+-- a page that has a slot, and of which bytes were stored, is kept there
+kept_of : (count size : ℕ) (has : Option Held) (s : ℕ) (bytes : List ℕ) → IsHeldAs count size has (Some (Kept bytes)) → slot_of has ≡ Some s → has ≡ Some (held.Kept s)
+kept_of count size None s bytes is slot = absurd is
+kept_of count size (Some (held.Kept t)) s bytes is slot = let same : t ≡ s = cc in ap (λ z. Some (held.Kept z)) same
+kept_of count size (Some (held.Torn t)) s bytes is slot = absurd is
+kept_of count size (Some held.Lost) s bytes is slot = absurd is
+
+no_slot : (has : Option Held) (s : ℕ) → has ≡ None → slot_of has ≡ Some s → ⊥
+no_slot has s none is = let bad : None ≡ Some s = sym (ap slot_of none) ∙ is in cc
+
+-- a page that has a slot is a temporary object's that hasn't ended
+stored_at : (slots : SlotTable) (header : Header) (h : List Event) (o p s : ℕ) (bytes : List ℕ) → Stands header 0 slots h → slot_of (held_at slots o p) ≡ Some s → last_return 0 o p h ≡ Some bytes → is_lost o p h ≡ false
+    → content_of header 0 h o p ≡ Some (Kept bytes)
+stored_at slots header h o p s bytes stands slot returned fine = by_tests (nat_lt o (named header)) (is_ended 0 o h) refl refl
+  where
+    by_tests : (a b : Bool) → nat_lt o (named header) ≡ a → is_ended 0 o h ≡ b → content_of header 0 h o p ≡ Some (Kept bytes)
+    by_tests true b is ended = let below : o < named header = grind (arith, nat_tests) in absurd (no_slot (held_at slots o p) s (stands.declared o p below) slot)
+    by_tests false true is ended = absurd (no_slot (held_at slots o p) s (stands.ended o p ended) slot)
+    by_tests false false is ended = rw (is, ended, returned, fine) refl
+
+-- where the paging area tells, it has the bytes of each page that was returned and isn't lost
+pub kept_pages : (header : Header) (outside : Outside) (areas : List ℕ → Told) (s : State) → SystemKept header outside areas s → KeepsPages header outside areas s.history.items
+kept_pages header outside areas s kept = record { at = at_page }
+  where
+    at_page : outside.paging ≡ true → (o p at : ℕ) (bytes : List ℕ) → slot_at header 0 o p s.history.items ≡ Some at → is_lost o p s.history.items ≡ false → last_return 0 o p s.history.items ≡ Some bytes
+        → (was : Option (List ℕ)) → areas (area_name 0) ≡ Some was → read_at (unwrap_or was []) (at * header.size) header.size ≡ bytes
+    at_page paging o p at bytes slotted fine returned was told =
+        let fits = (kept.fits paging).1 in
+        let slot : slot_of (held_at s.pager o p) ≡ Some at = kept.pager.slot o p ∙ slotted in
+        let stored = stored_at s.pager header s.history.items o p at bytes kept.pager slot returned fine in
+        let agrees = subst (IsHeldAs s.pager.count s.pager.size (held_at s.pager o p)) stored (fits.agrees.at o p) in
+        let here = kept_of s.pager.count s.pager.size (held_at s.pager o p) at bytes agrees slot in
+        let named_so : areas (area_name s.pager.host) ≡ Some was = ap (λ z. areas (area_name z)) kept.pager.host_is ∙ told in
+        subst (λ z. read_at (unwrap_or was []) (at * z) z ≡ bytes) kept.pager.size (fits.bytes o p at bytes here stored was named_so)
+
+-- the paging area of the host is told, where the outside says so
+pub told_of : (areas : List ℕ → Told) (slots : SlotTable) → slots.host ≡ 0 → (outside_of areas).paging ≡ true → IsTold areas slots
+told_of areas slots host paging = subst (λ z. IsSome (areas (area_name z))) (sym host) paging
+
+-- nothing was returned yet
+pub kept_none : (header : Header) (outside : Outside) (areas : List ℕ → Told) → KeepsPages header outside areas []
+kept_none header outside areas = record { at = λ paging o p at bytes slotted. absurd (cc) }

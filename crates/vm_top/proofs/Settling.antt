@@ -1,0 +1,250 @@
+-- A taking of a settle keeps what a run keeps inside it, or stops the run.
+use Rattle.std.proofs.Common.{◌≡◌, ℕ, ◌-◌, ◌<◌, ◌≤◌, ◌⊎◌, inl, inr, List, [], ◌∷◌, ◌++◌, Bool, length, take, false, Option, Some, None, Result, Ok, Err, refl, ap, sym, ◌∙◌, subst, arith}
+use Rattle.std.specs.Prelude.{◌≢◌}
+use Rattle.std.specs.Io.KnownBytes.{Appends}
+use Rattle.vm_model.specs.declared.event.Event.{Event}
+use Rattle.vm_model.specs.declared.command.Command.TheVariants as command
+use Rattle.vm_model.specs.declared.command.Numbered.{Numbered}
+use Rattle.vm_model.specs.declared.script.Header.{Header}
+use Rattle.vm_model.specs.Summary.{count_of, is_line}
+use Rattle.vm_model.specs.Text.{text}
+use Rattle.vm_legal.specs.Follows.{Follows, FollowsSoFar}
+use Rattle.vm_legal.specs.Legal.{LegalFor}
+use Rattle.vm_legal.specs.Outside.{Outside}
+use Rattle.vm_legal.specs.Steps.{Letter, before_step, takings}
+use Rattle.vm_legal.specs.Undelivered.{undelivered}
+use Rattle.vm_outside.specs.Arming.{Arming, ArmedLater}
+use Rattle.vm_system.specs.Steps.{DevicesHaveCause, Grew, HasMore, KeepsOpen, LegalCut, LegalOpen, MayCutOpen, TakesMore, event_limit, settles, took_up}
+use Rattle.vm_system.specs.declared.stop.SystemStop.{SystemStop}
+use Rattle.vm_system.specs.declared.stop.SystemStop.TheVariants as stops
+use Rattle.vm_top.specs.Arming.{FilesLeft, ran_of}
+use Rattle.vm_top.specs.Run.{CutIn, RanAs, front_of, shown, unbuilt_line}
+use Rattle.vm_top.specs.Running.{PagingRuns, Running, Runs, Settles, Stops, Taking, Turned}
+use Rattle.vm_top.specs.Writing.{WroteBeyond, oldest}
+use Rattle.vm_top.specs.declared.run.RunEnd.{RunEnd}
+use Rattle.vm_top.specs.declared.run.RunEnd.TheVariants as ends
+use Rattle.vm_top.specs.declared.words.Report.{Report}
+use Rattle.vm_top.specs.declared.words.Report.TheVariants as reports
+use Rattle.vm_top.proofs.Arms.{arms_of, failures_step, paging_taking}
+use Rattle.vm_top.proofs.Counting.{lines_same}
+use Rattle.vm_top.proofs.Starts.{order_at}
+use Rattle.vm_top.proofs.Turns.{Left, cut_of, shown_grown}
+
+-- the command in whose step messages are taken, at a line
+abbrev pub settle_at : {F P : Type 0} → Taking F P → ℕ → Numbered
+settle_at given line = record { line = line; command = given.command }
+
+-- what the taking of a message does, where it is made
+pub record Took {F P : Type 0} (given : Taking F P) (old new : List Event) (f0 f1 : Arming F) (p0 p1 : Arming P) (e0 e1 : ℕ) : Type 0 where
+  pub legal : KeepsOpen given.running.script.header given.running.outside given.command old new
+  pub grew : Grew old new
+  pub front : before_step new ≡ old
+  pub below : length old < event_limit
+  pub files : f1 ≡ f0
+  pub later : ArmedLater p0.left p0.reached p1.left p1.reached
+  pub unasked : took_up new ≡ false → p1 ≡ p0
+  pub devices : DevicesHaveCause e0 e1 old new
+
+-- a taking was made
+pub record Held {F P : Type 0} (given : Taking F P) (line : ℕ) (run : List Numbered) (old new : List Event) (f1 : Arming F) (p1 : Arming P) (e1 : ℕ) : Type 0 where
+  pub lines : count_of is_line new ≡ count_of is_line old
+  pub here : ran_of given.running.script new ≡ settle_at given line ∷ run
+  pub legal : TakesMore given.running.script.header given.running.outside (settle_at given line) run old new
+  pub built : unbuilt_line (ran_of given.running.script new) ≡ None
+  pub left : Left given.running new f1 p1 e1
+
+pub held : {F P : Type 0} (report : Report) (given : Taking F P) (old new : List Event) (was : Option (List ℕ)) (f0 f1 : Arming F) (p0 p1 : Arming P) (e0 e1 : ℕ)
+    → (settles : Settles report given old was f0 p0 e0) → Took given old new f0 f1 p0 p1 e0 e1 → Held given settles.line settles.run old new f1 p1 e1
+held report given old new was f0 f1 p0 p1 e0 e1 settles took =
+    let n = settle_at given settles.line in
+    let run = settles.run in
+    let legal = took.legal settles.line run settles.legal in
+    let lines = lines_same new old took.front legal.more in
+    let same : ran_of given.running.script new ≡ ran_of given.running.script old = ap (λ z. oldest z given.running.script.commands.items) lines in
+    let here : ran_of given.running.script new ≡ n ∷ run = same ∙ settles.here in
+    let files = subst (λ z. FilesLeft z given.running.files f1) settles.here (subst (FilesLeft (ran_of given.running.script old) given.running.files) (sym took.files) settles.keeps.arms.files) in
+    let paging = paging_taking n run old new given.running.paging p0 p1 took.later took.unasked took.front legal.more (subst (λ z. PagingRuns z old given.running.paging p0) settles.here settles.keeps.arms.paging) in
+    record {
+      lines = lines;
+      here = here;
+      legal = legal;
+      built = ap unbuilt_line same ∙ settles.keeps.built;
+      left = record {
+        below = took.grew.limit took.below settles.keeps.below;
+        arms = arms_of given.running (n ∷ run) new f1 p1 here files paging;
+        failed = failures_step given.running.faults e0 e1 old new took.devices settles.keeps.failed;
+      };
+    }
+
+-- the settle goes on, where the taking was shown
+pub settles_on : {F P : Type 0} (report : Report) (given : Taking F P) (line : ℕ) (run : List Numbered) (old new : List Event) (now : Option (List ℕ)) (f1 : Arming F) (p1 : Arming P) (e1 : ℕ)
+    → Held given line run old new f1 p1 e1 → Appends given.running.start now (shown report new) → Settles report given new now f1 p1 e1
+settles_on report given line run old new now f1 p1 e1 step wrote = record {
+  keeps = record { built = step.built; below = step.left.below; written = wrote; arms = step.left.arms; failed = step.left.failed };
+  line = line;
+  run = run;
+  here = step.here;
+  legal = step.legal.so_far;
+}
+
+-- the commands that are left behind the settle
+abbrev pub behind : {F P : Type 0} → Taking F P → List Event → List Numbered
+behind given h = take (length given.running.script.commands.items - count_of is_line h) given.running.script.commands.items
+
+order_of : {F P : Type 0} (given : Taking F P) (n : Numbered) (run : List Numbered) (h : List Event) → ran_of given.running.script h ≡ n ∷ run → given.running.script.commands.items ≡ behind given h ++ n ∷ run
+order_of given n run h here = order_at given.running.script.commands.items (count_of is_line h) ∙ ap (λ z. behind given h ++ z) here
+
+-- a write failed behind the taking
+take_failed : {F P : Type 0} (report : Report) (given : Taking F P) (line : ℕ) (run : List Numbered) (old new : List Event) (now : Option (List ℕ)) (f1 : Arming F) (p1 : Arming P) (e1 : ℕ)
+    → HasMore given.command old → before_step new ≡ old → Held given line run old new f1 p1 e1 → (report ≡ reports.History) × WroteBeyond given.running.start now (text old) (text new)
+    → RanAs report given.running.script given.running.outside new ends.Failed given.running.start now
+take_failed report given line run old new now f1 p1 e1 more front step wrote =
+    let shows : front_of given.command new ≡ old = ap (λ z. front_of z new) more.is ∙ front in (
+      wrote.0,
+      record {
+        later = behind given new;
+        next = settle_at given line;
+        run = run;
+        order = order_of given (settle_at given line) run new step.here;
+        legal = step.legal.so_far;
+        written = subst (λ z. WroteBeyond given.running.start now (text z) (text new)) (sym shows) wrote.1;
+      },
+    )
+
+-- memory ended behind the taking
+take_unshown : {F P : Type 0} (report : Report) (given : Taking F P) (line : ℕ) (run : List Numbered) (old new : List Event) (now : Option (List ℕ)) (f1 : Arming F) (p1 : Arming P) (e1 : ℕ)
+    → Grew old new → Held given line run old new f1 p1 e1 → Appends given.running.start now (shown report old) → RanAs report given.running.script given.running.outside new ends.NoMemory given.running.start now
+take_unshown report given line run old new now f1 p1 e1 grew step wrote = (
+  record {
+    later = behind given new;
+    run = settle_at given line ∷ run;
+    order = order_of given (settle_at given line) run new step.here;
+    legal = cut_of given.running.script.header given.running.outside (settle_at given line ∷ run) new step.legal.so_far;
+  },
+  shown_grown report given.running.start now old new grew wrote,
+)
+
+-- how the run stops behind a taking: a write failed, or memory ended
+pub held_stops : {F P : Type 0} (report : Report) (given : Taking F P) (line : ℕ) (run : List Numbered) (old new : List Event) (now : Option (List ℕ)) (f1 : Arming F) (p1 : Arming P) (e1 : ℕ) (how : RunEnd)
+    → HasMore given.command old → before_step new ≡ old → Grew old new → Held given line run old new f1 p1 e1
+    → (how ≡ ends.Failed → (report ≡ reports.History) × WroteBeyond given.running.start now (text old) (text new)) → (how ≡ ends.NoMemory → Appends given.running.start now (shown report old))
+    → (how ≡ ends.Failed) ⊎ (how ≡ ends.NoMemory) → Stops report given.running new now f1 p1 e1 how
+held_stops report given line run old new now f1 p1 e1 how more front grew step failed none (inl is) =
+    subst (Stops report given.running new now f1 p1 e1) (sym is)
+    (record { ran = take_failed report given line run old new now f1 p1 e1 more front step (failed is); below = step.left.below; arms = λ other. step.left.arms; failed = step.left.failed })
+held_stops report given line run old new now f1 p1 e1 how more front grew step failed none (inr is) =
+    subst (Stops report given.running new now f1 p1 e1) (sym is)
+    (record { ran = take_unshown report given line run old new now f1 p1 e1 grew step (none is); below = step.left.below; arms = λ other. step.left.arms; failed = step.left.failed })
+
+-- memory ended in the taking
+pub take_stops : {F P : Type 0} (report : Report) (given : Taking F P) (old new : List Event) (now : Option (List ℕ)) (f0 f1 : Arming F) (p0 p1 : Arming P) (e0 e1 : ℕ)
+    → Settles report given old now f0 p0 e0 → Grew old new → length old < event_limit → MayCutOpen given.running.script.header given.running.outside given.command old new → DevicesHaveCause e0 e1 old new
+    → Stops report given.running new now f1 p1 e1 ends.NoMemory
+take_stops report given old new now f0 f1 p0 p1 e0 e1 settles grew below may devices = record {
+  ran = (by_way may, shown_grown report given.running.start now old new grew settles.keeps.written);
+  below = grew.limit below settles.keeps.below;
+  arms = λ other. absurd (other refl);
+  failed = failures_step given.running.faults e0 e1 old new devices settles.keeps.failed;
+}
+  where
+    by_way : MayCutOpen given.running.script.header given.running.outside given.command old new → CutIn given.running.script given.running.outside new
+    by_way (inl same) = record {
+      later = behind given old;
+      run = settle_at given settles.line ∷ settles.run;
+      order = order_of given (settle_at given settles.line) settles.run old settles.here;
+      legal = subst (LegalCut given.running.script.header given.running.outside (settle_at given settles.line ∷ settles.run)) (sym same)
+          (cut_of given.running.script.header given.running.outside (settle_at given settles.line ∷ settles.run) old settles.legal);
+    }
+    by_way (inr cut) = record {
+      later = behind given old;
+      run = settle_at given settles.line ∷ settles.run;
+      order = order_of given (settle_at given settles.line) settles.run old settles.here;
+      legal = cut settles.line settles.run settles.legal;
+    }
+
+-- the history is full, and something is there to take
+pub take_full : {F P : Type 0} (report : Report) (given : Taking F P) (h : List Event) (now : Option (List ℕ)) (f : Arming F) (p : Arming P) (e : ℕ)
+    → Settles report given h now f p e → HasMore given.command h → event_limit ≤ length h → undelivered h ≢ [] → Stops report given.running h now f p e ends.EventLimit
+take_full report given h now f p e settles more full some = record {
+  ran = (
+    record {
+      full = full;
+      left = inr (record {
+        later = behind given h;
+        next = settle_at given settles.line;
+        run = settles.run;
+        order = order_of given (settle_at given settles.line) settles.run h settles.here;
+        built = sym (ap unbuilt_line settles.here) ∙ settles.keeps.built;
+        legal = settles.legal;
+        more = more;
+        some = some;
+      });
+    },
+    settles.keeps.written,
+  );
+  below = settles.keeps.below;
+  arms = λ other. settles.keeps.arms;
+  failed = settles.keeps.failed;
+}
+
+-- nothing has changed
+pub stops_same : {F P : Type 0} (report : Report) (given : Taking F P) (old new : List Event) (now : Option (List ℕ)) (f0 f1 : Arming F) (p0 p1 : Arming P) (e0 e1 : ℕ) (how end : RunEnd)
+    → new ≡ old → f1 ≡ f0 → p1 ≡ p0 → e1 ≡ e0 → end ≡ how → Stops report given.running old now f0 p0 e0 how → Stops report given.running new now f1 p1 e1 end
+stops_same report given old new now f0 f1 p0 p1 e0 e1 how end h f p e is was =
+    subst (λ z. Stops report given.running z now f1 p1 e1 end) (sym h)
+    (subst (λ z. Stops report given.running old now z p1 e1 end) (sym f)
+    (subst (λ z. Stops report given.running old now f0 z e1 end) (sym p)
+    (subst (λ z. Stops report given.running old now f0 p0 z end) (sym e)
+    (subst (Stops report given.running old now f0 p0 e0) (sym is) was))))
+
+-- memory ends in a taking only where one may begin
+pub below_of : (result : Result Bool SystemStop) (letters : List Letter) (n : ℕ) → (letters ≡ [] → result ≡ Ok false) → ((event_limit ≤ n) × (letters ≢ []) → result ≡ Err stops.EventLimit) → result ≡ Err stops.NoMemory
+    → n < event_limit
+below_of result letters n calm full none = by_order (grind arith)
+  where
+    by_letters : (rest : List Letter) → letters ≡ rest → event_limit ≤ n → n < event_limit
+    by_letters [] is over = let bad = calm is in absurd (cc)
+    by_letters (letter ∷ rest) is over = let bad = full (over, λ none. let both : letter ∷ rest ≡ [] = sym is ∙ none in absurd (cc)) in absurd (cc)
+
+    by_order : (n < event_limit) ⊎ (event_limit ≤ n) → n < event_limit
+    by_order (inl below) = below
+    by_order (inr over) = by_letters letters refl over
+
+-- a settle that has taken its messages, or all, is whole
+settled : (header : Header) (outside : Outside) (line count : ℕ) (run : List Numbered) (h : List Event) → (takings h ≡ count) ⊎ (undelivered h ≡ [])
+    → LegalOpen header outside (record { line = line; command = command.Settle count } ∷ run) h → LegalFor header outside (record { line = line; command = command.Settle count } ∷ run) h
+settled header outside line count run h end legal = record { follows = whole_of legal.follows; holds = legal.holds; rests = legal.rests }
+  where
+    whole_of : FollowsSoFar header outside (record { line = line; command = command.Settle count } ∷ run) h → Follows header outside (record { line = line; command = command.Settle count } ∷ run) h
+    whole_of (past, group, is, made, follows) = (past, group, is, made, subst (λ z. (takings z ≡ count) ⊎ (undelivered z ≡ [])) is end, follows)
+
+-- a settle has ended
+pub settle_runs : {F P : Type 0} (report : Report) (given : Taking F P) (count : ℕ) (h : List Event) (now : Option (List ℕ)) (f : Arming F) (p : Arming P) (e : ℕ) → given.command ≡ command.Settle count
+    → Settles report given h now f p e → (takings h ≡ count) ⊎ (undelivered h ≡ []) → Runs report given.running h now f p e
+settle_runs report given count h now f p e is settles end =
+    let header = given.running.script.header in
+    let outside = given.running.outside in
+    let open_is = subst (λ z. LegalOpen header outside (record { line = settles.line; command = z } ∷ settles.run) h) is settles.legal in
+    let legal = settled header outside settles.line count settles.run h end open_is in
+    record {
+      keeps = settles.keeps;
+      legal = subst (λ z. LegalFor header outside z h) (sym settles.here) (subst (λ z. LegalFor header outside (record { line = settles.line; command = z } ∷ settles.run) h) (sym is) legal);
+    }
+
+-- behind its line a settle has taken nothing
+pub turned_settles : {F P : Type 0} (report : Report) (given : Running F P) (n : Numbered) (count : ℕ) (h : List Event) (now : Option (List ℕ)) (f : Arming F) (p : Arming P) (e : ℕ) → n.command ≡ command.Settle count
+    → Turned report given n h now f p e → Settles report (record { running = given; command = command.Settle count }) h now f p e
+turned_settles report given n count h now f p e is turned = record {
+  keeps = turned.keeps;
+  line = n.line;
+  run = turned.run;
+  here = turned.here ∙ ap (λ z. record { line = n.line; command = z } ∷ turned.run) is;
+  legal = subst (λ z. LegalOpen given.script.header given.outside (record { line = n.line; command = z } ∷ turned.run) h) is turned.next.so_far;
+}
+
+pub turned_none : {F P : Type 0} (report : Report) (given : Running F P) (n : Numbered) (count : ℕ) (h : List Event) (now : Option (List ℕ)) (f : Arming F) (p : Arming P) (e : ℕ) → n.command ≡ command.Settle count
+    → Turned report given n h now f p e → takings h ≡ 0
+turned_none report given n count h now f p e is turned = elim turned.next.none [
+  | inl none ↦ none
+  | inr other ↦ let bad : Some count ≡ None = sym (ap settles is) ∙ other in absurd (cc)
+]

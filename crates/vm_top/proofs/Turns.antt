@@ -1,0 +1,358 @@
+-- A command's step keeps what a run keeps, or stops it.
+use Rattle.std.proofs.Common.{◌≡◌, ℕ, ◌+◌, ◌-◌, ◌<◌, ◌≤◌, ◌⊎◌, inl, inr, List, [], ◌∷◌, ◌++◌, length, reverse, slice_get, take, true, false, Option, Some, None, Err, refl, ap, sym, ◌∙◌, subst, arith, append_assoc, append-nil}
+use Rattle.std.specs.Prelude.{IsErrOf}
+use Rattle.std.specs.Io.KnownBytes.{Appends}
+use Rattle.std.proofs.KnownBytes.{Appends-nil}
+use Rattle.vm_model.specs.declared.event.Event.{Event}
+use Rattle.vm_model.specs.declared.command.Command.{Command}
+use Rattle.vm_model.specs.declared.command.Command.TheVariants as command
+use Rattle.vm_model.specs.declared.command.Numbered.{Numbered}
+use Rattle.vm_model.specs.declared.script.Header.{Header}
+use Rattle.vm_model.specs.declared.script.Script.{Script}
+use Rattle.vm_model.specs.Moments.{before_last_line}
+use Rattle.vm_model.specs.Ranges.{InRange}
+use Rattle.vm_model.specs.Summary.{count_of, is_line}
+use Rattle.vm_model.specs.Text.{text, line_of}
+use Rattle.vm_legal.specs.Legal.{LegalFor}
+use Rattle.vm_legal.specs.Outside.{Outside}
+use Rattle.vm_legal.specs.Steps.{takings}
+use Rattle.vm_outside.specs.Arming.{Arming, ArmedLater}
+use Rattle.vm_system.specs.Steps.{DevicesHaveCause, Grew, IsNext, KeepsLegal, LeavesFiles, LeavesPaging, LegalCut, LegalOpen, MayCut, IsBelowLimit, arms_paging, event_limit, is_built, is_held_up, settles, took_up}
+use Rattle.vm_system.specs.declared.stop.SystemStop.{SystemStop}
+use Rattle.vm_system.specs.declared.stop.SystemStop.TheVariants as stops
+use Rattle.vm_top.specs.Arming.{FailuresCounted, ran_of}
+use Rattle.vm_top.specs.Run.{CutIn, IsPart, IsRunnable, RanAs, front_of, shown, unbuilt_line}
+use Rattle.vm_top.specs.Running.{Arms, IsNextOf, Running, Runs, Stops, Turned}
+use Rattle.vm_top.specs.Writing.{WroteBeyond, WroteStart, oldest}
+use Rattle.vm_top.specs.declared.run.RunEnd.{RunEnd}
+use Rattle.vm_top.specs.declared.run.RunEnd.TheVariants as ends
+use Rattle.vm_top.specs.declared.words.Report.{Report}
+use Rattle.vm_top.specs.declared.words.Report.TheVariants as reports
+use Rattle.vm_top.proofs.Arms.{arms_of, failures_step, files_step, paging_step}
+use Rattle.vm_top.proofs.Counting.{lines_more, takings_none}
+use Rattle.vm_top.proofs.Starts.{legal_start, next_built, next_unbuilt, oldest_all, oldest_none, open_of, order_at, order_left, order_next, range_at}
+use Rattle.vm_top.proofs.Writings.{front_start, oldest_step, start_all}
+
+-- what a command's step does, where it is made
+pub record Stepped {F P : Type 0} (header : Header) (outside : Outside) (n : Numbered) (old new : List Event) (f0 f1 : Arming F) (p0 p1 : Arming P) (e0 e1 : ℕ) : Type 0 where
+  pub legal : KeepsLegal header outside n old new
+  pub grew : Grew old new
+  pub front : before_last_line new ≡ old
+  pub files : LeavesFiles n.command f0 f1
+  pub paging : LeavesPaging n.command p0 p1
+  pub later : arms_paging n.command ≡ None → ArmedLater p0.left p0.reached p1.left p1.reached
+  pub unasked : arms_paging n.command ≡ None → took_up new ≡ false → p1 ≡ p0
+  pub devices : DevicesHaveCause e0 e1 old new
+
+-- the command's line is one more
+pub lines_step : (header : Header) (outside : Outside) (n : Numbered) (run : List Numbered) (old new : List Event) → before_last_line new ≡ old → IsNext header outside n run new
+    → count_of is_line new ≡ count_of is_line old + 1
+lines_step header outside n run old new front next = by_group next.so_far
+  where
+    by_group : LegalOpen header outside (n ∷ run) new → count_of is_line new ≡ count_of is_line old + 1
+    by_group legal = let follows = legal.follows in lines_more new old follows.1 follows.0 n.line front follows.2
+
+-- what a step leaves, whatever is written of it
+pub record Left {F P : Type 0} (given : Running F P) (new : List Event) (f1 : Arming F) (p1 : Arming P) (e1 : ℕ) : Type 0 where
+  pub below : IsBelowLimit new
+  pub arms : Arms given new f1 p1
+  pub failed : FailuresCounted given.faults e1 new
+
+-- a command's step was made
+pub record Made {F P : Type 0} (given : Running F P) (n : Numbered) (old new : List Event) (f1 : Arming F) (p1 : Arming P) (e1 : ℕ) : Type 0 where
+  pub lines : count_of is_line new ≡ count_of is_line old + 1
+  pub here : ran_of given.script new ≡ n ∷ ran_of given.script old
+  pub next : IsNext given.script.header given.outside n (ran_of given.script old) new
+  pub built : unbuilt_line (ran_of given.script new) ≡ None
+  pub left : Left given new f1 p1 e1
+
+pub made : {F P : Type 0} (report : Report) (given : Running F P) (n : Numbered) (old new : List Event) (was : Option (List ℕ)) (f0 f1 : Arming F) (p0 p1 : Arming P) (e0 e1 : ℕ)
+    → Runs report given old was f0 p0 e0 → IsNextOf given.script n old → is_built n.command ≡ true → InRange given.script.header n.command → length old < event_limit
+    → Stepped given.script.header given.outside n old new f0 f1 p0 p1 e0 e1 → Made given n old new f1 p1 e1
+made {F = F} {P = P} report given n old new was f0 f1 p0 p1 e0 e1 runs follows built range below step =
+    let run = ran_of given.script old in
+    let next = step.legal run runs.legal in
+    let lines = lines_step given.script.header given.outside n run old new step.front next in
+    let here : ran_of given.script new ≡ n ∷ run = ap (λ z. oldest z given.script.commands.items) lines ∙ follows in
+    let files = files_step n run given.files f0 f1 step.files runs.keeps.arms.files in
+    let paging = paging_step given.script.header n run old new given.paging p0 p1 range step.paging step.later step.unasked step.front runs.keeps.arms.paging in
+    record {
+      lines = lines;
+      here = here;
+      next = next;
+      built = ap unbuilt_line here ∙ next_built n run runs.keeps.built built;
+      left = record {
+        below = step.grew.limit below runs.keeps.below;
+        arms = arms_of given (n ∷ run) new f1 p1 here files paging;
+        failed = failures_step given.faults e0 e1 old new step.devices runs.keeps.failed;
+      };
+    }
+
+-- the step that is shown: what it began with is what stood there before
+front_is : (c : Command) (new old : List Event) → before_last_line new ≡ old → (takings new ≡ 0) ⊎ (settles c ≡ None) → front_of c new ≡ old
+front_is (command.Settle count) new old front (inl none) = takings_none new none ∙ front
+front_is (command.Settle count) new old front (inr other) = absurd (cc)
+front_is other new old front none = front
+
+-- the text grows with the history
+text_grown : (more old : List Event) → (rest : List ℕ) × (text (more ++ old) ≡ text old ++ rest)
+text_grown [] old = ([], sym (append-nil (text old)))
+text_grown (e ∷ more) old =
+    let front = text_grown more old in
+    (front.0 ++ line_of e, ap (λ z. z ++ line_of e) front.1 ∙ append_assoc (text old) front.0 (line_of e))
+
+pub shown_grown : (report : Report) (start now : Option (List ℕ)) (old new : List Event) → Grew old new → Appends start now (shown report old) → WroteStart start now (shown report new)
+shown_grown reports.History start now old new grew wrote =
+    let grown = text_grown grew.more old in
+    subst (WroteStart start now) (sym (ap text grew.is ∙ grown.1)) (front_start start now (text old) grown.0 wrote)
+shown_grown reports.Summary start now old new grew wrote = start_all start now [] wrote
+
+-- an open history is one that may be cut
+pub cut_of : (header : Header) (outside : Outside) (run : List Numbered) (h : List Event) → LegalOpen header outside run h → LegalCut header outside run h
+cut_of header outside run h legal = record { follows = legal.follows; holds = legal.holds }
+
+pub cut_whole : (header : Header) (outside : Outside) (run : List Numbered) (h : List Event) → LegalFor header outside run h → LegalCut header outside run h
+cut_whole header outside run h legal = record { follows = open_of header outside run h legal.follows; holds = legal.holds }
+
+-- the commands that are left behind the next one
+abbrev pub left_of : {F P : Type 0} → Running F P → List Event → List Numbered
+left_of given old = take (length given.script.commands.items - (count_of is_line old + 1)) given.script.commands.items
+
+order_made : {F P : Type 0} (given : Running F P) (n : Numbered) (old : List Event) → IsNextOf given.script n old → given.script.commands.items ≡ left_of given old ++ n ∷ ran_of given.script old
+order_made given n old follows = order_next given.script.commands.items (count_of is_line old) n follows
+
+-- a write failed behind a whole step
+pub turn_failed : {F P : Type 0} (report : Report) (given : Running F P) (n : Numbered) (old new : List Event) (now : Option (List ℕ)) (f1 : Arming F) (p1 : Arming P) (e1 : ℕ)
+    → IsNextOf given.script n old → before_last_line new ≡ old → Made given n old new f1 p1 e1 → (report ≡ reports.History) × WroteBeyond given.start now (text old) (text new)
+    → RanAs report given.script given.outside new ends.Failed given.start now
+turn_failed report given n old new now f1 p1 e1 follows front step wrote = (
+  wrote.0,
+  record {
+    later = left_of given old;
+    next = n;
+    run = ran_of given.script old;
+    order = order_made given n old follows;
+    legal = step.next.so_far;
+    written = subst (λ z. WroteBeyond given.start now (text z) (text new)) (sym (front_is n.command new old front step.next.none)) wrote.1;
+  },
+)
+
+-- memory ended behind a whole step
+pub turn_unshown : {F P : Type 0} (report : Report) (given : Running F P) (n : Numbered) (old new : List Event) (now : Option (List ℕ)) (f1 : Arming F) (p1 : Arming P) (e1 : ℕ)
+    → IsNextOf given.script n old → Grew old new → Made given n old new f1 p1 e1 → Appends given.start now (shown report old)
+    → RanAs report given.script given.outside new ends.NoMemory given.start now
+turn_unshown report given n old new now f1 p1 e1 follows grew step wrote = (
+  record {
+    later = left_of given old;
+    run = n ∷ ran_of given.script old;
+    order = order_made given n old follows;
+    legal = cut_of given.script.header given.outside (n ∷ ran_of given.script old) new step.next.so_far;
+  },
+  shown_grown report given.start now old new grew wrote,
+)
+
+-- memory ended in the step
+pub turn_cut : {F P : Type 0} (report : Report) (given : Running F P) (n : Numbered) (old new : List Event) (now : Option (List ℕ))
+    → IsNextOf given.script n old → Grew old new → LegalFor given.script.header given.outside (ran_of given.script old) old → MayCut given.script.header given.outside n old new → Appends given.start now (shown report old)
+    → RanAs report given.script given.outside new ends.NoMemory given.start now
+turn_cut report given n old new now follows grew legal may wrote = (by_way may, shown_grown report given.start now old new grew wrote)
+  where
+    by_way : MayCut given.script.header given.outside n old new → CutIn given.script given.outside new
+    by_way (inl same) = record {
+      later = take (length given.script.commands.items - count_of is_line old) given.script.commands.items;
+      run = ran_of given.script old;
+      order = order_at given.script.commands.items (count_of is_line old);
+      legal = subst (LegalCut given.script.header given.outside (ran_of given.script old)) (sym same) (cut_whole given.script.header given.outside (ran_of given.script old) old legal);
+    }
+    by_way (inr cut) = record {
+      later = left_of given old;
+      run = n ∷ ran_of given.script old;
+      order = order_made given n old follows;
+      legal = cut (ran_of given.script old) legal;
+    }
+
+-- how a turn stops behind its step: a write failed, or memory ended
+pub shown_stops : {F P : Type 0} (report : Report) (given : Running F P) (n : Numbered) (old new : List Event) (now : Option (List ℕ)) (f1 : Arming F) (p1 : Arming P) (e1 : ℕ) (how : RunEnd)
+    → IsNextOf given.script n old → before_last_line new ≡ old → Grew old new → Made given n old new f1 p1 e1
+    → (how ≡ ends.Failed → (report ≡ reports.History) × WroteBeyond given.start now (text old) (text new)) → (how ≡ ends.NoMemory → Appends given.start now (shown report old))
+    → (how ≡ ends.Failed) ⊎ (how ≡ ends.NoMemory) → Stops report given new now f1 p1 e1 how
+shown_stops report given n old new now f1 p1 e1 how follows front grew step failed none (inl is) =
+    subst (Stops report given new now f1 p1 e1) (sym is) (record { ran = turn_failed report given n old new now f1 p1 e1 follows front step (failed is); below = step.left.below; arms = λ other. step.left.arms; failed = step.left.failed })
+shown_stops report given n old new now f1 p1 e1 how follows front grew step failed none (inr is) =
+    subst (Stops report given new now f1 p1 e1) (sym is) (record { ran = turn_unshown report given n old new now f1 p1 e1 follows grew step (none is); below = step.left.below; arms = λ other. step.left.arms; failed = step.left.failed })
+
+-- how a turn stops in its step
+pub step_stops : {F P : Type 0} (report : Report) (given : Running F P) (n : Numbered) (old new : List Event) (now : Option (List ℕ)) (f0 f1 : Arming F) (p0 p1 : Arming P) (e0 e1 : ℕ)
+    → Runs report given old now f0 p0 e0 → IsNextOf given.script n old → Grew old new → length old < event_limit → MayCut given.script.header given.outside n old new → DevicesHaveCause e0 e1 old new
+    → Stops report given new now f1 p1 e1 ends.NoMemory
+step_stops report given n old new now f0 f1 p0 p1 e0 e1 runs follows grew below may devices = record {
+  ran = turn_cut report given n old new now follows grew runs.legal may runs.keeps.written;
+  below = grew.limit below runs.keeps.below;
+  arms = λ other. absurd (other refl);
+  failed = failures_step given.faults e0 e1 old new devices runs.keeps.failed;
+}
+
+-- behind the step, where it was shown
+pub turned : {F P : Type 0} (report : Report) (given : Running F P) (n : Numbered) (old new : List Event) (now : Option (List ℕ)) (f1 : Arming F) (p1 : Arming P) (e1 : ℕ) → Made given n old new f1 p1 e1
+    → Appends given.start now (shown report new) → Turned report given n new now f1 p1 e1
+turned report given n old new now f1 p1 e1 step wrote = record {
+  keeps = record { built = step.built; below = step.left.below; written = wrote; arms = step.left.arms; failed = step.left.failed };
+  run = ran_of given.script old;
+  here = step.here;
+  next = step.next;
+}
+
+-- why a step stops the run
+pub step_ends : (stop : SystemStop) (got end : RunEnd) → (stop ≡ stops.EventLimit → got ≡ ends.EventLimit) → (stop ≡ stops.NoMemory → got ≡ ends.NoMemory) → got ≡ end
+    → ((stop ≡ stops.EventLimit) × (end ≡ ends.EventLimit)) ⊎ ((stop ≡ stops.NoMemory) × (end ≡ ends.NoMemory))
+step_ends stops.EventLimit got end full none is = inl (refl, sym is ∙ full refl)
+step_ends stops.NoMemory got end full none is = inr (refl, sym is ∙ none refl)
+
+-- the commands in front of the next one were run
+part_of : {F P : Type 0} (report : Report) (given : Running F P) (n : Numbered) (h : List Event) (now : Option (List ℕ)) (f : Arming F) (p : Arming P) (e : ℕ) → Runs report given h now f p e → IsNextOf given.script n h
+    → IsPart given.script given.outside (left_of given h ++ n ∷ []) (ran_of given.script h) h
+part_of report given n h now f p e runs follows = record {
+  order = order_left given.script.commands.items (count_of is_line h) n follows;
+  built = runs.keeps.built;
+  legal = runs.legal;
+}
+
+-- the next command isn't built
+pub unbuilt_stops : {F P : Type 0} (report : Report) (given : Running F P) (n : Numbered) (h : List Event) (now : Option (List ℕ)) (f : Arming F) (p : Arming P) (e : ℕ) → Runs report given h now f p e → IsNextOf given.script n h
+    → is_built n.command ≡ false → Stops report given h now f p e (ends.NotBuilt n.line)
+unbuilt_stops report given n h now f p e runs follows unbuilt = record {
+  ran = (
+    record {
+      later = left_of given h;
+      next = n;
+      run = ran_of given.script h;
+      part = part_of report given n h now f p e runs follows;
+      unbuilt = inl (next_unbuilt n (ran_of given.script h) runs.keeps.built unbuilt);
+    },
+    runs.keeps.written,
+  );
+  below = runs.keeps.below;
+  arms = λ other. runs.keeps.arms;
+  failed = runs.keeps.failed;
+}
+
+-- it is held up
+pub held_up_stops : {F P : Type 0} (report : Report) (given : Running F P) (n : Numbered) (h : List Event) (now : Option (List ℕ)) (f : Arming F) (p : Arming P) (e : ℕ) → Runs report given h now f p e → IsNextOf given.script n h
+    → is_built n.command ≡ true → length h < event_limit → is_held_up given.script.header h n.command ≡ true → Stops report given h now f p e (ends.NotBuilt n.line)
+held_up_stops report given n h now f p e runs follows built below held = record {
+  ran = (
+    record {
+      later = left_of given h;
+      next = n;
+      run = ran_of given.script h;
+      part = part_of report given n h now f p e runs follows;
+      unbuilt = inr (record { built = next_built n (ran_of given.script h) runs.keeps.built built; below = below; here = refl; held = held });
+    },
+    runs.keeps.written,
+  );
+  below = runs.keeps.below;
+  arms = λ other. runs.keeps.arms;
+  failed = runs.keeps.failed;
+}
+
+-- the history is full
+pub full_stops : {F P : Type 0} (report : Report) (given : Running F P) (n : Numbered) (h : List Event) (now : Option (List ℕ)) (f : Arming F) (p : Arming P) (e : ℕ) → Runs report given h now f p e → IsNextOf given.script n h
+    → is_built n.command ≡ true → event_limit ≤ length h → Stops report given h now f p e ends.EventLimit
+full_stops report given n h now f p e runs follows built full = record {
+  ran = (
+    record {
+      full = full;
+      left = inl (record {
+        later = left_of given h;
+        next = n;
+        run = ran_of given.script h;
+        part = part_of report given n h now f p e runs follows;
+        built = next_built n (ran_of given.script h) runs.keeps.built built;
+      });
+    },
+    runs.keeps.written,
+  );
+  below = runs.keeps.below;
+  arms = λ other. runs.keeps.arms;
+  failed = runs.keeps.failed;
+}
+
+-- a command other than a settle is whole behind its step
+pub turned_runs : {F P : Type 0} (report : Report) (given : Running F P) (n : Numbered) (h : List Event) (now : Option (List ℕ)) (f : Arming F) (p : Arming P) (e : ℕ) → Turned report given n h now f p e → settles n.command ≡ None
+    → Runs report given h now f p e
+turned_runs report given n h now f p e turned other = record {
+  keeps = turned.keeps;
+  legal = subst (λ z. LegalFor given.script.header given.outside z h) (sym turned.here) (turned.next.whole other);
+}
+
+pub settles_none : (c : Command) → ((count : ℕ) → c ≡ command.Settle count → ⊥) → settles c ≡ None
+settles_none (command.Settle count) other = absurd (other count refl)
+settles_none c other = refl
+
+pub same_end : {T : Type 0} {a b : RunEnd} → IsErrOf {T = T} (Err a) b → a ≡ b
+same_end is = cc
+
+-- the command at an index is the next one where so many have a line
+pub next_at : (given script : Script) (i : ℕ) (n : Numbered) (h : List Event) → given ≡ script → slice_get (reverse script.commands.items) i ≡ Some n → count_of is_line h ≡ i → IsNextOf given n h
+next_at given script i n h same found lines =
+    subst (λ z. IsNextOf z n h) (sym same)
+    (subst (λ z. oldest (z + 1) script.commands.items ≡ n ∷ oldest z script.commands.items) (sym lines) (oldest_step script.commands.items i n found))
+
+pub range_of : (given script : Script) (i : ℕ) (n : Numbered) → given ≡ script → IsRunnable script → slice_get (reverse script.commands.items) i ≡ Some n → InRange given.header n.command
+range_of given script i n same runs found = subst (λ z. InRange z.header n.command) (sym same) (range_at script i n runs found)
+
+-- all commands have a line
+pub all_stops : {F P : Type 0} (report : Report) (given : Running F P) (h : List Event) (now : Option (List ℕ)) (f : Arming F) (p : Arming P) (e : ℕ) → Runs report given h now f p e
+    → length given.script.commands.items ≤ count_of is_line h → Stops report given h now f p e ends.Done
+all_stops report given h now f p e runs all =
+    let whole = oldest_all given.script.commands.items (count_of is_line h) all in
+    record {
+      ran = (
+        record {
+          built = subst (λ z. unbuilt_line z ≡ None) whole runs.keeps.built;
+          legal = subst (λ z. LegalFor given.script.header given.outside z h) whole runs.legal;
+        },
+        runs.keeps.written,
+      );
+      below = runs.keeps.below;
+      arms = λ other. runs.keeps.arms;
+      failed = runs.keeps.failed;
+    }
+
+-- of no events nothing is shown
+shown_none : (written : Option (List ℕ)) (report : Report) → Appends written written (shown report [])
+shown_none written reports.History = Appends-nil written
+shown_none written reports.Summary = Appends-nil written
+
+-- a run begins with nothing
+start_run : {F P : Type 0} (report : Report) (given : Running F P) → given.files.left ≡ 0 → given.paging.left ≡ 0 → Runs report given [] given.start given.files given.paging given.faults
+start_run report given files paging =
+    let none = oldest_none given.script.commands.items in
+    record {
+      keeps = record {
+        built = ap unbuilt_line none;
+        below = tt;
+        written = shown_none given.start report;
+        arms = arms_of given [] [] given.files given.paging none
+            (record { inner = refl; reached = refl; none = λ none. files; some = λ count some. absurd (cc) })
+            (record { left = record { none = λ none. (paging, refl); some = λ count some. absurd (cc); untouched = λ count some un. absurd (cc) }; rising = omega arith });
+        failed = inl (omega arith);
+      };
+      legal = subst (λ z. LegalFor given.script.header given.outside z []) (sym none) (legal_start given.script.header given.outside);
+    }
+
+pub start_runs : {F P : Type 0} (report : Report) (given : Running F P) (h : List Event) → h ≡ [] → given.files.left ≡ 0 → given.paging.left ≡ 0 → Runs report given h given.start given.files given.paging given.faults
+start_runs report given h nothing files paging = subst (λ z. Runs report given z given.start given.files given.paging given.faults) (sym nothing) (start_run report given files paging)
+
+-- nothing was run
+pub nothing_ran : (report : Report) (script : Script) (outside : Outside) (h : List Event) (written : Option (List ℕ)) → h ≡ [] → RanAs report script outside h ends.NoMemory written written
+nothing_ran report script outside h written nothing =
+    subst (λ z. RanAs report script outside z ends.NoMemory written written) (sym nothing) (
+      record {
+        later = script.commands.items;
+        run = [];
+        order = sym (append-nil script.commands.items);
+        legal = cut_whole script.header outside [] [] (legal_start script.header outside);
+      },
+      start_all written written (shown report []) (shown_none written report),
+    )

@@ -1,0 +1,56 @@
+use Rattle.std.proofs.Common.{◌≡◌, ◌<◌, ◌≤◌, ◌∙◌, length, refl, subst, sym, ap, Err}
+use Rattle.vm_outside.specs.Causes.{sum_count}
+use Rattle.vm_system.specs.Steps.{event_limit}
+use Rattle.vm_top.specs.Running.{Stops}
+use Rattle.vm_top.specs.declared.run.RunEnd.TheVariants as ends
+use Rattle.vm_top.proofs.Settling.{turned_none, turned_settles}
+use Rattle.vm_top.proofs.Turns.{full_stops, held_up_stops, same_end, settles_none, turned_runs, unbuilt_stops}
+use Rattle.vm_top.proofs.run.run_one.Goals as goal
+
+pub returns-then-not-is_built-clause-stops : goal.returns-then-not-is_built-clause-stops
+returns-then-not-is_built-clause-stops g c = λ end is.
+    let same : ends.NotBuilt c.args.numbered.now.line ≡ end = same_end is in
+    subst (Stops c.args.report g.given c.args.system.now.history.items (g.K.Sink.written c.args.out.now) c.args.files.now c.args.paging.now (sum_count (g.P.Backing.faults c.args.paging.now.inner) c.args.paging.now.reached)) same
+    (unbuilt_stops c.args.report g.given c.args.numbered.now c.args.system.now.history.items (g.K.Sink.written c.args.out.now) c.args.files.now c.args.paging.now (sum_count (g.P.Backing.faults c.args.paging.now.inner) c.args.paging.now.reached) c.requires.1.1.1.1.1.1.0 c.requires.1.1.1.1.1.1.1 (sym c.is_built.ensures ∙ c.if-not-is_built.true))
+
+pub returns-then-len-ge-MOST_EVENTS-clause-stops : goal.returns-then-len-ge-MOST_EVENTS-clause-stops
+returns-then-len-ge-MOST_EVENTS-clause-stops g c = λ end is.
+    let same : ends.EventLimit ≡ end = same_end is in
+    let size : c.len.result ≡ length c.args.system.now.history.items = c.len.ensures ∙ ap (λ z. length z.items) c.history.ensures in
+    let full : event_limit ≤ length c.args.system.now.history.items = subst (λ z. event_limit ≤ z) size c.if-len-ge-MOST_EVENTS.true in
+    subst (Stops c.args.report g.given c.args.system.now.history.items (g.K.Sink.written c.args.out.now) c.args.files.now c.args.paging.now (sum_count (g.P.Backing.faults c.args.paging.now.inner) c.args.paging.now.reached)) same
+    (full_stops c.args.report g.given c.args.numbered.now c.args.system.now.history.items (g.K.Sink.written c.args.out.now) c.args.files.now c.args.paging.now (sum_count (g.P.Backing.faults c.args.paging.now.inner) c.args.paging.now.reached) c.requires.1.1.1.1.1.1.0 c.requires.1.1.1.1.1.1.1 (sym c.is_built.ensures ∙ c.if-not-is_built.false) full)
+
+pub returns-then-is_held_up-clause-stops : goal.returns-then-is_held_up-clause-stops
+returns-then-is_held_up-clause-stops g c = λ end is.
+    let same : ends.NotBuilt c.args.numbered.now.line ≡ end = same_end is in
+    let size : c.len.result ≡ length c.args.system.now.history.items = c.len.ensures ∙ ap (λ z. length z.items) c.history.ensures in
+    let below : length c.args.system.now.history.items < event_limit = subst (λ z. z < event_limit) size c.if-len-ge-MOST_EVENTS.false in
+    subst (Stops c.args.report g.given c.args.system.now.history.items (g.K.Sink.written c.args.out.now) c.args.files.now c.args.paging.now (sum_count (g.P.Backing.faults c.args.paging.now.inner) c.args.paging.now.reached)) same
+    (held_up_stops c.args.report g.given c.args.numbered.now c.args.system.now.history.items (g.K.Sink.written c.args.out.now) c.args.files.now c.args.paging.now (sum_count (g.P.Backing.faults c.args.paging.now.inner) c.args.paging.now.reached) c.requires.1.1.1.1.1.1.0 c.requires.1.1.1.1.1.1.1 (sym c.is_built.ensures ∙ c.if-not-is_built.false) below (sym c.is_held_up.ensures ∙ c.if-is_held_up.true))
+
+pub returns-in_err-turn-clause-stops : goal.returns-in_err-turn-clause-stops
+returns-in_err-turn-clause-stops g c = λ end is.
+    let same : end ≡ c.in_err-turn.field-0.0 = rw is at c.from_residual.ensures.1 in
+    c.turn.ensures.stops end (c.in_err-turn.was ∙ ap Err (sym same))
+
+pub returns-in_err-settle-in-Settle-clause-stops : goal.returns-in_err-settle-in-Settle-clause-stops
+returns-in_err-settle-in-Settle-clause-stops g c = λ end is.
+    let same : end ≡ c.in_err-settle-in-Settle.field-0.0 = rw is at c.from_residual-in_err-settle-in-Settle.ensures.1 in
+    c.settle.ensures.stops end (c.in_err-settle-in-Settle.was ∙ ap Err (sym same))
+
+pub returns-in_default-clause-runs : goal.returns-in_default-clause-runs
+returns-in_default-clause-runs g c =
+    turned_runs c.args.report g.given c.args.numbered.now c.turn.new.system.history.items (g.K.Sink.written c.turn.new.out) c.turn.new.files c.turn.new.paging
+    (sum_count (g.P.Backing.faults c.turn.new.paging.inner) c.turn.new.paging.reached) c.in_ok-turn.ensures.turned (settles_none c.args.numbered.now.command c.in_default.not-Settle)
+
+pub settle-requires : goal.settle-requires
+settle-requires g c = λ lifetimes held.
+    let turn = c.in_ok-turn.ensures in
+    let settles =
+    turned_settles c.args.report g.given c.args.numbered.now c.in-Settle.count c.turn.new.system.history.items (g.K.Sink.written c.turn.new.out) c.turn.new.files c.turn.new.paging
+    (sum_count (g.P.Backing.faults c.turn.new.paging.inner) c.turn.new.paging.reached) c.in-Settle.is turn.turned in
+    let none =
+    turned_none c.args.report g.given c.args.numbered.now c.in-Settle.count c.turn.new.system.history.items (g.K.Sink.written c.turn.new.out) c.turn.new.files c.turn.new.paging
+    (sum_count (g.P.Backing.faults c.turn.new.paging.inner) c.turn.new.paging.reached) c.in-Settle.is turn.turned in
+    (held.0, (held.1.0, (held.1.1, (turn.stands, (turn.kept, (settles, (refl, none)))))))

@@ -1,0 +1,53 @@
+-- How the backings are armed when a run ends.
+use Rattle.std.specs.Prelude.{ℕ, ◌+◌, ◌<◌, ◌≤◌, ◌≡◌, ◌⊎◌, Bool, true, false, if◌then◌else◌, List, [], ◌∷◌, Option, Some, None, is_some}
+use Rattle.vm_model.specs.declared.event.Event.{Event}
+use Rattle.vm_model.specs.declared.event.Event.TheVariants as event
+use Rattle.vm_model.specs.declared.command.Command.{Command}
+use Rattle.vm_model.specs.declared.command.Command.TheVariants as command
+use Rattle.vm_model.specs.declared.command.Numbered.{Numbered}
+use Rattle.vm_model.specs.declared.message.Channel.TheVariants.{Up}
+use Rattle.vm_model.specs.declared.script.Script.{Script}
+use Rattle.vm_model.specs.Summary.{count_of, is_line}
+use Rattle.vm_outside.specs.Arming.{Arming}
+use Rattle.vm_outside.specs.Causes.{Rose}
+use Rattle.vm_system.specs.Steps.{arms_paging, devices}
+use Rattle.vm_top.specs.Writing.{oldest}
+
+-- the commands of a script that have a line in the history
+abbrev pub ran_of : Script → List Event → List Numbered
+ran_of script history = oldest (count_of is_line history) script.commands.items
+
+abbrev pub arms_files : Command → Option ℕ
+arms_files (command.FailFiles count) = Some count
+arms_files other = None
+
+-- the number of the last command that arms
+abbrev pub last_arming : (Command → Option ℕ) → List Numbered → Option ℕ
+last_arming arms [] = None
+last_arming arms (numbered ∷ before) = elim (arms numbered.command) [ Some count ↦ Some count | None ↦ last_arming arms before ]
+
+-- no pager took a message since the last command that armed the paging area
+abbrev pub is_untouched : List Numbered → List Event → Bool
+is_untouched run [] = true
+is_untouched [] (event.Line line ∷ past) = true
+is_untouched (numbered ∷ before) (event.Line line ∷ past) = if is_some (arms_paging numbered.command) then true else is_untouched before past
+is_untouched run (event.Taken (Up host object) m ∷ past) = false
+is_untouched run (e ∷ past) = is_untouched run past
+
+-- no file pager runs: the last `fail` of the files left them armed
+pub record FilesLeft {B : Type 0} (run : List Numbered) (old new : Arming B) : Type 0 where
+  pub inner : new.inner ≡ old.inner
+  pub reached : new.reached ≡ old.reached
+  pub none : last_arming arms_files run ≡ None → new.left ≡ 0
+  pub some : (count : ℕ) → last_arming arms_files run ≡ Some count → new.left ≡ count
+
+-- where no `fail` of the paging area was run it isn't armed; else it is, or an armed failure was reached; and it is armed with the last one's number
+-- where no pager took a message since
+pub record PagingLeft {B : Type 0} (run : List Numbered) (history : List Event) (old new : Arming B) : Type 0 where
+  pub none : last_arming arms_paging run ≡ None → (new.left ≡ 0) × (new.reached ≡ old.reached)
+  pub some : (count : ℕ) → last_arming arms_paging run ≡ Some count → (0 < new.left) ⊎ Rose old.reached new.reached
+  pub untouched : (count : ℕ) → last_arming arms_paging run ≡ Some count → is_untouched run history ≡ true → new.left ≡ count
+
+-- the failures of the paging area that were told are at most as many as its count of faults rose, unless that stands at its last value
+abbrev pub FailuresCounted : ℕ → ℕ → List Event → Type 0
+FailuresCounted before now history = (devices history + before ≤ now) ⊎ Rose now now

@@ -1,0 +1,82 @@
+-- What a run keeps between its steps, and how it stops.
+use Rattle.std.specs.Prelude.{ℕ, ◌+◌, ◌≡◌, ◌≢◌, ◌≤◌, List, ◌∷◌, Option, None}
+use Rattle.std.specs.Io.KnownBytes.{Appends}
+use Rattle.vm_model.specs.declared.event.Event.{Event}
+use Rattle.vm_model.specs.declared.command.Command.{Command}
+use Rattle.vm_model.specs.declared.command.Numbered.{Numbered}
+use Rattle.vm_model.specs.declared.script.Script.{Script}
+use Rattle.vm_model.specs.Summary.{count_of, is_line}
+use Rattle.vm_legal.specs.Legal.{LegalFor}
+use Rattle.vm_legal.specs.Outside.{Outside}
+use Rattle.vm_outside.specs.Arming.{Arming}
+use Rattle.vm_outside.specs.Causes.{next_count}
+use Rattle.vm_system.specs.Steps.{IsBelowLimit, IsNext, LegalOpen}
+use Rattle.vm_top.specs.Arming.{FailuresCounted, FilesLeft, PagingLeft, ran_of}
+use Rattle.vm_top.specs.Run.{RanAs, shown, unbuilt_line}
+use Rattle.vm_top.specs.Writing.{oldest}
+use Rattle.vm_top.specs.declared.run.RunEnd.{RunEnd}
+use Rattle.vm_top.specs.declared.run.RunEnd.TheVariants as end
+use Rattle.vm_top.specs.declared.words.Report.{Report}
+
+-- what is told to a run: its script, what is told of the outside, and what stood in the sink and in the backings in front of it
+pub record Running (F P : Type 0) : Type 0 where
+  pub script : Script
+  pub outside : Outside
+  pub start : Option (List ℕ)
+  pub files : Arming F
+  pub paging : Arming P
+  pub faults : ℕ
+
+-- the command in whose step messages are taken, too
+pub record Taking (F P : Type 0) : Type 0 where
+  pub running : Running F P
+  pub command : Command
+
+-- the command is the one behind those that have a line in the history
+abbrev pub IsNextOf : Script → Numbered → List Event → Type 0
+IsNextOf script numbered history = oldest (count_of is_line history + 1) script.commands.items ≡ numbered ∷ oldest (count_of is_line history) script.commands.items
+
+-- the arming of the paging area between two steps; its count of reached failures rose where one was reached
+pub record PagingRuns {B : Type 0} (run : List Numbered) (history : List Event) (old new : Arming B) : Type 0 where
+  pub left : PagingLeft run history old new
+  pub rising : next_count old.reached ≤ next_count new.reached
+
+-- how the backings are armed between two steps
+pub record Arms {F P : Type 0} (given : Running F P) (history : List Event) (f : Arming F) (p : Arming P) : Type 0 where
+  pub files : FilesLeft (ran_of given.script history) given.files f
+  pub paging : PagingRuns (ran_of given.script history) history given.paging p
+
+-- what holds between two steps, inside a settle too
+pub record Keeps {F P : Type 0} (report : Report) (given : Running F P) (history : List Event) (now : Option (List ℕ)) (f : Arming F) (p : Arming P) (faults : ℕ) : Type 0 where
+  pub built : unbuilt_line (ran_of given.script history) ≡ None
+  pub below : IsBelowLimit history
+  pub written : Appends given.start now (shown report history)
+  pub arms : Arms given history f p
+  pub failed : FailuresCounted given.faults faults history
+
+-- what holds between two commands
+pub record Runs {F P : Type 0} (report : Report) (given : Running F P) (history : List Event) (now : Option (List ℕ)) (f : Arming F) (p : Arming P) (faults : ℕ) : Type 0 where
+  pub keeps : Keeps report given history now f p faults
+  pub legal : LegalFor given.script.header given.outside (ran_of given.script history) history
+
+-- what holds behind the step of a command, which for a settle is its line alone
+pub record Turned {F P : Type 0} (report : Report) (given : Running F P) (numbered : Numbered) (history : List Event) (now : Option (List ℕ)) (f : Arming F) (p : Arming P) (faults : ℕ) : Type 0 where
+  pub keeps : Keeps report given history now f p faults
+  pub run : List Numbered
+  pub here : ran_of given.script history ≡ numbered ∷ run
+  pub next : IsNext given.script.header given.outside numbered run history
+
+-- what holds inside a settle
+pub record Settles {F P : Type 0} (report : Report) (given : Taking F P) (history : List Event) (now : Option (List ℕ)) (f : Arming F) (p : Arming P) (faults : ℕ) : Type 0 where
+  pub keeps : Keeps report given.running history now f p faults
+  pub line : ℕ
+  pub run : List Numbered
+  pub here : ran_of given.running.script history ≡ record { line = line; command = given.command } ∷ run
+  pub legal : LegalOpen given.running.script.header given.running.outside (record { line = line; command = given.command } ∷ run) history
+
+-- how a run stops, and what it leaves
+pub record Stops {F P : Type 0} (report : Report) (given : Running F P) (history : List Event) (now : Option (List ℕ)) (f : Arming F) (p : Arming P) (faults : ℕ) (how : RunEnd) : Type 0 where
+  pub ran : RanAs report given.script given.outside history how given.start now
+  pub below : IsBelowLimit history
+  pub arms : how ≢ end.NoMemory → Arms given history f p
+  pub failed : FailuresCounted given.faults faults history
