@@ -29,9 +29,9 @@ use Rattle.vm_system.specs.Stands.{Kept, Stands}
 use Rattle.vm_system.specs.Steps.{DevicesHaveCause, IsLonger, LeavesFiles, LeavesPaging, arms_paging, devices, takes_up}
 use Rattle.vm_system.specs.declared.state.State.{State}
 use Rattle.vm_system.proofs.Agreeing.{devices_said, kept_said, pager_said}
-use Rattle.vm_system.proofs.Legal.{each_all}
 use Rattle.vm_system.proofs.Letters.{orderly_code, orderly_line}
 use Rattle.vm_system.proofs.Sayings.{can_say, orderly_said}
+use Rattle.vm_system.proofs.Stretched.{each_whole}
 use Rattle.vm_system.proofs.Silent.{rests_code, rests_line}
 
 -- what a kernel says behind a line
@@ -68,7 +68,7 @@ stands_told header outside doing line events k ids old new stands tells rests ho
     let now : PagerStands header 0 old.pager (events ++ past) =
     pager_said header outside doing old.pager events past orderly tells.licensed tells.inner tells.said (others header 0 old.pager (event.Line line) h tt agrees.pager) in
     let orderly_now : IsOrderly header (events ++ past) = orderly_said header outside doing past events stands.plain orderly tells.licensed tells.said tells.inner in
-    let copies : EachEvent (CopiesCurrent header outside) (events ++ past) = each_all (CopiesCurrent header outside) events past tells.copies (tt, agrees.copies) in
+    let copies : EachEvent (CopiesCurrent header outside) (events ++ past) = each_whole (CopiesCurrent header outside) events past tells.copies (tt, agrees.copies) in
     record {
       plain = stands.plain;
       rests = rw (grown, host.kernel, host.ids) rests;
@@ -115,10 +115,6 @@ longer_taken line channel m more old new grown = record { more = more ++ event.T
 -- of which none says that a backing failed
 pub devices_told : (header : Header) (outside : Outside) (doing : Command) (line : ℕ) (events old new : List Event) → Tells header outside doing (event.Line line ∷ old) events → new ≡ events ++ event.Line line ∷ old → devices new ≡ devices old
 devices_told header outside doing line events old new tells grown = ap devices grown ∙ devices_said header.size events (event.Line line ∷ old) tells.said
-
--- nothing was told
-pub kept_same : (header : Header) (outside : Outside) (areas : List ℕ → Told) (old new : State) → new.history.items ≡ old.history.items → new.pager ≡ old.pager → Kept header outside areas old → Kept header outside areas new
-kept_same header outside areas old new same pager kept = record { pager = rw (same, pager) kept.pager; fits = λ told. rw (same, pager) (kept.fits told) }
 
 -- the code of a refusal follows the line
 pub stands_refused : (header : Header) (outside : Outside) (line : ℕ) (why : Code) (old new : State) → Stands header outside old → SameHost old new → Posts new new.history.items

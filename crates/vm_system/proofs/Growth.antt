@@ -3,22 +3,15 @@ use Rattle.std.proofs.Common.{◌≡◌, ℕ, ◌<◌, List, [], ◌∷◌, ◌+
 use Rattle.vm_base.specs.declared.code.Code.{Code}
 use Rattle.vm_model.specs.declared.event.Event.{Event}
 use Rattle.vm_model.specs.declared.event.Event.TheVariants as event
-use Rattle.vm_model.specs.Moments.{BeforeSteps, before_last_line}
+use Rattle.vm_model.specs.Moments.{before_last_line}
 use Rattle.vm_legal.specs.Steps.{before_step, takings}
 use Rattle.vm_kernel.specs.Begun.{AllInner, IsInner}
 use Rattle.vm_system.specs.Steps.{Grew, IsBelowLimit, MayBegin, Taking, event_limit, lined}
 use Rattle.vm_system.specs.Takings.{MayBeCut, TakesStep}
+use Rattle.vm_system.proofs.Legal.{takings_all}
+use Rattle.vm_system.proofs.Stretched.{steps_whole}
 
--- events inside a step begin none
-
-begins_same : (P : List Event → Type 0) (e : Event) (past : List Event) → IsInner e → BeforeSteps P past → BeforeSteps P (e ∷ past)
-begins_same P (event.Line line) past inner rest = absurd inner
-begins_same P (event.Taken channel m) past inner rest = absurd inner
-begins_same P other past inner rest = rest
-
-begins_all : (P : List Event → Type 0) (events past : List Event) → AllInner events → BeforeSteps P past → BeforeSteps P (events ++ past)
-begins_all P [] past inner rest = rest
-begins_all P (e ∷ events) past inner rest = begins_same P e (events ++ past) inner.0 (begins_all P events past inner.1 rest)
+-- what stands in front of a line, or of a step, is the same behind events inside it
 
 line_same : (e : Event) (past : List Event) → IsInner e → before_last_line (e ∷ past) ≡ before_last_line past
 line_same (event.Line line) past inner = absurd inner
@@ -37,15 +30,6 @@ step_all : (events past : List Event) → AllInner events → before_step (event
 step_all [] past inner = refl
 step_all (e ∷ events) past inner = step_same e (events ++ past) inner.0 ∙ step_all events past inner.1
 
-takings_same : (e : Event) (past : List Event) → IsInner e → takings (e ∷ past) ≡ takings past
-takings_same (event.Line line) past inner = absurd inner
-takings_same (event.Taken channel m) past inner = absurd inner
-takings_same other past inner = refl
-
-takings_all : (events past : List Event) → AllInner events → takings (events ++ past) ≡ takings past
-takings_all [] past inner = refl
-takings_all (e ∷ events) past inner = takings_same e (events ++ past) inner.0 ∙ takings_all events past inner.1
-
 -- nothing was told
 pub grew_none : (old new : List Event) → new ≡ old → Grew old new
 grew_none old new same = record { more = []; is = same; limit = λ below before. subst IsBelowLimit (sym same) before }
@@ -56,7 +40,7 @@ grew_begun line events old new is inner =
     record {
       more = events ++ event.Line line ∷ [];
       is = is ∙ sym (append_assoc events (event.Line line ∷ []) old);
-      limit = λ below before. subst IsBelowLimit (sym is) (begins_all MayBegin events (event.Line line ∷ old) inner (inl below, before));
+      limit = λ below before. subst IsBelowLimit (sym is) (steps_whole MayBegin events (event.Line line ∷ old) inner (inl below, before));
     }
 
 pub front_begun : (line : ℕ) (events old new : List Event) → new ≡ events ++ event.Line line ∷ old → AllInner events → before_last_line new ≡ old
@@ -94,7 +78,7 @@ grew_taken given line old new step past =
     record {
       more = step.more ++ taken ∷ front.0;
       is = whole ∙ (ap (λ z. step.more ++ taken ∷ z) front.1 ∙ sym (append_assoc step.more (taken ∷ front.0) old));
-      limit = λ below before. subst IsBelowLimit (sym whole) (begins_all MayBegin step.more (taken ∷ lined line old) step.inner (lined_may line old below before));
+      limit = λ below before. subst IsBelowLimit (sym whole) (steps_whole MayBegin step.more (taken ∷ lined line old) step.inner (lined_may line old below before));
     }
 
 pub step_taken : (given : Taking) (new : List Event) → TakesStep given new → before_step new ≡ given.past

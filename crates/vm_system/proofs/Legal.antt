@@ -1,6 +1,5 @@
 -- The history stays legal with the step of each command.
-use Rattle.std.proofs.Common.{◌≡◌, ℕ, zero, suc, ◌≤◌, true, false, List, [], ◌∷◌, ◌++◌, append-nil, refl, sym, ◌∙◌, subst, Some, None, inl}
-use Rattle.std.specs.Prelude.{reverse, slice_get, IfSome}
+use Rattle.std.proofs.Common.{◌≡◌, ℕ, true, false, List, [], ◌∷◌, ◌++◌, append-nil, refl, sym, ◌∙◌, subst, Some, None, inl}
 use Rattle.vm_base.specs.declared.code.Code.{Code}
 use Rattle.vm_model.specs.declared.event.Event.{Event}
 use Rattle.vm_model.specs.declared.event.Event.TheVariants as event
@@ -8,11 +7,11 @@ use Rattle.vm_model.specs.declared.command.Command.{Command}
 use Rattle.vm_model.specs.declared.command.Command.TheVariants as command
 use Rattle.vm_model.specs.declared.command.Numbered.{Numbered}
 use Rattle.vm_model.specs.declared.script.Header.{Header}
-use Rattle.vm_model.specs.Moments.{BeforeSteps, EachEvent, EachMoment}
+use Rattle.vm_model.specs.Moments.{EachEvent}
 use Rattle.vm_legal.specs.Bytes.{CopiesCurrent, FlatBytes, OwnBytes}
 use Rattle.vm_legal.specs.Debts.{IsPaid}
 use Rattle.vm_legal.specs.Follows.{Follows, FollowsSoFar, IsDone, IsGroup, IsRun, IsWhole, head}
-use Rattle.vm_legal.specs.Frames.{FramesSuffice, Suffice, frames_used}
+use Rattle.vm_legal.specs.Frames.{FramesSuffice, Suffice}
 use Rattle.vm_legal.specs.Legal.{Holds, IsAtRest, LegalFor}
 use Rattle.vm_legal.specs.Licences.{AllLicensed}
 use Rattle.vm_legal.specs.Outside.{Outside}
@@ -28,10 +27,7 @@ use Rattle.vm_kernel.specs.Matches.{IsPlain}
 use Rattle.vm_kernel.specs.declared.parts.Parts.{Parts}
 use Rattle.vm_system.specs.Steps.{KeepsLegal, LegalOpen, is_idle, settles}
 use Rattle.vm_system.proofs.Silent.{paid_inner, prompt_code, prompt_line}
-
-pub moment_now : (P : List Event → Type 0) (h : List Event) → EachMoment P h → P h
-moment_now P [] each = each
-moment_now P (e ∷ past) each = each.0
+use Rattle.vm_system.proofs.Stretched.{each_whole, moment_last, moments_whole, steps_whole}
 
 -- a line in front changes no refusal and no head
 
@@ -69,41 +65,13 @@ head_line header line h (command.FailFiles count) = refl
 head_line header line h (command.FailPaging count) = refl
 head_line header line h other = refl
 
--- what holds of the events that were added, and of those in front, holds of all
-
-pub each_all : (P : Event → List Event → Type 0) (events past : List Event) → EachIn P events past → EachEvent P past → EachEvent P (events ++ past)
-each_all P [] past some rest = rest
-each_all P (e ∷ events) past some rest = (some.0, each_all P events past some.1 rest)
-
--- the one host has frames enough
-pub suffice_all : (header : Header) (h : List Event) → IsPlain header → Suffice header 0 h → FramesSuffice header h
-suffice_all header h plain one = λ host. subst (λ (z : List ℕ). IfSome (slice_get (reverse z) host) (λ frames. frames_used header.size host h ≤ frames)) (sym plain.hosts) (go host (subst (λ (z : List ℕ). IfSome (slice_get (reverse z) 0) (λ frames. frames_used header.size 0 h ≤ frames)) plain.hosts one))
-  where
-    go : (host : ℕ) → frames_used header.size 0 h ≤ plain.frames → IfSome (slice_get (plain.frames ∷ []) host) (λ frames. frames_used header.size host h ≤ frames)
-    go zero le = le
-    go (suc host) le = tt
-
-pub moments_all : (header : Header) (events past : List Event) → IsPlain header → MomentsIn (Suffice header 0) events past → EachMoment (FramesSuffice header) past → EachMoment (FramesSuffice header) (events ++ past)
-moments_all header [] past plain some rest = rest
-moments_all header (e ∷ events) past plain some rest = (suffice_all header (e ∷ (events ++ past)) plain some.0, moments_all header events past plain some.1 rest)
-
--- events inside a step begin none
-
-inner_steps : (P : List Event → Type 0) (e : Event) (past : List Event) → IsInner e → BeforeSteps P past → BeforeSteps P (e ∷ past)
-inner_steps P (event.Line line) past inner rest = absurd inner
-inner_steps P (event.Taken channel message) past inner rest = absurd inner
-inner_steps P other past inner rest = rest
-
-pub steps_all : (P : List Event → Type 0) (events past : List Event) → AllInner events → BeforeSteps P past → BeforeSteps P (events ++ past)
-steps_all P [] past inner rest = rest
-steps_all P (e ∷ events) past inner rest = inner_steps P e (events ++ past) inner.0 (steps_all P events past inner.1 rest)
+-- events inside a step take nothing
 
 inner_takings : (e : Event) (past : List Event) → IsInner e → takings (e ∷ past) ≡ takings past
 inner_takings (event.Line line) past inner = absurd inner
 inner_takings (event.Taken channel message) past inner = absurd inner
 inner_takings other past inner = refl
 
--- and take nothing
 pub takings_all : (events past : List Event) → AllInner events → takings (events ++ past) ≡ takings past
 takings_all [] past inner = refl
 takings_all (e ∷ events) past inner = inner_takings e (events ++ past) inner.0 ∙ takings_all events past inner.1
@@ -134,15 +102,15 @@ pub legal_step : (header : Header) (outside : Outside) (c : Numbered) (h events 
     → KeepsLegal header outside c h (events ++ event.Line c.line ∷ h)
 legal_step header outside c h events plain copies step run legal =
     let past = event.Line c.line ∷ h in
-    let now = moment_now (FramesSuffice header) h legal.holds.frames in
+    let now = moment_last (FramesSuffice header) h legal.holds.frames in
     let follows : FollowsSoFar header outside (c ∷ run) (events ++ past) = (h, events, refl, step.made, legal.follows) in
-    let own : EachEvent (OwnBytes header) (events ++ past) = each_all (OwnBytes header) events past step.own_bytes (tt, legal.holds.own_bytes) in
+    let own : EachEvent (OwnBytes header) (events ++ past) = each_whole (OwnBytes header) events past step.own_bytes (tt, legal.holds.own_bytes) in
     let holds : Holds header outside (events ++ past) = record {
       own_bytes = own;
-      flat_bytes = flat_of header outside (c ∷ run) (events ++ past) follows own (each_all (CopiesCurrent header outside) events past step.copies (tt, copies));
-      frames = moments_all header events past plain (step.frames (now 0)) (now, legal.holds.frames);
-      prompt = steps_all (Prompt header) events past step.inner (legal.rests.prompt, legal.holds.prompt);
-      paid = steps_all (IsPaid header) events past step.inner (legal.rests.paid, legal.holds.paid);
+      flat_bytes = flat_of header outside (c ∷ run) (events ++ past) follows own (each_whole (CopiesCurrent header outside) events past step.copies (tt, copies));
+      frames = moments_whole header events past plain (step.frames (now 0)) (now, legal.holds.frames);
+      prompt = steps_whole (Prompt header) events past step.inner (legal.rests.prompt, legal.holds.prompt);
+      paid = steps_whole (IsPaid header) events past step.inner (legal.rests.paid, legal.holds.paid);
     } in
     let rests = step.rests legal.rests in
     record {

@@ -1,6 +1,5 @@
 -- A message is taken by the pager, which answers.
 use Rattle.std.proofs.Common.{append_assoc, length-append, ◌≡◌, ◌⊎◌, ℕ, suc, ◌+◌, ◌<◌, ◌≤◌, List, [], ◌∷◌, ◌++◌, length, take, Option, Some, Ok, Err, refl, sym, ◌∙◌, ap, subst, arith, inl, inr}
-use Rattle.std.specs.Prelude.{OnErr, OnOk, Result}
 use Rattle.pg_slots.specs.Contents.{Carries, Content, Fits, IsTold}
 use Rattle.pg_slots.specs.Slots.{KeepsShape, SlotTable}
 use Rattle.pg_default.proofs.Carrying.{carries}
@@ -271,13 +270,3 @@ may_reserved given line number channel s t may same items made numbers letters b
 
 pub front_length : (n : ℕ) (history events : List Event) (e : Event) → take n history ≡ events ++ e ∷ [] → n ≡ length events + 1 → length (take n history) ≡ n
 front_length n history events e is count = ap length is ∙ length-append events (e ∷ []) ∙ sym count
-
--- results that are handed on
-
-pub on_ok : {T E : Type 0} → (A B : Type 0) (r : Result T E) → (A → B) → OnOk r A → OnOk r B
-on_ok A B (Ok x) f is = f is
-on_ok A B (Err e) f is = tt
-
-pub on_err : {T E : Type 0} → (A B : Type 0) (r : Result T E) → (A → B) → OnErr r A → OnErr r B
-on_err A B (Ok x) f is = tt
-on_err A B (Err e) f is = f is

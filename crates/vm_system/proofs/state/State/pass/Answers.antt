@@ -1,7 +1,8 @@
 use Rattle.std.proofs.Common.{ap}
 use Rattle.std.proofs.lemmas.Result.{on_ok_weaker}
 use Rattle.vm_system.specs.Steps.{devices}
-use Rattle.vm_system.proofs.Beginning.{can_tell, devices_told, kept_same, kept_told, longer_told, on_both, on_either, stands_told, tells_gone}
+use Rattle.vm_system.proofs.Beginning.{can_tell, devices_told, kept_told, longer_told, on_both, on_either, stands_told, tells_gone}
+use Rattle.vm_system.proofs.Following.{kept_same}
 use Rattle.vm_system.proofs.Growth.{front_begun, grew_begun, grew_none}
 use Rattle.vm_system.proofs.Legal.{legal_passed}
 use Rattle.vm_system.proofs.state.State.pass.Goals as goal
@@ -25,7 +26,7 @@ pub returns-clause-kept : goal.returns-clause-kept
 returns-clause-kept g c = λ areas kept.
     on_either c.append.result
     (λ grown. kept_told g.given.header g.given.outside c.args.command.now areas c.args.line c.in_ok-events.events.items c.args.self.now c.append.new.self c.requires.0 (tells_gone _ _ _ _ _ c.in_ok-events.ensures.goes) grown c.append.ensures.host.pager kept)
-    (λ same. kept_same g.given.header g.given.outside areas c.args.self.now c.append.new.self same c.append.ensures.host.pager kept)
+    (λ same. kept_same g.given.header g.given.outside areas c.args.self.now c.append.new.self c.append.ensures.host.pager same kept)
     c.append.ensures.history c.append.ensures.err
 
 pub returns-clause-longer : goal.returns-clause-longer

@@ -1,17 +1,15 @@
 use Rattle.std.proofs.Common.{List, ◌∷◌, refl, subst, sym, Some}
-use Rattle.std.proofs.lemmas.Result.{on_ok_weaker}
-use Rattle.vm_model.specs.declared.command.Command.TheVariants as command
+use Rattle.std.proofs.lemmas.Result.{on_err_weaker, on_ok_weaker}
 use Rattle.vm_model.specs.declared.command.Command.{Command}
 use Rattle.vm_model.specs.declared.event.Event.{Event}
 use Rattle.vm_model.specs.declared.event.Event.TheVariants as event
-use Rattle.vm_system.specs.Steps.{KeepsLegal, MayCut, Taking}
+use Rattle.vm_system.specs.Steps.{Taking}
 use Rattle.vm_system.specs.Takings.{MayBeCut, Took}
 use Rattle.vm_system.proofs.Beginning.{longer_taken, on_either}
 use Rattle.vm_system.proofs.Growth.{grew_cut, grew_taken, line_taken}
 use Rattle.vm_system.proofs.Numbers.{number_read}
 use Rattle.vm_system.proofs.TakenFrom.{cuts_taken, keeps_taken}
 use Rattle.vm_system.proofs.Untouched.{not_up_from}
-use Rattle.vm_system.proofs.TakenUp.{on_err, on_ok}
 use Rattle.vm_system.proofs.state.State.take_from.Goals as goal
 
 pub returns-clause-legal : goal.returns-clause-legal
@@ -24,7 +22,7 @@ returns-clause-legal g c =
     let new = c.take.new.self in
     let past : List Event = event.Line c.args.line ∷ old.history.items in
     let taking : Command → Taking = λ z. record { header = given.header; outside = given.outside; command = z; past = past } in
-    on_ok (Took (taking given.command) new) (KeepsLegal given.header given.outside (record { line = c.args.line; command = command.Take c.args.channel }) old.history.items new.history.items) c.take.result
+    on_ok_weaker c.take.result
     (λ took. keeps_taken given.header given.outside c.args.line c.args.channel old new stands fine (subst (λ (z : Command). Took (taking z) new) is took)) c.take.ensures.took
 
 pub returns-clause-memory : goal.returns-clause-memory
@@ -37,7 +35,7 @@ returns-clause-memory g c =
     let new = c.take.new.self in
     let past : List Event = event.Line c.args.line ∷ old.history.items in
     let taking : Command → Taking = λ z. record { header = given.header; outside = given.outside; command = z; past = past } in
-    on_err (MayBeCut (taking given.command) old.history.items new.history.items) (MayCut given.header given.outside (record { line = c.args.line; command = command.Take c.args.channel }) old.history.items new.history.items) c.take.result
+    on_err_weaker c.take.result
     (λ cut. cuts_taken given.header given.outside c.args.line c.args.channel old new.history.items stands fine (subst (λ (z : Command). MayBeCut (taking z) old.history.items new.history.items) is cut)) c.take.ensures.cut
 
 pub returns-clause-longer : goal.returns-clause-longer

@@ -1,4 +1,5 @@
 use Rattle.std.proofs.Common.{◌≡◌, ℕ, ◌+◌, List, [], ◌∷◌, ◌++◌, length, take, refl, subst, sym, ◌∙◌, ap, inr}
+use Rattle.std.proofs.lemmas.Result.{on_err_weaker, on_ok_weaker}
 use Rattle.vm_model.specs.declared.event.Event.{Event}
 use Rattle.vm_model.specs.declared.event.Event.TheVariants as event
 use Rattle.vm_model.specs.declared.message.Channel.{Channel}
@@ -7,10 +8,10 @@ use Rattle.vm_model.specs.Channels.{queue}
 use Rattle.vm_kernel.specs.Begun.{Passing}
 use Rattle.vm_kernel.specs.Matches.{the_host}
 use Rattle.vm_system.specs.Steps.{devices}
-use Rattle.vm_system.specs.Takings.{Answered, Followed, MayBeCut, Took}
+use Rattle.vm_system.specs.Takings.{Answered, Followed}
 use Rattle.vm_system.proofs.Following.{kept_same}
 use Rattle.vm_system.proofs.Taken.{first_told, may_head, may_only, may_port, may_some, may_there}
-use Rattle.vm_system.proofs.TakenUp.{answered_up, can_reply, cut_up, devices_up, fewer_room, front_is, front_length, kept_failed, kept_up, may_reserved, on_err, on_ok, reply_of, took_up, up_may, up_word}
+use Rattle.vm_system.proofs.TakenUp.{answered_up, can_reply, cut_up, devices_up, fewer_room, front_is, front_length, kept_failed, kept_up, may_reserved, reply_of, took_up, up_may, up_word}
 use Rattle.vm_system.proofs.state.State.take_up.Goals as goal
 
 pub head-requires : goal.head-requires
@@ -153,7 +154,7 @@ returns-clause-cut g c =
     let pager : now.pager ≡ slots = said.pager ∙ taken.pager in
     let items : now.history.items ≡ events ++ event.Taken channel m ∷ given.past = c.commit.ensures.history ∙ ap (λ (z : List Event). events ++ z) told in
     let new = c.follow.new.self in
-    on_err (new.history.items ≡ now.history.items) (MayBeCut given c.args.self.now.history.items new.history.items) c.follow.result
+    on_err_weaker c.follow.result
     (λ same. inr (cut_up given c.args.line c.args.number c.args.object m t slots events new.history.items own.0 reply (same ∙ items))) c.follow.ensures.err
 
 pub returns-clause-kept : goal.returns-clause-kept
@@ -228,5 +229,5 @@ returns-clause-took g c =
     let front : take n now.history.items ≡ events ++ event.Taken channel m ∷ [] = front_is n events (event.Taken channel m) given.past now.history.items count items in
     let new = c.follow.new.self in
     let passing : List Event → Passing = λ z. record { header = given.header; outside = given.outside; past = given.past; front = z; command = given.command } in
-    on_ok (Followed (passing (take n now.history.items)) new) (Took given new) c.follow.result
+    on_ok_weaker c.follow.result
     (λ followed. took_up given c.args.line c.args.number c.args.object m t new slots events own.0 reply (subst (λ (z : List Event). Followed (passing z) new) front followed)) c.follow.ensures.followed
