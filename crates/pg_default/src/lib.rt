@@ -7,6 +7,3 @@ mod telling;
 
 pub use law::answers_are_legal;
 pub use pager::DefaultPager;
-
-#[cfg(test)]
-mod tests;

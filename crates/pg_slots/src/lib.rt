@@ -10,6 +10,3 @@ mod slots;
 pub use answers::{Got, Put};
 pub use slot_row::{Held, SlotRow};
 pub use slots::Slots;
-
-#[cfg(test)]
-mod tests;

@@ -6,8 +6,6 @@ mod directory;
 mod holding;
 mod law;
 mod reply;
-#[cfg(test)]
-mod tests;
 
 pub use directory::PageDirectory;
 pub use law::directory_law;

@@ -9,8 +9,6 @@ mod posting;
 mod serve;
 mod stage;
 mod step;
-#[cfg(test)]
-mod tests;
 mod world;
 
 pub use step::WorldStep;

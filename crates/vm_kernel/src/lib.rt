@@ -19,6 +19,3 @@ mod taking;
 
 pub use changes::{enter, inheritance, protection, removal};
 pub use kernel::Kernel;
-
-#[cfg(test)]
-mod tests;

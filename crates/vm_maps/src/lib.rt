@@ -12,6 +12,3 @@ mod task_map;
 pub use change::{MapChange, MapKind};
 pub use maps::Maps;
 pub use place::Place;
-
-#[cfg(test)]
-mod tests;

@@ -8,8 +8,6 @@ mod fault;
 mod message;
 mod name;
 mod script;
-#[cfg(test)]
-mod tests;
 
 pub use command::{Command, Numbered};
 pub use event::{Device, Event, Way};

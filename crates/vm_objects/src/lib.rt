@@ -10,6 +10,3 @@ mod slot;
 pub use holder::Holder;
 pub use objects::Objects;
 pub use row::{ObjectRow, PagerState};
-
-#[cfg(test)]
-mod tests;

@@ -14,8 +14,6 @@ mod sink;
 mod source;
 mod std_sink;
 mod std_source;
-#[cfg(test)]
-mod tests;
 
 pub use armed::Armed;
 pub use backing::Backing;

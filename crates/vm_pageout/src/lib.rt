@@ -8,6 +8,3 @@ mod reclaiming;
 pub use answer::Reclaim;
 pub use laundry::Laundry;
 pub use reclaiming::reclaim;
-
-#[cfg(test)]
-mod tests;

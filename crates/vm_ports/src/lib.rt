@@ -6,6 +6,3 @@ mod ports;
 
 pub use letter::{Letter, SendBack};
 pub use ports::Ports;
-
-#[cfg(test)]
-mod tests;

@@ -5,6 +5,3 @@ mod lists;
 mod queues;
 
 pub use queues::PageQueues;
-
-#[cfg(test)]
-mod tests;

@@ -7,6 +7,3 @@ mod resident_page;
 
 pub use page_row::PageRow;
 pub use resident::Resident;
-
-#[cfg(test)]
-mod tests;

@@ -9,6 +9,3 @@ mod region_row;
 pub use chains::Chains;
 pub use ids::Ids;
 pub use region_row::RegionRow;
-
-#[cfg(test)]
-mod tests;

@@ -8,6 +8,3 @@ mod woken;
 
 pub use answers::answer;
 pub use woken::Woken;
-
-#[cfg(test)]
-mod tests;

@@ -18,6 +18,3 @@ mod taking;
 pub use settling::settle;
 pub use stop::SystemStop;
 pub use system::System;
-
-#[cfg(test)]
-mod tests;

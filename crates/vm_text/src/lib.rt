@@ -25,12 +25,3 @@ pub use fields::Line;
 pub use numbers::{count_in, number_of};
 pub use reader::read_script;
 pub use unbuilt::unbuilt_header;
-
-#[cfg(test)]
-mod fault_tests;
-#[cfg(test)]
-mod hostile_tests;
-#[cfg(test)]
-mod script_tests;
-#[cfg(test)]
-mod tests;

@@ -9,6 +9,3 @@ mod waits;
 
 pub use waiting::{On, Waiting, Want};
 pub use waits::Waits;
-
-#[cfg(test)]
-mod tests;

@@ -1,0 +1,12 @@
+//! The pagers and their slots, the server's directory and the page world, each public call once: they are proved to be called as they
+//! may be, and run. They stand in a crate of their own, since a crate with tests is proved twice.
+#![tactic(auto)]
+
+#[cfg(test)]
+mod default_pager;
+#[cfg(test)]
+mod directory;
+#[cfg(test)]
+mod slots;
+#[cfg(test)]
+mod world;

@@ -1,0 +1,28 @@
+//! The parts of a host and of its outside, each public call once: they are proved to be called as they may be, and run. They stand in a
+//! crate of their own, since a crate with tests is proved twice.
+#![tactic(auto)]
+
+#[cfg(test)]
+mod answers;
+#[cfg(test)]
+mod chains;
+#[cfg(test)]
+mod frames;
+#[cfg(test)]
+mod maps;
+#[cfg(test)]
+mod messages;
+#[cfg(test)]
+mod objects;
+#[cfg(test)]
+mod outside;
+#[cfg(test)]
+mod pageout;
+#[cfg(test)]
+mod ports;
+#[cfg(test)]
+mod queues;
+#[cfg(test)]
+mod resident;
+#[cfg(test)]
+mod waits;

@@ -1,0 +1,16 @@
+//! The kernel, the system, the texts and the top call, each public call once: they are proved to be called as they may be, and run.
+//! They stand in a crate of their own, since a crate with tests is proved twice.
+#![tactic(auto)]
+
+#[cfg(test)]
+mod kernel;
+#[cfg(test)]
+mod paging;
+#[cfg(test)]
+mod runs;
+#[cfg(test)]
+mod scripts;
+#[cfg(test)]
+mod system;
+#[cfg(test)]
+mod texts;

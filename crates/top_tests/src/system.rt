@@ -1,0 +1,59 @@
+// Each call once, on a host of four frames where nothing is on its way.
+ghost use Rattle.std.specs.Prelude.{◌≡◌, IfOk};
+ghost use Rattle.vm_kernel.specs.Matches.{IsPlain};
+ghost use Rattle.vm_system.specs.Stands.{Kept, Stands};
+ghost use Rattle.vm_system.specs.Steps.{Setting};
+
+use vm_system::{System, SystemStop, settle};
+use std::alloc::Global;
+use std::test::Fail;
+use vm_base::PageSize;
+use vm_model::{Command, Counts, Declarations, Header};
+use vm_outside::{Armed, Backing, SureBacking};
+
+fn header_of(alloc: Global, frames: u32) -> Result<Header, Fail>
+    ensures plain { IfOk result (λ header. IsPlain header) }
+    ensures slots { IfOk result (λ header. header.slots ≡ 1) }
+{
+    let size = PageSize::of(16).ok_or("16 is a page size")?;
+    let mut counts = Counts::new(alloc);
+    counts.push(frames)?;
+    Ok(Header {
+        size,
+        slots: 1,
+        frames: counts,
+        objects: Declarations::new(alloc),
+    })
+}
+
+// What three calls answer: the events of the step, whether a message was taken, and how many were.
+fn settle_all(
+    header: &Header,
+    system: &mut System,
+    files: &mut Armed<SureBacking>,
+    paging: &mut Armed<SureBacking>,
+) -> Result<(u32, bool, u32), SystemStop>
+    ghost given: { Setting }
+    requires header { given.header ≡ header.now }
+    requires stands { Stands given.header given.outside system.old }
+    requires kept { Kept given.header given.outside (⟦<SureBacking as Backing>⟧.area paging.old.inner) system.old }
+{
+    let command = Command::Settle { count: 2 };
+    let events = system.step(1, &command, files, paging)?;
+    let took = system.take_oldest(files, paging)?;
+    let taken = settle(system, 1, files, paging)?;
+    Ok((events, took, taken))
+}
+
+#[test]
+fn each_call(rt: HostRuntime) -> Result<(), Fail> {
+    let header = header_of(rt.alloc(), 4)?;
+    let mut files = Armed::new(SureBacking::new(rt.alloc()));
+    let mut paging = Armed::new(SureBacking::new(rt.alloc()));
+    let mut system = System::new(rt.alloc(), &header)?;
+    let answers = settle_all(&header, &mut system, &mut files, &mut paging);
+    assert_eq!(rt; answers, Ok((1, false, 0)));
+    assert_eq!(rt; system.history().len(), 1);
+    assert_eq!(rt; system.into_history().len(), 1);
+    Ok(())
+}

@@ -1,4 +1,0 @@
-use Rattle.vm_kernel.proofs.tests.make_task.Given as goal
-
-abbrev pub ghost-begin : goal.ghost-begin
-ghost-begin g a = g.given
