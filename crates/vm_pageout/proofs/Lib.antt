@@ -1,2 +1,1 @@
-mod Hosting
 mod Returning

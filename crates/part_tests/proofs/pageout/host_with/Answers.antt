@@ -1,5 +1,5 @@
 use Rattle.std.proofs.Common.{refl, ap, subst, sym, ℕ, ◌<◌, arith}
-use Rattle.vm_pageout.proofs.Hosting.{hosted}
+use Rattle.part_tests.proofs.Hosting.{hosted}
 use Rattle.part_tests.proofs.pageout.host_with.Goals as goal
 
 pub returns-clause-fit : goal.returns-clause-fit
