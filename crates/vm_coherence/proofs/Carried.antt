@@ -38,20 +38,20 @@ pub record Carried (s : Side) (n : ℕ) : Type 0 where
   pub step_first : 0 < s.step → s.unlocking ≡ false
   pub upgrading_reads : 0 < n → s.holds ≡ 1
 
-pub carried_asking : (ws : List Waiter) (s : Side) (n : ℕ) (control asker access : ℕ) → Sound s → Carried s n → s.live ≡ true → MaySend ws s (Asking asker access) → Carried (move s (SendsUp control (Asking asker access))) (after s n (SendsUp control (Asking asker access)))
-carried_asking ws s n control asker access ok k live may = grind (arith, nat_tests, sum_up_end, unlocks_left_end)
+pub carried_asking : (ws : List Waiter) (rs : List ℕ) (s : Side) (n : ℕ) (control asker access : ℕ) → Sound s → Carried s n → s.live ≡ true → MaySend ws rs s (Asking asker access) → Carried (move s (SendsUp control (Asking asker access))) (after s n (SendsUp control (Asking asker access)))
+carried_asking ws rs s n control asker access ok k live may = grind (arith, nat_tests, sum_up_end, unlocks_left_end)
 
-pub carried_unlocking : (ws : List Waiter) (s : Side) (n : ℕ) (control access : ℕ) → Sound s → Carried s n → MaySend ws s (Unlocking access) → Carried (move s (SendsUp control (Unlocking access))) (after s n (SendsUp control (Unlocking access)))
-carried_unlocking ws s n control access ok k may = grind (arith, nat_tests, sum_up_end, unlocks_left_end)
+pub carried_unlocking : (ws : List Waiter) (rs : List ℕ) (s : Side) (n : ℕ) (control access : ℕ) → Sound s → Carried s n → MaySend ws rs s (Unlocking access) → Carried (move s (SendsUp control (Unlocking access))) (after s n (SendsUp control (Unlocking access)))
+carried_unlocking ws rs s n control access ok k may = grind (arith, nat_tests, sum_up_end, unlocks_left_end)
 
-pub carried_returning : (ws : List Waiter) (s : Side) (n : ℕ) (control : ℕ) (dirty keep : Bool) (bytes : List ℕ) → Sound s → Carried s n → MaySend ws s (Returning dirty keep bytes) → Carried (move s (SendsUp control (Returning dirty keep bytes))) (after s n (SendsUp control (Returning dirty keep bytes)))
-carried_returning ws s n control dirty keep bytes ok k may = grind (arith, nat_tests, sum_up_end, unlocks_left_end, outcome_le, drain_0)
+pub carried_returning : (ws : List Waiter) (rs : List ℕ) (s : Side) (n : ℕ) (control : ℕ) (dirty keep : Bool) (bytes : List ℕ) → Sound s → Carried s n → MaySend ws rs s (Returning dirty keep bytes) → Carried (move s (SendsUp control (Returning dirty keep bytes))) (after s n (SendsUp control (Returning dirty keep bytes)))
+carried_returning ws rs s n control dirty keep bytes ok k may = grind (arith, nat_tests, sum_up_end, unlocks_left_end, outcome_le, drain_0)
 
-pub carried_doing : (ws : List Waiter) (s : Side) (n : ℕ) (control told count : ℕ) → Sound s → Carried s n → MaySend ws s (Doing told count) → Carried (move s (SendsUp control (Doing told count))) (after s n (SendsUp control (Doing told count)))
-carried_doing ws s n control told count ok k may = grind (arith, nat_tests, sum_up_end)
+pub carried_doing : (ws : List Waiter) (rs : List ℕ) (s : Side) (n : ℕ) (control told count : ℕ) → Sound s → Carried s n → MaySend ws rs s (Doing told count) → Carried (move s (SendsUp control (Doing told count))) (after s n (SendsUp control (Doing told count)))
+carried_doing ws rs s n control told count ok k may = grind (arith, nat_tests, sum_up_end)
 
-pub carried_ending : (ws : List Waiter) (s : Side) (n : ℕ) (control told : ℕ) → Sound s → Carried s n → MaySend ws s (Ending told) → Carried (move s (SendsUp control (Ending told))) (after s n (SendsUp control (Ending told)))
-carried_ending ws s n control told ok k may = grind (arith, nat_tests, sum_up_end, unlocks_left_end)
+pub carried_ending : (ws : List Waiter) (rs : List ℕ) (s : Side) (n : ℕ) (control told : ℕ) → Sound s → Carried s n → MaySend ws rs s (Ending told) → Carried (move s (SendsUp control (Ending told))) (after s n (SendsUp control (Ending told)))
+carried_ending ws rs s n control told ok k may = grind (arith, nat_tests, sum_up_end, unlocks_left_end)
 
 pub carried_drops : (s : Side) (n : ℕ) → Sound s → Carried s n → Carried (move s Drops) (after s n Drops)
 carried_drops s n ok k = grind (arith, nat_tests, outcome_le, drain_0)

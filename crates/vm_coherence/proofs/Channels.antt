@@ -1,12 +1,12 @@
 -- A page's words on the way up are those of its channel, in order.
-use Rattle.std.proofs.Common.{◌≡◌, ℕ, ◌==◌, ◌&&◌, List, [], ◌∷◌, ◌++◌, arith, Some, if◌then◌else◌, refl, ap, sym, ◌∙◌, replicate, ◌%◌, Bool, true, false}
+use Rattle.std.proofs.Common.{◌≡◌, ℕ, ◌==◌, ◌&&◌, List, [], ◌∷◌, ◌++◌, arith, Some, if◌then◌else◌, refl, ap, sym, ◌∙◌, replicate, ◌/◌, ◌%◌, Bool, true, false}
 use Rattle.std.proofs.lemmas.Bool.Decides.{nat_tests}
 use Rattle.vm_model.specs.declared.message.Channel.TheVariants.{Up, Down}
 use Rattle.vm_model.specs.declared.message.Message.{Message}
 use Rattle.vm_model.specs.declared.message.Message.TheVariants as message
 use Rattle.vm_model.specs.declared.event.Event.{Event}
 use Rattle.vm_model.specs.declared.event.Event.TheVariants as event
-use Rattle.vm_model.specs.Words.{UpWord, OtherUp, DownWord, Effect, SendsUp, TakenUp, SentDown, TakesDown, Puts, Drops, Begins, Loads, Stores, Fails, StepBegins, Nothing, up_word, down_word, sent_effect, act_if, act_of, to_others, effect_on}
+use Rattle.vm_model.specs.Words.{UpWord, OtherUp, DownWord, Effect, SendsUp, TakenUp, SentDown, TakesDown, Puts, Drops, Begins, Loads, Stores, Fails, BeginsCopy, Copies, EndsCopy, StepBegins, Nothing, up_word, down_word, times_meant, sent_effect, act_if, act_of, to_others, effect_on}
 use Rattle.vm_model.specs.Side.{Side, rest, sent_up, taken_up, move, side}
 use Rattle.vm_model.specs.Server.{first, line}
 use Rattle.vm_model.specs.TaskPlace.{task_host, means_page}
@@ -80,6 +80,10 @@ silent_event size o p host_of means held h s host b e still = by_cases (host == 
   by_cases false true = others_up e s
   by_cases false false = refl
 
+silent_if : (b : Bool) (e f : Effect) → IsSilent e → IsSilent f → IsSilent (if b then e else f)
+silent_if true e f one two = one
+silent_if false e f one two = two
+
 down_taken : (host object control : ℕ) (word : DownWord) (h o : ℕ) (s : Side) → (move s (effect_on h (record { host = host; effect = if object == o then TakesDown control word else StepBegins }))).up ≡ s.up
 down_taken host object control word h o s = by_cases (host == h) (object == o) where
   by_cases : (c b : Bool) → (move s (if c then (if b then TakesDown control word else StepBegins) else to_others (if b then TakesDown control word else StepBegins))).up ≡ s.up
@@ -96,12 +100,16 @@ up_step (event.Taken (Down host object control) m) size o p host_of means held h
 up_step (event.Dropped host object page) size o p host_of means held h s q is head = silent_event size o p host_of means held h s host.0 (object.0 == o && page.0 == p) Drops tt ∙ is
 up_step (event.Zeroed host object page) size o p host_of means held h s q is head = silent_event size o p host_of means held h s host.0 (object.0 == o && page.0 == p) (Puts (replicate size 0) false) tt ∙ is
 up_step (event.Raised host lower lower_page upper upper_page) size o p host_of means held h s q is head = silent_event size o p host_of means held h s host.0 (upper.0 == o && upper_page.0 == p) (Puts (held host.0 lower.0 lower_page.0) true) tt ∙ is
-up_step (event.CopiedPage task page object object_page target) size o p host_of means held h s q is head = silent_event size o p host_of means held h s (host_of task.0) (target.0 == o && page.0 == p) (Puts (held (host_of task.0) object.0 object_page.0) true) tt ∙ is
+up_step (event.CopiedPage task page object object_page target) size o p host_of means held h s q is head =
+    silent_event size o p host_of means held h s (host_of task.0) true (if target.0 == o && page.0 == p then Puts (held (host_of task.0) object.0 object_page.0) true else (if object.0 == o && object_page.0 == p then Copies task.0 else Nothing))
+    (silent_if (target.0 == o && page.0 == p) _ _ tt (silent_if (object.0 == o && object_page.0 == p) _ _ tt tt)) ∙ is
+up_step (event.BegunCopy task address bytes to) size o p host_of means held h s q is head = silent_event size o p host_of means held h s (host_of task.0) true (BeginsCopy task.0 (times_meant size (means task.0) address (bytes / size))) tt ∙ is
+up_step (event.CopyEnded task) size o p host_of means held h s q is head = silent_event size o p host_of means held h s (host_of task.0) true (EndsCopy task.0) tt ∙ is
 up_step (event.BegunLoad task address bytes) size o p host_of means held h s q is head = silent_event size o p host_of means held h s (host_of task.0) (means task.0 address) (Begins task.0 false (address % size) bytes 0) tt ∙ is
 up_step (event.BegunStore task address bytes value) size o p host_of means held h s q is head = silent_event size o p host_of means held h s (host_of task.0) (means task.0 address) (Begins task.0 true (address % size) bytes value) tt ∙ is
 up_step (event.Loaded task object page value) size o p host_of means held h s q is head = silent_event size o p host_of means held h s (host_of task.0) (object.0 == o && page.0 == p) (Loads task.0 value) tt ∙ is
 up_step (event.Stored task object page at bytes value) size o p host_of means held h s q is head = silent_event size o p host_of means held h s (host_of task.0) (object.0 == o && page.0 == p) (Stores task.0 at bytes value) tt ∙ is
-up_step (event.Failed task object page) size o p host_of means held h s q is head = silent_event size o p host_of means held h s (host_of task.0) (object.0 == o && page.0 == p) (Fails task.0) tt ∙ is
+up_step (event.Failed task object page) size o p host_of means held h s q is head = silent_event size o p host_of means held h s (host_of task.0) true (if object.0 == o && page.0 == p then Fails task.0 else EndsCopy task.0) (silent_if (object.0 == o && page.0 == p) _ _ tt tt) ∙ is
 up_step (event.Line line) size o p host_of means held h s q is head = silent_event size o p host_of means held h s 0 true StepBegins tt ∙ is
 up_step e size o p host_of means held h s q is head = silent_event size o p host_of means held h s 0 true Nothing tt ∙ is
 

@@ -1,5 +1,5 @@
 -- A page's words on the way down to the live control are those of its channel, in order.
-use Rattle.std.proofs.Common.{◌≡◌, ◌≤◌, ◌<◌, ◌≢◌, ℕ, ◌==◌, ◌&&◌, List, [], ◌∷◌, ◌++◌, arith, Some, if◌then◌else◌, refl, ap, sym, subst, ◌∙◌, replicate, ◌%◌, Bool, true, false}
+use Rattle.std.proofs.Common.{◌≡◌, ◌≤◌, ◌<◌, ◌≢◌, ℕ, ◌==◌, ◌&&◌, List, [], ◌∷◌, ◌++◌, arith, Some, if◌then◌else◌, refl, ap, sym, subst, ◌∙◌, replicate, ◌/◌, ◌%◌, Bool, true, false}
 use Rattle.std.proofs.lemmas.Bool.Decides.{nat_tests}
 use native.Mathlib.Decide.{ℕ_discrete}
 use Rattle.vm_model.specs.declared.message.Channel.TheVariants.{Up, Down}
@@ -7,7 +7,7 @@ use Rattle.vm_model.specs.declared.message.Message.{Message}
 use Rattle.vm_model.specs.declared.message.Message.TheVariants as message
 use Rattle.vm_model.specs.declared.event.Event.{Event}
 use Rattle.vm_model.specs.declared.event.Event.TheVariants as event
-use Rattle.vm_model.specs.Words.{UpWord, Asking, Unlocking, Returning, Doing, Ending, OtherUp, DownWord, Effect, Opens, SendsUp, TakenUp, SentDown, TakesDown, Puts, Drops, Begins, Loads, Stores, Fails, StepBegins, Nothing, up_word, control_of, down_word, sent_effect, act_if, act_of, to_others, effect_on}
+use Rattle.vm_model.specs.Words.{UpWord, Asking, Unlocking, Returning, Doing, Ending, OtherUp, DownWord, Effect, Opens, SendsUp, TakenUp, SentDown, TakesDown, Puts, Drops, Begins, Loads, Stores, Fails, BeginsCopy, Copies, EndsCopy, StepBegins, Nothing, up_word, control_of, down_word, times_meant, sent_effect, act_if, act_of, to_others, effect_on}
 use Rattle.vm_model.specs.Side.{Side, rest, opened, sent_up, sent_down, move, side}
 use Rattle.vm_model.specs.Server.{first, line}
 use Rattle.vm_model.specs.TaskPlace.{task_host, means_page}
@@ -127,8 +127,15 @@ others_steady (Begins task store at size value) = tt
 others_steady (Loads task value) = tt
 others_steady (Stores task at size value) = tt
 others_steady (Fails task) = tt
+others_steady (BeginsCopy task times) = tt
+others_steady (Copies task) = tt
+others_steady (EndsCopy task) = tt
 others_steady StepBegins = tt
 others_steady Nothing = tt
+
+steady_if : (b : Bool) (e f : Effect) → IsSteady e → IsSteady f → IsSteady (if b then e else f)
+steady_if true e f one two = one
+steady_if false e f one two = two
 
 steady_act : (p last h : ℕ) (s : Side) (queue : ℕ → List Message) (host : ℕ) (b : Bool) (e : Effect) → IsSteady e → Descends p s last queue → Descends p (move s (effect_on h (act_if b host e))) last queue
 steady_act p last h s queue host b e still d = by_cases (host == h) b where
@@ -228,12 +235,16 @@ down_step (event.Taken (Down host object control) m) size o p last host_of means
 down_step (event.Dropped host object page) size o p last host_of means held h s queue d is = steady_act p last h s queue host.0 (object.0 == o && page.0 == p) Drops tt d
 down_step (event.Zeroed host object page) size o p last host_of means held h s queue d is = steady_act p last h s queue host.0 (object.0 == o && page.0 == p) (Puts (replicate size 0) false) tt d
 down_step (event.Raised host lower lower_page upper upper_page) size o p last host_of means held h s queue d is = steady_act p last h s queue host.0 (upper.0 == o && upper_page.0 == p) (Puts (held host.0 lower.0 lower_page.0) true) tt d
-down_step (event.CopiedPage task page object object_page target) size o p last host_of means held h s queue d is = steady_act p last h s queue (host_of task.0) (target.0 == o && page.0 == p) (Puts (held (host_of task.0) object.0 object_page.0) true) tt d
+down_step (event.CopiedPage task page object object_page target) size o p last host_of means held h s queue d is =
+    steady_act p last h s queue (host_of task.0) true (if target.0 == o && page.0 == p then Puts (held (host_of task.0) object.0 object_page.0) true else (if object.0 == o && object_page.0 == p then Copies task.0 else Nothing))
+    (steady_if (target.0 == o && page.0 == p) _ _ tt (steady_if (object.0 == o && object_page.0 == p) _ _ tt tt)) d
+down_step (event.BegunCopy task address bytes to) size o p last host_of means held h s queue d is = steady_act p last h s queue (host_of task.0) true (BeginsCopy task.0 (times_meant size (means task.0) address (bytes / size))) tt d
+down_step (event.CopyEnded task) size o p last host_of means held h s queue d is = steady_act p last h s queue (host_of task.0) true (EndsCopy task.0) tt d
 down_step (event.BegunLoad task address bytes) size o p last host_of means held h s queue d is = steady_act p last h s queue (host_of task.0) (means task.0 address) (Begins task.0 false (address % size) bytes 0) tt d
 down_step (event.BegunStore task address bytes value) size o p last host_of means held h s queue d is = steady_act p last h s queue (host_of task.0) (means task.0 address) (Begins task.0 true (address % size) bytes value) tt d
 down_step (event.Loaded task object page value) size o p last host_of means held h s queue d is = steady_act p last h s queue (host_of task.0) (object.0 == o && page.0 == p) (Loads task.0 value) tt d
 down_step (event.Stored task object page at bytes value) size o p last host_of means held h s queue d is = steady_act p last h s queue (host_of task.0) (object.0 == o && page.0 == p) (Stores task.0 at bytes value) tt d
-down_step (event.Failed task object page) size o p last host_of means held h s queue d is = steady_act p last h s queue (host_of task.0) (object.0 == o && page.0 == p) (Fails task.0) tt d
+down_step (event.Failed task object page) size o p last host_of means held h s queue d is = steady_act p last h s queue (host_of task.0) true (if object.0 == o && page.0 == p then Fails task.0 else EndsCopy task.0) (steady_if (object.0 == o && page.0 == p) _ _ tt tt) d
 down_step (event.Line line) size o p last host_of means held h s queue d is = steady_act p last h s queue 0 true StepBegins tt d
 down_step e size o p last host_of means held h s queue d is = steady_act p last h s queue 0 true Nothing tt d
 

@@ -4,9 +4,9 @@ use Rattle.std.specs.Prelude.{◌⊎◌, ◌==◌}
 use Rattle.std.proofs.lemmas.Bool.Decides.{nat_tests}
 use native.Mathlib.Decide.{ℕ_discrete}
 use Rattle.std.proofs.Common.{subst, sym, ◌∙◌}
-use Rattle.vm_model.specs.Words.{UpWord, Asking, Unlocking, Returning, Doing, Ending, OtherUp, DownWord, Supplying, Locking, Lacking, Failing, Readying, OtherDown, Effect, Opens, SendsUp, TakenUp, SentDown, TakesDown, Puts, Drops, Begins, Loads, Stores, Fails, StepBegins, Nothing, Act, to_others, effect_on}
+use Rattle.vm_model.specs.Words.{UpWord, Asking, Unlocking, Returning, Doing, Ending, OtherUp, DownWord, Supplying, Locking, Lacking, Failing, Readying, OtherDown, Effect, Opens, SendsUp, TakenUp, SentDown, TakesDown, Puts, Drops, Begins, Loads, Stores, Fails, BeginsCopy, Copies, EndsCopy, StepBegins, Nothing, Act, to_others, effect_on}
 use Rattle.vm_model.specs.Side.{Side, nobody, can_read, can_write, right_of, opened, sent_up, reaches, hears, move, side}
-use Rattle.vm_model.specs.Waiters.{Waiter, waiters}
+use Rattle.vm_model.specs.Waiters.{Waiter, waiters, readers}
 use Rattle.vm_model.specs.Server.{first, Wanting, joined, line, kept}
 use Rattle.vm_model.specs.PageLicences.{May, OthersHold, SupplyRow, UpgradeRow, RecallRow, Answers, Cause, Licensed}
 use Rattle.vm_model.specs.Coherence.{Throughout, OneWriter}
@@ -19,57 +19,60 @@ pub never : (s : Side) (w : DownWord) → Sound s → odd w ≡ 1 → first s.do
 never s w ok is head = absurd (grind (arith, ok.plain))
 
 -- what a host takes, where its control is the live one
-keep_taking : (ws : List Waiter) (s : Side) (control : ℕ) (word : DownWord) (b : Bool) → reaches s control ≡ b → Sound s → May ws s (TakesDown control word) → Sound (if b then hears s word else record s { step = 0 })
-keep_taking ws s control word false is ok may = keep_step s ok
-keep_taking ws s control OtherDown true is ok may = keep_step s ok
-keep_taking ws s control Readying true is ok may = keep_ready s ok
-keep_taking ws s control Lacking true is ok may =
+keep_taking : (ws : List Waiter) (rs : List ℕ) (s : Side) (control : ℕ) (word : DownWord) (b : Bool) → reaches s control ≡ b → Sound s → May ws rs s (TakesDown control word) → Sound (if b then hears s word else record s { step = 0 })
+keep_taking ws rs s control word false is ok may = keep_step s ok
+keep_taking ws rs s control OtherDown true is ok may = keep_step s ok
+keep_taking ws rs s control Readying true is ok may = keep_ready s ok
+keep_taking ws rs s control Lacking true is ok may =
     let live : s.live ≡ true = grind (arith, nat_tests) in
     let mine : s.control ≡ control = grind (arith, nat_tests) in
     absurd (never s Lacking ok refl (may mine live))
-keep_taking ws s control Failing true is ok may =
+keep_taking ws rs s control Failing true is ok may =
     let live : s.live ≡ true = grind (arith, nat_tests) in
     let mine : s.control ≡ control = grind (arith, nat_tests) in
     absurd (never s Failing ok refl (may mine live))
-keep_taking ws s control (Supplying lock precious bytes) true is ok may =
+keep_taking ws rs s control (Supplying lock precious bytes) true is ok may =
     let live : s.live ≡ true = grind (arith, nat_tests) in
     let mine : s.control ≡ control = grind (arith, nat_tests) in
     keep_supplied s lock precious bytes ok live (may mine live)
-keep_taking ws s control (Locking count returns flush lock reply) true is ok may =
+keep_taking ws rs s control (Locking count returns flush lock reply) true is ok may =
     let live : s.live ≡ true = grind (arith, nat_tests) in
     let mine : s.control ≡ control = grind (arith, nat_tests) in
     keep_locked s count returns lock flush reply ok live (may mine live)
 
-pub keep : (e : Effect) (ws : List Waiter) (s : Side) → Sound s → Fair ws s e → Sound (move s e)
-keep (Opens control ready) ws s ok may = let next : s.control + 1 ≡ control = sym may.1 in subst (λ (k : ℕ). Sound (opened s k ready)) next (keep_opens s ready ok may.0)
-keep (SendsUp control (Asking asker access)) ws s ok may = keep_asking ws s asker access ok may.0 may.2
-keep (SendsUp control (Unlocking access)) ws s ok may = keep_unlocking ws s access ok may.0 may.2
-keep (SendsUp control (Returning dirty kept bytes)) ws s ok may = keep_returning ws s dirty kept bytes ok may.0 may.2
-keep (SendsUp control (Doing told count)) ws s ok may = keep_doing ws s told count ok may.0 may.2.0 may.2
-keep (SendsUp control (Ending told)) ws s ok may = keep_ending ws s told ok may.0 may.2.0 may.2
-keep (SendsUp control OtherUp) ws s ok may = ok
-keep (TakenUp (Asking asker access)) ws s ok may = keep_heard_asking s asker access ok may
-keep (TakenUp (Unlocking access)) ws s ok may = keep_heard_unlocking s access ok may
-keep (TakenUp (Returning dirty kept bytes)) ws s ok may = keep_heard_returning s dirty kept bytes ok may
-keep (TakenUp (Doing control count)) ws s ok may = keep_heard_doing s control count ok may
-keep (TakenUp (Ending control)) ws s ok may = keep_heard_ending s control ok may
-keep (TakenUp OtherUp) ws s ok may = keep_step s ok
-keep (SentDown control (Supplying lock precious bytes)) ws s ok may = keep_supply s control lock precious bytes ok may
-keep (SentDown control (Locking count returns flush lock true)) ws s ok may = keep_order s control count returns lock flush ok may
-keep (SentDown control (Locking count returns flush lock false)) ws s ok may = keep_upgrade s control count returns lock flush ok may
-keep (SentDown control Lacking) ws s ok may = absurd may
-keep (SentDown control Failing) ws s ok may = absurd may
-keep (SentDown control Readying) ws s ok may = ok
-keep (SentDown control OtherDown) ws s ok may = ok
-keep (TakesDown control word) ws s ok may = keep_taking ws s control word (reaches s control) refl ok may
-keep (Puts bytes dirty) ws s ok may = absurd may
-keep Drops ws s ok may = keep_drops s ok
-keep (Begins task store at size value) ws s ok may = ok
-keep (Loads task value) ws s ok may = ok
-keep (Stores task at size value) ws s ok may = keep_stores s task at size value ok
-keep (Fails task) ws s ok may = absurd may
-keep StepBegins ws s ok may = keep_step s ok
-keep Nothing ws s ok may = ok
+pub keep : (e : Effect) (ws : List Waiter) (rs : List ℕ) (s : Side) → Sound s → Fair ws rs s e → Sound (move s e)
+keep (Opens control ready) ws rs s ok may = let next : s.control + 1 ≡ control = sym may.1 in subst (λ (k : ℕ). Sound (opened s k ready)) next (keep_opens s ready ok may.0)
+keep (SendsUp control (Asking asker access)) ws rs s ok may = keep_asking ws rs s asker access ok may.0 may.2
+keep (SendsUp control (Unlocking access)) ws rs s ok may = keep_unlocking ws rs s access ok may.0 may.2
+keep (SendsUp control (Returning dirty kept bytes)) ws rs s ok may = keep_returning ws rs s dirty kept bytes ok may.0 may.2
+keep (SendsUp control (Doing told count)) ws rs s ok may = keep_doing ws rs s told count ok may.0 may.2.0 may.2
+keep (SendsUp control (Ending told)) ws rs s ok may = keep_ending ws rs s told ok may.0 may.2.0 may.2
+keep (SendsUp control OtherUp) ws rs s ok may = ok
+keep (TakenUp (Asking asker access)) ws rs s ok may = keep_heard_asking s asker access ok may
+keep (TakenUp (Unlocking access)) ws rs s ok may = keep_heard_unlocking s access ok may
+keep (TakenUp (Returning dirty kept bytes)) ws rs s ok may = keep_heard_returning s dirty kept bytes ok may
+keep (TakenUp (Doing control count)) ws rs s ok may = keep_heard_doing s control count ok may
+keep (TakenUp (Ending control)) ws rs s ok may = keep_heard_ending s control ok may
+keep (TakenUp OtherUp) ws rs s ok may = keep_step s ok
+keep (SentDown control (Supplying lock precious bytes)) ws rs s ok may = keep_supply s control lock precious bytes ok may
+keep (SentDown control (Locking count returns flush lock true)) ws rs s ok may = keep_order s control count returns lock flush ok may
+keep (SentDown control (Locking count returns flush lock false)) ws rs s ok may = keep_upgrade s control count returns lock flush ok may
+keep (SentDown control Lacking) ws rs s ok may = absurd may
+keep (SentDown control Failing) ws rs s ok may = absurd may
+keep (SentDown control Readying) ws rs s ok may = ok
+keep (SentDown control OtherDown) ws rs s ok may = ok
+keep (TakesDown control word) ws rs s ok may = keep_taking ws rs s control word (reaches s control) refl ok may
+keep (Puts bytes dirty) ws rs s ok may = absurd may
+keep Drops ws rs s ok may = keep_drops s ok
+keep (Begins task store at size value) ws rs s ok may = ok
+keep (Loads task value) ws rs s ok may = ok
+keep (Stores task at size value) ws rs s ok may = keep_stores s task at size value ok
+keep (Fails task) ws rs s ok may = absurd may
+keep (BeginsCopy task times) ws rs s ok may = ok
+keep (Copies task) ws rs s ok may = ok
+keep (EndsCopy task) ws rs s ok may = ok
+keep StepBegins ws rs s ok may = keep_step s ok
+keep Nothing ws rs s ok may = ok
 
 -- what the law keeps over a list of acts
 
@@ -85,6 +88,9 @@ others_rest (Begins task store at size value) s ok = ok
 others_rest (Loads task value) s ok = ok
 others_rest (Stores task at size value) s ok = ok
 others_rest (Fails task) s ok = ok
+others_rest (BeginsCopy task times) s ok = ok
+others_rest (Copies task) s ok = ok
+others_rest (EndsCopy task) s ok = ok
 others_rest StepBegins s ok = keep_step s ok
 others_rest Nothing s ok = ok
 
@@ -101,6 +107,9 @@ others_holds (Begins task store at size value) s = refl
 others_holds (Loads task value) s = refl
 others_holds (Stores task at size value) s = refl
 others_holds (Fails task) s = refl
+others_holds (BeginsCopy task times) s = refl
+others_holds (Copies task) s = refl
+others_holds (EndsCopy task) s = refl
 others_holds StepBegins s = refl
 others_holds Nothing s = refl
 
@@ -116,6 +125,9 @@ others_pending (Begins task store at size value) s = refl
 others_pending (Loads task value) s = refl
 others_pending (Stores task at size value) s = refl
 others_pending (Fails task) s = refl
+others_pending (BeginsCopy task times) s = refl
+others_pending (Copies task) s = refl
+others_pending (EndsCopy task) s = refl
 others_pending StepBegins s = refl
 others_pending Nothing s = refl
 
@@ -174,7 +186,7 @@ answer_cause size h control Failing past w a = a
 answer_cause size h control Readying past w a = tt
 answer_cause size h control OtherDown past w a = tt
 
-pub cause : (size h : ℕ) (e : Effect) (past : List Act) → World past → Cause size h e past → Fair (waiters h past) (side h past) e
+pub cause : (size h : ℕ) (e : Effect) (past : List Act) → World past → Cause size h e past → Fair (waiters h past) (readers h past) (side h past) e
 cause size h (SentDown control word) past w a = answer_cause size h control word past w a
 cause size h e past w a = a
 
@@ -194,7 +206,7 @@ other_side h a past apart = ap (move (side h past)) (other_effect h a apart)
 
 sound_after : (size : ℕ) (a : Act) (past : List Act) → World past → Cause size a.host a.effect past → (h : ℕ) → Sound (side h (a ∷ past))
 sound_after size a past w c h = elim (ℕ_discrete a.host h) [
-  | yes e ↦ subst (λ (k : ℕ). Sound (side k (a ∷ past))) e (subst (λ (s : Side). Sound s) (sym (own_side a past)) (keep a.effect (waiters a.host past) (side a.host past) (w.each a.host) (cause size a.host a.effect past w c)))
+  | yes e ↦ subst (λ (k : ℕ). Sound (side k (a ∷ past))) e (subst (λ (s : Side). Sound s) (sym (own_side a past)) (keep a.effect (waiters a.host past) (readers a.host past) (side a.host past) (w.each a.host) (cause size a.host a.effect past w c)))
   | no e ↦ subst (λ (s : Side). Sound s) (sym (other_side h a past e)) (others_rest a.effect (side h past) (w.each h))
 ]
 

@@ -18,3 +18,5 @@ pub mod Crossing
 pub mod Remapping
 pub mod Channels
 pub mod Descent
+pub mod Idle
+pub mod SlowCopy

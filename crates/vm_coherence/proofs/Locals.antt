@@ -1,5 +1,5 @@
 -- A page's part at a host says what the host has of the page.
-use Rattle.std.proofs.Common.{◌≡◌, ℕ, zero, suc, ◌==◌, ◌&&◌, ◌%◌, ◌∙◌, List, [], ◌∷◌, arith, Bool, true, false, Option, Some, None, if◌then◌else◌, refl, ap, sym, subst, replicate}
+use Rattle.std.proofs.Common.{◌≡◌, ℕ, zero, suc, ◌==◌, ◌&&◌, ◌/◌, ◌%◌, ◌∙◌, List, [], ◌∷◌, arith, Bool, true, false, Option, Some, None, if◌then◌else◌, refl, ap, sym, subst, replicate}
 use Rattle.std.specs.Prelude.{◌||◌, ◌≢◌, ◌<◌}
 use Rattle.std.proofs.lemmas.Bool.Decides.{nat_tests}
 use Rattle.vm_base.specs.Pages.{little_endian_bytes, with_bytes}
@@ -22,7 +22,7 @@ use Rattle.vm_model.specs.Side.{Side, side, move, reaches, hears, locked, right_
 use Rattle.vm_model.specs.TaskPlace.{task_host, means_page}
 use Rattle.vm_model.specs.Tasks.{host_of}
 use Rattle.vm_model.specs.PageLicences.{Cause, Licensed}
-use Rattle.vm_model.specs.Words.{Asking, Unlocking, Returning, Doing, Ending, OtherUp, Supplying, Locking, Lacking, Failing, Readying, OtherDown, Effect, Opens, SendsUp, TakenUp, SentDown, TakesDown, Puts, Drops, Begins, Loads, Stores, Fails, StepBegins, Nothing, Act, in_range, up_word, down_word, sent_effect, act_if, to_others, effect_on}
+use Rattle.vm_model.specs.Words.{Asking, Unlocking, Returning, Doing, Ending, OtherUp, Supplying, Locking, Lacking, Failing, Readying, OtherDown, Effect, Opens, SendsUp, TakenUp, SentDown, TakesDown, Puts, Drops, Begins, Loads, Stores, Fails, BeginsCopy, Copies, EndsCopy, StepBegins, Nothing, Act, in_range, times_meant, up_word, down_word, sent_effect, act_if, to_others, effect_on}
 use Rattle.vm_coherence.specs.Locals.{SideIsLocal}
 use Rattle.vm_coherence.proofs.Law.{writer}
 use Rattle.vm_coherence.proofs.Whole.{same_bytes}
@@ -83,6 +83,9 @@ idle (SentDown control OtherDown) s is = same s _ refl refl refl refl refl refl 
 idle (Begins task store at size value) s is = same s _ refl refl refl refl refl refl refl refl refl refl
 idle (Loads task value) s is = same s _ refl refl refl refl refl refl refl refl refl refl
 idle (Fails task) s is = same s _ refl refl refl refl refl refl refl refl refl refl
+idle (BeginsCopy task times) s is = same s _ refl refl refl refl refl refl refl refl refl refl
+idle (Copies task) s is = same s _ refl refl refl refl refl refl refl refl refl refl
+idle (EndsCopy task) s is = same s _ refl refl refl refl refl refl refl refl refl refl
 idle StepBegins s is = same s _ refl refl refl refl refl refl refl refl refl refl
 idle Nothing s is = same s _ refl refl refl refl refl refl refl refl refl refl
 idle (Opens control ready) s is = absurd is
@@ -104,6 +107,9 @@ others_idle (Begins task store at size value) = tt
 others_idle (Loads task value) = tt
 others_idle (Stores task at size value) = tt
 others_idle (Fails task) = tt
+others_idle (BeginsCopy task times) = tt
+others_idle (Copies task) = tt
+others_idle (EndsCopy task) = tt
 others_idle StepBegins = tt
 others_idle Nothing = tt
 
@@ -249,18 +255,22 @@ takes size p live s page m i = alike live s _ page (same s _ refl refl refl refl
 
 -- an event of one host and the page
 
+acted_else : (size : ℕ) (live : Option ℕ) (s : Side) (page : Local) (c b : Bool) (e g : Effect) (f : L.Effect) → IsIdle g → (c ≡ true → b ≡ true → SideIsLocal live (move s e) (moved size f page)) → SideIsLocal live s page
+    → SideIsLocal live (move s (if c then (if b then e else g) else to_others (if b then e else g))) (moved size (if c && b then f else Elsewhere) page)
+acted_else size live s page true true e g f rests at i = at refl refl
+acted_else size live s page true false e g f rests at i = alike live s (move s g) page (idle g s rests) i
+acted_else size live s page false true e g f rests at i = others live e s page i
+acted_else size live s page false false e g f rests at i = others live g s page i
+
 acted : (size : ℕ) (live : Option ℕ) (s : Side) (page : Local) (c b : Bool) (e : Effect) (f : L.Effect) → (c ≡ true → b ≡ true → SideIsLocal live (move s e) (moved size f page)) → SideIsLocal live s page
     → SideIsLocal live (move s (if c then (if b then e else Nothing) else to_others (if b then e else Nothing))) (moved size (if c && b then f else Elsewhere) page)
-acted size live s page true true e f at i = at refl refl
-acted size live s page true false e f at i = i
-acted size live s page false true e f at i = others live e s page i
-acted size live s page false false e f at i = i
+acted size live s page c b e f at i = acted_else size live s page c b e Nothing f tt at i
 
 -- the host is that of a task, told in two ways
-acted_by : (size : ℕ) (live : Option ℕ) (s : Side) (page : Local) (c d b : Bool) (e : Effect) (f : L.Effect) → d ≡ c → (c ≡ true → b ≡ true → SideIsLocal live (move s e) (moved size f page)) → SideIsLocal live s page
-    → SideIsLocal live (move s (if c then (if b then e else Nothing) else to_others (if b then e else Nothing))) (moved size (if d && b then f else Elsewhere) page)
-acted_by size live s page c d b e f is at i =
-    subst (λ (x : Bool). SideIsLocal live (move s (if c then (if b then e else Nothing) else to_others (if b then e else Nothing))) (moved size (if x && b then f else Elsewhere) page)) (sym is) (acted size live s page c b e f at i)
+acted_by : (size : ℕ) (live : Option ℕ) (s : Side) (page : Local) (c d b : Bool) (e g : Effect) (f : L.Effect) → d ≡ c → IsIdle g → (c ≡ true → b ≡ true → SideIsLocal live (move s e) (moved size f page)) → SideIsLocal live s page
+    → SideIsLocal live (move s (if c then (if b then e else g) else to_others (if b then e else g))) (moved size (if d && b then f else Elsewhere) page)
+acted_by size live s page c d b e g f is rests at i =
+    subst (λ (x : Bool). SideIsLocal live (move s (if c then (if b then e else g) else to_others (if b then e else g))) (moved size (if x && b then f else Elsewhere) page)) (sym is) (acted_else size live s page c b e g f rests at i)
 
 idle_act : (live : Option ℕ) (s : Side) (page : Local) (c : Bool) (e : Effect) → IsIdle e → SideIsLocal live s page → SideIsLocal live (move s (if c then e else to_others e)) page
 idle_act live s page true e is i = alike live s (move s e) page (idle e s is) i
@@ -421,13 +431,13 @@ side_is_local size (event.CopiedPage task page object object_page target ∷ pas
     let g : ℕ = founded.0.0 in
     let on : task_host task.0 past ≡ g = host_lives task.0 g past founded.0.1 in
     let source : (side g (page_part size object.0 object_page.0 past)).bytes ≡ (local size g (record { object = object.0; page = object_page.0 }) past).bytes = (side_is_local size past g object.0 object_page.0 founded.1).bytes founded.0.2 in
-    acted_by size (live_control h o past) _ _ (task_host task.0 past == h) (is_on h (host_of task.0 past)) (target.0 == o && page.0 == p) (Puts (side (task_host task.0 past) (page_part size object.0 object_page.0 past)).bytes true)
-    (L.Raises (local size h (record { object = object.0; page = object_page.0 }) past).bytes) (on_host h task.0 g past founded.0.1)
+    acted_by size (live_control h o past) _ _ (task_host task.0 past == h) (is_on h (host_of task.0 past)) (target.0 == o && page.0 == p) (Puts (side (task_host task.0 past) (page_part size object.0 object_page.0 past)).bytes true) (if object.0 == o && object_page.0 == p then Copies task.0 else Nothing)
+    (L.Raises (local size h (record { object = object.0; page = object_page.0 }) past).bytes) (on_host h task.0 g past founded.0.1) (idle_if (object.0 == o && object_page.0 == p) _ _ tt tt)
     (λ mine its. raises size (live_control h o past) _ _ _ _
     (ap (λ (k : ℕ). (side k (page_part size object.0 object_page.0 past)).bytes) on ∙ source ∙ ap (λ (k : ℕ). (local size k (record { object = object.0; page = object_page.0 }) past).bytes) (sym on ∙ number_is (task_host task.0 past) h mine)) i) i
 side_is_local size (event.Stored task object page at bytes value ∷ past) h o p founded =
     let i : SideIsLocal (live_control h o past) (side h (page_part size o p past)) (local size h (record { object = o; page = p }) past) = side_is_local size past h o p founded.1 in
-    acted_by size (live_control h o past) _ _ (task_host task.0 past == h) (is_on h (host_of task.0 past)) (object.0 == o && page.0 == p) (Stores task.0 at bytes value) (L.Stores at (little_endian_bytes bytes value)) (on_host h task.0 founded.0.0 past founded.0.1)
+    acted_by size (live_control h o past) _ _ (task_host task.0 past == h) (is_on h (host_of task.0 past)) (object.0 == o && page.0 == p) (Stores task.0 at bytes value) Nothing (L.Stores at (little_endian_bytes bytes value)) (on_host h task.0 founded.0.0 past founded.0.1) tt
     (λ mine its. stores size (live_control h o past) _ _ task.0 at bytes value i) i
 side_is_local size (event.BegunLoad task address bytes ∷ past) h o p founded =
     idle_act (live_control h o past) _ _ (task_host task.0 past == h) (if means_page size o p task.0 address past then Begins task.0 false (address % size) bytes 0 else Nothing) (idle_if (means_page size o p task.0 address past) _ _ tt tt) (side_is_local size past h o p founded.1)
@@ -436,7 +446,10 @@ side_is_local size (event.BegunStore task address bytes value ∷ past) h o p fo
 side_is_local size (event.Loaded task object page value ∷ past) h o p founded =
     idle_act (live_control h o past) _ _ (task_host task.0 past == h) (if object.0 == o && page.0 == p then Loads task.0 value else Nothing) (idle_if (object.0 == o && page.0 == p) _ _ tt tt) (side_is_local size past h o p founded.1)
 side_is_local size (event.Failed task object page ∷ past) h o p founded =
-    idle_act (live_control h o past) _ _ (task_host task.0 past == h) (if object.0 == o && page.0 == p then Fails task.0 else Nothing) (idle_if (object.0 == o && page.0 == p) _ _ tt tt) (side_is_local size past h o p founded.1)
+    idle_act (live_control h o past) _ _ (task_host task.0 past == h) (if object.0 == o && page.0 == p then Fails task.0 else EndsCopy task.0) (idle_if (object.0 == o && page.0 == p) _ _ tt tt) (side_is_local size past h o p founded.1)
+side_is_local size (event.BegunCopy task address bytes to ∷ past) h o p founded =
+    idle_act (live_control h o past) _ _ (task_host task.0 past == h) (BeginsCopy task.0 (times_meant size (λ (at : ℕ). means_page size o p task.0 at past) address (bytes / size))) tt (side_is_local size past h o p founded.1)
+side_is_local size (event.CopyEnded task ∷ past) h o p founded = idle_act (live_control h o past) _ _ (task_host task.0 past == h) (EndsCopy task.0) tt (side_is_local size past h o p founded.1)
 side_is_local size (event.Line line ∷ past) h o p founded = idle_act (live_control h o past) _ _ (0 == h) StepBegins tt (side_is_local size past h o p founded.1)
 side_is_local size (e ∷ past) h o p founded = idle_act (live_control h o past) _ _ (0 == h) Nothing tt (side_is_local size past h o p founded.1)
 

@@ -21,20 +21,20 @@ pub record Orderly (s : Side) : Type 0 where
   pub behind_does : behind does saves s.up ≡ 0
   pub done_saved : 0 < sum_up does s.up → fresh s ≡ false
 
-pub order_asking : (ws : List Waiter) (s : Side) (asker access : ℕ) → Sound s → Orderly s → MaySend ws s (Asking asker access) → Orderly (sent_up s (Asking asker access))
-order_asking ws s asker access ok o may = grind (arith, nat_tests, sum_up_end, behind_end, drain_0)
+pub order_asking : (ws : List Waiter) (rs : List ℕ) (s : Side) (asker access : ℕ) → Sound s → Orderly s → MaySend ws rs s (Asking asker access) → Orderly (sent_up s (Asking asker access))
+order_asking ws rs s asker access ok o may = grind (arith, nat_tests, sum_up_end, behind_end, drain_0)
 
 pub order_unlocking : (s : Side) (access : ℕ) → Sound s → Orderly s → Orderly (sent_up s (Unlocking access))
 order_unlocking s access ok o = grind (arith, nat_tests, sum_up_end, behind_end)
 
-pub order_returning : (ws : List Waiter) (s : Side) (dirty keep : Bool) (bytes : List ℕ) → Sound s → Orderly s → MaySend ws s (Returning dirty keep bytes) → Orderly (sent_up s (Returning dirty keep bytes))
-order_returning ws s dirty keep bytes ok o may = grind (arith, nat_tests, sum_up_end, behind_new, drain_0, drain_up, drain_none, loose_all)
+pub order_returning : (ws : List Waiter) (rs : List ℕ) (s : Side) (dirty keep : Bool) (bytes : List ℕ) → Sound s → Orderly s → MaySend ws rs s (Returning dirty keep bytes) → Orderly (sent_up s (Returning dirty keep bytes))
+order_returning ws rs s dirty keep bytes ok o may = grind (arith, nat_tests, sum_up_end, behind_new, drain_0, drain_up, drain_none, loose_all)
 
-pub order_doing : (ws : List Waiter) (s : Side) (control count : ℕ) → Sound s → Orderly s → MaySend ws s (Doing control count) → Orderly (sent_up s (Doing control count))
-order_doing ws s control count ok o may = grind (arith, nat_tests, sum_up_end, behind_end)
+pub order_doing : (ws : List Waiter) (rs : List ℕ) (s : Side) (control count : ℕ) → Sound s → Orderly s → MaySend ws rs s (Doing control count) → Orderly (sent_up s (Doing control count))
+order_doing ws rs s control count ok o may = grind (arith, nat_tests, sum_up_end, behind_end)
 
-pub order_ending : (ws : List Waiter) (s : Side) (control : ℕ) → Sound s → Orderly s → MaySend ws s (Ending control) → Orderly (sent_up s (Ending control))
-order_ending ws s control ok o may = grind (arith, nat_tests, sum_up_end, behind_end)
+pub order_ending : (ws : List Waiter) (rs : List ℕ) (s : Side) (control : ℕ) → Sound s → Orderly s → MaySend ws rs s (Ending control) → Orderly (sent_up s (Ending control))
+order_ending ws rs s control ok o may = grind (arith, nat_tests, sum_up_end, behind_end)
 
 pub order_drops : (s : Side) → Sound s → Orderly s → Orderly (record s { right = 0 })
 order_drops s ok o = grind (arith, nat_tests, drain_le)

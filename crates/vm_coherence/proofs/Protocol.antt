@@ -4,7 +4,7 @@ use Rattle.std.proofs.lemmas.Bool.Decides.{nat_tests}
 use native.Mathlib.Decide.{ℕ_discrete}
 use Rattle.vm_model.specs.Words.{Asking, Unlocking, Returning, Doing, Ending, OtherUp, DownWord, Supplying, Locking, Lacking, Failing, Readying, OtherDown, Effect, Opens, SendsUp, TakenUp, SentDown, TakesDown, Puts, Drops, Stores, StepBegins, Act, to_others}
 use Rattle.vm_model.specs.Side.{Side, done, reaches, sent_down, hears, move, side}
-use Rattle.vm_model.specs.Waiters.{Waiter, waiters}
+use Rattle.vm_model.specs.Waiters.{Waiter, waiters, readers}
 use Rattle.vm_model.specs.Server.{first, Wanting, line, NoUpgrade, NoRequest, kept}
 use Rattle.vm_model.specs.PageLicences.{May, UpgradeRow, RecallRow, Cause, Licensed}
 use Rattle.vm_model.specs.Coherence.{Done, begins_step, StepsDone}
@@ -53,42 +53,42 @@ single_hears Failing s n ok k x live is none = absurd (never s Failing ok refl i
 single_hears Readying s n ok k x live is none = single_ready s n ok k x none
 single_hears OtherDown s n ok k x live is none = single_rest s n ok k x none
 
-single_takes : (ws : List Waiter) (w : DownWord) (s : Side) (n control : ℕ) (b : Bool) → reaches s control ≡ b → Sound s → Carried s n → Single s n → May ws s (TakesDown control w) → s.step ≡ 0 → Single (if b then hears s w else record s { step = 0 }) (gate (if b then hears s w else record s { step = 0 }).holds n)
-single_takes ws w s n control false is ok k x may none = single_rest s n ok k x none
-single_takes ws OtherDown s n control true is ok k x may none = single_rest s n ok k x none
-single_takes ws Readying s n control true is ok k x may none = single_ready s n ok k x none
-single_takes ws w s n control true is ok k x may none =
+single_takes : (ws : List Waiter) (rs : List ℕ) (w : DownWord) (s : Side) (n control : ℕ) (b : Bool) → reaches s control ≡ b → Sound s → Carried s n → Single s n → May ws rs s (TakesDown control w) → s.step ≡ 0 → Single (if b then hears s w else record s { step = 0 }) (gate (if b then hears s w else record s { step = 0 }).holds n)
+single_takes ws rs w s n control false is ok k x may none = single_rest s n ok k x none
+single_takes ws rs OtherDown s n control true is ok k x may none = single_rest s n ok k x none
+single_takes ws rs Readying s n control true is ok k x may none = single_ready s n ok k x none
+single_takes ws rs w s n control true is ok k x may none =
     let live : s.live ≡ true = grind (arith, nat_tests) in
     let mine : s.control ≡ control = grind (arith, nat_tests) in
     single_hears w s n ok k x live (may mine live) none
 
-single_own : (e : Effect) (ws : List Waiter) (s : Side) (n : ℕ) → Sound s → Carried s n → Single s n → Fair ws s e → (begins_step e ≡ true → s.step ≡ 0) → Told s n e → Single (move s e) (after s n e)
-single_own (Opens control ready) ws s n ok k x may none told = single_opens s n control ready ok k x may.0
-single_own (SendsUp control (Asking asker access)) ws s n ok k x may none told = single_asking ws s n control asker access ok k x may.2
-single_own (SendsUp control (Unlocking access)) ws s n ok k x may none told = single_unlocking ws s n control access ok k x may.2
-single_own (SendsUp control (Returning dirty kept bytes)) ws s n ok k x may none told = single_returning ws s n control dirty kept bytes ok k x may.2
-single_own (SendsUp control (Doing done_control count)) ws s n ok k x may none told = single_doing ws s n control done_control count ok k x may.2
-single_own (SendsUp control (Ending ended)) ws s n ok k x may none told = single_ending ws s n control ended ok k x may.2
-single_own (SendsUp control OtherUp) ws s n ok k x may none told = single_same s n k x
-single_own (TakenUp (Asking asker access)) ws s n ok k x may none told = single_heard_asking s n asker access ok k x may (none refl)
-single_own (TakenUp (Unlocking access)) ws s n ok k x may none told = single_heard_unlocking s n access ok k x may (none refl)
-single_own (TakenUp (Returning dirty kept bytes)) ws s n ok k x may none told = single_heard_returning s n dirty kept bytes ok k x may (none refl)
-single_own (TakenUp (Doing control count)) ws s n ok k x may none told = single_heard_doing s n control count ok k x may (none refl)
-single_own (TakenUp (Ending control)) ws s n ok k x may none told = single_heard_ending s n control ok k x may (none refl)
-single_own (TakenUp OtherUp) ws s n ok k x may none told = single_rest s n ok k x (none refl)
-single_own (SentDown control (Supplying lock precious bytes)) ws s n ok k x may none told = single_supply s n control lock precious bytes ok k x may
-single_own (SentDown control (Locking count returns flush lock true)) ws s n ok k x may none told = single_order s n control count returns lock flush ok k x may told.1
-single_own (SentDown control (Locking count returns flush lock false)) ws s n ok k x may none told = single_upgrade s n control count returns lock flush ok k x may told
-single_own (SentDown control Lacking) ws s n ok k x may none told = absurd may
-single_own (SentDown control Failing) ws s n ok k x may none told = absurd may
-single_own (SentDown control Readying) ws s n ok k x may none told = single_same s n k x
-single_own (SentDown control OtherDown) ws s n ok k x may none told = single_same s n k x
-single_own (TakesDown control w) ws s n ok k x may none told = single_takes ws w s n control (reaches s control) refl ok k x may (none refl)
-single_own (Puts bytes dirty) ws s n ok k x may none told = absurd may
-single_own Drops ws s n ok k x may none told = single_drops s n ok k x
-single_own (Stores task at size value) ws s n ok k x may none told = single_stores s n task at size value k x
-single_own StepBegins ws s n ok k x may none told = single_rest s n ok k x (none refl)
-single_own e ws s n ok k x may none told = single_same s n k x
+single_own : (e : Effect) (ws : List Waiter) (rs : List ℕ) (s : Side) (n : ℕ) → Sound s → Carried s n → Single s n → Fair ws rs s e → (begins_step e ≡ true → s.step ≡ 0) → Told s n e → Single (move s e) (after s n e)
+single_own (Opens control ready) ws rs s n ok k x may none told = single_opens s n control ready ok k x may.0
+single_own (SendsUp control (Asking asker access)) ws rs s n ok k x may none told = single_asking ws rs s n control asker access ok k x may.2
+single_own (SendsUp control (Unlocking access)) ws rs s n ok k x may none told = single_unlocking ws rs s n control access ok k x may.2
+single_own (SendsUp control (Returning dirty kept bytes)) ws rs s n ok k x may none told = single_returning ws rs s n control dirty kept bytes ok k x may.2
+single_own (SendsUp control (Doing done_control count)) ws rs s n ok k x may none told = single_doing ws rs s n control done_control count ok k x may.2
+single_own (SendsUp control (Ending ended)) ws rs s n ok k x may none told = single_ending ws rs s n control ended ok k x may.2
+single_own (SendsUp control OtherUp) ws rs s n ok k x may none told = single_same s n k x
+single_own (TakenUp (Asking asker access)) ws rs s n ok k x may none told = single_heard_asking s n asker access ok k x may (none refl)
+single_own (TakenUp (Unlocking access)) ws rs s n ok k x may none told = single_heard_unlocking s n access ok k x may (none refl)
+single_own (TakenUp (Returning dirty kept bytes)) ws rs s n ok k x may none told = single_heard_returning s n dirty kept bytes ok k x may (none refl)
+single_own (TakenUp (Doing control count)) ws rs s n ok k x may none told = single_heard_doing s n control count ok k x may (none refl)
+single_own (TakenUp (Ending control)) ws rs s n ok k x may none told = single_heard_ending s n control ok k x may (none refl)
+single_own (TakenUp OtherUp) ws rs s n ok k x may none told = single_rest s n ok k x (none refl)
+single_own (SentDown control (Supplying lock precious bytes)) ws rs s n ok k x may none told = single_supply s n control lock precious bytes ok k x may
+single_own (SentDown control (Locking count returns flush lock true)) ws rs s n ok k x may none told = single_order s n control count returns lock flush ok k x may told.1
+single_own (SentDown control (Locking count returns flush lock false)) ws rs s n ok k x may none told = single_upgrade s n control count returns lock flush ok k x may told
+single_own (SentDown control Lacking) ws rs s n ok k x may none told = absurd may
+single_own (SentDown control Failing) ws rs s n ok k x may none told = absurd may
+single_own (SentDown control Readying) ws rs s n ok k x may none told = single_same s n k x
+single_own (SentDown control OtherDown) ws rs s n ok k x may none told = single_same s n k x
+single_own (TakesDown control w) ws rs s n ok k x may none told = single_takes ws rs w s n control (reaches s control) refl ok k x may (none refl)
+single_own (Puts bytes dirty) ws rs s n ok k x may none told = absurd may
+single_own Drops ws rs s n ok k x may none told = single_drops s n ok k x
+single_own (Stores task at size value) ws rs s n ok k x may none told = single_stores s n task at size value k x
+single_own StepBegins ws rs s n ok k x may none told = single_rest s n ok k x (none refl)
+single_own e ws rs s n ok k x may none told = single_same s n k x
 
 single_bare : (s : Side) (n : ℕ) → Single s n → s.step ≡ 0 → Single (record s { step = 0 }) n
 single_bare s n x none = grind (arith, nat_tests)
@@ -108,23 +108,23 @@ aligned_takes : (w : DownWord) (s : Side) (b : Bool) → Aligned s → Aligned (
 aligned_takes w s true x = aligned_hears s w x
 aligned_takes w s false x = aligned_same s (record s { step = 0 }) x refl refl refl refl refl
 
-aligned_own : (e : Effect) (ws : List Waiter) (s : Side) (n : ℕ) → Sound s → Carried s n → Aligned s → Fair ws s e → Told s n e → Aligned (move s e)
-aligned_own (Opens control ready) ws s n ok k x may told = aligned_opens s control ready x may.1
-aligned_own (SendsUp control w) ws s n ok k x may told = aligned_sent ws w control s ok x may
-aligned_own (TakenUp w) ws s n ok k x may told = aligned_taken w ws s n ok k x may
-aligned_own (SentDown control (Locking count returns flush lock true)) ws s n ok k x may told = aligned_order s control count returns lock flush ok x may told.0
-aligned_own (SentDown control (Locking count returns flush lock false)) ws s n ok k x may told = aligned_same s (sent_down s control (Locking count returns flush lock false)) x refl refl refl refl refl
-aligned_own (SentDown control (Supplying lock precious bytes)) ws s n ok k x may told = aligned_same s (sent_down s control (Supplying lock precious bytes)) x refl refl refl refl refl
-aligned_own (SentDown control Lacking) ws s n ok k x may told = absurd may
-aligned_own (SentDown control Failing) ws s n ok k x may told = absurd may
-aligned_own (SentDown control Readying) ws s n ok k x may told = x
-aligned_own (SentDown control OtherDown) ws s n ok k x may told = x
-aligned_own (TakesDown control w) ws s n ok k x may told = aligned_takes w s (reaches s control) x
-aligned_own (Puts bytes dirty) ws s n ok k x may told = absurd may
-aligned_own Drops ws s n ok k x may told = aligned_same s (record s { right = 0 }) x refl refl refl refl refl
-aligned_own (Stores task at size value) ws s n ok k x may told = aligned_same s (move s (Stores task at size value)) x refl refl refl refl refl
-aligned_own StepBegins ws s n ok k x may told = aligned_same s (record s { step = 0 }) x refl refl refl refl refl
-aligned_own e ws s n ok k x may told = x
+aligned_own : (e : Effect) (ws : List Waiter) (rs : List ℕ) (s : Side) (n : ℕ) → Sound s → Carried s n → Aligned s → Fair ws rs s e → Told s n e → Aligned (move s e)
+aligned_own (Opens control ready) ws rs s n ok k x may told = aligned_opens s control ready x may.1
+aligned_own (SendsUp control w) ws rs s n ok k x may told = aligned_sent ws rs w control s ok x may
+aligned_own (TakenUp w) ws rs s n ok k x may told = aligned_taken w ws rs s n ok k x may
+aligned_own (SentDown control (Locking count returns flush lock true)) ws rs s n ok k x may told = aligned_order s control count returns lock flush ok x may told.0
+aligned_own (SentDown control (Locking count returns flush lock false)) ws rs s n ok k x may told = aligned_same s (sent_down s control (Locking count returns flush lock false)) x refl refl refl refl refl
+aligned_own (SentDown control (Supplying lock precious bytes)) ws rs s n ok k x may told = aligned_same s (sent_down s control (Supplying lock precious bytes)) x refl refl refl refl refl
+aligned_own (SentDown control Lacking) ws rs s n ok k x may told = absurd may
+aligned_own (SentDown control Failing) ws rs s n ok k x may told = absurd may
+aligned_own (SentDown control Readying) ws rs s n ok k x may told = x
+aligned_own (SentDown control OtherDown) ws rs s n ok k x may told = x
+aligned_own (TakesDown control w) ws rs s n ok k x may told = aligned_takes w s (reaches s control) x
+aligned_own (Puts bytes dirty) ws rs s n ok k x may told = absurd may
+aligned_own Drops ws rs s n ok k x may told = aligned_same s (record s { right = 0 }) x refl refl refl refl refl
+aligned_own (Stores task at size value) ws rs s n ok k x may told = aligned_same s (move s (Stores task at size value)) x refl refl refl refl refl
+aligned_own StepBegins ws rs s n ok k x may told = aligned_same s (record s { step = 0 }) x refl refl refl refl refl
+aligned_own e ws rs s n ok k x may told = x
 
 aligned_others : (e : Effect) (s : Side) → Aligned s → Aligned (move s (to_others e))
 aligned_others (TakenUp w) s x = aligned_same s (record s { step = 0 }) x refl refl refl refl refl
@@ -143,7 +143,7 @@ single_after size a past w k p c none h = elim (ℕ_discrete a.host h) [
   | yes e ↦ subst (λ (g : ℕ). Single (side g (a ∷ past)) (upgrades g (a ∷ past))) e
       (subst (λ (n : ℕ). Single (side a.host (a ∷ past)) n) (sym (upgrades_own a past))
       (subst (λ (s : Side). Single s (after (side a.host past) (upgrades a.host past) a.effect)) (sym (own_side a past))
-      (single_own a.effect (waiters a.host past) (side a.host past) (upgrades a.host past) (w.each a.host) (k.each a.host) (p.single a.host) (cause size a.host a.effect past w c) (λ begins. none begins a.host) (told_if size a.host a.effect past c))))
+      (single_own a.effect (waiters a.host past) (readers a.host past) (side a.host past) (upgrades a.host past) (w.each a.host) (k.each a.host) (p.single a.host) (cause size a.host a.effect past w c) (λ begins. none begins a.host) (told_if size a.host a.effect past c))))
   | no e ↦ subst (λ (n : ℕ). Single (side h (a ∷ past)) n) (sym (upgrades_other h a past e))
       (subst (λ (s : Side). Single s (upgrades h past)) (sym (other_side h a past e))
       (single_others a.effect (side h past) (upgrades h past) (p.single h) (λ begins. none begins h)))
@@ -151,7 +151,7 @@ single_after size a past w k p c none h = elim (ℕ_discrete a.host h) [
 
 aligned_after : (size : ℕ) (a : Act) (past : List Act) → World past → Waits past → Protocol past → Cause size a.host a.effect past → (h : ℕ) → Aligned (side h (a ∷ past))
 aligned_after size a past w k p c = at_each (λ s. Aligned s) a past
-    (aligned_own a.effect (waiters a.host past) (side a.host past) (upgrades a.host past) (w.each a.host) (k.each a.host) (p.aligned a.host) (cause size a.host a.effect past w c) (told_if size a.host a.effect past c))
+    (aligned_own a.effect (waiters a.host past) (readers a.host past) (side a.host past) (upgrades a.host past) (w.each a.host) (k.each a.host) (p.aligned a.host) (cause size a.host a.effect past w c) (told_if size a.host a.effect past c))
     (λ h e. aligned_others a.effect (side h past) (p.aligned h))
 
 pub protocol : (size : ℕ) (past : List Act) → Licensed size past → StepsDone past → Protocol past

@@ -12,8 +12,8 @@ use Rattle.vm_coherence.proofs.Law.{keep}
 use Rattle.vm_coherence.proofs.Orderly.{Orderly}
 use Rattle.vm_coherence.proofs.Truth.{Settled, Silent}
 
-settled_sent : (ws : List Waiter) (w : UpWord) (s : Side) → Settled (sent_up s w) → MaySend ws s w → Settled s
-settled_sent ws w s is may = grind (arith, nat_tests, sum_up_end)
+settled_sent : (ws : List Waiter) (rs : List ℕ) (w : UpWord) (s : Side) → Settled (sent_up s w) → MaySend ws rs s w → Settled s
+settled_sent ws rs w s is may = grind (arith, nat_tests, sum_up_end)
 
 settled_asking : (s : Side) (asker access : ℕ) → Sound s → Orderly s → first s.up ≡ Some (Asking asker access) → Settled (taken_up s (Asking asker access)) → Settled s
 settled_asking s asker access ok o head is = grind (arith, nat_tests, drain_up)
@@ -56,22 +56,22 @@ settled_takes w s false ok is = is
 settled_drops : (s : Side) → s.dirty ≡ false → Settled (record s { right = 0 }) → Settled s
 settled_drops s clean is = grind (arith, nat_tests)
 
-settled_send : (ws : List Waiter) (w : UpWord) (control : ℕ) (s : Side) → May ws s (SendsUp control w) → Settled (sent_up s w) → Settled s
-settled_send ws OtherUp control s may is = is
-settled_send ws w control s may is = settled_sent ws w s is may.2
+settled_send : (ws : List Waiter) (rs : List ℕ) (w : UpWord) (control : ℕ) (s : Side) → May ws rs s (SendsUp control w) → Settled (sent_up s w) → Settled s
+settled_send ws rs OtherUp control s may is = is
+settled_send ws rs w control s may is = settled_sent ws rs w s is may.2
 
-pub settled_own : (e : Effect) (ws : List Waiter) (s : Side) → Sound s → Orderly s → Fair ws s e → Silent e → Settled (move s e) → Settled s
-settled_own (Opens control ready) ws s ok o may silent is = is
-settled_own (SendsUp control w) ws s ok o may silent is = settled_send ws w control s may is
-settled_own (TakenUp (Asking asker access)) ws s ok o may silent is = settled_asking s asker access ok o may is
-settled_own (TakenUp (Unlocking access)) ws s ok o may silent is = settled_unlocking s access ok o may is
-settled_own (TakenUp (Returning dirty keep bytes)) ws s ok o may silent is = absurd silent
-settled_own (TakenUp (Doing control count)) ws s ok o may silent is = settled_doing s control count ok o may is
-settled_own (TakenUp (Ending control)) ws s ok o may silent is = settled_ending s control ok o may is
-settled_own (TakenUp OtherUp) ws s ok o may silent is = is
-settled_own (SentDown control w) ws s ok o may silent is = settled_answer w control s ok may is
-settled_own (TakesDown control w) ws s ok o may silent is = settled_takes w s (reaches s control) ok is
-settled_own (Puts bytes dirty) ws s ok o may silent is = absurd may
-settled_own Drops ws s ok o may silent is = settled_drops s may.1 is
-settled_own (Stores task at size value) ws s ok o may silent is = absurd silent
-settled_own e ws s ok o may silent is = is
+pub settled_own : (e : Effect) (ws : List Waiter) (rs : List ℕ) (s : Side) → Sound s → Orderly s → Fair ws rs s e → Silent e → Settled (move s e) → Settled s
+settled_own (Opens control ready) ws rs s ok o may silent is = is
+settled_own (SendsUp control w) ws rs s ok o may silent is = settled_send ws rs w control s may is
+settled_own (TakenUp (Asking asker access)) ws rs s ok o may silent is = settled_asking s asker access ok o may is
+settled_own (TakenUp (Unlocking access)) ws rs s ok o may silent is = settled_unlocking s access ok o may is
+settled_own (TakenUp (Returning dirty keep bytes)) ws rs s ok o may silent is = absurd silent
+settled_own (TakenUp (Doing control count)) ws rs s ok o may silent is = settled_doing s control count ok o may is
+settled_own (TakenUp (Ending control)) ws rs s ok o may silent is = settled_ending s control ok o may is
+settled_own (TakenUp OtherUp) ws rs s ok o may silent is = is
+settled_own (SentDown control w) ws rs s ok o may silent is = settled_answer w control s ok may is
+settled_own (TakesDown control w) ws rs s ok o may silent is = settled_takes w s (reaches s control) ok is
+settled_own (Puts bytes dirty) ws rs s ok o may silent is = absurd may
+settled_own Drops ws rs s ok o may silent is = settled_drops s may.1 is
+settled_own (Stores task at size value) ws rs s ok o may silent is = absurd silent
+settled_own e ws rs s ok o may silent is = is

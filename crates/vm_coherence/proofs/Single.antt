@@ -33,20 +33,20 @@ pub record Single (s : Side) (n : ℕ) : Type 0 where
   pub clean_reads : 0 < sum_down (replies 1) s.down → sum_down reads_down s.down ≡ 0
   pub reads_hold : 0 < sum_down reads_down s.down → s.holds ≢ 2
 
-pub single_asking : (ws : List Waiter) (s : Side) (n control asker access : ℕ) → Sound s → Carried s n → Single s n → MaySend ws s (Asking asker access) → Single (move s (SendsUp control (Asking asker access))) (after s n (SendsUp control (Asking asker access)))
-single_asking ws s n control asker access ok k x may = grind (arith, nat_tests, sum_up_end, behind_end)
+pub single_asking : (ws : List Waiter) (rs : List ℕ) (s : Side) (n control asker access : ℕ) → Sound s → Carried s n → Single s n → MaySend ws rs s (Asking asker access) → Single (move s (SendsUp control (Asking asker access))) (after s n (SendsUp control (Asking asker access)))
+single_asking ws rs s n control asker access ok k x may = grind (arith, nat_tests, sum_up_end, behind_end)
 
-pub single_unlocking : (ws : List Waiter) (s : Side) (n control access : ℕ) → Sound s → Carried s n → Single s n → MaySend ws s (Unlocking access) → Single (move s (SendsUp control (Unlocking access))) (after s n (SendsUp control (Unlocking access)))
-single_unlocking ws s n control access ok k x may = grind (arith, nat_tests, sum_up_end, behind_new, outcome_none s.down s.right, locks_le s.down)
+pub single_unlocking : (ws : List Waiter) (rs : List ℕ) (s : Side) (n control access : ℕ) → Sound s → Carried s n → Single s n → MaySend ws rs s (Unlocking access) → Single (move s (SendsUp control (Unlocking access))) (after s n (SendsUp control (Unlocking access)))
+single_unlocking ws rs s n control access ok k x may = grind (arith, nat_tests, sum_up_end, behind_new, outcome_none s.down s.right, locks_le s.down)
 
-pub single_returning : (ws : List Waiter) (s : Side) (n control : ℕ) (dirty keep : Bool) (bytes : List ℕ) → Sound s → Carried s n → Single s n → MaySend ws s (Returning dirty keep bytes) → Single (move s (SendsUp control (Returning dirty keep bytes))) (after s n (SendsUp control (Returning dirty keep bytes)))
-single_returning ws s n control dirty keep bytes ok k x may = grind (arith, nat_tests, sum_up_end, behind_end)
+pub single_returning : (ws : List Waiter) (rs : List ℕ) (s : Side) (n control : ℕ) (dirty keep : Bool) (bytes : List ℕ) → Sound s → Carried s n → Single s n → MaySend ws rs s (Returning dirty keep bytes) → Single (move s (SendsUp control (Returning dirty keep bytes))) (after s n (SendsUp control (Returning dirty keep bytes)))
+single_returning ws rs s n control dirty keep bytes ok k x may = grind (arith, nat_tests, sum_up_end, behind_end)
 
-pub single_doing : (ws : List Waiter) (s : Side) (n control told count : ℕ) → Sound s → Carried s n → Single s n → MaySend ws s (Doing told count) → Single (move s (SendsUp control (Doing told count))) (after s n (SendsUp control (Doing told count)))
-single_doing ws s n control told count ok k x may = grind (arith, nat_tests, sum_up_end, behind_end)
+pub single_doing : (ws : List Waiter) (rs : List ℕ) (s : Side) (n control told count : ℕ) → Sound s → Carried s n → Single s n → MaySend ws rs s (Doing told count) → Single (move s (SendsUp control (Doing told count))) (after s n (SendsUp control (Doing told count)))
+single_doing ws rs s n control told count ok k x may = grind (arith, nat_tests, sum_up_end, behind_end)
 
-pub single_ending : (ws : List Waiter) (s : Side) (n control told : ℕ) → Sound s → Carried s n → Single s n → MaySend ws s (Ending told) → Single (move s (SendsUp control (Ending told))) (after s n (SendsUp control (Ending told)))
-single_ending ws s n control told ok k x may = grind (arith, nat_tests, sum_up_end, behind_end)
+pub single_ending : (ws : List Waiter) (rs : List ℕ) (s : Side) (n control told : ℕ) → Sound s → Carried s n → Single s n → MaySend ws rs s (Ending told) → Single (move s (SendsUp control (Ending told))) (after s n (SendsUp control (Ending told)))
+single_ending ws rs s n control told ok k x may = grind (arith, nat_tests, sum_up_end, behind_end)
 
 pub single_opens : (s : Side) (n control : ℕ) (ready : Bool) → Sound s → Carried s n → Single s n → s.live ≡ false → Single (opened s control ready) (gate s.holds n)
 single_opens s n control ready ok k x live = grind (arith, nat_tests)

@@ -21,9 +21,9 @@ MayAnswer s Readying = Unit {0}
 MayAnswer s OtherDown = Unit {0}
 
 -- why an act of the host's own may happen, as far as the host itself tells
-abbrev pub Fair : List Waiter → Side → Effect → Type 0
-Fair ws s (SentDown control word) = MayAnswer s word
-Fair ws s e = May ws s e
+abbrev pub Fair : List Waiter → List ℕ → Side → Effect → Type 0
+Fair ws rs s (SentDown control word) = MayAnswer s word
+Fair ws rs s e = May ws rs s e
 
 abbrev pub one_if : Bool → ℕ
 one_if true = 1
@@ -63,24 +63,24 @@ pub record Sound (s : Side) : Type 0 where
   pub earlier : sum_up (over s.control) s.up ≡ 0
   pub straight : stray s.awaited_control s.up ≡ 0
 
-pub keep_asking : (ws : List Waiter) (s : Side) (asker access : ℕ) → Sound s → s.live ≡ true → MaySend ws s (Asking asker access) → Sound (sent_up s (Asking asker access))
-keep_asking ws s asker access ok live may = grind (arith, nat_tests, sum_up_end, late_ask, stray_end, drain_0)
+pub keep_asking : (ws : List Waiter) (rs : List ℕ) (s : Side) (asker access : ℕ) → Sound s → s.live ≡ true → MaySend ws rs s (Asking asker access) → Sound (sent_up s (Asking asker access))
+keep_asking ws rs s asker access ok live may = grind (arith, nat_tests, sum_up_end, late_ask, stray_end, drain_0)
 
-pub keep_unlocking : (ws : List Waiter) (s : Side) (access : ℕ) → Sound s → s.live ≡ true → MaySend ws s (Unlocking access) → Sound (sent_up s (Unlocking access))
-keep_unlocking ws s access ok live may = grind (arith, nat_tests, sum_up_end, late_end, stray_end)
+pub keep_unlocking : (ws : List Waiter) (rs : List ℕ) (s : Side) (access : ℕ) → Sound s → s.live ≡ true → MaySend ws rs s (Unlocking access) → Sound (sent_up s (Unlocking access))
+keep_unlocking ws rs s access ok live may = grind (arith, nat_tests, sum_up_end, late_end, stray_end)
 
-pub keep_returning : (ws : List Waiter) (s : Side) (dirty keep : Bool) (bytes : List ℕ) → Sound s → s.live ≡ true → MaySend ws s (Returning dirty keep bytes) → Sound (sent_up s (Returning dirty keep bytes))
-keep_returning ws s dirty keep bytes ok live may = grind (arith, nat_tests, sum_up_end, late_end, stray_end, drain_0)
+pub keep_returning : (ws : List Waiter) (rs : List ℕ) (s : Side) (dirty keep : Bool) (bytes : List ℕ) → Sound s → s.live ≡ true → MaySend ws rs s (Returning dirty keep bytes) → Sound (sent_up s (Returning dirty keep bytes))
+keep_returning ws rs s dirty keep bytes ok live may = grind (arith, nat_tests, sum_up_end, late_end, stray_end, drain_0)
 
-pub keep_doing : (ws : List Waiter) (s : Side) (control count : ℕ) → Sound s → s.live ≡ true → s.control ≡ control → MaySend ws s (Doing control count) → Sound (sent_up s (Doing control count))
-keep_doing ws s control count ok live mine may =
+pub keep_doing : (ws : List Waiter) (rs : List ℕ) (s : Side) (control count : ℕ) → Sound s → s.live ≡ true → s.control ≡ control → MaySend ws rs s (Doing control count) → Sound (sent_up s (Doing control count))
+keep_doing ws rs s control count ok live mine may =
     let theirs : s.awaited_control ≡ s.control = ok.mine (omega arith) in
     let none : sum_up (ends s.awaited_control) s.up ≡ 0 = rw theirs (ok.running live) in
     let straight : stray s.awaited_control (s.up ++ Doing control count ∷ []) ≡ 0 = stray_live s.awaited_control s.up (Doing control count) none refl in
     grind (arith, nat_tests, sum_up_end, late_end, drain_none, loose_all, replies_le 1 s.down, replies_le 2 s.down)
 
-pub keep_ending : (ws : List Waiter) (s : Side) (control : ℕ) → Sound s → s.live ≡ true → s.control ≡ control → MaySend ws s (Ending control) → Sound (sent_up s (Ending control))
-keep_ending ws s control ok live mine may = grind (arith, nat_tests, sum_up_end, late_end, stray_end)
+pub keep_ending : (ws : List Waiter) (rs : List ℕ) (s : Side) (control : ℕ) → Sound s → s.live ≡ true → s.control ≡ control → MaySend ws rs s (Ending control) → Sound (sent_up s (Ending control))
+keep_ending ws rs s control ok live mine may = grind (arith, nat_tests, sum_up_end, late_end, stray_end)
 
 pub keep_drops : (s : Side) → Sound s → Sound (record s { right = 0 })
 keep_drops s ok = grind (arith, nat_tests, drain_le)

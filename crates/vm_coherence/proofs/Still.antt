@@ -4,7 +4,7 @@ use Rattle.std.proofs.lemmas.Bool.Decides.{nat_tests}
 use native.Mathlib.Decide.{ℕ_discrete}
 use Rattle.vm_model.specs.Words.{UpWord, Asking, Unlocking, Returning, Doing, Ending, OtherUp, DownWord, Supplying, Locking, Lacking, Failing, Readying, OtherDown, Effect, Opens, SendsUp, TakenUp, SentDown, TakesDown, Puts, Drops, Stores, StepBegins, Act, to_others}
 use Rattle.vm_model.specs.Side.{Side, done, reaches, hears, move, side}
-use Rattle.vm_model.specs.Waiters.{Waiter, waiters}
+use Rattle.vm_model.specs.Waiters.{Waiter, waiters, readers}
 use Rattle.vm_model.specs.Server.{first, Wanting, joined, stays, trimmed_line, line, kept}
 use Rattle.vm_model.specs.PageLicences.{May, Cause, Licensed}
 use Rattle.vm_model.specs.Coherence.{Done, begins_step, StepsDone, Prompt, Served, Quiet, Answered, NobodyWaits}
@@ -43,22 +43,22 @@ hears_one Readying s n control ok k live mine is none = carried_ready s n ok k n
 hears_one OtherDown s n control ok k live mine is none = carried_rest s n ok k none
 
 -- what a host takes, where its control is the live one or not
-hears_if : (ws : List Waiter) (w : DownWord) (s : Side) (n control : ℕ) (b : Bool) → reaches s control ≡ b → Sound s → Carried s n → May ws s (TakesDown control w) → s.step ≡ 0 → Carried (if b then hears s w else record s { step = 0 }) (gate (if b then hears s w else record s { step = 0 }).holds n)
-hears_if ws w s n control false is ok k may none = carried_rest s n ok k none
-hears_if ws OtherDown s n control true is ok k may none = carried_rest s n ok k none
-hears_if ws Readying s n control true is ok k may none = carried_ready s n ok k none
-hears_if ws w s n control true is ok k may none =
+hears_if : (ws : List Waiter) (rs : List ℕ) (w : DownWord) (s : Side) (n control : ℕ) (b : Bool) → reaches s control ≡ b → Sound s → Carried s n → May ws rs s (TakesDown control w) → s.step ≡ 0 → Carried (if b then hears s w else record s { step = 0 }) (gate (if b then hears s w else record s { step = 0 }).holds n)
+hears_if ws rs w s n control false is ok k may none = carried_rest s n ok k none
+hears_if ws rs OtherDown s n control true is ok k may none = carried_rest s n ok k none
+hears_if ws rs Readying s n control true is ok k may none = carried_ready s n ok k none
+hears_if ws rs w s n control true is ok k may none =
     let live : s.live ≡ true = grind (arith, nat_tests) in
     let mine : s.control ≡ control = grind (arith, nat_tests) in
     hears_one w s n control ok k live mine (may mine live) none
 
-carried_sent : (ws : List Waiter) (w : UpWord) (control : ℕ) (s : Side) (n : ℕ) → Sound s → Carried s n → May ws s (SendsUp control w) → Carried (move s (SendsUp control w)) (after s n (SendsUp control w))
-carried_sent ws (Asking asker access) control s n ok k may = carried_asking ws s n control asker access ok k may.0 may.2
-carried_sent ws (Unlocking access) control s n ok k may = carried_unlocking ws s n control access ok k may.2
-carried_sent ws (Returning dirty kept bytes) control s n ok k may = carried_returning ws s n control dirty kept bytes ok k may.2
-carried_sent ws (Doing told count) control s n ok k may = carried_doing ws s n control told count ok k may.2
-carried_sent ws (Ending told) control s n ok k may = carried_ending ws s n control told ok k may.2
-carried_sent ws OtherUp control s n ok k may = carried_same s n k
+carried_sent : (ws : List Waiter) (rs : List ℕ) (w : UpWord) (control : ℕ) (s : Side) (n : ℕ) → Sound s → Carried s n → May ws rs s (SendsUp control w) → Carried (move s (SendsUp control w)) (after s n (SendsUp control w))
+carried_sent ws rs (Asking asker access) control s n ok k may = carried_asking ws rs s n control asker access ok k may.0 may.2
+carried_sent ws rs (Unlocking access) control s n ok k may = carried_unlocking ws rs s n control access ok k may.2
+carried_sent ws rs (Returning dirty kept bytes) control s n ok k may = carried_returning ws rs s n control dirty kept bytes ok k may.2
+carried_sent ws rs (Doing told count) control s n ok k may = carried_doing ws rs s n control told count ok k may.2
+carried_sent ws rs (Ending told) control s n ok k may = carried_ending ws rs s n control told ok k may.2
+carried_sent ws rs OtherUp control s n ok k may = carried_same s n k
 
 -- what is known of a message to the host beside the host's own reasons: its control, and that an awaited host holds
 abbrev pub Orders : Side → Effect → Type 0
@@ -67,28 +67,28 @@ Orders s (SentDown control (Locking count returns flush lock true)) = (control �
 Orders s (SentDown control (Locking count returns flush lock false)) = control ≡ s.heard
 Orders s e = Unit {0}
 
-carried_own : (e : Effect) (ws : List Waiter) (s : Side) (n : ℕ) → Sound s → Carried s n → Fair ws s e → (begins_step e ≡ true → s.step ≡ 0) → Orders s e → Carried (move s e) (after s n e)
-carried_own (Opens control ready) ws s n ok k may none orders = carried_opens s n control ready ok k may.0 may.1
-carried_own (SendsUp control w) ws s n ok k may none orders = carried_sent ws w control s n ok k may
-carried_own (TakenUp (Asking asker access)) ws s n ok k may none orders = carried_heard_asking s n asker access ok k may (none refl)
-carried_own (TakenUp (Unlocking access)) ws s n ok k may none orders = carried_heard_unlocking s n access ok k may (none refl)
-carried_own (TakenUp (Returning dirty kept bytes)) ws s n ok k may none orders = carried_heard_returning s n dirty kept bytes ok k may (none refl)
-carried_own (TakenUp (Doing control count)) ws s n ok k may none orders = carried_heard_doing s n control count ok k may (none refl)
-carried_own (TakenUp (Ending control)) ws s n ok k may none orders = carried_heard_ending s n control ok k may (none refl)
-carried_own (TakenUp OtherUp) ws s n ok k may none orders = carried_rest s n ok k (none refl)
-carried_own (SentDown control (Supplying lock precious bytes)) ws s n ok k may none orders = carried_supply s n control lock precious bytes ok k may orders
-carried_own (SentDown control (Locking count returns flush lock true)) ws s n ok k may none orders = carried_order s n control count returns lock flush ok k may orders.1 orders.0
-carried_own (SentDown control (Locking count returns flush lock false)) ws s n ok k may none orders = carried_upgrade s n control count returns lock flush ok k may orders
-carried_own (SentDown control Lacking) ws s n ok k may none orders = absurd may
-carried_own (SentDown control Failing) ws s n ok k may none orders = absurd may
-carried_own (SentDown control Readying) ws s n ok k may none orders = carried_same s n k
-carried_own (SentDown control OtherDown) ws s n ok k may none orders = carried_same s n k
-carried_own (TakesDown control w) ws s n ok k may none orders = hears_if ws w s n control (reaches s control) refl ok k may (none refl)
-carried_own (Puts bytes dirty) ws s n ok k may none orders = absurd may
-carried_own Drops ws s n ok k may none orders = carried_drops s n ok k
-carried_own (Stores task at size value) ws s n ok k may none orders = carried_stores s n task at size value ok k
-carried_own StepBegins ws s n ok k may none orders = carried_rest s n ok k (none refl)
-carried_own e ws s n ok k may none orders = carried_same s n k
+carried_own : (e : Effect) (ws : List Waiter) (rs : List ℕ) (s : Side) (n : ℕ) → Sound s → Carried s n → Fair ws rs s e → (begins_step e ≡ true → s.step ≡ 0) → Orders s e → Carried (move s e) (after s n e)
+carried_own (Opens control ready) ws rs s n ok k may none orders = carried_opens s n control ready ok k may.0 may.1
+carried_own (SendsUp control w) ws rs s n ok k may none orders = carried_sent ws rs w control s n ok k may
+carried_own (TakenUp (Asking asker access)) ws rs s n ok k may none orders = carried_heard_asking s n asker access ok k may (none refl)
+carried_own (TakenUp (Unlocking access)) ws rs s n ok k may none orders = carried_heard_unlocking s n access ok k may (none refl)
+carried_own (TakenUp (Returning dirty kept bytes)) ws rs s n ok k may none orders = carried_heard_returning s n dirty kept bytes ok k may (none refl)
+carried_own (TakenUp (Doing control count)) ws rs s n ok k may none orders = carried_heard_doing s n control count ok k may (none refl)
+carried_own (TakenUp (Ending control)) ws rs s n ok k may none orders = carried_heard_ending s n control ok k may (none refl)
+carried_own (TakenUp OtherUp) ws rs s n ok k may none orders = carried_rest s n ok k (none refl)
+carried_own (SentDown control (Supplying lock precious bytes)) ws rs s n ok k may none orders = carried_supply s n control lock precious bytes ok k may orders
+carried_own (SentDown control (Locking count returns flush lock true)) ws rs s n ok k may none orders = carried_order s n control count returns lock flush ok k may orders.1 orders.0
+carried_own (SentDown control (Locking count returns flush lock false)) ws rs s n ok k may none orders = carried_upgrade s n control count returns lock flush ok k may orders
+carried_own (SentDown control Lacking) ws rs s n ok k may none orders = absurd may
+carried_own (SentDown control Failing) ws rs s n ok k may none orders = absurd may
+carried_own (SentDown control Readying) ws rs s n ok k may none orders = carried_same s n k
+carried_own (SentDown control OtherDown) ws rs s n ok k may none orders = carried_same s n k
+carried_own (TakesDown control w) ws rs s n ok k may none orders = hears_if ws rs w s n control (reaches s control) refl ok k may (none refl)
+carried_own (Puts bytes dirty) ws rs s n ok k may none orders = absurd may
+carried_own Drops ws rs s n ok k may none orders = carried_drops s n ok k
+carried_own (Stores task at size value) ws rs s n ok k may none orders = carried_stores s n task at size value ok k
+carried_own StepBegins ws rs s n ok k may none orders = carried_rest s n ok k (none refl)
+carried_own e ws rs s n ok k may none orders = carried_same s n k
 
 carried_bare : (s : Side) (n : ℕ) → Carried s n → s.step ≡ 0 → Carried (record s { step = 0 }) n
 carried_bare s n k none = grind (arith, nat_tests)
@@ -129,7 +129,7 @@ each_after size a past w k c none h = elim (ℕ_discrete a.host h) [
   | yes e ↦ subst (λ (g : ℕ). Carried (side g (a ∷ past)) (upgrades g (a ∷ past))) e
       (subst (λ (n : ℕ). Carried (side a.host (a ∷ past)) n) (sym (upgrades_own a past))
       (subst (λ (s : Side). Carried s (after (side a.host past) (upgrades a.host past) a.effect)) (sym (own_side a past))
-      (carried_own a.effect (waiters a.host past) (side a.host past) (upgrades a.host past) (w.each a.host) (k.each a.host) (cause size a.host a.effect past w c) (λ begins. none begins a.host) (orders_if size a.host a.effect past c))))
+      (carried_own a.effect (waiters a.host past) (readers a.host past) (side a.host past) (upgrades a.host past) (w.each a.host) (k.each a.host) (cause size a.host a.effect past w c) (λ begins. none begins a.host) (orders_if size a.host a.effect past c))))
   | no e ↦ subst (λ (n : ℕ). Carried (side h (a ∷ past)) n) (sym (upgrades_other h a past e))
       (subst (λ (s : Side). Carried s (upgrades h past)) (sym (other_side h a past e))
       (carried_others a.effect (side h past) (upgrades h past) (w.each h) (k.each h) (λ begins. none begins h)))

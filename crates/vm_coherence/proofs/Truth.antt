@@ -2,7 +2,7 @@
 use Rattle.std.proofs.Common.{◌≡◌, ℕ, ◌<◌, ◌≤◌, ◌∙◌, subst, List, [], ◌∷◌, ◌++◌, arith, Bool, true, false, Option, Some, None, if◌then◌else◌, refl, ap}
 use Rattle.std.proofs.lemmas.Bool.Decides.{nat_tests}
 use Rattle.vm_base.specs.Pages.{little_endian_bytes, with_bytes}
-use Rattle.vm_model.specs.Words.{UpWord, Asking, Unlocking, Returning, Doing, Ending, OtherUp, DownWord, Supplying, Locking, Lacking, Failing, Readying, OtherDown, Effect, Opens, SendsUp, TakenUp, SentDown, TakesDown, Puts, Drops, Begins, Loads, Stores, Fails, StepBegins, Nothing, to_others}
+use Rattle.vm_model.specs.Words.{UpWord, Asking, Unlocking, Returning, Doing, Ending, OtherUp, DownWord, Supplying, Locking, Lacking, Failing, Readying, OtherDown, Effect, Opens, SendsUp, TakenUp, SentDown, TakesDown, Puts, Drops, Begins, Loads, Stores, Fails, BeginsCopy, Copies, EndsCopy, StepBegins, Nothing, to_others}
 use Rattle.vm_model.specs.Side.{Side, fresh, sent_up, taken_up, reaches, put_down, sent_down, locked, supplied, hears, move}
 use Rattle.vm_model.specs.Waiters.{Waiter, waiter_of}
 use Rattle.vm_model.specs.Server.{first, current_after}
@@ -16,18 +16,18 @@ use Rattle.vm_coherence.proofs.Orderly.{Orderly}
 carry_put : (page : List ℕ) (s : Side) (control : ℕ) (w : DownWord) → CarryDown page s.down → SaysDown page w → CarryDown page (put_down s control w)
 carry_put page s control w c says = elim (reaches s control) as (λ b. CarryDown page (if b then s.down ++ w ∷ [] else s.down)) [ true ↦ carry_down_end page s.down w c says | false ↦ c ]
 
-carry_sent : (ws : List Waiter) (w : UpWord) (page : List ℕ) (s : Side) → MaySend ws s w → Carries page s → Carries page (sent_up s w)
-carry_sent ws (Asking asker access) page s may c = record { here = c.here; coming = c.coming; going = carry_up_end page s.up (Asking asker access) c.going tt }
-carry_sent ws (Unlocking access) page s may c = record { here = c.here; coming = c.coming; going = carry_up_end page s.up (Unlocking access) c.going tt }
-carry_sent ws (Returning dirty keep bytes) page s may c =
+carry_sent : (ws : List Waiter) (rs : List ℕ) (w : UpWord) (page : List ℕ) (s : Side) → MaySend ws rs s w → Carries page s → Carries page (sent_up s w)
+carry_sent ws rs (Asking asker access) page s may c = record { here = c.here; coming = c.coming; going = carry_up_end page s.up (Asking asker access) c.going tt }
+carry_sent ws rs (Unlocking access) page s may c = record { here = c.here; coming = c.coming; going = carry_up_end page s.up (Unlocking access) c.going tt }
+carry_sent ws rs (Returning dirty keep bytes) page s may c =
     record {
       here = λ some. c.here may.0;
       coming = c.coming;
       going = carry_up_end page s.up (Returning dirty keep bytes) c.going (may.3 ∙ c.here may.0);
     }
-carry_sent ws (Doing control count) page s may c = record { here = c.here; coming = c.coming; going = carry_up_end page s.up (Doing control count) c.going tt }
-carry_sent ws (Ending control) page s may c = record { here = c.here; coming = tt; going = carry_up_end page s.up (Ending control) c.going tt }
-carry_sent ws OtherUp page s may c = c
+carry_sent ws rs (Doing control count) page s may c = record { here = c.here; coming = c.coming; going = carry_up_end page s.up (Doing control count) c.going tt }
+carry_sent ws rs (Ending control) page s may c = record { here = c.here; coming = tt; going = carry_up_end page s.up (Ending control) c.going tt }
+carry_sent ws rs OtherUp page s may c = c
 
 carry_taken : (w : UpWord) (page : List ℕ) (s : Side) → Carries page s → Carries page (taken_up s w)
 carry_taken (Asking asker access) page s c = record { here = c.here; coming = c.coming; going = carry_up_rest page s.up c.going }
@@ -68,11 +68,11 @@ carry_hears OtherDown page s ok is c = record { here = c.here; coming = c.coming
 carry_step : (page : List ℕ) (s : Side) → Carries page s → Carries page (record s { step = 0 })
 carry_step page s c = record { here = c.here; coming = c.coming; going = c.going }
 
-carry_taking : (ws : List Waiter) (w : DownWord) (control : ℕ) (page : List ℕ) (s : Side) (b : Bool) → reaches s control ≡ b → Sound s → May ws s (TakesDown control w) → Carries page s → Carries page (if b then hears s w else record s { step = 0 })
-carry_taking ws w control page s false is ok may c = carry_step page s c
-carry_taking ws OtherDown control page s true is ok may c = carry_step page s c
-carry_taking ws Readying control page s true is ok may c = record { here = c.here; coming = c.coming; going = c.going }
-carry_taking ws w control page s true is ok may c =
+carry_taking : (ws : List Waiter) (rs : List ℕ) (w : DownWord) (control : ℕ) (page : List ℕ) (s : Side) (b : Bool) → reaches s control ≡ b → Sound s → May ws rs s (TakesDown control w) → Carries page s → Carries page (if b then hears s w else record s { step = 0 })
+carry_taking ws rs w control page s false is ok may c = carry_step page s c
+carry_taking ws rs OtherDown control page s true is ok may c = carry_step page s c
+carry_taking ws rs Readying control page s true is ok may c = record { here = c.here; coming = c.coming; going = c.going }
+carry_taking ws rs w control page s true is ok may c =
     let live : s.live ≡ true = grind (arith, nat_tests) in
     let mine : s.control ≡ control = grind (arith, nat_tests) in
     carry_hears w page s ok (may mine live) c
@@ -97,29 +97,32 @@ abbrev pub SaysTruth : List ℕ → Effect → Type 0
 SaysTruth page (SentDown control w) = SaysDown page w
 SaysTruth page e = Unit {0}
 
-carry_send : (ws : List Waiter) (w : UpWord) (control : ℕ) (page : List ℕ) (s : Side) → May ws s (SendsUp control w) → Carries page s → Carries page (sent_up s w)
-carry_send ws OtherUp control page s may c = c
-carry_send ws w control page s may c = carry_sent ws w page s may.2 c
+carry_send : (ws : List Waiter) (rs : List ℕ) (w : UpWord) (control : ℕ) (page : List ℕ) (s : Side) → May ws rs s (SendsUp control w) → Carries page s → Carries page (sent_up s w)
+carry_send ws rs OtherUp control page s may c = c
+carry_send ws rs w control page s may c = carry_sent ws rs w page s may.2 c
 
 -- a store is of a page that the host can write
 pub can_store : (o : Option Waiter) (s : Side) (at size value : ℕ) → MayStore o s at size value → s.right ≡ 2
 can_store None s at size value may = absurd may
 can_store (Some w) s at size value may = writes s may.1
 
-pub carry : (e : Effect) (ws : List Waiter) (page : List ℕ) (s : Side) → Sound s → Orderly s → Fair ws s e → SaysTruth page e → Carries page s → Carries (current_after e page) (move s e)
-carry (Opens control ready) ws page s ok o may says c = record { here = c.here; coming = tt; going = c.going }
-carry (SendsUp control w) ws page s ok o may says c = carry_send ws w control page s may c
-carry (TakenUp w) ws page s ok o may says c = carry_taken w page s c
-carry (SentDown control w) ws page s ok o may says c = carry_answer w control page s says c
-carry (TakesDown control w) ws page s ok o may says c = carry_taking ws w control page s (reaches s control) refl ok may c
-carry (Puts bytes dirty) ws page s ok o may says c = absurd may
-carry Drops ws page s ok o may says c = record { here = λ some. absurd (omega arith); coming = c.coming; going = c.going }
-carry (Begins task store at size value) ws page s ok o may says c = c
-carry (Loads task value) ws page s ok o may says c = c
-carry (Stores task at size value) ws page s ok o may says c = carry_stores page s task at size value ok o (can_store (waiter_of task ws) s at size value may) c
-carry (Fails task) ws page s ok o may says c = c
-carry StepBegins ws page s ok o may says c = carry_step page s c
-carry Nothing ws page s ok o may says c = c
+pub carry : (e : Effect) (ws : List Waiter) (rs : List ℕ) (page : List ℕ) (s : Side) → Sound s → Orderly s → Fair ws rs s e → SaysTruth page e → Carries page s → Carries (current_after e page) (move s e)
+carry (Opens control ready) ws rs page s ok o may says c = record { here = c.here; coming = tt; going = c.going }
+carry (SendsUp control w) ws rs page s ok o may says c = carry_send ws rs w control page s may c
+carry (TakenUp w) ws rs page s ok o may says c = carry_taken w page s c
+carry (SentDown control w) ws rs page s ok o may says c = carry_answer w control page s says c
+carry (TakesDown control w) ws rs page s ok o may says c = carry_taking ws rs w control page s (reaches s control) refl ok may c
+carry (Puts bytes dirty) ws rs page s ok o may says c = absurd may
+carry Drops ws rs page s ok o may says c = record { here = λ some. absurd (omega arith); coming = c.coming; going = c.going }
+carry (Begins task store at size value) ws rs page s ok o may says c = c
+carry (Loads task value) ws rs page s ok o may says c = c
+carry (Stores task at size value) ws rs page s ok o may says c = carry_stores page s task at size value ok o (can_store (waiter_of task ws) s at size value may) c
+carry (Fails task) ws rs page s ok o may says c = c
+carry (BeginsCopy task times) ws rs page s ok o may says c = c
+carry (Copies task) ws rs page s ok o may says c = c
+carry (EndsCopy task) ws rs page s ok o may says c = c
+carry StepBegins ws rs page s ok o may says c = carry_step page s c
+carry Nothing ws rs page s ok o may says c = c
 
 -- another host's store: nothing of the page is here, and nothing is on its way
 pub carry_bare : (page : List ℕ) (s : Side) → Sound s → Orderly s → s.holds ≡ 0 → Carries page s

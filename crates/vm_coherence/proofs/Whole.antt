@@ -4,9 +4,9 @@ use Rattle.std.specs.Prelude.{replicate, slice_range}
 use Rattle.std.proofs.lemmas.Bool.Decides.{nat_tests}
 use native.Mathlib.Decide.{ℕ_discrete}
 use Rattle.vm_base.specs.Pages.{little_endian}
-use Rattle.vm_model.specs.Words.{UpWord, Asking, Unlocking, Returning, Doing, Ending, OtherUp, DownWord, Supplying, Locking, Lacking, Failing, Readying, OtherDown, Effect, Opens, SendsUp, TakenUp, SentDown, TakesDown, Puts, Drops, Begins, Loads, Stores, Fails, StepBegins, Nothing, Act, to_others}
+use Rattle.vm_model.specs.Words.{UpWord, Asking, Unlocking, Returning, Doing, Ending, OtherUp, DownWord, Supplying, Locking, Lacking, Failing, Readying, OtherDown, Effect, Opens, SendsUp, TakenUp, SentDown, TakesDown, Puts, Drops, Begins, Loads, Stores, Fails, BeginsCopy, Copies, EndsCopy, StepBegins, Nothing, Act, to_others}
 use Rattle.vm_model.specs.Side.{Side, nobody, can_read, reaches, hears, move, side}
-use Rattle.vm_model.specs.Waiters.{Waiter, waiters, waiter_of}
+use Rattle.vm_model.specs.Waiters.{Waiter, waiters, readers, waiter_of}
 use Rattle.vm_model.specs.Server.{first, Wanting, line, current_after, current, kept_after, kept}
 use Rattle.vm_model.specs.PageLicences.{MayLoad, May, SupplyRow, Answers, Cause, Licensed}
 use Rattle.vm_model.specs.Coherence.{Throughout, SaysUp, CarryUp, Carries, SameBytes, Reads, LoadReads, EachLoadReads, PageLegal}
@@ -25,45 +25,48 @@ order_hears Failing s ok o is = absurd (never s Failing ok refl is)
 order_hears Readying s ok o is = order_ready s o
 order_hears OtherDown s ok o is = order_step s o
 
-order_taking : (ws : List Waiter) (s : Side) (control : ℕ) (word : DownWord) (b : Bool) → reaches s control ≡ b → Sound s → Orderly s → May ws s (TakesDown control word) → Orderly (if b then hears s word else record s { step = 0 })
-order_taking ws s control word false is ok o may = order_step s o
-order_taking ws s control OtherDown true is ok o may = order_step s o
-order_taking ws s control Readying true is ok o may = order_ready s o
-order_taking ws s control word true is ok o may =
+order_taking : (ws : List Waiter) (rs : List ℕ) (s : Side) (control : ℕ) (word : DownWord) (b : Bool) → reaches s control ≡ b → Sound s → Orderly s → May ws rs s (TakesDown control word) → Orderly (if b then hears s word else record s { step = 0 })
+order_taking ws rs s control word false is ok o may = order_step s o
+order_taking ws rs s control OtherDown true is ok o may = order_step s o
+order_taking ws rs s control Readying true is ok o may = order_ready s o
+order_taking ws rs s control word true is ok o may =
     let live : s.live ≡ true = grind (arith, nat_tests) in
     let mine : s.control ≡ control = grind (arith, nat_tests) in
     order_hears word s ok o (may mine live)
 
-order : (e : Effect) (ws : List Waiter) (s : Side) → Sound s → Orderly s → Fair ws s e → Orderly (move s e)
-order (Opens control ready) ws s ok o may = order_opens s control ready ok o may.0
-order (SendsUp control (Asking asker access)) ws s ok o may = order_asking ws s asker access ok o may.2
-order (SendsUp control (Unlocking access)) ws s ok o may = order_unlocking s access ok o
-order (SendsUp control (Returning dirty kept bytes)) ws s ok o may = order_returning ws s dirty kept bytes ok o may.2
-order (SendsUp control (Doing told count)) ws s ok o may = order_doing ws s told count ok o may.2
-order (SendsUp control (Ending told)) ws s ok o may = order_ending ws s told ok o may.2
-order (SendsUp control OtherUp) ws s ok o may = o
-order (TakenUp (Asking asker access)) ws s ok o may = order_heard_asking s asker access ok o may
-order (TakenUp (Unlocking access)) ws s ok o may = order_heard_unlocking s access ok o may
-order (TakenUp (Returning dirty kept bytes)) ws s ok o may = order_heard_returning s dirty kept bytes ok o may
-order (TakenUp (Doing control count)) ws s ok o may = order_heard_doing s control count ok o may
-order (TakenUp (Ending control)) ws s ok o may = order_heard_ending s control ok o may
-order (TakenUp OtherUp) ws s ok o may = order_step s o
-order (SentDown control (Supplying lock precious bytes)) ws s ok o may = order_supply s control lock precious bytes ok o may
-order (SentDown control (Locking count returns flush lock true)) ws s ok o may = order_order s control count returns lock flush ok o may
-order (SentDown control (Locking count returns flush lock false)) ws s ok o may = order_upgrade s control count returns lock flush ok o may
-order (SentDown control Lacking) ws s ok o may = absurd may
-order (SentDown control Failing) ws s ok o may = absurd may
-order (SentDown control Readying) ws s ok o may = o
-order (SentDown control OtherDown) ws s ok o may = o
-order (TakesDown control word) ws s ok o may = order_taking ws s control word (reaches s control) refl ok o may
-order (Puts bytes dirty) ws s ok o may = absurd may
-order Drops ws s ok o may = order_drops s ok o
-order (Begins task store at size value) ws s ok o may = o
-order (Loads task value) ws s ok o may = o
-order (Stores task at size value) ws s ok o may = order_stores s task at size value ok o (can_store (waiter_of task ws) s at size value may)
-order (Fails task) ws s ok o may = o
-order StepBegins ws s ok o may = order_step s o
-order Nothing ws s ok o may = o
+order : (e : Effect) (ws : List Waiter) (rs : List ℕ) (s : Side) → Sound s → Orderly s → Fair ws rs s e → Orderly (move s e)
+order (Opens control ready) ws rs s ok o may = order_opens s control ready ok o may.0
+order (SendsUp control (Asking asker access)) ws rs s ok o may = order_asking ws rs s asker access ok o may.2
+order (SendsUp control (Unlocking access)) ws rs s ok o may = order_unlocking s access ok o
+order (SendsUp control (Returning dirty kept bytes)) ws rs s ok o may = order_returning ws rs s dirty kept bytes ok o may.2
+order (SendsUp control (Doing told count)) ws rs s ok o may = order_doing ws rs s told count ok o may.2
+order (SendsUp control (Ending told)) ws rs s ok o may = order_ending ws rs s told ok o may.2
+order (SendsUp control OtherUp) ws rs s ok o may = o
+order (TakenUp (Asking asker access)) ws rs s ok o may = order_heard_asking s asker access ok o may
+order (TakenUp (Unlocking access)) ws rs s ok o may = order_heard_unlocking s access ok o may
+order (TakenUp (Returning dirty kept bytes)) ws rs s ok o may = order_heard_returning s dirty kept bytes ok o may
+order (TakenUp (Doing control count)) ws rs s ok o may = order_heard_doing s control count ok o may
+order (TakenUp (Ending control)) ws rs s ok o may = order_heard_ending s control ok o may
+order (TakenUp OtherUp) ws rs s ok o may = order_step s o
+order (SentDown control (Supplying lock precious bytes)) ws rs s ok o may = order_supply s control lock precious bytes ok o may
+order (SentDown control (Locking count returns flush lock true)) ws rs s ok o may = order_order s control count returns lock flush ok o may
+order (SentDown control (Locking count returns flush lock false)) ws rs s ok o may = order_upgrade s control count returns lock flush ok o may
+order (SentDown control Lacking) ws rs s ok o may = absurd may
+order (SentDown control Failing) ws rs s ok o may = absurd may
+order (SentDown control Readying) ws rs s ok o may = o
+order (SentDown control OtherDown) ws rs s ok o may = o
+order (TakesDown control word) ws rs s ok o may = order_taking ws rs s control word (reaches s control) refl ok o may
+order (Puts bytes dirty) ws rs s ok o may = absurd may
+order Drops ws rs s ok o may = order_drops s ok o
+order (Begins task store at size value) ws rs s ok o may = o
+order (Loads task value) ws rs s ok o may = o
+order (Stores task at size value) ws rs s ok o may = order_stores s task at size value ok o (can_store (waiter_of task ws) s at size value may)
+order (Fails task) ws rs s ok o may = o
+order (BeginsCopy task times) ws rs s ok o may = o
+order (Copies task) ws rs s ok o may = o
+order (EndsCopy task) ws rs s ok o may = o
+order StepBegins ws rs s ok o may = order_step s o
+order Nothing ws rs s ok o may = o
 
 order_others : (e : Effect) (s : Side) → Orderly s → Orderly (move s (to_others e))
 order_others (TakenUp w) s o = order_step s o
@@ -84,7 +87,7 @@ at_each P a past own others h = elim (ℕ_discrete a.host h) [
 ]
 
 orders_after : (size : ℕ) (a : Act) (past : List Act) → World past → Bytes size past → Cause size a.host a.effect past → (h : ℕ) → Orderly (side h (a ∷ past))
-orders_after size a past w b c = at_each (λ s. Orderly s) a past (order a.effect (waiters a.host past) (side a.host past) (w.each a.host) (b.orders a.host) (cause size a.host a.effect past w c)) (λ h e. order_others a.effect (side h past) (b.orders h))
+orders_after size a past w b c = at_each (λ s. Orderly s) a past (order a.effect (waiters a.host past) (readers a.host past) (side a.host past) (w.each a.host) (b.orders a.host) (cause size a.host a.effect past w c)) (λ h e. order_others a.effect (side h past) (b.orders h))
 
 -- the front's host holds nothing, and no other holds Write
 nobody_writes : (h lock : ℕ) (past : List Act) (o : Option Wanting) → World past → first (line past) ≡ o → SupplyRow h lock past o → (g : ℕ) → (side g past).holds ≢ 2
@@ -105,16 +108,16 @@ says size h (SentDown control (Supplying lock precious bytes)) past w b c = supp
 says size h (SentDown control word) past w b c = tt
 says size h e past w b c = tt
 
-writes_if : (e : Effect) (ws : List Waiter) (s : Side) → IsStore e → Fair ws s e → s.right ≡ 2
-writes_if (Stores task at size value) ws s is may = can_store (waiter_of task ws) s at size value may
-writes_if e ws s is may = absurd is
+writes_if : (e : Effect) (ws : List Waiter) (rs : List ℕ) (s : Side) → IsStore e → Fair ws rs s e → s.right ≡ 2
+writes_if (Stores task at size value) ws rs s is may = can_store (waiter_of task ws) s at size value may
+writes_if e ws rs s is may = absurd is
 
 carries_after : (size : ℕ) (a : Act) (past : List Act) → World past → Bytes size past → Cause size a.host a.effect past → (h : ℕ) → Carries (current size (a ∷ past)) (side h (a ∷ past))
 carries_after size a past w b c =
-    let may : Fair (waiters a.host past) (side a.host past) a.effect = cause size a.host a.effect past w c in
+    let may : Fair (waiters a.host past) (readers a.host past) (side a.host past) a.effect = cause size a.host a.effect past w c in
     at_each (λ s. Carries (current_after a.effect (current size past)) s) a past
-    (carry a.effect (waiters a.host past) (current size past) (side a.host past) (w.each a.host) (b.orders a.host) may (says size a.host a.effect past w b c) (b.carries a.host))
-    (λ h e. carry_others a.effect (current size past) (side h past) (w.each h) (b.orders h) (λ is. alone_if h a.host past w (λ f. e (sym f)) (writes_if a.effect (waiters a.host past) (side a.host past) is may)) (b.carries h))
+    (carry a.effect (waiters a.host past) (readers a.host past) (current size past) (side a.host past) (w.each a.host) (b.orders a.host) may (says size a.host a.effect past w b c) (b.carries a.host))
+    (λ h e. carry_others a.effect (current size past) (side h past) (w.each h) (b.orders h) (λ is. alone_if h a.host past w (λ f. e (sym f)) (writes_if a.effect (waiters a.host past) (readers a.host past) (side a.host past) is may)) (b.carries h))
 
 first_up_says : (page : List ℕ) (q : List UpWord) (w : UpWord) → first q ≡ Some w → CarryUp page q → SaysUp page w
 first_up_says page [] w is c = absurd (cc)
@@ -124,19 +127,19 @@ fresh_store : (s : Side) (task at size value : ℕ) → Sound s → s.right ≡ 
 fresh_store s task at size value ok can is = grind (arith, nat_tests, drain_up)
 
 -- the act is silent, or it is of these two kinds
-saved_by : (e : Effect) (ws : List Waiter) (s : Side) (page store : List ℕ) → Sound s → Orderly s → Fair ws s e → CarryUp page s.up → Settled (move s e) → (Silent e → store ≡ page) → kept_after e store ≡ current_after e page
-saved_by (TakenUp (Returning dirty keep bytes)) ws s page store ok o may c is silent = first_up_says page s.up (Returning dirty keep bytes) may c
-saved_by (TakenUp w) ws s page store ok o may c is silent = silent tt
-saved_by (Stores task at size value) ws s page store ok o may c is silent = absurd (fresh_store s task at size value ok (can_store (waiter_of task ws) s at size value may) is)
-saved_by e ws s page store ok o may c is silent = silent tt
+saved_by : (e : Effect) (ws : List Waiter) (rs : List ℕ) (s : Side) (page store : List ℕ) → Sound s → Orderly s → Fair ws rs s e → CarryUp page s.up → Settled (move s e) → (Silent e → store ≡ page) → kept_after e store ≡ current_after e page
+saved_by (TakenUp (Returning dirty keep bytes)) ws rs s page store ok o may c is silent = first_up_says page s.up (Returning dirty keep bytes) may c
+saved_by (TakenUp w) ws rs s page store ok o may c is silent = silent tt
+saved_by (Stores task at size value) ws rs s page store ok o may c is silent = absurd (fresh_store s task at size value ok (can_store (waiter_of task ws) s at size value may) is)
+saved_by e ws rs s page store ok o may c is silent = silent tt
 
 saved_after : (size : ℕ) (a : Act) (past : List Act) → World past → Bytes size past → Cause size a.host a.effect past → ((h : ℕ) → Settled (side h (a ∷ past))) → kept size (a ∷ past) ≡ current size (a ∷ past)
 saved_after size a past w b c is =
-    let may : Fair (waiters a.host past) (side a.host past) a.effect = cause size a.host a.effect past w c in
+    let may : Fair (waiters a.host past) (readers a.host past) (side a.host past) a.effect = cause size a.host a.effect past w c in
     let own : Settled (move (side a.host past) a.effect) = subst (λ (s : Side). Settled s) (own_side a past) (is a.host) in
-    saved_by a.effect (waiters a.host past) (side a.host past) (current size past) (kept size past) (w.each a.host) (b.orders a.host) may (b.carries a.host).going own
+    saved_by a.effect (waiters a.host past) (readers a.host past) (side a.host past) (current size past) (kept size past) (w.each a.host) (b.orders a.host) may (b.carries a.host).going own
     (λ silent. b.saved (λ h. elim (ℕ_discrete a.host h) [
-      | yes e ↦ subst (λ (k : ℕ). Settled (side k past)) e (settled_own a.effect (waiters a.host past) (side a.host past) (w.each a.host) (b.orders a.host) may silent own)
+      | yes e ↦ subst (λ (k : ℕ). Settled (side k past)) e (settled_own a.effect (waiters a.host past) (readers a.host past) (side a.host past) (w.each a.host) (b.orders a.host) may silent own)
       | no e ↦ settled_others a.effect (side h past) (subst (λ (s : Side). Settled s) (other_side h a past e) (is h))
     ]))
 

@@ -1,3 +1,5 @@
 pub mod Crossing
+pub mod Idle
 pub mod Locals
 pub mod Remapping
+pub mod SlowCopy

@@ -24,8 +24,10 @@ ghost use Rattle.vm_model.specs.Server.{current, first, line, NoRequest, NoUpgra
 ghost use Rattle.vm_model.specs.PageLicences.{Licensed};
 ghost use Rattle.vm_model.specs.PagePart.{page_part, world_part};
 ghost use Rattle.vm_coherence.specs.Crossing.{crossing};
+ghost use Rattle.vm_coherence.specs.Idle.{flushed, idle_request};
 ghost use Rattle.vm_coherence.specs.Locals.{SideIsLocal};
 ghost use Rattle.vm_coherence.specs.Remapping.{remapping};
+ghost use Rattle.vm_coherence.specs.SlowCopy.{copying, reclaimed, read_again};
 ghost use Rattle.vm_model.specs.Coherence.{Throughout, OneWriter, SameBytes, EachLoadReads, PageLegal, StepsDone, Served, Prompt, Quiet, Answered, NobodyWaits};
 
 /// The law of one shared page, for any page size. It holds of the page's part of a history and of
@@ -79,6 +81,26 @@ pub fn protocol_law()
 pub fn remapping_run()
     ensures licensed { Licensed 16 (page_part 16 0 0 remapping) }
     ensures done { StepsDone (page_part 16 0 0 remapping) }
+{}
+
+/// A request to read needs somebody who reads. In this run of the page world, of 16-byte pages, host 0
+/// reads the page and gives it up to host 1, which wants to write it, and each event has a cause. If
+/// host 0 then asks to read again though nobody waits there, that has none.
+#[tactic(auto, using(crate::proofs::Idle::flushed_licensed, crate::proofs::Idle::idle_refused))]
+pub fn idle_run()
+    ensures licensed { Licensed 16 (world_part 16 flushed) }
+    ensures idle { Licensed 16 (world_part 16 idle_request) → ⊥ }
+{}
+
+/// A slow copy reads too, each of its pages once. In this history, of 16-byte pages, a slow copy asks
+/// for the first page of an object, copies it and asks for the second; the first is then reclaimed.
+/// Each event has a cause, at the second page up to the request for it. If the host then asks for the
+/// first page again, that has none, though the copy still waits for the second.
+#[tactic(auto, using(crate::proofs::SlowCopy::reclaimed_licensed, crate::proofs::SlowCopy::second_licensed, crate::proofs::SlowCopy::again_refused))]
+pub fn slow_copy_run()
+    ensures first { Licensed 16 (page_part 16 0 0 reclaimed) }
+    ensures second { Licensed 16 (page_part 16 0 1 copying) }
+    ensures again { Licensed 16 (page_part 16 0 0 read_again) → ⊥ }
 {}
 
 /// A page's words are the messages of its channels, in order, so that first in, first out is said

@@ -1,25 +1,25 @@
 -- Why each event of a page of a shared object may happen.
 use Rattle.std.specs.Prelude.{◌≡◌, ◌≢◌, ◌+◌, ◌==◌, ◌&&◌, ◌||◌, if◌then◌else◌, ℕ, ◌<◌, ◌≤◌, List, [], ◌∷◌, Bool, true, false, Option, Some, None, slice_range}
 use Rattle.vm_base.specs.Pages.{little_endian}
-use Rattle.vm_model.specs.Words.{UpWord, Asking, Unlocking, Returning, Doing, Ending, OtherUp, DownWord, Supplying, Locking, Lacking, Failing, Readying, OtherDown, Effect, Opens, SendsUp, TakenUp, SentDown, TakesDown, Puts, Drops, Begins, Loads, Stores, Fails, StepBegins, Nothing, Act}
+use Rattle.vm_model.specs.Words.{UpWord, Asking, Unlocking, Returning, Doing, Ending, OtherUp, DownWord, Supplying, Locking, Lacking, Failing, Readying, OtherDown, Effect, Opens, SendsUp, TakenUp, SentDown, TakesDown, Puts, Drops, Begins, Loads, Stores, Fails, BeginsCopy, Copies, EndsCopy, StepBegins, Nothing, Act}
 use Rattle.vm_model.specs.Side.{Side, side, fresh, can_read, can_write}
-use Rattle.vm_model.specs.Waiters.{Waiter, waiters, waiter_of, any_store}
+use Rattle.vm_model.specs.Waiters.{Waiter, waiters, waiter_of, any_store, any_load, readers, any_reader}
 use Rattle.vm_model.specs.Server.{first, Wanting, wants_write, line, kept}
 
 -- the host
 
--- to write only for a store that waits; a request to read may also be for a slow copy
-abbrev pub has_reason : ℕ → List Waiter → Bool
-has_reason access ws = access == 1 || (access == 3 && any_store ws)
+-- to read only for a load that waits or a slow copy that is still to read the page, to write only for a store that waits
+abbrev pub has_reason : ℕ → List Waiter → List ℕ → Bool
+has_reason access ws rs = (access == 1 && (any_load ws || any_reader rs)) || (access == 3 && any_store ws)
 
 -- why a host may send this
-abbrev pub MaySend : List Waiter → Side → UpWord → Type 0
-MaySend ws s (Asking asker access) = (s.right ≡ 0) × (s.asked ≡ false) × (s.ready ≡ true) × (asker ≡ s.control) × (has_reason access ws ≡ true)
-MaySend ws s (Unlocking access) = (s.right ≡ 1) × (s.unlocking ≡ false) × (s.step ≡ 0) × (access ≡ 3) × (any_store ws ≡ true)
-MaySend ws s (Returning dirty keep bytes) = (0 < s.right) × (s.dirty ≡ true) × (dirty ≡ true) × (bytes ≡ s.bytes) × (keep ≡ true → s.step ≡ 1)
-MaySend ws s (Doing control count) = (s.control ≡ control) × (count ≡ 1) × (0 < s.step) × (s.step ≡ 2 → s.right ≡ 0) × (fresh s ≡ false)
-MaySend ws s (Ending control) = (s.control ≡ control) × (s.right ≡ 0) × (s.asked ≡ false)
-MaySend ws s OtherUp = Unit {0}
+abbrev pub MaySend : List Waiter → List ℕ → Side → UpWord → Type 0
+MaySend ws rs s (Asking asker access) = (s.right ≡ 0) × (s.asked ≡ false) × (s.ready ≡ true) × (asker ≡ s.control) × (has_reason access ws rs ≡ true)
+MaySend ws rs s (Unlocking access) = (s.right ≡ 1) × (s.unlocking ≡ false) × (s.step ≡ 0) × (access ≡ 3) × (any_store ws ≡ true)
+MaySend ws rs s (Returning dirty keep bytes) = (0 < s.right) × (s.dirty ≡ true) × (dirty ≡ true) × (bytes ≡ s.bytes) × (keep ≡ true → s.step ≡ 1)
+MaySend ws rs s (Doing control count) = (s.control ≡ control) × (count ≡ 1) × (0 < s.step) × (s.step ≡ 2 → s.right ≡ 0) × (fresh s ≡ false)
+MaySend ws rs s (Ending control) = (s.control ≡ control) × (s.right ≡ 0) × (s.asked ≡ false)
+MaySend ws rs s OtherUp = Unit {0}
 
 -- a load reads what the host has
 abbrev pub MayLoad : Option Waiter → Side → ℕ → Type 0
@@ -32,24 +32,27 @@ MayStore None s at size value = ⊥
 MayStore (Some w) s at size value = (w.store ≡ true) × (can_write s ≡ true) × (at ≡ w.at) × (size ≡ w.size) × (value ≡ w.value)
 
 -- what is taken is the oldest of its channel; no page is put into the host but by a supply, and no access fails
-abbrev pub May : List Waiter → Side → Effect → Type 0
-May ws s (Opens control ready) = (s.live ≡ false) × (control ≡ s.control + 1)
-May ws s (SendsUp control OtherUp) = Unit {0}
-May ws s (SendsUp control word) = (s.live ≡ true) × (s.control ≡ control) × MaySend ws s word
-May ws s (TakenUp OtherUp) = Unit {0}
-May ws s (TakenUp word) = first s.up ≡ Some word
-May ws s (SentDown control word) = ⊥
-May ws s (TakesDown control Readying) = Unit {0}
-May ws s (TakesDown control OtherDown) = Unit {0}
-May ws s (TakesDown control word) = s.control ≡ control → s.live ≡ true → first s.down ≡ Some word
-May ws s (Puts bytes dirty) = ⊥
-May ws s Drops = (0 < s.right) × (s.dirty ≡ false)
-May ws s (Begins task store at size value) = Unit {0}
-May ws s (Loads task value) = MayLoad (waiter_of task ws) s value
-May ws s (Stores task at size value) = MayStore (waiter_of task ws) s at size value
-May ws s (Fails task) = ⊥
-May ws s StepBegins = Unit {0}
-May ws s Nothing = Unit {0}
+abbrev pub May : List Waiter → List ℕ → Side → Effect → Type 0
+May ws rs s (Opens control ready) = (s.live ≡ false) × (control ≡ s.control + 1)
+May ws rs s (SendsUp control OtherUp) = Unit {0}
+May ws rs s (SendsUp control word) = (s.live ≡ true) × (s.control ≡ control) × MaySend ws rs s word
+May ws rs s (TakenUp OtherUp) = Unit {0}
+May ws rs s (TakenUp word) = first s.up ≡ Some word
+May ws rs s (SentDown control word) = ⊥
+May ws rs s (TakesDown control Readying) = Unit {0}
+May ws rs s (TakesDown control OtherDown) = Unit {0}
+May ws rs s (TakesDown control word) = s.control ≡ control → s.live ≡ true → first s.down ≡ Some word
+May ws rs s (Puts bytes dirty) = ⊥
+May ws rs s Drops = (0 < s.right) × (s.dirty ≡ false)
+May ws rs s (Begins task store at size value) = Unit {0}
+May ws rs s (Loads task value) = MayLoad (waiter_of task ws) s value
+May ws rs s (Stores task at size value) = MayStore (waiter_of task ws) s at size value
+May ws rs s (Fails task) = ⊥
+May ws rs s (BeginsCopy task times) = Unit {0}
+May ws rs s (Copies task) = Unit {0}
+May ws rs s (EndsCopy task) = Unit {0}
+May ws rs s StepBegins = Unit {0}
+May ws rs s Nothing = Unit {0}
 
 -- the server
 
@@ -93,7 +96,7 @@ Answers size h control OtherDown past = Unit {0}
 
 abbrev pub Cause : ℕ → ℕ → Effect → List Act → Type 0
 Cause size h (SentDown control word) past = Answers size h control word past
-Cause size h e past = May (waiters h past) (side h past) e
+Cause size h e past = May (waiters h past) (readers h past) (side h past) e
 
 -- each act has its cause
 abbrev pub Licensed : ℕ → List Act → Type 0

@@ -1,7 +1,7 @@
 -- One host and one place: what the host has of it, what is on the way, and what the server says of the host.
 use Rattle.std.specs.Prelude.{nat_lt, ℕ, zero, suc, ◌+◌, ◌-◌, ◌==◌, List, [], ◌∷◌, ◌++◌, Bool, true, false, if◌then◌else◌, ◌&&◌, ◌||◌}
 use Rattle.vm_base.specs.Pages.{little_endian_bytes, with_bytes}
-use Rattle.vm_model.specs.Words.{UpWord, Asking, Unlocking, Returning, Doing, Ending, OtherUp, DownWord, Supplying, Locking, Lacking, Failing, Readying, OtherDown, Effect, Opens, SendsUp, TakenUp, SentDown, TakesDown, Puts, Drops, Begins, Loads, Stores, Fails, StepBegins, Nothing, Act, effect_on}
+use Rattle.vm_model.specs.Words.{UpWord, Asking, Unlocking, Returning, Doing, Ending, OtherUp, DownWord, Supplying, Locking, Lacking, Failing, Readying, OtherDown, Effect, Opens, SendsUp, TakenUp, SentDown, TakesDown, Puts, Drops, Begins, Loads, Stores, Fails, BeginsCopy, Copies, EndsCopy, StepBegins, Nothing, Act, effect_on}
 
 pub record Side : Type 0 where
   -- what is on the way, oldest first; downwards to the live control alone
@@ -201,6 +201,9 @@ move s (Begins task store at size value) = s
 move s (Loads task value) = s
 move s (Stores task at size value) = record s { bytes = with_bytes at (little_endian_bytes size value) s.bytes; dirty = true }
 move s (Fails task) = s
+move s (BeginsCopy task times) = s
+move s (Copies task) = s
+move s (EndsCopy task) = s
 move s StepBegins = record s { step = 0 }
 move s Nothing = s
 

@@ -1,6 +1,6 @@
--- The loads and stores of a host that wait for a place.
-use Rattle.std.specs.Prelude.{ℕ, ◌==◌, ◌||◌, List, [], ◌∷◌, Bool, false, if◌then◌else◌, Option, Some, None}
-use Rattle.vm_model.specs.Words.{Effect, Begins, Loads, Stores, Fails, Act, effect_on}
+-- The loads and stores of a host that wait for a place, and the slow copies that are still to read it.
+use Rattle.std.specs.Prelude.{ℕ, ◌==◌, ◌||◌, not, List, [], ◌∷◌, ◌++◌, filter, replicate, Bool, true, false, if◌then◌else◌, Option, Some, None}
+use Rattle.vm_model.specs.Words.{Effect, Begins, Loads, Stores, Fails, BeginsCopy, Copies, EndsCopy, Act, effect_on}
 
 pub record Waiter : Type 0 where
   pub task : ℕ
@@ -35,3 +35,30 @@ waiter_of task (w ∷ ws) = if w.task == task then Some w else waiter_of task ws
 abbrev pub any_store : List Waiter → Bool
 any_store [] = false
 any_store (w ∷ ws) = w.store || any_store ws
+
+-- a load waits
+abbrev pub any_load : List Waiter → Bool
+any_load [] = false
+any_load (w ∷ ws) = not w.store || any_load ws
+
+abbrev pub without_once : ℕ → List ℕ → List ℕ
+without_once task [] = []
+without_once task (r ∷ rs) = if r == task then rs else r ∷ without_once task rs
+
+abbrev pub readers_after : Effect → List ℕ → List ℕ
+readers_after (BeginsCopy task times) rs = replicate times task ++ rs
+readers_after (Copies task) rs = without_once task rs
+readers_after (EndsCopy task) rs = filter (λ r. not (r == task)) rs
+readers_after (Fails task) rs = filter (λ r. not (r == task)) rs
+readers_after e rs = rs
+
+-- the tasks of host h whose slow copies began over the place, have not copied it yet and have not ended; a task once
+-- for each page of its copy that is the place
+abbrev pub readers : ℕ → List Act → List ℕ
+readers h [] = []
+readers h (a ∷ past) = readers_after (effect_on h a) (readers h past)
+
+-- a slow copy is still to read the place
+abbrev pub any_reader : List ℕ → Bool
+any_reader [] = false
+any_reader (r ∷ rs) = true

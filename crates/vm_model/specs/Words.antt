@@ -1,5 +1,5 @@
 -- What one event is to one place of one host, in few cases: every fact of a place is computed from these.
-use Rattle.std.specs.Prelude.{ℕ, ◌+◌, ◌%◌, ◌==◌, ◌&&◌, List, Bool, true, false, if◌then◌else◌, nat_le, nat_lt, replicate}
+use Rattle.std.specs.Prelude.{ℕ, zero, suc, ◌+◌, ◌/◌, ◌%◌, ◌==◌, ◌&&◌, List, Bool, true, false, if◌then◌else◌, nat_le, nat_lt, replicate}
 use Rattle.vm_model.specs.declared.message.Channel.TheVariants.{Up, Down}
 use Rattle.vm_model.specs.declared.message.Message.{Message}
 use Rattle.vm_model.specs.declared.message.Message.TheVariants as message
@@ -43,6 +43,12 @@ pub data Effect : Type 0 where
   Loads : (task : ℕ) → (value : ℕ) → Effect
   Stores : (task : ℕ) → (at : ℕ) → (size : ℕ) → (value : ℕ) → Effect
   Fails : (task : ℕ) → Effect
+  -- a slow copy of a task begins, over so many pages that are this one
+  BeginsCopy : (task : ℕ) → (times : ℕ) → Effect
+  -- it has copied one of them
+  Copies : (task : ℕ) → Effect
+  -- if a slow copy of a task is under way, it ends
+  EndsCopy : (task : ℕ) → Effect
   StepBegins : Effect
   Nothing : Effect
 
@@ -89,6 +95,11 @@ sent_effect p m = SendsUp (control_of m) (up_word p m)
 abbrev pub act_if : Bool → ℕ → Effect → Act
 act_if b host effect = record { host = host; effect = if b then effect else Nothing }
 
+-- how many of the `count` pages of a range are the place, where `means` says it of each address
+abbrev pub times_meant : ℕ → (ℕ → Bool) → ℕ → ℕ → ℕ
+times_meant size means address zero = 0
+times_meant size means address (suc count) = (if means address then 1 else 0) + times_meant size means (address + size) count
+
 -- What an event is to page p of object o. The rest of the history comes in as functions: the host of
 -- a task, whether an address of a task means the place, and the bytes that a host has of a place.
 abbrev pub act_of : ℕ → ℕ → ℕ → (ℕ → ℕ) → (ℕ → ℕ → Bool) → (ℕ → ℕ → ℕ → List ℕ) → Event → Act
@@ -99,12 +110,18 @@ act_of size o p host_of means held (event.Taken (Down host object control) m) = 
 act_of size o p host_of means held (event.Dropped host object page) = act_if (object.0 == o && page.0 == p) host.0 Drops
 act_of size o p host_of means held (event.Zeroed host object page) = act_if (object.0 == o && page.0 == p) host.0 (Puts (replicate size 0) false)
 act_of size o p host_of means held (event.Raised host lower lower_page upper upper_page) = act_if (upper.0 == o && upper_page.0 == p) host.0 (Puts (held host.0 lower.0 lower_page.0) true)
-act_of size o p host_of means held (event.CopiedPage task page object object_page target) = act_if (target.0 == o && page.0 == p) (host_of task.0) (Puts (held (host_of task.0) object.0 object_page.0) true)
+act_of size o p host_of means held (event.BegunCopy task address bytes to) = record { host = host_of task.0; effect = BeginsCopy task.0 (times_meant size (means task.0) address (bytes / size)) }
+act_of size o p host_of means held (event.CopiedPage task page object object_page target) =
+    record {
+      host = host_of task.0;
+      effect = if target.0 == o && page.0 == p then Puts (held (host_of task.0) object.0 object_page.0) true else (if object.0 == o && object_page.0 == p then Copies task.0 else Nothing);
+    }
+act_of size o p host_of means held (event.CopyEnded task) = record { host = host_of task.0; effect = EndsCopy task.0 }
 act_of size o p host_of means held (event.BegunLoad task address bytes) = act_if (means task.0 address) (host_of task.0) (Begins task.0 false (address % size) bytes 0)
 act_of size o p host_of means held (event.BegunStore task address bytes value) = act_if (means task.0 address) (host_of task.0) (Begins task.0 true (address % size) bytes value)
 act_of size o p host_of means held (event.Loaded task object page value) = act_if (object.0 == o && page.0 == p) (host_of task.0) (Loads task.0 value)
 act_of size o p host_of means held (event.Stored task object page at bytes value) = act_if (object.0 == o && page.0 == p) (host_of task.0) (Stores task.0 at bytes value)
-act_of size o p host_of means held (event.Failed task object page) = act_if (object.0 == o && page.0 == p) (host_of task.0) (Fails task.0)
+act_of size o p host_of means held (event.Failed task object page) = record { host = host_of task.0; effect = if object.0 == o && page.0 == p then Fails task.0 else EndsCopy task.0 }
 act_of size o p host_of means held (event.Line line) = record { host = 0; effect = StepBegins }
 act_of size o p host_of means held e = record { host = 0; effect = Nothing }
 
