@@ -3,7 +3,6 @@ ghost use Rattle.std.specs.Prelude.{◌≡◌, IfOk, OnOk};
 ghost use Rattle.vm_parts.specs.Fits.{Fit};
 ghost use Rattle.vm_supply.specs.Answers.{IsAnswer};
 
-use vm_supply::{Woken, answer};
 use std::alloc::Global;
 use std::test::Fail;
 use vm_base::{
@@ -14,6 +13,7 @@ use vm_model::{Events, Message};
 use vm_objects::Objects;
 use vm_queues::PageQueues;
 use vm_resident::{PageRow, Resident};
+use vm_supply::{Woken, answer};
 
 const HOST: HostId = HostId(0);
 

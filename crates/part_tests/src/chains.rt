@@ -1,10 +1,10 @@
 // Each call once.
 ghost use Rattle.std.specs.Prelude.{◌≡◌};
 
-use vm_shadow::{Chains, RegionRow};
 use std::alloc::Global;
 use std::test::Fail;
 use vm_base::{ObjectId, RegionId};
+use vm_shadow::{Chains, RegionRow};
 
 fn row(top: u32, pages: u32, entries: u32) -> RegionRow
     ensures { result.entries ≡ entries }

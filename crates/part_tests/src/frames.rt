@@ -1,7 +1,7 @@
 // Each call once.
-use vm_frames::Frames;
 use std::test::Fail;
 use vm_base::PageSize;
+use vm_frames::Frames;
 
 #[test]
 fn each_call(rt: HostRuntime) -> Result<(), Fail> {

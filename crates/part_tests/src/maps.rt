@@ -3,10 +3,10 @@ ghost use Rattle.std.specs.Prelude.{◌≡◌, ◌<◌, IsSome};
 ghost use Rattle.vm_maps.specs.Maps.{entries_in};
 ghost use Rattle.vm_maps.specs.declared.change.MapKind.TheVariants as kind;
 
-use vm_maps::{MapChange, MapKind, Maps, Place};
 use std::process::Abort;
 use std::test::Fail;
 use vm_base::{Access, Code, Entries, Entry, Inherit, PageNo, PageSize, Prot, RegionId, TaskId};
+use vm_maps::{MapChange, MapKind, Maps, Place};
 
 const TASK: TaskId = TaskId(3);
 

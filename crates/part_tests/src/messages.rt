@@ -1,7 +1,7 @@
 // Messages with and without a page, copied.
-use vm_model::Message;
 use std::test::Fail;
 use vm_base::{Buffers, PageBytes, PageNo, PageSize};
+use vm_model::Message;
 
 #[test]
 fn copies(rt: HostRuntime) -> Result<(), Fail> {

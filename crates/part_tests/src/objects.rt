@@ -1,9 +1,9 @@
 // Each call once, and what is known after it.
 ghost use Rattle.std.specs.Prelude.{◌≡◌, ◌+◌, ◌<◌, ◌≤◌, [], ◌∷◌, ◌++◌, vec_capacity, vec_len};
 
-use vm_objects::{Holder, ObjectRow, Objects, PagerState};
 use std::test::Fail;
 use vm_base::{FrameNo, ObjectId, ObjectKind, PageKey, PageNo};
+use vm_objects::{Holder, ObjectRow, Objects, PagerState};
 
 const FILE: ObjectId = ObjectId(7);
 

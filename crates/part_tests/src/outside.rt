@@ -1,13 +1,13 @@
-use vm_outside::{
-    Armed, Backing, MemBacking, MemSink, MemSource, Sink, Source, StdSink, StdSource, SureBacking,
-    SureSink, SureSource,
-};
 use std::alloc::Global;
 use std::io;
 use std::io::{ErrorKind, Read, Write};
 use std::process::Abort;
 use std::test::Fail;
 use vm_base::{Failed, WriteStop};
+use vm_outside::{
+    Armed, Backing, MemBacking, MemSink, MemSource, Sink, Source, StdSink, StdSource, SureBacking,
+    SureSink, SureSource,
+};
 
 // Gives or takes three bytes a call, and fails at the call of this number.
 #[derive(Drop)]

@@ -3,7 +3,6 @@ ghost use Rattle.std.specs.Prelude.{◌≡◌, ◌<◌, [], ◌∷◌, ◌++◌,
 ghost use Rattle.vm_parts.specs.Controls.{AllLive, HasNumbers};
 ghost use Rattle.vm_parts.specs.Fits.{Fit, object_pages};
 
-use vm_pageout::{Laundry, Reclaim, reclaim};
 use std::alloc::Global;
 use std::test::Fail;
 use vm_base::{
@@ -12,6 +11,7 @@ use vm_base::{
 use vm_frames::Frames;
 use vm_model::{Channel, Event, Events, Message};
 use vm_objects::{Holder, Objects};
+use vm_pageout::{Laundry, Reclaim, reclaim};
 use vm_queues::PageQueues;
 use vm_resident::{PageRow, Resident};
 

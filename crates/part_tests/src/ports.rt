@@ -1,7 +1,7 @@
 // Two channels, worked out by hand.
-use vm_ports::Ports;
 use std::test::Fail;
 use vm_base::ChannelId;
+use vm_ports::Ports;
 
 #[test]
 fn crosswise(rt: HostRuntime) -> Result<(), Fail> {

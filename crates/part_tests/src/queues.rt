@@ -1,7 +1,7 @@
 // Victims along sequences of calls, worked out by hand.
-use vm_queues::PageQueues;
 use std::test::Fail;
 use vm_base::FrameNo;
+use vm_queues::PageQueues;
 
 #[test]
 fn second_chance(rt: HostRuntime) -> Result<(), Fail> {

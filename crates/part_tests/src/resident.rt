@@ -1,7 +1,7 @@
 // Each call once.
-use vm_resident::{PageRow, Resident};
 use std::test::Fail;
 use vm_base::{FrameNo, Lock, NoMemory, ObjectId, PageKey, PageNo};
+use vm_resident::{PageRow, Resident};
 
 const fn page(object: u32, page: u32) -> PageKey {
     PageKey {

@@ -1,8 +1,8 @@
 // Orders of beginning and of joining, worked out by hand.
-use vm_waits::{On, Waiting, Waits, Want};
 use std::alloc::Global;
 use std::test::Fail;
 use vm_base::{ObjectId, PageKey, PageNo, TaskId};
+use vm_waits::{On, Waiting, Waits, Want};
 
 const fn page(page: u32) -> On {
     On::Page { key: key(page) }

@@ -5,10 +5,10 @@ ghost use Rattle.vm_model.specs.declared.event.Event.TheVariants as event;
 ghost use Rattle.vm_kernel.specs.Begun.{Began, Given};
 ghost use Rattle.vm_kernel.specs.Matches.{IsPlain, Rests, the_host};
 
-use vm_kernel::{Kernel, enter, inheritance, protection, removal};
 use std::alloc::Global;
 use std::test::Fail;
 use vm_base::{HostId, Inherit, NoMemory, ObjectId, PageSize, Prot, RegionId, TaskId};
+use vm_kernel::{Kernel, enter, inheritance, protection, removal};
 use vm_maps::MapKind;
 use vm_model::{Command, Counts, Declarations, Event, Events, Header};
 use vm_shadow::Ids;

@@ -1,9 +1,9 @@
 // A paging area that fails at each of its calls.
-use vm_top::{Outcome, pagers_main};
 use std::alloc::Global;
 use std::str;
 use std::test::Fail;
 use vm_outside::{Armed, Backing, MemBacking, SureBacking, SureSink, SureSource};
+use vm_top::{Outcome, pagers_main};
 
 // A script, and the end of its history.
 type Row = (&'static str, &'static str);

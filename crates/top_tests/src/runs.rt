@@ -1,8 +1,8 @@
 // A source and a sink that fail at each of their calls.
-use vm_top::{Status, pagers_main};
 use std::alloc::Global;
 use std::test::Fail;
 use vm_outside::{Armed, MemSink, MemSource, SureBacking, SureSink, SureSource};
+use vm_top::{Status, pagers_main};
 
 const SMALLEST: &str = "page 16\nhosts 1 4\ntask 0 0\nallocate 0 0 16\nload 0 5 1\n";
 

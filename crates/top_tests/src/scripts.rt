@@ -1,9 +1,9 @@
 // What the commands of a script say.
-use vm_text::{Line, read_script, unbuilt_header};
 use std::process::Abort;
 use std::test::*;
 use vm_base::{HostId, Inherit, ObjectId, ObjectKind, PageNo, Prot, TaskId};
 use vm_model::{Channel, Command, Commands, Header, Message};
+use vm_text::{Line, read_script, unbuilt_header};
 
 const SAID: &str = "hosts 3 4
 frames 2 9

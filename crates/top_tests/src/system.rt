@@ -4,12 +4,12 @@ ghost use Rattle.vm_kernel.specs.Matches.{IsPlain};
 ghost use Rattle.vm_system.specs.Stands.{Kept, Stands};
 ghost use Rattle.vm_system.specs.Steps.{Setting};
 
-use vm_system::{System, SystemStop, settle};
 use std::alloc::Global;
 use std::test::Fail;
 use vm_base::PageSize;
 use vm_model::{Command, Counts, Declarations, Header};
 use vm_outside::{Armed, Backing, SureBacking};
+use vm_system::{System, SystemStop, settle};
 
 fn header_of(alloc: Global, frames: u32) -> Result<Header, Fail>
     ensures plain { IfOk result (λ header. IsPlain header) }

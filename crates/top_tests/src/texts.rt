@@ -1,13 +1,13 @@
 // A line of each event, and the words of each message.
 ghost use Rattle.std.specs.Prelude.{◌≤◌, length};
 
-use vm_text::write_event;
 use std::alloc::Global;
 use std::test::Fail;
 use vm_base::{
     Code, HostId, Inherit, ObjectId, PageBytes, PageNo, PageSize, Prot, RegionId, TaskId,
 };
 use vm_model::{Channel, Device, Event, Message, Way};
+use vm_text::write_event;
 
 const HOST: HostId = HostId(1);
 
@@ -357,7 +357,10 @@ fn messages_as_text(rt: HostRuntime) -> Result<(), Fail> {
             },
             "sent u1.3 supply 5 3 0 00af\n",
         ),
-        (Message::Unavailable { page: PAGE }, "sent u1.3 unavailable 5\n"),
+        (
+            Message::Unavailable { page: PAGE },
+            "sent u1.3 unavailable 5\n",
+        ),
         (
             Message::Error {
                 page: PAGE,
