@@ -281,13 +281,13 @@ caused_26 : EachEvent (HasCause header outside) past_26
 caused_26 = ((settling, tt), caused_25)
 
 caused_27 : EachEvent (HasCause header outside) past_27
-caused_27 = ((paging, λ ours. record { live = refl; here = refl; dirty = refl; same = refl; flag = refl; why = Reclaimed refl (record { spared = λ w. absurd (let bad : false ≡ true = w.unlocking in cc); may = inl (refl, omega arith) }) }), caused_26)
+caused_27 = ((paging, λ ours. record { live = refl; here = refl; dirty = refl; same = refl; flag = refl; why = Reclaimed refl (record { spared = λ w. absurd (let bad : false ≡ true = w.unlocking in cc); may = inl (refl, omega arith, tt) }) }), caused_26)
 
 caused_28 : EachEvent (HasCause header outside) past_28
 caused_28 = ((settling, λ ours. record { number = refl; sized = refl; temporary = omega arith; never = refl; page = 0; here = refl }), caused_27)
 
 caused_29 : EachEvent (HasCause header outside) past_29
-caused_29 = ((paging, λ ours. record { live = refl; here = refl; dirty = refl; same = refl; flag = refl; why = Created 1 16 _ refl refl (record { spared = λ w. absurd (let bad : false ≡ true = w.unlocking in cc); may = inl (refl, omega arith) }) }), caused_28)
+caused_29 = ((paging, λ ours. record { live = refl; here = refl; dirty = refl; same = refl; flag = refl; why = Created 1 16 _ refl refl (record { spared = λ w. absurd (let bad : false ≡ true = w.unlocking in cc); may = inl (refl, omega arith, (refl, tt)) }) }), caused_28)
 
 caused_30 : EachEvent (HasCause header outside) past_30
 caused_30 = ((settling, tt), caused_29)

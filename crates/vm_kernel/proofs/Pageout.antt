@@ -1,13 +1,15 @@
 -- A pageout reclaims pages, one after another.
-use Rattle.std.proofs.Common.{◌≡◌, ℕ, ◌+◌, List, [], ◌++◌, refl, ap, sym, ◌∙◌, subst, inl, inr}
+use Rattle.std.proofs.Common.{◌≡◌, ℕ, ◌+◌, List, [], ◌∷◌, ◌++◌, refl, ap, sym, ◌∙◌, subst, inl, inr}
 use Rattle.std.specs.Prelude.{◌⊎◌}
-use Rattle.vm_legal.specs.Follows.{IsDone, IsReclaim, head}
+use Rattle.vm_legal.specs.Follows.{IsDone, head}
 use Rattle.vm_legal.specs.Outside.{Outside}
+use Rattle.vm_legal.specs.Reclaims.{IsReclaim, ReclaimsOnly}
 use Rattle.vm_legal.specs.Steps.{gone}
 use Rattle.vm_legal.specs.Stretches.{EachOf}
 use Rattle.vm_model.specs.declared.command.Command.{Command}
 use Rattle.vm_model.specs.declared.command.Command.TheVariants as command
 use Rattle.vm_model.specs.declared.event.Event.{Event}
+use Rattle.vm_model.specs.declared.event.Event.TheVariants as event
 use Rattle.vm_model.specs.declared.script.Header.{Header}
 use Rattle.vm_pageout.specs.declared.answer.Reclaim.{Reclaim}
 use Rattle.vm_pageout.specs.declared.answer.Reclaim.TheVariants as reclaim
@@ -26,6 +28,7 @@ pub record Reclaiming (header : Header) (outside : Outside) (doing : Command) (c
   pub rests : Rests header k ids (events ++ past)
   pub grows : Grows header outside doing past events
   pub reclaims : EachOf (IsReclaim 0) events
+  pub only : ReclaimsOnly 0 (events ++ past)
   pub went : gone (events ++ past) ≡ done
 
 pub reclaiming_start : (header : Header) (outside : Outside) (doing : Command) (count : ℕ) (past : List Event) (k : Parts) (ids : Ids) (events : List Event) → doing ≡ command.Pageout the_host count → Starts header doing past k ids events
@@ -37,8 +40,19 @@ reclaiming_start header outside doing count past k ids events is s =
       rests = s.rests;
       grows = record { first = []; more = []; head = ap (head header past) is; is = refl; follows = tt; licensed = tt; own_bytes = tt; copies = tt; frames = tt; inner = tt; said = tt };
       reclaims = tt;
+      only = subst (ReclaimsOnly 0) (sym s.begins.is) tt;
       went = ap gone s.begins.is;
     })
+
+-- reclaims on top of reclaims
+
+reclaim_more : (e : Event) (past : List Event) → IsReclaim 0 e → ReclaimsOnly 0 past → ReclaimsOnly 0 (e ∷ past)
+reclaim_more (event.Line line) past is only = tt
+reclaim_more other past is only = (is, only)
+
+reclaims_more : (more events past : List Event) → EachOf (IsReclaim 0) more → ReclaimsOnly 0 (events ++ past) → ReclaimsOnly 0 ((more ++ events) ++ past)
+reclaims_more [] events past each only = only
+reclaims_more (e ∷ more) events past each only = reclaim_more e ((more ++ events) ++ past) each.0 (reclaims_more more events past each.1 only)
 
 -- one more has gone
 pub reclaiming_more : (header : Header) (outside : Outside) (doing : Command) (count done : ℕ) (past : List Event) (k k2 : Parts) (ids : Ids) (answer : Reclaim) (events after : List Event) → Reclaiming header outside doing count done past k ids events
@@ -50,6 +64,7 @@ reclaiming_more header outside doing count done past k k2 ids answer events afte
       rests = rests;
       grows = grows_goes header outside doing past events after r.grows goes;
       reclaims = subst (EachOf (IsReclaim 0)) (sym each.is) (of_both (IsReclaim 0) each.more events each.each r.reclaims);
+      only = subst (λ (z : List Event). ReclaimsOnly 0 (z ++ past)) (sym each.is) (reclaims_more each.more events past each.each r.only);
       went = more which ∙ ap (λ z. z + 1) r.went;
     }
   where
@@ -65,8 +80,18 @@ ran_out header outside doing count done past k k2 ids answer events after r rest
     record {
       rests = rests;
       grows = grows_goes header outside doing past events after r.grows goes;
-      done = subst (λ (z : Command). IsDone header z after past) (sym r.is) (inr (record { later = []; front = after; is = refl; reclaims = all; exhausted = exhausted header k2 ids past (after ++ past) rests.matches (reclaimed.nothing nothing).1 }));
+      done = subst (λ (z : Command). IsDone header z after past) (sym r.is) (record { later = []; front = after; is = refl; reclaims = all; enough = inr (exhausted header k2 ids past (after ++ past) rests.matches (reclaimed.nothing nothing).1) });
     }
   where
     all : EachOf (IsReclaim 0) after
     all = subst (EachOf (IsReclaim 0)) (sym each.is) (of_both (IsReclaim 0) each.more events each.each r.reclaims)
+
+-- as many have gone as it wants
+pub paged_out : (header : Header) (outside : Outside) (doing : Command) (count : ℕ) (past : List Event) (k : Parts) (ids : Ids) (events : List Event) → Reclaiming header outside doing count count past k ids events
+    → Ran header outside doing past k ids events
+paged_out header outside doing count past k ids events r =
+    record {
+      rests = r.rests;
+      grows = r.grows;
+      done = subst (λ (z : Command). IsDone header z events past) (sym r.is) (record { later = []; front = events; is = refl; reclaims = r.reclaims; enough = inl r.went });
+    }

@@ -6,7 +6,7 @@ use Rattle.vm_model.specs.declared.message.Message.TheVariants as message
 use Rattle.vm_model.specs.declared.script.Header.{Header}
 use Rattle.vm_legal.specs.Steps.{error_taken, fails_access, since}
 use Rattle.vm_legal.specs.Stretches.{EachOf}
-use Rattle.vm_legal.specs.Follows.{IsReclaim}
+use Rattle.vm_legal.specs.Reclaims.{IsReclaim}
 use Rattle.vm_resident.specs.Resident.{ResidentTable, page_key, row_at}
 use Rattle.vm_resident.specs.declared.page_row.PageRow.{PageRow}
 use Rattle.vm_supply.specs.declared.woken.Woken.{Woken}

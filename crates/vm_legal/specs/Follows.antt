@@ -1,5 +1,5 @@
 -- What the commands make of a history: a group of events for each. Commands too have the newest first.
-use Rattle.std.specs.Prelude.{ℕ, ◌+◌, ◌-◌, ◌/◌, ◌≤◌, ◌≡◌, ◌⊎◌, ◌==◌, true, List, [], ◌∷◌, ◌++◌, reverse, if◌then◌else◌, Option, Some, None, MatchOption, IfNone}
+use Rattle.std.specs.Prelude.{ℕ, ◌+◌, ◌-◌, ◌/◌, ◌≡◌, ◌⊎◌, ◌==◌, true, List, [], ◌∷◌, ◌++◌, reverse, if◌then◌else◌, Option, Some, None, MatchOption, IfNone}
 use Rattle.vm_base.specs.declared.entry.Entry.{Entry}
 use Rattle.vm_base.specs.declared.ids.Inherit.TheVariants.{Copy}
 use Rattle.vm_base.specs.declared.ids.TaskId.{TaskId}
@@ -9,9 +9,7 @@ use Rattle.vm_model.specs.declared.command.Command.{Command}
 use Rattle.vm_model.specs.declared.command.Command.TheVariants as command
 use Rattle.vm_model.specs.declared.command.Numbered.{Numbered}
 use Rattle.vm_model.specs.declared.message.Channel.{Channel}
-use Rattle.vm_model.specs.declared.message.Channel.TheVariants.{Up}
 use Rattle.vm_model.specs.declared.message.Message.{Message}
-use Rattle.vm_model.specs.declared.message.Message.TheVariants as message
 use Rattle.vm_model.specs.declared.script.Header.{Header}
 use Rattle.vm_model.specs.Channels.{queue}
 use Rattle.vm_model.specs.Regions.{next_region, next_object}
@@ -21,6 +19,7 @@ use Rattle.vm_legal.specs.Frames.{frames_wired}
 use Rattle.vm_legal.specs.Licences.{AllLicensed}
 use Rattle.vm_legal.specs.Outside.{Outside}
 use Rattle.vm_legal.specs.Prompt.{IsExhausted}
+use Rattle.vm_legal.specs.Reclaims.{IsReclaim}
 use Rattle.vm_legal.specs.Refusal.{refusal}
 use Rattle.vm_legal.specs.Steps.{gone, takings}
 use Rattle.vm_legal.specs.Stretches.{EachOf}
@@ -96,25 +95,18 @@ IsGroup header outside past numbered group =
     (MatchOption (head header past numbered.command) ⊥ (λ first. IsRun header outside past numbered first group))
     (λ code. group ≡ event.Refused code ∷ [])
 
--- the event takes a page from the host, or makes the control for its return
-abbrev pub IsReclaim : ℕ → Event → Type 0
-IsReclaim host (event.Dropped at object page) = at.0 ≡ host
-IsReclaim host (event.Sent (Up at object) (message.Create control size)) = at.0 ≡ host
-IsReclaim host (event.Sent (Up at object) (message.Return control page dirty keep bytes)) = at.0 ≡ host
-IsReclaim host other = ⊥
-
--- at a moment of the group, with nothing but reclaims in front, nothing more could be reclaimed on the host
-pub record Empties (header : Header) (host : ℕ) (group past : List Event) : Type 0 where
+-- the reclaims of a pageout stand first in its group: behind them as many pages have gone as it wants, or nothing more can be reclaimed
+pub record HasPagedOut (header : Header) (host count : ℕ) (group past : List Event) : Type 0 where
   pub later : List Event
   pub front : List Event
   pub is : group ≡ later ++ front
   pub reclaims : EachOf (IsReclaim host) front
-  pub exhausted : IsExhausted header host past (front ++ past)
+  pub enough : (gone (front ++ past) ≡ count) ⊎ IsExhausted header host past (front ++ past)
 
--- what else a command owes when its group ends, behind its line: a pageout goes on until it has reclaimed so many pages or can't go on, a
--- settle until it has taken so many messages or none is left
+-- what else a command owes when its group ends, behind its line: a pageout has reclaimed its pages, and a settle has taken so many messages, or
+-- none is left
 abbrev pub IsDone : Header → Command → List Event → List Event → Type 0
-IsDone header (command.Pageout host count) group past = (count ≤ gone (group ++ past)) ⊎ Empties header host.0 group past
+IsDone header (command.Pageout host count) group past = HasPagedOut header host.0 count group past
 IsDone header (command.Settle count) group past = (takings (group ++ past) ≡ count) ⊎ (undelivered (group ++ past) ≡ [])
 IsDone header other group past = Unit {0}
 

@@ -1,0 +1,67 @@
+-- A pageout whose reclaims are cut short, while more could be reclaimed, isn't done.
+use Rattle.std.proofs.Common.{◌≡◌, ℕ, ◌+◌, ◌<◌, ◌≤◌, Bool, true, false, List, [], ◌∷◌, ◌++◌, append_assoc, refl, ap, sym, ◌∙◌, subst, arith, inl, inr}
+use Rattle.std.specs.Prelude.{if◌then◌else◌}
+use Rattle.vm_base.specs.declared.ids.HostId.{HostId}
+use Rattle.vm_model.specs.declared.command.Command.TheVariants as command
+use Rattle.vm_model.specs.declared.event.Event.{Event}
+use Rattle.vm_model.specs.declared.event.Event.TheVariants as event
+use Rattle.vm_model.specs.declared.message.Channel.{Channel}
+use Rattle.vm_model.specs.declared.message.Channel.TheVariants.{Up}
+use Rattle.vm_model.specs.declared.message.Message.{Message}
+use Rattle.vm_model.specs.declared.message.Message.TheVariants as message
+use Rattle.vm_model.specs.declared.script.Header.{Header}
+use Rattle.vm_legal.specs.Follows.{IsDone}
+use Rattle.vm_legal.specs.Prompt.{IsExhausted}
+use Rattle.vm_legal.specs.Reclaims.{IsReclaim}
+use Rattle.vm_legal.specs.Steps.{gone}
+use Rattle.vm_legal.specs.Stretches.{EachOf}
+
+-- an event of a stretch is such
+
+in_middle : (host : ℕ) (later front : List Event) (e : Event) → EachOf (IsReclaim host) (later ++ e ∷ front) → IsReclaim host e
+in_middle host [] front e each = each.0
+in_middle host (x ∷ later) front e each = in_middle host later front e each.1
+
+of_newer : (host : ℕ) (more first : List Event) → EachOf (IsReclaim host) (more ++ first) → EachOf (IsReclaim host) more
+of_newer host [] first each = tt
+of_newer host (x ∷ more) first each = (each.0, of_newer host more first each.1)
+
+-- reclaims with which a group begins stand in front of an event that is none
+in_front : (host : ℕ) (later front more first : List Event) (e : Event) → later ++ e ∷ front ≡ more ++ first → EachOf (IsReclaim host) first → (IsReclaim host e → ⊥) → (rest : List Event) × (front ≡ rest ++ first)
+in_front host later front [] first e is each other = absurd (other (in_middle host later front e (subst (EachOf (IsReclaim host)) (sym is) each)))
+in_front host [] front (x ∷ more) first e is each other = (more, let same : front ≡ more ++ first = cc in same)
+in_front host (y ∷ later) front (x ∷ more) first e is each other = let same : later ++ e ∷ front ≡ more ++ first = cc in in_front host later front more first e same each other
+
+-- no page that went comes back
+
+sent_gone : (channel : Channel) (m : Message) (past : List Event) → gone past ≤ gone (event.Sent channel m ∷ past)
+sent_gone channel (message.Return control page dirty keep bytes) past = go keep
+  where
+    go : (b : Bool) → gone past ≤ (if b then gone past else gone past + 1)
+    go true = omega arith
+    go false = omega arith
+sent_gone channel other past = omega arith
+
+reclaim_gone : (host : ℕ) (e : Event) (past : List Event) → IsReclaim host e → gone past ≤ gone (e ∷ past)
+reclaim_gone host (event.Line line) past is = absurd is
+reclaim_gone host (event.Taken channel m) past is = absurd is
+reclaim_gone host (event.Sent channel m) past is = sent_gone channel m past
+reclaim_gone host (event.Dropped at object page) past is = omega arith
+reclaim_gone host other past is = omega arith
+
+reclaims_gone : (host : ℕ) (more past : List Event) → EachOf (IsReclaim host) more → gone past ≤ gone (more ++ past)
+reclaims_gone host [] past each = omega arith
+reclaims_gone host (e ∷ more) past each = let later = reclaims_gone host more past each.1 in let one = reclaim_gone host e (more ++ past) each.0 in omega (arith, later, one)
+
+pub cut_short : (header : Header) (at : HostId) (count : ℕ) (later front past : List Event) (e : Event) → EachOf (IsReclaim at.0) front → (IsReclaim at.0 e → ⊥) → gone (front ++ past) < count
+    → ((more first : List Event) → front ≡ more ++ first → IsExhausted header at.0 past (first ++ past) → ⊥) → IsDone header (command.Pageout at count) (later ++ e ∷ front) past → ⊥
+cut_short header at count later front past e reclaims other few left done =
+    let split = in_front at.0 later front done.later done.front e done.is done.reclaims other in
+    elim done.enough [
+      | inl all ↦
+          let each : EachOf (IsReclaim at.0) split.0 = of_newer at.0 split.0 done.front (subst (EachOf (IsReclaim at.0)) split.1 reclaims) in
+          let low : gone (done.front ++ past) ≤ gone (split.0 ++ (done.front ++ past)) = reclaims_gone at.0 split.0 (done.front ++ past) each in
+          let same : gone (front ++ past) ≡ gone (split.0 ++ (done.front ++ past)) = ap (λ z. gone (z ++ past)) split.1 ∙ ap gone (append_assoc split.0 done.front past) in
+          absurd (omega (arith, low, same, all, few))
+      | inr empty ↦ left split.0 done.front split.1 empty
+    ]
