@@ -1,5 +1,5 @@
 -- Entries that have gone leave the counts, and the pages of regions without entries go.
-use Rattle.std.proofs.Common.{◌≡◌, ℕ, zero, suc, ◌+◌, ◌-◌, ◌<◌, ◌≤◌, ◌==◌, true, false, List, ◌∷◌, ◌++◌, drop, length, refl, ap, sym, ◌∙◌, subst, arith, Some, inl, inr}
+use Rattle.std.proofs.Common.{◌≡◌, ℕ, zero, suc, ◌+◌, ◌-◌, ◌<◌, ◌≤◌, ◌==◌, true, false, List, ◌∷◌, ◌++◌, drop, length, refl, ap, sym, ◌∙◌, subst, arith, Some, None, inl, inr}
 use Rattle.std.proofs.lemmas.Bool.Decides.{eqb_tells}
 use Rattle.std.specs.Prelude.{if◌then◌else◌, nat_lt, reverse, slice_get, ◌≢◌}
 use Rattle.vm_base.specs.declared.entry.Entry.{Entry}
@@ -17,6 +17,7 @@ use Rattle.vm_model.specs.Regions.{backing_of, next_object, next_region, region_
 use Rattle.vm_model.specs.Waiting.{waiting}
 use Rattle.vm_maps.specs.Maps.{Mapped, rows_in}
 use Rattle.vm_objects.specs.Objects.{ObjectTable, absent_at}
+use Rattle.vm_resident.specs.Resident.{row_at}
 use Rattle.vm_shadow.specs.Chains.{ChainTable, region_at}
 use Rattle.vm_shadow.specs.declared.ids.Ids.{Ids}
 use Rattle.vm_shadow.specs.declared.region_row.RegionRow.{RegionRow}
@@ -40,8 +41,9 @@ use Rattle.vm_kernel.proofs.Walking.{unreached}
 
 -- a page of a region without entries goes
 pub ends_lost : (header : Header) (outside : Outside) (doing : Command) (past : List Event) (k k2 : Parts) (ids : Ids) (rest : List Entry) (region : ℕ) (key : PageKey) (events after : List Event)
-    → Ends header outside doing past k ids rest region events → key.object.0 ≡ region → Lost key k k2 events after → Ends header outside doing past k2 ids rest region after
-ends_lost header outside doing past k k2 ids rest region key events after e same lost =
+    → Ends header outside doing past k ids rest region events → key.object.0 ≡ region → ((q : ℕ) → q < key.page.0 → row_at k.resident key.object.0 q ≡ None) → Lost key k k2 events after
+    → Ends header outside doing past k2 ids rest region after
+ends_lost header outside doing past k k2 ids rest region key events after e same first lost =
     subst (λ (z : List Event). Ends header outside doing past k2 ids rest region z) (ap (λ z. event.Dropped z key.object key.page ∷ events) (sym m.host) ∙ sym lost.told) (record {
       runs = record {
         begins = e.runs.begins;
@@ -97,8 +99,11 @@ ends_lost header outside doing past k k2 ids rest region key events after e same
     here : (local header.size 0 (place_of o p) (events ++ past)).here ≡ true
     here = ap (λ z. z.here) (m.pages.shown o p ∙ ap (λ z. shown k.frames z (absent_at k.objects o p)) lost.found) ∙ lost.here
 
+    least : (q : ℕ) → q < p → (local header.size 0 (place_of o q) (events ++ past)).here ≡ false
+    least q low = ap (λ z. z.here) (m.pages.shown o q ∙ ap (λ z. shown k.frames z (absent_at k.objects o q)) (first q low))
+
     cause : Caused header outside doing (event.Dropped the_host key.object key.page) (events ++ past)
-    cause = λ paged. record { here = here; why = Unreached (let none = ap length m.plain.objects in omega arith) (unreached header o (events ++ past) m.regions.tops m.regions.unbacked unused_now) }
+    cause = λ paged. record { here = here; why = Unreached (let none = ap length m.plain.objects in omega arith) (unreached header o (events ++ past) m.regions.tops m.regions.unbacked unused_now) least }
 
     pages2 : HasPages k2.frames k2.resident k.objects k.chains (λ o2 p2. local header.size 0 (place_of o2 p2) (event.Dropped the_host key.object key.page ∷ (events ++ past)))
     pages2 = pages_gone header.size k.frames k2.frames k.resident k2.resident k.objects k.chains (λ o2 p2. local header.size 0 (place_of o2 p2) (events ++ past)) o p lost.row lost.found lost.here m.pages lost.pages lost.put

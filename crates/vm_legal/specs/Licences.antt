@@ -319,8 +319,8 @@ pub record Shadows (header : Header) (region new old : ℕ) (past : List Event) 
 pub data Leaves (header : Header) (doing : Command) (host object page : ℕ) (seen : Local) (past : List Event) : Type 0 where
   -- it is clean, and is reclaimed
   Reclaimed : seen.dirty ≡ false → seen.precious ≡ false → Reclaims header doing host object page past → Leaves header doing host object page seen past
-  -- no region leads to its temporary object
-  Unreached : named header ≤ object → (Reach header host object past → ⊥) → Leaves header doing host object page seen past
+  -- no region leads to its temporary object, whose pages go by rising number
+  Unreached : named header ≤ object → (Reach header host object past → ⊥) → ((q : ℕ) → q < page → (page_on header host object q past).here ≡ false) → Leaves header doing host object page seen past
   -- its pager flushes it, and doesn't want it back
   Flushed : (returns : ℕ) → IsLocked host object page returns true past → gives_back returns seen.dirty ≡ false → Leaves header doing host object page seen past
   -- it is clean, and its object ends on the host

@@ -1,4 +1,4 @@
-use Rattle.std.proofs.Common.{refl}
+use Rattle.std.proofs.Common.{arith, refl}
 use Rattle.vm_kernel.proofs.Ends.{ends_lost}
 use Rattle.vm_kernel.proofs.Strands.{all_here}
 use Rattle.vm_kernel.proofs.parts.Parts.drop_pages.Goals as goal
@@ -6,7 +6,7 @@ use Rattle.vm_kernel.proofs.parts.Parts.drop_pages.Goals as goal
 pub pages-preserved : goal.pages-preserved
 pages-preserved g c =
     ends_lost g.given.header g.given.outside g.given.command g.given.past c.pages.self c.drop_page.new.self c.args.ids.now g.given.rest c.args.object.0 (record { object = c.args.object; page = c.in-Some.page }) c.pages.log.items c.drop_page.new.log.items
-    c.pages.invariant refl c.in_ok-drop_page.ensures
+    c.pages.invariant refl (λ q low. c.in-Some.ensures.first q (omega arith) low) c.in_ok-drop_page.ensures
 
 pub drop_page-requires-clause-there : goal.drop_page-requires-clause-there
 drop_page-requires-clause-there g c =
