@@ -1,5 +1,5 @@
 -- A load or store begins: its task waits, and the access is to be run.
-use Rattle.std.proofs.Common.{◌≡◌, ℕ, ◌%◌, ◌==◌, ◌∷◌, ◌++◌, Bool, true, false, List, [], refl, ap, sym, ◌∙◌, subst, Some, None, Option, inl, inr}
+use Rattle.std.proofs.Common.{◌≡◌, ℕ, ◌+◌, arith, ◌%◌, ◌==◌, ◌∷◌, ◌++◌, Bool, true, false, List, [], refl, ap, sym, ◌∙◌, subst, Some, None, Option, inl, inr}
 use Rattle.std.proofs.lemmas.Bool.Decides.{eqb_tells}
 use Rattle.std.specs.Prelude.{if◌then◌else◌, is_none, is_some, not}
 use Rattle.vm_base.specs.declared.code.Code.{Code}
@@ -15,7 +15,8 @@ use Rattle.vm_model.specs.declared.command.Command.TheVariants as command
 use Rattle.vm_model.specs.declared.script.Header.{Header}
 use Rattle.vm_model.specs.Tasks.{entries_of, host_of}
 use Rattle.vm_model.specs.Waiting.{Access, waiting}
-use Rattle.vm_legal.specs.Follows.{IsDone}
+use Rattle.vm_legal.specs.Accesses.{FindsPage}
+use Rattle.vm_legal.specs.Follows.{EndsNext, IsDone}
 use Rattle.vm_legal.specs.Outside.{Outside}
 use Rattle.vm_legal.specs.Refusal.{access_refusal, acting, where_true}
 use Rattle.vm_maps.specs.Maps.{Mapped, entries_in}
@@ -24,15 +25,16 @@ use Rattle.vm_resident.specs.Resident.{ResidentTable}
 use Rattle.vm_shadow.specs.Chains.{ChainTable}
 use Rattle.vm_shadow.specs.declared.ids.Ids.{Ids}
 use Rattle.vm_supply.specs.declared.woken.Woken.TheVariants as woken
-use Rattle.vm_waits.specs.Waits.{PutsEntry, WaitTable, entry}
+use Rattle.vm_waits.specs.Waits.{PutsEntry, WaitTable, again, entry}
 use Rattle.vm_waits.specs.declared.waiting.On.TheVariants as on
 use Rattle.vm_waits.specs.declared.waiting.Waiting.{Waiting}
 use Rattle.vm_waits.specs.declared.waiting.Want.{Want}
 use Rattle.vm_waits.specs.declared.waiting.Want.TheVariants as want
-use Rattle.vm_waits.proofs.Entries.{puts_cases, puts_elsewhere}
+use Rattle.vm_waits.proofs.Entries.{none_again, puts_cases, puts_elsewhere}
 use Rattle.vm_kernel.specs.Begun.{Goes, Grows, Ran, Starts}
 use Rattle.vm_kernel.specs.Changes.{IsAllowed}
 use Rattle.vm_kernel.specs.Matches.{Matches, Rests, Works}
+use Rattle.vm_kernel.specs.Serving.{IsNext, RunsFirst}
 use Rattle.vm_kernel.specs.Waiters.{Asker, HasWaiters, IsSizedWant, Reason, access_in, address_in, need_in, waiting_in}
 use Rattle.vm_kernel.specs.declared.parts.Parts.{Parts}
 use Rattle.vm_kernel.proofs.Growing.{grows_goes, suffices}
@@ -226,19 +228,33 @@ begun_works header doing task what past k ids before log reserved waits is start
       waits = waits_begun k.maps k.chains k.resident k.objects k.waits.rows waits.rows task what (λ t. waiting t past) (λ t. waiting t (begun task what ∷ past)) s.rests.waits puts_here (absent_row header task what past k ids before s) can.allowed can.sized (begun_waiting task what past);
     })
 
-begun_done : (header : Header) (task : TaskId) (what : Want) (past events : List Event) → IsDone header (asks task what) events past
-begun_done header task (want.Load address size) past events = tt
-begun_done header task (want.Store address size value) past events = tt
+-- it is the only one that is to be run
+pub begun_next : (task : TaskId) (what : Want) (rows new : List Waiting) → again rows ≡ 0 → again new ≡ again rows + 1 → PutsEntry task.0 (Some (begun_row task what)) rows new → IsNext task.0 new
+begun_next task what rows new idle one puts =
+    record {
+      some = λ none. omega arith;
+      only = λ t w found on_again. puts_cases task.0 t (Some (begun_row task what)) rows new w puts found
+          (λ same row. sym same)
+          (λ apart old. absurd (let bad : false ≡ true = sym (none_again rows t w idle old) ∙ on_again in cc));
+    }
+
+begun_done : (header : Header) (task : TaskId) (what : Want) (past events : List Event) → (FindsPage header task.0 (begun task what ∷ past) → EndsNext task.0 (begun task what ∷ []) events) → IsDone header (asks task what) events past
+begun_done header task (want.Load address size) past events ends = ends
+begun_done header task (want.Store address size value) past events ends = ends
 
 -- the access was run, and all that were to be
-pub begun_ran : (header : Header) (outside : Outside) (doing : Command) (task : TaskId) (what : Want) (past : List Event) (k new : Parts) (ids : Ids) (before log after : List Event) → doing ≡ asks task what → Starts header doing past k ids before
-    → log ≡ begun task what ∷ before → Rests header new ids (after ++ past) → Goes header outside doing past log after → Ran header outside doing past new ids after
-begun_ran header outside doing task what past k new ids before log after is starts told rests goes =
+pub begun_ran : (header : Header) (outside : Outside) (doing : Command) (task : TaskId) (what : Want) (past : List Event) (k new : Parts) (ids : Ids) (before log after : List Event) (rows : List Waiting) → doing ≡ asks task what
+    → Starts header doing past k ids before → log ≡ begun task what ∷ before → IsNext task.0 rows → Rests header new ids (after ++ past) → Goes header outside doing past log after → RunsFirst header rows past log after
+    → Ran header outside doing past new ids after
+begun_ran header outside doing task what past k new ids before log after rows is starts told next rests goes runs =
     let first : Grows header outside (asks task what) past (begun task what ∷ []) = begun_grows header outside k ids past task what starts.rests.matches in
+    let same = begun_log task what before log starts.nothing told in
     let grows : Grows header outside doing past log =
-    subst (λ (z : Command). Grows header outside z past log) (sym is) (subst (λ (z : List Event). Grows header outside (asks task what) past z) (sym (begun_log task what before log starts.nothing told)) first) in
+    subst (λ (z : Command). Grows header outside z past log) (sym is) (subst (λ (z : List Event). Grows header outside (asks task what) past z) (sym same) first) in
+    let ends : FindsPage header task.0 (begun task what ∷ past) → EndsNext task.0 (begun task what ∷ []) after =
+    subst (λ (z : List Event). FindsPage header task.0 (z ++ past) → EndsNext task.0 z after) same (runs task.0 next) in
     record {
       rests = rests;
       grows = grows_goes header outside doing past log after grows goes;
-      done = subst (λ (z : Command). IsDone header z after past) (sym is) (begun_done header task what past after);
+      done = subst (λ (z : Command). IsDone header z after past) (sym is) (begun_done header task what past after ends);
     }

@@ -1,6 +1,7 @@
 -- What a command owes is still done when its step goes on, and a step that has served the frame queue has ended.
-use Rattle.std.proofs.Common.{append_assoc, ◌≡◌, true, false, List, ◌++◌, ap, sym, ◌∙◌, subst}
+use Rattle.std.proofs.Common.{append_assoc, ◌≡◌, true, false, List, [], ◌∷◌, ◌++◌, ap, sym, ◌∙◌, subst}
 use Rattle.vm_model.specs.declared.event.Event.{Event}
+use Rattle.vm_model.specs.declared.event.Event.TheVariants as event
 use Rattle.vm_model.specs.declared.command.Command.{Command}
 use Rattle.vm_model.specs.declared.command.Command.TheVariants as command
 use Rattle.vm_model.specs.declared.script.Header.{Header}
@@ -12,6 +13,7 @@ use Rattle.vm_kernel.specs.Built.{is_built}
 use Rattle.vm_kernel.specs.Matches.{Rests}
 use Rattle.vm_kernel.specs.Serving.{IsServed}
 use Rattle.vm_kernel.specs.declared.parts.Parts.{Parts}
+use Rattle.vm_kernel.proofs.Finding.{next_more}
 use Rattle.vm_kernel.proofs.Growing.{grows_goes, paid_of}
 use Rattle.vm_kernel.proofs.Prompting.{prompt_of}
 
@@ -24,6 +26,8 @@ done_more header (command.Pageout host count) past events more built inner done 
       reclaims = done.reclaims;
       enough = done.enough;
     }
+done_more header (command.Load task address size) past events more built inner done = λ finds. next_more task.0 (event.BegunLoad task address size ∷ []) events more (done finds)
+done_more header (command.Store task address size value) past events more built inner done = λ finds. next_more task.0 (event.BegunStore task address size value ∷ []) events more (done finds)
 done_more header (command.Settle count) past events more built inner done = absurd (let bad : false ≡ true = built in cc)
 done_more header other past events more built inner done = tt
 

@@ -11,6 +11,7 @@ pub mod Done
 pub mod Endings
 pub mod Ends
 pub mod Failing
+pub mod Finding
 pub mod First
 pub mod Fitting
 pub mod Foreign

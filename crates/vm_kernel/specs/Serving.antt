@@ -1,9 +1,10 @@
 -- Accesses are run, and the frame queue is served.
-use Rattle.std.specs.Prelude.{ℕ, ◌+◌, ◌-◌, ◌<◌, ◌≡◌, ◌⊎◌, Bool, true, false, List, Some}
+use Rattle.std.specs.Prelude.{ℕ, ◌+◌, ◌-◌, ◌<◌, ◌≡◌, ◌⊎◌, Bool, true, false, List, ◌++◌, Some}
 use Rattle.vm_frames.specs.Frames.{claimed, free}
 use Rattle.vm_model.specs.declared.event.Event.{Event}
 use Rattle.vm_model.specs.declared.script.Header.{Header}
-use Rattle.vm_legal.specs.Accesses.{Wants}
+use Rattle.vm_legal.specs.Accesses.{FindsPage, Wants}
+use Rattle.vm_legal.specs.Follows.{EndsNext}
 use Rattle.vm_legal.specs.Frames.{returns_out}
 use Rattle.vm_legal.specs.Prompt.{IsFull}
 use Rattle.vm_legal.specs.Steps.{gone}
@@ -11,7 +12,7 @@ use Rattle.vm_pageout.specs.declared.answer.Reclaim.{Reclaim}
 use Rattle.vm_pageout.specs.declared.answer.Reclaim.TheVariants as reclaim
 use Rattle.vm_resident.specs.Resident.{row_at}
 use Rattle.vm_resident.specs.declared.page_row.PageRow.{PageRow}
-use Rattle.vm_waits.specs.Waits.{again, one_again, one_frame, queued}
+use Rattle.vm_waits.specs.Waits.{again, entry, is_again, one_again, one_frame, queued}
 use Rattle.vm_waits.specs.declared.waiting.Waiting.{Waiting}
 use Rattle.vm_kernel.specs.declared.parts.Parts.{Parts}
 
@@ -46,3 +47,12 @@ pub record Reclaimed (answer : Reclaim) (old new : Parts) (before after : List E
 -- the frame queue is empty, or can't go on
 abbrev pub IsServed : Header → Parts → List Event → Type 0
 IsServed header k past = (queued k.waits.rows ≡ 0) ⊎ IsFull header 0 past
+
+-- one access is to be run again, and no other
+pub record IsNext (task : ℕ) (rows : List Waiting) : Type 0 where
+  pub some : again rows ≡ 0 → ⊥
+  pub only : (t : ℕ) (w : Waiting) → entry rows t ≡ Some w → is_again w.on ≡ true → t ≡ task
+
+-- where it finds its page, it has ended before anything else was done
+abbrev pub RunsFirst : Header → List Waiting → List Event → List Event → List Event → Type 0
+RunsFirst header rows past before after = (task : ℕ) → IsNext task rows → FindsPage header task (before ++ past) → EndsNext task before after

@@ -1,13 +1,14 @@
 // Accesses that wait are run again, and the frame queue is served.
 ghost use Rattle.std.specs.Prelude.{◌≡◌, ◌+◌, ◌++◌, true, false, IfOk, OnOk, Some};
 ghost use Rattle.vm_frames.specs.Frames.{claimed, free};
-ghost use Rattle.vm_legal.specs.Accesses.{Wants};
+ghost use Rattle.vm_legal.specs.Accesses.{FindsPage, Wants};
+ghost use Rattle.vm_legal.specs.Follows.{EndsNext};
 ghost use Rattle.vm_legal.specs.Prompt.{IsFull, Prompt};
 ghost use Rattle.vm_supply.specs.declared.woken.Woken.TheVariants as woken;
 ghost use Rattle.vm_waits.specs.Waits.{entry};
 ghost use Rattle.vm_kernel.specs.Begun.{Doing, Goes};
 ghost use Rattle.vm_kernel.specs.Matches.{Rests, Works};
-ghost use Rattle.vm_kernel.specs.Serving.{Attempts, IsServed};
+ghost use Rattle.vm_kernel.specs.Serving.{Attempts, IsServed, RunsFirst};
 
 use crate::parts::Parts;
 use crate::steps::FaultStep;
@@ -31,6 +32,7 @@ impl Parts {
         requires waits { entry self.old.waits.rows waiting.task.0 ≡ Some waiting }
         ensures works { OnOk result (Works given.header self.new ids.now woken.Nobody (log.new.items ++ given.past)) }
         ensures goes { OnOk result (Goes given.header given.outside given.command given.past log.old.items log.new.items) }
+        ensures ends { OnOk result (FindsPage given.header waiting.task.0 (log.old.items ++ given.past) → EndsNext waiting.task.0 log.old.items log.new.items) }
         ensures attempts { IfOk result (λ needs. Attempts given.header waiting may_claim needs self.old self.new (log.old.items ++ given.past) (log.new.items ++ given.past)) }
     {
         let on = match self.fault(waiting.task, waiting.want, may_claim, log)? {
@@ -57,6 +59,7 @@ impl Parts {
         requires works { Works given.header self.old ids.now woken.Nobody (log.old.items ++ given.past) }
         ensures rests { OnOk result (Rests given.header self.new ids.now (log.new.items ++ given.past)) }
         ensures goes { OnOk result (Goes given.header given.outside given.command given.past log.old.items log.new.items) }
+        ensures first { OnOk result (RunsFirst given.header self.old.waits.rows given.past log.old.items log.new.items) }
     {
         'again: while let Some(waiting) = self.waits.next_again() {
             let may_claim = !self.waits.has_queue();

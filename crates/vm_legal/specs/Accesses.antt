@@ -10,7 +10,7 @@ use Rattle.vm_model.specs.declared.script.Header.{Header}
 use Rattle.vm_model.specs.Controls.{is_control, live_control}
 use Rattle.vm_model.specs.Regions.{region_of, backing_of}
 use Rattle.vm_model.specs.Tasks.{host_of, entries_of}
-use Rattle.vm_model.specs.Waiting.{Access, Copying, waiting, next_page, address_of, is_store}
+use Rattle.vm_model.specs.Waiting.{Access, Loading, Storing, Copying, waiting, next_page, address_of, is_store}
 use Rattle.vm_legal.specs.Walks.{Leads, Sinks, IsTop, Walks, page_on, sight}
 
 -- where an address of a living task leads
@@ -98,3 +98,13 @@ pub record Wants (header : Header) (host : ℕ) (past : List Event) : Type 0 whe
   pub waits : Waits header task access past
   pub on_host : waits.at.host ≡ host
   pub frame : WantsFrame header host task access waits.at.entry.region.0 (page_of header task access past waits.at.entry) past
+
+-- an access that waits finds its page: a load's walk ends at a page that the host can read; a store's top place is one that it can write, and
+-- its region has no copy mark
+pub data FindsPage (header : Header) (task : ℕ) (past : List Event) : Type 0 where
+  ToRead : (address bytes object page : ℕ) → (waits : Waits header task (Loading address bytes) past)
+      → Comes header waits.at.host waits.at.entry.region.0 (page_at header.size address waits.at.entry) object page past → (page_on header waits.at.host object page past).here ≡ true
+      → names (page_on header waits.at.host object page past).lock false ≡ false → FindsPage header task past
+  ToWrite : (address bytes value object page : ℕ) → (waits : Waits header task (Storing address bytes value) past)
+      → IsTop (region_of header waits.at.entry.region.0 past) (page_at header.size address waits.at.entry) object page → (region_of header waits.at.entry.region.0 past).mark ≡ false
+      → (page_on header waits.at.host object page past).here ≡ true → names (page_on header waits.at.host object page past).lock true ≡ false → FindsPage header task past

@@ -15,6 +15,7 @@ use Rattle.vm_model.specs.Channels.{queue}
 use Rattle.vm_model.specs.Regions.{next_region, next_object}
 use Rattle.vm_model.specs.Server.{first}
 use Rattle.vm_model.specs.Tasks.{host_of, entries_of, copies, shared}
+use Rattle.vm_legal.specs.Accesses.{FindsPage}
 use Rattle.vm_legal.specs.Frames.{frames_wired}
 use Rattle.vm_legal.specs.Licences.{AllLicensed}
 use Rattle.vm_legal.specs.Outside.{Outside}
@@ -103,9 +104,25 @@ pub record HasPagedOut (header : Header) (host count : ℕ) (group past : List E
   pub reclaims : EachOf (IsReclaim host) front
   pub enough : (gone (front ++ past) ≡ count) ⊎ IsExhausted header host past (front ++ past)
 
--- what else a command owes when its group ends, behind its line: a pageout has reclaimed its pages, and a settle has taken so many messages, or
--- none is left
+-- the event ends the access of a task that did what it was to do
+abbrev pub IsEnd : ℕ → Event → Type 0
+IsEnd t (event.Loaded task object page value) = task.0 ≡ t
+IsEnd t (event.Stored task object page at bytes value) = task.0 ≡ t
+IsEnd t other = ⊥
+
+-- on top of some events the next one ends the access of a task
+pub record EndsNext (task : ℕ) (before after : List Event) : Type 0 where
+  pub later : List Event
+  pub end : Event
+  pub is : after ≡ later ++ end ∷ before
+  pub ends : IsEnd task end
+
+-- what else a command owes when its group ends, behind its line: an access that finds its page when it begins ends next; a pageout has
+-- reclaimed its pages; and a settle has taken so many messages, or none is left
 abbrev pub IsDone : Header → Command → List Event → List Event → Type 0
+IsDone header (command.Load task address size) group past = FindsPage header task.0 (event.BegunLoad task address size ∷ past) → EndsNext task.0 (event.BegunLoad task address size ∷ []) group
+IsDone header (command.Store task address size value) group past =
+    FindsPage header task.0 (event.BegunStore task address size value ∷ past) → EndsNext task.0 (event.BegunStore task address size value ∷ []) group
 IsDone header (command.Pageout host count) group past = HasPagedOut header host.0 count group past
 IsDone header (command.Settle count) group past = (takings (group ++ past) ≡ count) ⊎ (undelivered (group ++ past) ≡ [])
 IsDone header other group past = Unit {0}

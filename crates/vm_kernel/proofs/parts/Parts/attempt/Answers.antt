@@ -6,6 +6,7 @@ use Rattle.vm_waits.specs.declared.waiting.On.{On}
 use Rattle.vm_waits.specs.declared.waiting.On.TheVariants as on
 use Rattle.vm_kernel.specs.declared.steps.FaultStep.TheVariants as step
 use Rattle.vm_kernel.proofs.Attempting.{done_works, fault_goes, its_row, page_works, queued_works, queues_of, ready_works}
+use Rattle.vm_kernel.proofs.Finding.{ends_next}
 use Rattle.vm_kernel.proofs.Leading.{can_fault}
 use Rattle.vm_kernel.proofs.parts.Parts.attempt.Goals as goal
 use Rattle.vm_kernel.proofs.parts.Parts.attempt.Goals.{in-WaitReady, in-Ask, in-Ask-2}
@@ -59,3 +60,15 @@ returns-clause-works g c =
 
 pub returns-clause-goes : goal.returns-clause-goes
 returns-clause-goes g c = fault_goes _ _ _ _ _ _ _ c.args.waiting c.args.may_claim c.in_ok-fault.field-0 _ _ c.requires.0 c.requires.1 c.in_ok-fault.ensures
+
+pub returns-in-Done-clause-ends : goal.returns-in-Done-clause-ends
+returns-in-Done-clause-ends g c = ends_next g.given.header g.given.past c.args.self.now c.fault.new.self c.args.ids.now c.args.waiting c.args.may_claim c.in_ok-fault.field-0 c.args.log.now.items c.fault.new.log.items c.requires.0 c.requires.1 c.in_ok-fault.ensures
+
+pub returns-then-ne-clause-ends : goal.returns-then-ne-clause-ends
+returns-then-ne-clause-ends g c = ends_next g.given.header g.given.past c.args.self.now c.fault.new.self c.args.ids.now c.args.waiting c.args.may_claim c.in_ok-fault.field-0 c.args.log.now.items c.fault.new.log.items c.requires.0 c.requires.1 c.in_ok-fault.ensures
+
+pub returns-else-ne-clause-ends : goal.returns-else-ne-clause-ends
+returns-else-ne-clause-ends g c = ends_next g.given.header g.given.past c.args.self.now c.fault.new.self c.args.ids.now c.args.waiting c.args.may_claim c.in_ok-fault.field-0 c.args.log.now.items c.fault.new.log.items c.requires.0 c.requires.1 c.in_ok-fault.ensures
+
+pub returns-clause-ends : goal.returns-clause-ends
+returns-clause-ends g c = ends_next g.given.header g.given.past c.args.self.now c.fault.new.self c.args.ids.now c.args.waiting c.args.may_claim c.in_ok-fault.field-0 c.args.log.now.items c.fault.new.log.items c.requires.0 c.requires.1 c.in_ok-fault.ensures

@@ -1,6 +1,9 @@
 use Rattle.vm_kernel.specs.Begun.{Goes}
+use Rattle.vm_legal.specs.Accesses.{FindsPage}
 use Rattle.vm_kernel.specs.Matches.{Works}
-use Rattle.std.proofs.Common.{◌++◌}
+use Rattle.vm_kernel.specs.Serving.{IsNext}
+use Rattle.vm_kernel.proofs.Finding.{FirstOf}
+use Rattle.std.proofs.Common.{◌++◌, ℕ}
 use Rattle.vm_supply.specs.declared.woken.Woken.TheVariants as woken
 use Rattle.vm_waits.specs.Waits.{again}
 use Rattle.vm_kernel.proofs.parts.Parts.restart.Given as goal
@@ -9,7 +12,11 @@ abbrev pub ghost-attempt : goal.ghost-attempt
 ghost-attempt g a = g.given
 
 abbrev pub invariant-again : goal.invariant-again
-invariant-again g l = record { works : Works g.given.header l.self l.ids woken.Nobody (l.log.items ++ g.given.past); goes : Goes g.given.header g.given.outside g.given.command g.given.past l.fn.log.items l.log.items }
+invariant-again g l = record {
+  works : Works g.given.header l.self l.ids woken.Nobody (l.log.items ++ g.given.past);
+  goes : Goes g.given.header g.given.outside g.given.command g.given.past l.fn.log.items l.log.items;
+  first : (task : ℕ) → IsNext task l.fn.self.waits.rows → FindsPage g.given.header task (l.fn.log.items ++ g.given.past) → FirstOf task l.fn.self.waits.rows l.self.waits.rows l.fn.log.items l.log.items;
+}
 
 abbrev pub decreases-again : goal.decreases-again
 decreases-again g l = again l.self.waits.rows

@@ -1,6 +1,8 @@
+use Rattle.std.proofs.Common.{ap, ◌∙◌}
+use Rattle.vm_waits.specs.Waits.{again}
 use Rattle.vm_waits.specs.declared.waiting.Want.TheVariants as want
-use Rattle.vm_kernel.proofs.Beginning.{begun_ran, begun_works}
-use Rattle.vm_kernel.proofs.Served.{both_ok}
+use Rattle.vm_kernel.proofs.Beginning.{begun_next, begun_ran, begun_works}
+use Rattle.vm_kernel.proofs.Served.{three_ok}
 use Rattle.vm_kernel.proofs.parts.Parts.store.Goals as goal
 
 pub restart-requires : goal.restart-requires
@@ -10,7 +12,9 @@ restart-requires g c =
 
 pub returns : goal.returns
 returns g c =
-    both_ok c.restart.result _ _ _
+    let next =
+    begun_next c.args.task (want.Store c.args.address c.args.size c.args.value) c.reserve.new.self.rows c.begin.new.self.rows (ap again c.reserve.ensures.rows ∙ c.requires.1.rests.idle) c.begin.ensures.again c.begin.ensures.entry in
+    three_ok c.restart.result _ _ _ _
     (begun_ran g.given.header g.given.outside g.given.command c.args.task (want.Store c.args.address c.args.size c.args.value) g.given.past c.args.self.now c.restart.new.self c.args.ids.now c.args.log.now.items c.push.new.self.items c.restart.new.log.items
-    c.requires.0 c.requires.1 c.in_ok-push.ensures.ok)
-    c.restart.ensures.rests c.restart.ensures.goes
+    c.begin.new.self.rows c.requires.0 c.requires.1 c.in_ok-push.ensures.ok next)
+    c.restart.ensures.rests c.restart.ensures.goes c.restart.ensures.first
