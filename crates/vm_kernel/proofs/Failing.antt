@@ -1,7 +1,7 @@
 -- Those who wait for a page that its pager can't give are ended.
 use Rattle.std.proofs.Common.{append-nil, append_assoc, ◌≡◌, ℕ, ◌+◌, ◌==◌, ◌&&◌, ◌||◌, Bool, true, false, List, [], ◌∷◌, ◌++◌, refl, ap, sym, ◌∙◌, subst, Some, None, inl, inr}
 use Rattle.std.proofs.lemmas.Bool.Decides.{eqb_tells}
-use Rattle.std.specs.Prelude.{if◌then◌else◌, nat_lt}
+use Rattle.std.specs.Prelude.{IfSome, if◌then◌else◌, nat_lt, ◌⊎◌}
 use Rattle.vm_base.specs.declared.ids.PageKey.{PageKey}
 use Rattle.vm_base.specs.declared.ids.TaskId.{TaskId}
 use Rattle.vm_base.specs.Entries.{entry_at, page_at}
@@ -30,7 +30,7 @@ use Rattle.vm_waits.proofs.Entries.{puts_cases}
 use Rattle.vm_kernel.specs.Begun.{AllInner, Goes, IsInner}
 use Rattle.vm_kernel.specs.Counts.{count_by, most_tasks}
 use Rattle.vm_kernel.specs.Matches.{HasUse, Works, host_for}
-use Rattle.vm_kernel.specs.Taking.{FailsNow, HasFailed, IsAnswered, IsErrorPaid}
+use Rattle.vm_kernel.specs.Taking.{EndsEach, FailsNow, HasEnded, HasFailed, IsAnswered, IsErrorPaid, fails_task}
 use Rattle.vm_kernel.specs.Waiters.{Asker, access_in, address_in, waiting_in}
 use Rattle.vm_kernel.specs.declared.parts.Parts.{Parts}
 use Rattle.vm_kernel.proofs.Growing.{goes_more, suffices}
@@ -210,6 +210,40 @@ failed_one header outside doing past old events key k ids w waits f found passes
 pub since_now : (key : PageKey) (task : TaskId) (past : List Event) → since (fails_access key.object.0 key.page.0) (event.Failed task key.object key.page ∷ past) ≡ true
 since_now key task past = ap (λ b. b || since (fails_access key.object.0 key.page.0) past) (itself key)
 
+-- each who waited for the page is ended, or waits still
+
+either : (a b : Bool) → b ≡ true → (a || b) ≡ true
+either true b is = refl
+either false b is = is
+
+ends_now : (key : PageKey) (task : TaskId) (t : ℕ) (past : List Event) → task.0 ≡ t → since (fails_task t key.object.0 key.page.0) (event.Failed task key.object key.page ∷ past) ≡ true
+ends_now key task t past same = elim (eqb_tells task.0 t) [
+  | inl is ↦
+      let now : fails_task t key.object.0 key.page.0 (event.Failed task key.object key.page) ≡ true = rw is.0 (itself key) in
+      ap (λ b. b || since (fails_task t key.object.0 key.page.0) past) now
+  | inr apart ↦ absurd (apart.1 same)
+]
+
+abbrev pub EndsOr : PageKey → List Waiting → List Waiting → List Event → Type 0
+EndsOr key first rows past = (t : ℕ) (w : Waiting) → entry first t ≡ Some w → w.on ≡ on.Page key → (since (fails_task t key.object.0 key.page.0) past ≡ true) ⊎ (entry rows t ≡ Some w)
+
+pub ends_or : (key : PageKey) (w : Waiting) (first rows rows2 : List Waiting) (past : List Event) → EndsOr key first rows past → PutsEntry w.task.0 None rows rows2 → EndsOr key first rows2 (event.Failed w.task key.object key.page ∷ past)
+ends_or key w first rows rows2 past was puts t v found waits = elim (was t v found waits) [
+  | inl ended ↦ inl (either (fails_task t key.object.0 key.page.0 (event.Failed w.task key.object key.page)) (since (fails_task t key.object.0 key.page.0) past) ended)
+  | inr there ↦ elim (eqb_tells w.task.0 t) [
+    | inl same ↦ inl (ends_now key w.task t past same.1)
+    | inr apart ↦ inr (stays w.task.0 t rows rows2 v puts apart.1 there)
+  ]
+]
+
+pub ends_all : (key : PageKey) (first rows : List Waiting) (past : List Event) → EndsOr key first rows past → ((t : ℕ) → IfSome (entry rows t) (λ w. woken_page key w.on ≡ false)) → HasEnded (who.Fails key) first past
+ends_all key first rows past was none t w found waits = elim (was t w found waits) [
+  | inl ended ↦ ended
+  | inr there ↦
+      let off : woken_page key w.on ≡ false = rw there at (none t) in
+      absurd (let bad : true ≡ false = sym (itself key) ∙ (ap (woken_page key) (sym waits) ∙ off) in cc)
+]
+
 -- the error that a step took is paid, and that stays so
 
 error_inner : (size : ℕ) (e : Event) (past : List Event) → IsInner e → error_taken size (e ∷ past) ≡ error_taken size past
@@ -220,10 +254,6 @@ error_inner size other past inner = refl
 error_same : (size : ℕ) (more past : List Event) → AllInner more → error_taken size (more ++ past) ≡ error_taken size past
 error_same size [] past inner = refl
 error_same size (e ∷ more) past inner = error_inner size e (more ++ past) inner.0 ∙ error_same size more past inner.1
-
-either : (a b : Bool) → b ≡ true → (a || b) ≡ true
-either true b is = refl
-either false b is = is
 
 since_inner : (test : Event → Bool) (e : Event) (past : List Event) → IsInner e → since test past ≡ true → since test (e ∷ past) ≡ true
 since_inner test (event.Line line) past inner is = absurd inner
@@ -250,6 +280,31 @@ paid_failed header outside doing (who.Fails key) past new fails goes failed = λ
     ap (error_taken header.size) (ap (λ z. z ++ past) (goes.is ∙ append-nil goes.more)) ∙ error_same header.size goes.more past goes.inner in
     let same : record { host = 0; object = key.object.0; page = key.page.0 } ≡ record { host = host; object = object; page = page } = asked_same (sym fails ∙ (sym error ∙ is)) in
     subst (λ (z : Asked). since (fails_access z.object z.page) (new ++ past) ≡ true) same failed
+  where
+    asked_same : {x y : Asked} → Some x ≡ Some y → x ≡ y
+    asked_same {x = x} {y = y} is = some_is x y is
+
+-- and each who waited has ended
+
+each_more : (header : Header) (rows : List Waiting) (more past : List Event) → AllInner more → EndsEach header rows past → EndsEach header rows (more ++ past)
+each_more header rows more past inner each = λ host object page t w is found waits. since_more (fails_task t object page) more past inner (each host object page t w (sym (error_same header.size more past inner) ∙ is) found waits)
+
+pub each_goes : (header : Header) (outside : Outside) (doing : Command) (rows : List Waiting) (past old new : List Event) → Goes header outside doing past old new → EndsEach header rows (old ++ past) → EndsEach header rows (new ++ past)
+each_goes header outside doing rows past old new goes each =
+    subst (λ (z : List Event). EndsEach header rows z) (sym (append_assoc goes.more old past) ∙ ap (λ z. z ++ past) (sym goes.is)) (each_more header rows goes.more (old ++ past) goes.inner each)
+
+no_error : (header : Header) (rows : List Waiting) (past : List Event) → error_taken header.size past ≡ None → EndsEach header rows past
+no_error header rows past none = λ host object page t w is found waits. absurd (let bad : None ≡ Some (record { host = host; object = object; page = page }) = sym none ∙ is in cc)
+
+pub each_failed : (header : Header) (outside : Outside) (doing : Command) (woke : Woken) (rows : List Waiting) (past new : List Event) → FailsNow header woke past → Goes header outside doing past [] new → HasEnded woke rows (new ++ past) → EndsEach header rows (new ++ past)
+each_failed header outside doing who.Nobody rows past new fails goes ended = each_goes header outside doing rows past [] new goes (no_error header rows past fails)
+each_failed header outside doing (who.ReadyOf object) rows past new fails goes ended = each_goes header outside doing rows past [] new goes (no_error header rows past fails)
+each_failed header outside doing (who.Page key) rows past new fails goes ended = each_goes header outside doing rows past [] new goes (no_error header rows past fails)
+each_failed header outside doing (who.Fails key) rows past new fails goes ended = λ host object page t w is found waits.
+    let error : error_taken header.size (new ++ past) ≡ error_taken header.size past =
+    ap (error_taken header.size) (ap (λ z. z ++ past) (goes.is ∙ append-nil goes.more)) ∙ error_same header.size goes.more past goes.inner in
+    let same : record { host = 0; object = key.object.0; page = key.page.0 } ≡ record { host = host; object = object; page = page } = asked_same (sym fails ∙ (sym error ∙ is)) in
+    subst (λ (z : Asked). w.on ≡ on.Page (page_key z.object z.page) → since (fails_task t z.object z.page) (new ++ past) ≡ true) same (ended t w found) waits
   where
     asked_same : {x y : Asked} → Some x ≡ Some y → x ≡ y
     asked_same {x = x} {y = y} is = some_is x y is

@@ -1,6 +1,7 @@
 -- A message of a pager is taken.
-use Rattle.std.specs.Prelude.{ℕ, ◌≡◌, ◌++◌, true, false, List, length, Some, None}
+use Rattle.std.specs.Prelude.{ℕ, ◌≡◌, ◌==◌, ◌&&◌, ◌++◌, Bool, true, false, List, length, Some, None}
 use Rattle.vm_model.specs.declared.event.Event.{Event}
+use Rattle.vm_model.specs.declared.event.Event.TheVariants as event
 use Rattle.vm_model.specs.declared.message.Message.{Message}
 use Rattle.vm_model.specs.declared.message.Message.TheVariants as message
 use Rattle.vm_model.specs.declared.script.Header.{Header}
@@ -11,6 +12,7 @@ use Rattle.vm_resident.specs.Resident.{ResidentTable, page_key, row_at}
 use Rattle.vm_resident.specs.declared.page_row.PageRow.{PageRow}
 use Rattle.vm_supply.specs.declared.woken.Woken.{Woken}
 use Rattle.vm_supply.specs.declared.woken.Woken.TheVariants as woken
+use Rattle.vm_waits.specs.Waits.{entry}
 use Rattle.vm_waits.specs.declared.waiting.On.TheVariants as on
 use Rattle.vm_waits.specs.declared.waiting.Waiting.{Waiting}
 use Rattle.vm_kernel.specs.Waiters.{Asker, is_woken}
@@ -41,6 +43,21 @@ pub record IsAnswered (who : Woken) (resident : ResidentTable) : Type 0 where
 abbrev pub HasFailed : Woken → List Event → Type 0
 HasFailed (woken.Fails key) past = since (fails_access key.object.0 key.page.0) past ≡ true
 HasFailed other past = Unit {0}
+
+-- the event ends the access of a task by an error for the page of the object
+abbrev pub fails_task : ℕ → ℕ → ℕ → Event → Bool
+fails_task t o p (event.Failed task object page) = task.0 == t && (object.0 == o && page.0 == p)
+fails_task t o p other = false
+
+-- and each access that waited for the page, in a table as it was, was ended by it
+abbrev pub HasEnded : Woken → List Waiting → List Event → Type 0
+HasEnded (woken.Fails key) rows past = (t : ℕ) (w : Waiting) → entry rows t ≡ Some w → w.on ≡ on.Page key → since (fails_task t key.object.0 key.page.0) past ≡ true
+HasEnded other rows past = Unit {0}
+
+-- an error that the step took has ended each access that waited for its page
+abbrev pub EndsEach : Header → List Waiting → List Event → Type 0
+EndsEach header rows past = (host object page t : ℕ) (w : Waiting) → error_taken header.size past ≡ Some (record { host = host; object = object; page = page }) → entry rows t ≡ Some w → w.on ≡ on.Page (page_key object page)
+    → since (fails_task t object page) past ≡ true
 
 -- an error that the step took has ended some access
 abbrev pub IsErrorPaid : Header → List Event → Type 0

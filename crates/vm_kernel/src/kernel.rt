@@ -9,7 +9,7 @@ ghost use Rattle.vm_objects.specs.Objects.{object_at};
 ghost use Rattle.vm_kernel.specs.Begun.{Began, Given, IsForeign, IsLaundered, Passed, Passing, Starts};
 ghost use Rattle.vm_kernel.specs.Built.{is_built};
 ghost use Rattle.vm_kernel.specs.Matches.{IsPlain, Rests, first_ids, the_host};
-ghost use Rattle.vm_kernel.specs.Taking.{IsErrorPaid, IsTempAnswer};
+ghost use Rattle.vm_kernel.specs.Taking.{EndsEach, IsErrorPaid, IsTempAnswer};
 
 use crate::parts::Parts;
 use std::alloc::Global;
@@ -102,6 +102,7 @@ impl Kernel {
         requires answer { IsTempAnswer given.header.size message.now }
         ensures passed { IfOk result (λ events. Passed given.header given.outside given.command (given.front ++ given.past) self.new ids.new events.items) }
         ensures failed { IfOk result (λ events. IsErrorPaid given.header (events.items ++ (given.front ++ given.past))) }
+        ensures ended { IfOk result (λ events. EndsEach given.header self.old.waits.rows (events.items ++ (given.front ++ given.past))) }
     {
         let mut log = Events::new(self.parts.alloc);
         self.parts.take(ids, object, control, message, &mut log)?;

@@ -5,7 +5,7 @@ ghost use Rattle.vm_model.specs.declared.message.Channel.TheVariants.{Down};
 ghost use Rattle.vm_supply.specs.declared.woken.Woken.TheVariants as who;
 ghost use Rattle.vm_kernel.specs.Begun.{Doing, Goes, IsLaundered, Passing};
 ghost use Rattle.vm_kernel.specs.Matches.{Rests, Works, the_host};
-ghost use Rattle.vm_kernel.specs.Taking.{FailsNow, HasAsker, HasFailed, IsAnswered, IsErrorPaid, IsTempAnswer};
+ghost use Rattle.vm_kernel.specs.Taking.{EndsEach, FailsNow, HasAsker, HasEnded, HasFailed, IsAnswered, IsErrorPaid, IsTempAnswer};
 
 use crate::parts::Parts;
 use vm_base::{NoMemory, ObjectId, PageKey};
@@ -32,6 +32,7 @@ impl Parts {
         ensures fails { IfOk result (λ woken. FailsNow given.header woken (given.front ++ given.past)) }
         ensures asker { IfOk result (λ woken. HasAsker woken self.new.waits.rows) }
         ensures answered { IfOk result (λ woken. IsAnswered woken self.new.resident) }
+        ensures waits { OnOk result (self.new.waits ≡ self.old.waits) }
         ensures nothing { OnOk result (log.new.items ≡ []) }
     {
         let woken = answer(
@@ -60,6 +61,7 @@ impl Parts {
         ensures works { OnOk result (Works given.header self.new ids.now who.Nobody (log.new.items ++ given.past)) }
         ensures goes { OnOk result (Goes given.header given.outside given.command given.past log.old.items log.new.items) }
         ensures failed { OnOk result (HasFailed woken (log.new.items ++ given.past)) }
+        ensures ended { OnOk result (HasEnded woken self.old.waits.rows (log.new.items ++ given.past)) }
     {
         match woken {
             Woken::Nobody => Ok(()),
@@ -85,6 +87,7 @@ impl Parts {
         ensures works { OnOk result (Works given.header self.new ids.now who.Nobody (log.new.items ++ given.past)) }
         ensures goes { OnOk result (Goes given.header given.outside given.command given.past log.old.items log.new.items) }
         ensures failed { OnOk result (HasFailed (who.Fails key) (log.new.items ++ given.past)) }
+        ensures ended { OnOk result (HasEnded (who.Fails key) self.old.waits.rows (log.new.items ++ given.past)) }
     {
         'all: while let Some(waiting) = self.waits.next_on(key) {
             log.push(Event::Failed {
@@ -114,6 +117,7 @@ impl Parts {
         ensures rests { OnOk result (Rests given.header self.new ids.now (log.new.items ++ (given.front ++ given.past))) }
         ensures goes { OnOk result (Goes given.header given.outside given.command (given.front ++ given.past) [] log.new.items) }
         ensures failed { OnOk result (IsErrorPaid given.header (log.new.items ++ (given.front ++ given.past))) }
+        ensures ended { OnOk result (EndsEach given.header self.old.waits.rows (log.new.items ++ (given.front ++ given.past))) }
     {
         let woken = self.hear(ids, object, control, message, log)?;
         self.wake(ids, woken, log)?;

@@ -1,5 +1,7 @@
-use Rattle.std.proofs.Common.{◌++◌, []}
-use Rattle.vm_kernel.proofs.Failing.{paid_goes}
+use Rattle.std.proofs.Common.{◌++◌, [], subst}
+use Rattle.vm_kernel.specs.Taking.{EndsEach}
+use Rattle.vm_kernel.specs.declared.parts.Parts.{Parts}
+use Rattle.vm_kernel.proofs.Failing.{each_goes, paid_goes}
 use Rattle.vm_kernel.proofs.Growing.{goes_both}
 use Rattle.vm_kernel.proofs.kernel.Kernel.take.Goals as goal
 
@@ -15,3 +17,9 @@ returns-clause-passed g c =
 pub returns-clause-failed : goal.returns-clause-failed
 returns-clause-failed g c =
     paid_goes g.given.header g.given.outside g.given.command (g.given.front ++ g.given.past) c.take.new.log.items c.go_on.new.log.items c.in_ok-go_on.ensures.goes c.in_ok-take.ensures.failed
+
+pub returns-clause-ended : goal.returns-clause-ended
+returns-clause-ended g c =
+    let past = g.given.front ++ g.given.past in
+    subst (λ (z : Parts). EndsEach g.given.header z.waits.rows (c.go_on.new.log.items ++ past)) c.self.view_is
+    (each_goes g.given.header g.given.outside g.given.command c.self.inside.parts.waits.rows past c.take.new.log.items c.go_on.new.log.items c.in_ok-go_on.ensures.goes c.in_ok-take.ensures.ended)

@@ -1,7 +1,7 @@
 use Rattle.std.proofs.Common.{◌≡◌, ◌++◌, true, List, inl, sym, subst}
 use Rattle.vm_model.specs.declared.event.Event.{Event}
 use Rattle.vm_legal.specs.Steps.{fails_access, since}
-use Rattle.vm_kernel.proofs.Failing.{Failing, failed_one, since_now}
+use Rattle.vm_kernel.proofs.Failing.{EndsOr, Failing, ends_all, ends_or, failed_one, since_now}
 use Rattle.vm_kernel.proofs.parts.Parts.fail.Goals as goal
 
 pub all-preserved : goal.all-preserved
@@ -18,8 +18,14 @@ all-preserved g c =
       fails = now.fails;
       answered = now.answered;
       goes = now.goes;
+      each =
+          subst (λ (z : List Event). EndsOr key c.args.self.now.waits.rows c.remove.new.self.rows (z ++ g.given.past)) (sym c.in_ok-push.ensures.ok)
+          (ends_or key w c.args.self.now.waits.rows c.all.self.waits.rows c.remove.new.self.rows (c.all.log.items ++ g.given.past) was.each c.remove.ensures.entry);
       some =
           inl
           (subst (λ (z : List Event). since (fails_access key.object.0 key.page.0) (z ++ g.given.past) ≡ true) (sym c.in_ok-push.ensures.ok)
           (since_now key w.task (c.all.log.items ++ g.given.past)));
     }
+
+pub returns-clause-ended : goal.returns-clause-ended
+returns-clause-ended g c = ends_all c.args.key c.args.self.now.waits.rows c.all.self.waits.rows (c.all.log.items ++ g.given.past) c.all.invariant.each (rw c.in_default.is at c.next_on.ensures.row)

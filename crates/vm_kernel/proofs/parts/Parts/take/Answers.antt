@@ -1,7 +1,9 @@
 use Rattle.std.proofs.Common.{◌++◌, List, [], subst}
 use Rattle.vm_model.specs.declared.event.Event.{Event}
 use Rattle.vm_kernel.specs.Begun.{Goes}
-use Rattle.vm_kernel.proofs.Failing.{paid_failed, paid_goes}
+use Rattle.vm_waits.specs.Waits.{WaitTable}
+use Rattle.vm_kernel.specs.Taking.{HasEnded}
+use Rattle.vm_kernel.proofs.Failing.{each_failed, each_goes, paid_failed, paid_goes}
 use Rattle.vm_kernel.proofs.Growing.{goes_both, on_ok}
 use Rattle.vm_kernel.proofs.parts.Parts.take.Given as given
 use Rattle.vm_kernel.proofs.parts.Parts.take.Goals as goal
@@ -19,3 +21,12 @@ returns-clause-failed g c =
     let paid =
     paid_failed g.given.header g.given.outside g.given.command c.in_ok-woken.woken past c.wake.new.log.items c.in_ok-woken.ensures.fails (woken_goes g c) c.in_ok-wake.ensures.failed in
     on_ok c.restart.result _ _ (λ goes. paid_goes g.given.header g.given.outside g.given.command past c.wake.new.log.items c.restart.new.log.items goes paid) c.restart.ensures.goes
+
+pub returns-clause-ended : goal.returns-clause-ended
+returns-clause-ended g c =
+    let past = g.given.front ++ g.given.past in
+    let rows = c.args.self.now.waits.rows in
+    let ended : HasEnded c.in_ok-woken.woken rows (c.wake.new.log.items ++ past) =
+    subst (λ (z : WaitTable). HasEnded c.in_ok-woken.woken z.rows (c.wake.new.log.items ++ past)) c.in_ok-woken.ensures.waits c.in_ok-wake.ensures.ended in
+    let each = each_failed g.given.header g.given.outside g.given.command c.in_ok-woken.woken rows past c.wake.new.log.items c.in_ok-woken.ensures.fails (woken_goes g c) ended in
+    on_ok c.restart.result _ _ (λ goes. each_goes g.given.header g.given.outside g.given.command rows past c.wake.new.log.items c.restart.new.log.items goes each) c.restart.ensures.goes
