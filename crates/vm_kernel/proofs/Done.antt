@@ -15,7 +15,7 @@ use Rattle.vm_kernel.specs.Serving.{IsServed}
 use Rattle.vm_kernel.specs.declared.parts.Parts.{Parts}
 use Rattle.vm_kernel.proofs.Finding.{next_more}
 use Rattle.vm_kernel.proofs.Growing.{grows_goes, paid_of}
-use Rattle.vm_kernel.proofs.Prompting.{prompt_of}
+use Rattle.vm_kernel.proofs.Prompting.{prompt_of, queue_of}
 
 pub done_more : (header : Header) (doing : Command) (past events more : List Event) → is_built doing ≡ true → AllInner more → IsDone header doing events past → IsDone header doing (more ++ events) past
 done_more header (command.Pageout host count) past events more built inner done =
@@ -41,6 +41,7 @@ began_served header outside given doing past k mid new ids next before events af
       rests = rests;
       grows = grows;
       done = subst (λ (z : List Event). IsDone header doing z past) (sym goes.is) (done_more header doing past events goes.more built goes.inner ran.done);
+      queue = queue_of header new (after ++ past) served;
       prompt = prompt_of header new next (after ++ past) rests served;
       paid = paid_of header past after starts.begins grows.inner rests.matches.settled;
     }

@@ -14,7 +14,7 @@ use Rattle.vm_model.specs.Waiting.{address_of, next_page, waiting}
 use Rattle.vm_legal.specs.Licences.{Fails}
 use Rattle.vm_legal.specs.Living.{tasks as made_tasks}
 use Rattle.vm_legal.specs.Outside.{Outside}
-use Rattle.vm_legal.specs.Steps.{Asked, error_taken, fails_access, since}
+use Rattle.vm_legal.specs.Steps.{Asked, error_taken, fails_access, fails_task, since}
 use Rattle.vm_legal.specs.Used.{in_use, is_kept}
 use Rattle.vm_resident.specs.Resident.{page_key}
 use Rattle.vm_shadow.specs.declared.ids.Ids.{Ids}
@@ -30,7 +30,7 @@ use Rattle.vm_waits.proofs.Entries.{puts_cases}
 use Rattle.vm_kernel.specs.Begun.{AllInner, Goes, IsInner}
 use Rattle.vm_kernel.specs.Counts.{count_by, most_tasks}
 use Rattle.vm_kernel.specs.Matches.{HasUse, Works, host_for}
-use Rattle.vm_kernel.specs.Taking.{EndsEach, FailsNow, HasEnded, HasFailed, IsAnswered, IsErrorPaid, fails_task}
+use Rattle.vm_kernel.specs.Taking.{EndsEach, FailsNow, HasEnded, HasFailed, IsAnswered, IsErrorPaid}
 use Rattle.vm_kernel.specs.Waiters.{Asker, access_in, address_in, waiting_in}
 use Rattle.vm_kernel.specs.declared.parts.Parts.{Parts}
 use Rattle.vm_kernel.proofs.Growing.{goes_more, suffices}
@@ -251,7 +251,7 @@ error_inner size (event.Line line) past inner = absurd inner
 error_inner size (event.Taken channel m) past inner = absurd inner
 error_inner size other past inner = refl
 
-error_same : (size : ℕ) (more past : List Event) → AllInner more → error_taken size (more ++ past) ≡ error_taken size past
+pub error_same : (size : ℕ) (more past : List Event) → AllInner more → error_taken size (more ++ past) ≡ error_taken size past
 error_same size [] past inner = refl
 error_same size (e ∷ more) past inner = error_inner size e (more ++ past) inner.0 ∙ error_same size more past inner.1
 

@@ -40,10 +40,10 @@ use Rattle.vm_kernel.proofs.Leading.{Leads, leads_of}
 
 -- where an access finds its page, that is the one that it is about
 
-some_same : {A : Type 0} (x y : A) → Some x ≡ Some y → x ≡ y
+pub some_same : {A : Type 0} (x y : A) → Some x ≡ Some y → x ≡ y
 some_same x y e = cc
 
-walk_ends : (sights : ℕ → ℕ → Sight) (backings : ℕ → Backing) (steps o p l lp : ℕ) → (backings o).backed ≡ false → Walks sights backings steps o p l lp → (o ≡ l) × (p ≡ lp)
+pub walk_ends : (sights : ℕ → ℕ → Sight) (backings : ℕ → Backing) (steps o p l lp : ℕ) → (backings o).backed ≡ false → Walks sights backings steps o p l lp → (o ≡ l) × (p ≡ lp)
 walk_ends sights backings zero o p l lp bare walks = walks
 walk_ends sights backings (suc n) o p l lp bare walks = absurd (let bad : true ≡ false = sym walks.1 ∙ bare in cc)
 

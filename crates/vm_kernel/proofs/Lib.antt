@@ -39,6 +39,7 @@ pub mod Rows
 pub mod Served
 pub mod Shares
 pub mod Standing
+pub mod Stopping
 pub mod Strands
 pub mod Tasks
 pub mod Terminating

@@ -36,7 +36,7 @@ use Rattle.vm_kernel.specs.Counts.{count_by, most_tasks}
 use Rattle.vm_kernel.specs.Matches.{HasWaits, Matches, Rests}
 use Rattle.vm_kernel.specs.Pagers.{is_ready_state, live_in, ready_in}
 use Rattle.vm_kernel.specs.Places.{has_region, shown}
-use Rattle.vm_kernel.specs.Serving.{IsServed}
+use Rattle.vm_kernel.specs.Serving.{HasQueue, IsServed}
 use Rattle.vm_kernel.specs.Waiters.{IsAsked, IsAt, IsTold, Reason, access_in, address_in, waiting_in}
 use Rattle.vm_kernel.specs.declared.parts.Parts.{Parts}
 
@@ -174,6 +174,11 @@ swept header k ids past rests =
     ended : (object : ℕ) → (Reach header 0 object past → ⊥) → (x : Option ObjectRow) → object_at k.objects object ≡ x → live_in x ≡ None
     ended object away None is = refl
     ended object away (Some row) is = dead object away row is row.live refl
+
+-- whoever stands in the frame queue, no frame is free then
+pub queue_of : (header : Header) (k : Parts) (past : List Event) → IsServed header k past → HasQueue header k past
+queue_of header k past (inl empty) = inl empty
+queue_of header k past (inr full) = inr full.none
 
 pub prompt_of : (header : Header) (k : Parts) (ids : Ids) (past : List Event) → Rests header k ids past → IsServed header k past → Prompt header past
 prompt_of header k ids past rests served = record { waits = λ host below. waits_at host (only host below); swept = λ host below. swept_at host (only host below) }

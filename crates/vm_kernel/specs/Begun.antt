@@ -19,6 +19,7 @@ use Rattle.vm_legal.specs.Stretches.{EachIn, EachOf, MomentsIn}
 use Rattle.vm_shadow.specs.declared.ids.Ids.{Ids}
 use Rattle.vm_kernel.specs.Built.{copies_entries}
 use Rattle.vm_kernel.specs.Matches.{HasWaits, Matches, Rests, the_host}
+use Rattle.vm_kernel.specs.Serving.{HasQueue}
 use Rattle.vm_supply.specs.declared.woken.Woken.TheVariants as woken
 use Rattle.vm_waits.specs.Waits.{again}
 use Rattle.vm_base.specs.declared.entry.Entry.{Entry}
@@ -98,6 +99,7 @@ pub record Began (header : Header) (outside : Outside) (doing : Command) (past :
   pub rests : Rests header k ids (events ++ past)
   pub grows : Grows header outside doing past events
   pub done : IsDone header doing events past
+  pub queue : HasQueue header k (events ++ past)
   pub prompt : Prompt header (events ++ past)
   pub paid : IsPaid header (events ++ past)
 
@@ -134,6 +136,7 @@ pub record Passing : Type 0 where
 pub record Passed (header : Header) (outside : Outside) (doing : Command) (past : List Event) (k : Parts) (ids : Ids) (events : List Event) : Type 0 where
   pub rests : Rests header k ids (events ++ past)
   pub goes : Goes header outside doing past [] events
+  pub queue : HasQueue header k (events ++ past)
   pub prompt : Prompt header (events ++ past)
   pub returned : created (events ++ past) ≡ None
 

@@ -5,7 +5,7 @@ use Rattle.vm_model.specs.declared.event.Event.{Event}
 use Rattle.vm_model.specs.declared.script.Header.{Header}
 use Rattle.vm_legal.specs.Accesses.{FindsPage, Wants}
 use Rattle.vm_legal.specs.Follows.{EndsNext}
-use Rattle.vm_legal.specs.Frames.{returns_out}
+use Rattle.vm_legal.specs.Frames.{frames_free, returns_out}
 use Rattle.vm_legal.specs.Prompt.{IsFull}
 use Rattle.vm_legal.specs.Steps.{gone}
 use Rattle.vm_pageout.specs.declared.answer.Reclaim.{Reclaim}
@@ -56,3 +56,7 @@ pub record IsNext (task : ℕ) (rows : List Waiting) : Type 0 where
 -- where it finds its page, it has ended before anything else was done
 abbrev pub RunsFirst : Header → List Waiting → List Event → List Event → List Event → Type 0
 RunsFirst header rows past before after = (task : ℕ) → IsNext task rows → FindsPage header task (before ++ past) → EndsNext task before after
+
+-- somebody stands in the frame queue only while no frame is free
+abbrev pub HasQueue : Header → Parts → List Event → Type 0
+HasQueue header k past = (queued k.waits.rows ≡ 0) ⊎ (frames_free header 0 past ≡ 0)

@@ -1,11 +1,11 @@
 -- A message of a pager is taken.
-use Rattle.std.specs.Prelude.{ℕ, ◌≡◌, ◌==◌, ◌&&◌, ◌++◌, Bool, true, false, List, length, Some, None}
+use Rattle.std.specs.Prelude.{ℕ, ◌≡◌, ◌++◌, true, false, List, length, Some, None}
 use Rattle.vm_model.specs.declared.event.Event.{Event}
-use Rattle.vm_model.specs.declared.event.Event.TheVariants as event
 use Rattle.vm_model.specs.declared.message.Message.{Message}
 use Rattle.vm_model.specs.declared.message.Message.TheVariants as message
 use Rattle.vm_model.specs.declared.script.Header.{Header}
-use Rattle.vm_legal.specs.Steps.{error_taken, fails_access, since}
+use Rattle.vm_legal.specs.Debts.{EndsWaiters}
+use Rattle.vm_legal.specs.Steps.{error_taken, fails_access, fails_task, since}
 use Rattle.vm_legal.specs.Stretches.{EachOf}
 use Rattle.vm_legal.specs.Reclaims.{IsReclaim}
 use Rattle.vm_resident.specs.Resident.{ResidentTable, page_key, row_at}
@@ -44,11 +44,6 @@ abbrev pub HasFailed : Woken → List Event → Type 0
 HasFailed (woken.Fails key) past = since (fails_access key.object.0 key.page.0) past ≡ true
 HasFailed other past = Unit {0}
 
--- the event ends the access of a task by an error for the page of the object
-abbrev pub fails_task : ℕ → ℕ → ℕ → Event → Bool
-fails_task t o p (event.Failed task object page) = task.0 == t && (object.0 == o && page.0 == p)
-fails_task t o p other = false
-
 -- and each access that waited for the page, in a table as it was, was ended by it
 abbrev pub HasEnded : Woken → List Waiting → List Event → Type 0
 HasEnded (woken.Fails key) rows past = (t : ℕ) (w : Waiting) → entry rows t ≡ Some w → w.on ≡ on.Page key → since (fails_task t key.object.0 key.page.0) past ≡ true
@@ -68,3 +63,7 @@ pub record EachGone (old new : List Event) : Type 0 where
   pub more : List Event
   pub is : new ≡ more ++ old
   pub each : EachOf (IsReclaim 0) more
+
+-- and in the words of the history
+abbrev pub EndsAll : Header → List Event → Type 0
+EndsAll header past = (host object page : ℕ) → error_taken header.size past ≡ Some (record { host = host; object = object; page = page }) → EndsWaiters header host object page past

@@ -3,13 +3,14 @@ ghost use Rattle.std.specs.Prelude.{◌≡◌, ◌≢◌, ◌++◌, ◌∷◌, [
 ghost use Rattle.vm_model.specs.declared.event.Event.TheVariants as event;
 ghost use Rattle.vm_model.specs.declared.message.Channel.TheVariants.{Down};
 ghost use Rattle.vm_legal.specs.Stretches.{EachOf};
-ghost use Rattle.vm_waits.specs.Waits.{entry};
+ghost use Rattle.vm_waits.specs.Waits.{entry, queued};
+ghost use Rattle.vm_kernel.specs.Serving.{HasQueue};
 ghost use Rattle.vm_frames.specs.Frames.{free};
 ghost use Rattle.vm_objects.specs.Objects.{object_at};
 ghost use Rattle.vm_kernel.specs.Begun.{Began, Given, IsForeign, IsLaundered, Passed, Passing, Starts};
 ghost use Rattle.vm_kernel.specs.Built.{is_built};
 ghost use Rattle.vm_kernel.specs.Matches.{IsPlain, Rests, first_ids, the_host};
-ghost use Rattle.vm_kernel.specs.Taking.{EndsEach, IsErrorPaid, IsTempAnswer};
+ghost use Rattle.vm_kernel.specs.Taking.{EndsAll, IsErrorPaid, IsTempAnswer};
 
 use crate::parts::Parts;
 use std::alloc::Global;
@@ -47,7 +48,8 @@ impl Kernel {
     pub fn new(alloc: Global, host: HostId, header: &Header) -> Result<Kernel, NoMemory>
         requires plain { IsPlain header.now }
         requires host { host ≡ the_host }
-        ensures { IfOk result (λ kernel. Rests header.now kernel first_ids []) }
+        ensures rests { IfOk result (λ kernel. Rests header.now kernel first_ids []) }
+        ensures queue { IfOk result (λ kernel. queued kernel.waits.rows ≡ 0) }
     {
         let count = *header.frames.at(host.0);
         let frames = Frames::new(alloc, count, header.size)?;
@@ -98,11 +100,12 @@ impl Kernel {
     ) -> Result<Events, NoMemory>
         ghost given: { Passing }
         requires rests { Rests given.header self.old ids.old given.past }
+        requires queue { HasQueue given.header self.old given.past }
         requires front { given.front ≡ event.Taken (Down the_host object control) message.now ∷ [] }
         requires answer { IsTempAnswer given.header.size message.now }
         ensures passed { IfOk result (λ events. Passed given.header given.outside given.command (given.front ++ given.past) self.new ids.new events.items) }
         ensures failed { IfOk result (λ events. IsErrorPaid given.header (events.items ++ (given.front ++ given.past))) }
-        ensures ended { IfOk result (λ events. EndsEach given.header self.old.waits.rows (events.items ++ (given.front ++ given.past))) }
+        ensures ended { IfOk result (λ events. EndsAll given.header (events.items ++ (given.front ++ given.past))) }
     {
         let mut log = Events::new(self.parts.alloc);
         self.parts.take(ids, object, control, message, &mut log)?;

@@ -8,7 +8,7 @@ ghost use Rattle.vm_supply.specs.declared.woken.Woken.TheVariants as woken;
 ghost use Rattle.vm_waits.specs.Waits.{entry};
 ghost use Rattle.vm_kernel.specs.Begun.{Doing, Goes};
 ghost use Rattle.vm_kernel.specs.Matches.{Rests, Works};
-ghost use Rattle.vm_kernel.specs.Serving.{Attempts, IsServed, RunsFirst};
+ghost use Rattle.vm_kernel.specs.Serving.{Attempts, HasQueue, IsServed, RunsFirst};
 
 use crate::parts::Parts;
 use crate::steps::FaultStep;
@@ -111,6 +111,7 @@ impl Parts {
         requires rests { Rests given.header self.old ids.now (log.old.items ++ given.past) }
         ensures rests { OnOk result (Rests given.header self.new ids.now (log.new.items ++ given.past)) }
         ensures goes { OnOk result (Goes given.header given.outside given.command given.past log.old.items log.new.items) }
+        ensures queue { OnOk result (HasQueue given.header self.new (log.new.items ++ given.past)) }
         ensures prompt { OnOk result (Prompt given.header (log.new.items ++ given.past)) }
     {
         self.serve(ids, log)

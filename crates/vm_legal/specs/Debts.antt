@@ -4,9 +4,25 @@ use Rattle.vm_model.specs.declared.event.Event.{Event}
 use Rattle.vm_model.specs.declared.message.Message.TheVariants as message
 use Rattle.vm_model.specs.declared.script.Header.{Header}
 use Rattle.vm_model.specs.Named.{named}
+use Rattle.vm_model.specs.Waiting.{Access}
+use Rattle.vm_legal.specs.Accesses.{Comes, Waits, is_ready, page_of}
+use Rattle.vm_legal.specs.Frames.{frames_free}
 use Rattle.vm_legal.specs.Licences.{created, is_paged, up, zeroes}
 use Rattle.vm_legal.specs.Pagers.{LacksSlot}
-use Rattle.vm_legal.specs.Steps.{answers, absence_taken, before_step, error_taken, fails_access, lacks_slot, readies, since, taken}
+use Rattle.vm_legal.specs.Steps.{answers, absence_taken, before_step, error_taken, fails_access, fails_task, lacks_slot, readies, since, taken}
+
+-- a task of the host waits with an access whose walk stops at the place
+pub record StopsAt (header : Header) (host task object page : ℕ) (past : List Event) : Type 0 where
+  pub access : Access
+  pub waits : Waits header task access past
+  pub on_host : waits.at.host ≡ host
+  pub comes : Comes header host waits.at.entry.region.0 (page_of header task access past waits.at.entry) object page past
+
+-- an error has ended each access that waited for its page, of a pager that was ready, when the step began; on a host without a free frame some may have
+-- waited for a frame
+abbrev pub EndsWaiters : Header → ℕ → ℕ → ℕ → List Event → Type 0
+EndsWaiters header host object page past =
+    (task : ℕ) → StopsAt header host task object page (before_step past) → is_ready host object (before_step past) ≡ true → (frames_free header host (before_step past) ≡ 0 → ⊥) → since (fails_task task object page) past ≡ true
 
 pub record IsPaid (header : Header) (past : List Event) : Type 0 where
   -- an object's first control is never made without the return behind it
@@ -17,8 +33,8 @@ pub record IsPaid (header : Header) (past : List Event) : Type 0 where
   -- a request is answered
   pub request : (host object control page access : ℕ) → is_paged header object ≡ true
       → taken past ≡ Some (record { channel = up host object; message = message.Request control (record { 0 = page }) access }) → since (answers object page) past ≡ true
-  -- an error ends some access
-  pub error : (host object page : ℕ) → error_taken header.size past ≡ Some (record { host = host; object = object; page = page }) → since (fails_access object page) past ≡ true
+  -- an error ends some access, and each that waited for its page
+  pub error : (host object page : ℕ) → error_taken header.size past ≡ Some (record { host = host; object = object; page = page }) → (since (fails_access object page) past ≡ true) × EndsWaiters header host object page past
   -- where a pager has no page of a declared object, zeros come
   pub absence : (host object page : ℕ) → object < named header → absence_taken header.size past ≡ Some (record { host = host; object = object; page = page }) → since (zeroes object page) past ≡ true
   -- a returned page for which there is no slot is told of

@@ -97,6 +97,11 @@ abbrev pub fails_access : ℕ → ℕ → Event → Bool
 fails_access o p (event.Failed task object page) = object.0 == o && page.0 == p
 fails_access o p other = false
 
+-- the event ends the access of a task by an error for the page of the object
+abbrev pub fails_task : ℕ → ℕ → ℕ → Event → Bool
+fails_task t o p (event.Failed task object page) = task.0 == t && (object.0 == o && page.0 == p)
+fails_task t o p other = false
+
 -- a page for which the live control of a host took an error, or the word that there is none, while it was asked
 pub record Asked : Type 0 where
   pub host : ℕ

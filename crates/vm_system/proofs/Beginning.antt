@@ -22,6 +22,7 @@ use Rattle.pg_default.proofs.Others.{others}
 use Rattle.vm_shadow.specs.declared.ids.Ids.{Ids}
 use Rattle.vm_kernel.specs.Begun.{AllInner, Goes, Grows, IsSaid}
 use Rattle.vm_kernel.specs.Matches.{Rests}
+use Rattle.vm_kernel.specs.Serving.{HasQueue}
 use Rattle.vm_kernel.specs.declared.parts.Parts.{Parts}
 use Rattle.vm_system.specs.Orderly.{IsOrderly}
 use Rattle.vm_system.specs.Posts.{CanTellAll, Posts, SameHost}
@@ -58,9 +59,9 @@ can_tell header outside doing line events s stands tells =
 
 -- the system stands for what was told
 pub stands_told : (header : Header) (outside : Outside) (doing : Command) (line : ℕ) (events : List Event) (k : Parts) (ids : Ids) (old new : State) → Stands header outside old
-    → Tells header outside doing (event.Line line ∷ old.history.items) events → Rests header k ids (events ++ event.Line line ∷ old.history.items) → SameHost (record old { kernel = k; ids = ids }) new
+    → Tells header outside doing (event.Line line ∷ old.history.items) events → Rests header k ids (events ++ event.Line line ∷ old.history.items) → HasQueue header k (events ++ event.Line line ∷ old.history.items) → SameHost (record old { kernel = k; ids = ids }) new
     → Posts new new.history.items → new.history.items ≡ events ++ event.Line line ∷ old.history.items → Stands header outside new
-stands_told header outside doing line events k ids old new stands tells rests host posts grown =
+stands_told header outside doing line events k ids old new stands tells rests queue host posts grown =
     let h = old.history.items in
     let past = event.Line line ∷ h in
     let agrees = stands.agrees in
@@ -72,6 +73,7 @@ stands_told header outside doing line events k ids old new stands tells rests ho
     record {
       plain = stands.plain;
       rests = rw (grown, host.kernel, host.ids) rests;
+      queue = rw (grown, host.kernel) queue;
       agrees = record {
         size = host.size ∙ agrees.size;
         pager = rw (grown, host.pager) now;
@@ -124,12 +126,14 @@ stands_refused header outside line why old new stands host posts grown =
     let past = event.Line line ∷ h in
     let agrees = stands.agrees in
     let rests : Rests header old.kernel old.ids (event.Refused why ∷ past) = rests_code header old.kernel old.ids why past (rests_line header old.kernel old.ids line h stands.rests) in
+    let queue : HasQueue header old.kernel (event.Refused why ∷ past) = stands.queue in
     let now : PagerStands header 0 old.pager (event.Refused why ∷ past) = others header 0 old.pager (event.Refused why) past tt (others header 0 old.pager (event.Line line) h tt agrees.pager) in
     let orderly : IsOrderly header (event.Refused why ∷ past) = orderly_code header why past (orderly_line header line h agrees.orderly) in
     let copies : EachEvent (CopiesCurrent header outside) (event.Refused why ∷ past) = (tt, (tt, agrees.copies)) in
     record {
       plain = stands.plain;
       rests = rw (grown, host.kernel, host.ids) rests;
+      queue = rw (grown, host.kernel) queue;
       agrees = record {
         size = host.size ∙ agrees.size;
         pager = rw (grown, host.pager) now;
@@ -152,7 +156,7 @@ pub stands_lined : (header : Header) (outside : Outside) (line : ℕ) (old new :
     → Stands header outside new
 stands_lined header outside line old new stands host posts grown =
     let rests : Rests header old.kernel old.ids (event.Line line ∷ old.history.items) = rests_line header old.kernel old.ids line old.history.items stands.rests in
-    stands_told header outside (command.Settle 0) line [] old.kernel old.ids old new stands (record { licensed = tt; copies = tt; inner = tt; said = tt }) rests host posts grown
+    stands_told header outside (command.Settle 0) line [] old.kernel old.ids old new stands (record { licensed = tt; copies = tt; inner = tt; said = tt }) rests stands.queue host posts grown
 
 pub kept_lined : (header : Header) (outside : Outside) (areas : List ℕ → Told) (line : ℕ) (old new : State) → new.history.items ≡ event.Line line ∷ old.history.items → new.pager ≡ old.pager
     → Kept header outside areas old → Kept header outside areas new

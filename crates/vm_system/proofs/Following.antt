@@ -127,6 +127,7 @@ followed given washed old new events answered passed size pager items posts =
       stands = record {
         plain = answered.plain;
         rests = rw now passed.rests;
+        queue = rw now passed.queue;
         agrees = agrees_said header given.outside given.command past events new (orderly_said header given.outside given.command past events answered.plain orderly said.licensed said.said said.inner) stands copies said (size ∙ answered.agrees.size) now posts;
       };
       more = events;

@@ -3,10 +3,12 @@ use Rattle.std.proofs.Common.{◌≡◌, ℕ, ◌||◌, Bool, true, false, List,
 use Rattle.vm_model.specs.declared.event.Event.{Event}
 use Rattle.vm_model.specs.declared.event.Event.TheVariants as event
 use Rattle.vm_model.specs.declared.script.Header.{Header}
-use Rattle.vm_legal.specs.Debts.{IsPaid}
+use Rattle.vm_legal.specs.Accesses.{is_ready}
+use Rattle.vm_legal.specs.Debts.{EndsWaiters, IsPaid, StopsAt}
+use Rattle.vm_legal.specs.Frames.{frames_free}
 use Rattle.vm_legal.specs.Licences.{created, zeroes}
 use Rattle.vm_legal.specs.Pagers.{LacksSlot}
-use Rattle.vm_legal.specs.Steps.{absence_taken, answers, before_step, error_taken, fails_access, lacks_slot, readies, since, taken}
+use Rattle.vm_legal.specs.Steps.{absence_taken, answers, before_step, error_taken, fails_access, fails_task, lacks_slot, readies, since, taken}
 use Rattle.vm_kernel.specs.Begun.{AllInner, IsInner}
 
 -- what begins no step changes nothing of what the step took
@@ -62,6 +64,13 @@ since_more : (test : Event → Bool) (events past : List Event) → AllInner eve
 since_more test [] past inner is = is
 since_more test (e ∷ events) past inner is = since_inner test e (events ++ past) inner.0 (since_more test events past inner.1 is)
 
+-- those who waited for the page of an error have ended still
+waiters_more : (header : Header) (host object page : ℕ) (events past : List Event) → AllInner events → EndsWaiters header host object page past → EndsWaiters header host object page (events ++ past)
+waiters_more header host object page events past inner was = λ task stops ready frees.
+    let same = before_more events past inner in
+    since_more (fails_task task object page) events past inner
+    (was task (subst (λ (z : List Event). StopsAt header host task object page z) same stops) (subst (λ (z : List Event). is_ready host object z ≡ true) same ready) (subst (λ (z : List Event). frames_free header host z ≡ 0 → ⊥) same frees))
+
 pub paid_more : (header : Header) (events past : List Event) → AllInner events → IsPaid header past → created (events ++ past) ≡ None → IsPaid header (events ++ past)
 paid_more header events past inner paid none =
     let same = taken_more events past inner in
@@ -70,7 +79,9 @@ paid_more header events past inner paid none =
       init = λ host object control size paged is. since_more (readies object) events past inner (paid.init host object control size paged (sym same ∙ is));
       create = λ host object control size paged is. since_more (readies object) events past inner (paid.create host object control size paged (sym same ∙ is));
       request = λ host object control page access paged is. since_more (answers object page) events past inner (paid.request host object control page access paged (sym same ∙ is));
-      error = λ host object page is. since_more (fails_access object page) events past inner (paid.error host object page (sym (error_more header.size events past inner) ∙ is));
+      error = λ host object page is.
+          let was = paid.error host object page (sym (error_more header.size events past inner) ∙ is) in
+          (since_more (fails_access object page) events past inner was.0, waiters_more header host object page events past inner was.1);
       absence = λ host object page declared is. since_more (zeroes object page) events past inner (paid.absence host object page declared (sym (absence_more header.size events past inner) ∙ is));
       slot = λ host object control page dirty keep bytes temporary is lacks.
           since_more (lacks_slot object page) events past inner

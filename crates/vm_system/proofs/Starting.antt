@@ -1,5 +1,5 @@
 -- A new system stands for the empty history.
-use Rattle.std.proofs.Common.{◌≡◌, ℕ, List, [], true, None, refl, sym, subst}
+use Rattle.std.proofs.Common.{◌≡◌, ℕ, List, [], true, None, refl, sym, subst, inl}
 use Rattle.vm_model.specs.declared.script.Header.{Header}
 use Rattle.vm_legal.specs.Outside.{Outside}
 use Rattle.vm_outside.specs.Areas.{Told}
@@ -8,6 +8,7 @@ use Rattle.pg_slots.specs.Slots.{SlotTable}
 use Rattle.pg_default.specs.Stands.{content_of}
 use Rattle.pg_default.proofs.Others.{empty}
 use Rattle.pg_default.proofs.Standing.{start}
+use Rattle.vm_waits.specs.Waits.{queued}
 use Rattle.vm_kernel.specs.Matches.{IsPlain, Rests}
 use Rattle.vm_system.specs.Posts.{Posts}
 use Rattle.vm_system.specs.Stands.{Kept, Stands}
@@ -22,6 +23,7 @@ no_slots header = record { host = 0; size = header.size; count = header.slots; r
 pub record IsNew (header : Header) (s : State) : Type 0 where
   pub size : s.size ≡ header.size
   pub rests : Rests header s.kernel s.ids []
+  pub idle : queued s.kernel.waits.rows ≡ 0
   pub pager : s.pager ≡ no_slots header
   pub channels : s.ports.channels ≡ 0
   pub letters : s.ports.letters ≡ []
@@ -41,6 +43,7 @@ pub new_stands : (header : Header) (outside : Outside) (s : State) → IsPlain h
 new_stands header outside s plain new = record {
   plain = plain;
   rests = rw new.history new.rests;
+  queue = rw new.history (inl new.idle);
   agrees = record {
     size = new.size;
     pager = rw (new.history, new.pager) (start header 0);

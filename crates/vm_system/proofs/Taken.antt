@@ -34,6 +34,7 @@ use Rattle.vm_ports.specs.declared.letter.Letter.{Letter as Posted}
 use Rattle.vm_shadow.specs.declared.ids.Ids.{Ids}
 use Rattle.vm_kernel.specs.Begun.{AllInner}
 use Rattle.vm_kernel.specs.Matches.{IsPlain, Rests}
+use Rattle.vm_kernel.specs.Serving.{HasQueue}
 use Rattle.vm_kernel.specs.declared.parts.Parts.{Parts}
 use Rattle.vm_system.specs.Channels.{number_in}
 use Rattle.vm_system.specs.Orderly.{IsOrderly}
@@ -124,6 +125,11 @@ pub rests_lined : (header : Header) (k : Parts) (ids : Ids) (line : Option ℕ) 
 rests_lined header k ids None past rests = rests
 rests_lined header k ids (Some line) past rests = rests_line header k ids line past rests
 
+-- whoever stands in the frame queue does so still
+waits_lined : (header : Header) (k : Parts) (line : Option ℕ) (past : List Event) → HasQueue header k past → HasQueue header k (lined line past)
+waits_lined header k None past queue = queue
+waits_lined header k (Some line) past queue = queue
+
 pub orderly_lined : (header : Header) (line : Option ℕ) (past : List Event) → IsOrderly header past → IsOrderly header (lined line past)
 orderly_lined header None past orderly = orderly
 orderly_lined header (Some line) past orderly = orderly_line header line past orderly
@@ -206,6 +212,7 @@ takes_step given channel m more new is head may settled suffice follows licensed
 pub record Front (given : Taking) (s : State) : Type 0 where
   pub plain : IsPlain given.header
   pub rests : Rests given.header s.kernel s.ids given.past
+  pub queue : HasQueue given.header s.kernel given.past
   pub pager : PagerStands given.header 0 s.pager given.past
   pub orderly : IsOrderly given.header given.past
   pub copies : EachEvent (CopiesCurrent given.header given.outside) given.past
@@ -218,6 +225,7 @@ front_of given line number channel s may =
     record {
       plain = stands.plain;
       rests = rw may.past (rests_lined given.header s.kernel s.ids line items stands.rests);
+      queue = rw may.past (waits_lined given.header s.kernel line items stands.queue);
       pager = rw may.past (pager_lined given.header s.pager line items agrees.pager);
       orderly = rw may.past (orderly_lined given.header line items agrees.orderly);
       copies = rw may.past (copies_lined given.header given.outside line items agrees.copies);

@@ -21,7 +21,7 @@ use Rattle.vm_legal.specs.Steps.{Letter, taken}
 use Rattle.vm_outside.specs.Areas.{Told}
 use Rattle.vm_kernel.specs.Begun.{AllInner, Passed}
 use Rattle.vm_kernel.specs.Matches.{IsPlain, the_host}
-use Rattle.vm_kernel.specs.Taking.{IsErrorPaid, IsTempAnswer}
+use Rattle.vm_kernel.specs.Taking.{EndsAll, IsErrorPaid, IsTempAnswer}
 use Rattle.vm_kernel.specs.declared.parts.Parts.{Parts}
 use Rattle.vm_shadow.specs.declared.ids.Ids.{Ids}
 use Rattle.vm_system.specs.Posts.{CanTellAll, Posts}
@@ -85,22 +85,22 @@ undeclared header o plain low =
 
 -- the step owes no more than its error
 down_paid : (header : Header) (object : ObjectId) (control : ℕ) (m : Message) (events past : List Event) → IsPlain header → AllInner events → created (events ++ event.Taken (down object control) m ∷ past) ≡ None
-    → IsErrorPaid header (events ++ event.Taken (down object control) m ∷ past) → IsPaid header (events ++ event.Taken (down object control) m ∷ past)
-down_paid header object control m events past plain inner returned failed = record {
+    → IsErrorPaid header (events ++ event.Taken (down object control) m ∷ past) → EndsAll header (events ++ event.Taken (down object control) m ∷ past) → IsPaid header (events ++ event.Taken (down object control) m ∷ past)
+down_paid header object control m events past plain inner returned failed ended = record {
   returned = returned;
   init = λ host o k size paged is. absurd (not_up object control m events past o host _ inner is);
   create = λ host o k size paged is. absurd (not_up object control m events past o host _ inner is);
   request = λ host o k page access paged is. absurd (not_up object control m events past o host _ inner is);
-  error = failed;
+  error = λ host o page is. (failed host o page is, ended host o page is);
   absence = λ host o page declared is. absurd (undeclared header o plain declared);
   slot = λ host o k page dirty keep bytes temporary is lacks. absurd (not_up object control m events past o host _ inner is);
 }
 
 pub took_down : (given : Taking) (line : Option ℕ) (number : ChannelId) (object : ObjectId) (control : ℕ) (m : Message) (s new : State) (events : List Event) → May given line number (down object control) s
     → first (queue (down object control) given.past) ≡ Some m → Passed given.header given.outside given.command (event.Taken (down object control) m ∷ given.past) new.kernel new.ids events
-    → IsErrorPaid given.header (events ++ event.Taken (down object control) m ∷ given.past) → new.size ≡ s.size → new.pager ≡ s.pager → new.history.items ≡ events ++ event.Taken (down object control) m ∷ given.past
+    → IsErrorPaid given.header (events ++ event.Taken (down object control) m ∷ given.past) → EndsAll given.header (events ++ event.Taken (down object control) m ∷ given.past) → new.size ≡ s.size → new.pager ≡ s.pager → new.history.items ≡ events ++ event.Taken (down object control) m ∷ given.past
     → Posts new new.history.items → Took given new
-took_down given line number object control m s new events may head passed failed size pager items posts =
+took_down given line number object control m s new events may head passed failed ended size pager items posts =
     let header = given.header in
     let outside = given.outside in
     let doing = given.command in
@@ -113,11 +113,12 @@ took_down given line number object control m s new events may head passed failed
       stands = record {
         plain = front.plain;
         rests = rw items passed.rests;
+        queue = rw items passed.queue;
         agrees = agrees_said header outside doing past events new (orderly_said header outside doing past events front.plain orderly said.licensed said.said said.inner) stands (tt, front.copies) said (size ∙ may.stands.agrees.size) items posts;
       };
       step = takes_step given (down object control) m events new.history.items items head may.may front.rests.matches.settled (front_suffice given s front) said.follows said.licensed said.own_bytes said.copies said.frames said.inner;
       prompt = rw items passed.prompt;
-      paid = rw items (down_paid header object control m events given.past front.plain said.inner passed.returned failed);
+      paid = rw items (down_paid header object control m events given.past front.plain said.inner passed.returned failed ended);
     }
 
 -- pager and content have no part in that

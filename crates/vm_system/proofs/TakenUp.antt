@@ -249,6 +249,7 @@ may_reserved given line number channel s t may same items made numbers letters b
       stands = record {
         plain = stands.plain;
         rests = rw (same.kernel, same.ids, items) stands.rests;
+        queue = rw (same.kernel, items) stands.queue;
         agrees = record {
           size = same.size ∙ agrees.size;
           pager = rw (same.pager, items) agrees.pager;

@@ -8,6 +8,7 @@ use Rattle.vm_outside.specs.Areas.{Told}
 use Rattle.pg_slots.specs.Contents.{Fits, IsTold}
 use Rattle.pg_default.specs.Stands.{Stands as PagerStands, content_of}
 use Rattle.vm_kernel.specs.Matches.{IsPlain, Rests}
+use Rattle.vm_kernel.specs.Serving.{HasQueue}
 use Rattle.vm_system.specs.Orderly.{IsOrderly}
 use Rattle.vm_system.specs.Posts.{Posts}
 use Rattle.vm_system.specs.declared.state.State.{State}
@@ -24,6 +25,7 @@ pub record Agrees (header : Header) (outside : Outside) (s : State) : Type 0 whe
 pub record Stands (header : Header) (outside : Outside) (s : State) : Type 0 where
   pub plain : IsPlain header
   pub rests : Rests header s.kernel s.ids s.history.items
+  pub queue : HasQueue header s.kernel s.history.items
   pub agrees : Agrees header outside s
 
 -- The pager stands for the history; and where the paging area tells, each page that was returned and not lost stands at its slot. This holds

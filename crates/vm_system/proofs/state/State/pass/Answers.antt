@@ -14,7 +14,7 @@ pub returns-clause-stands : goal.returns-clause-stands
 returns-clause-stands g c =
     let passed = c.in_ok-events.ensures in
     on_both c.append.result (λ posts grown. stands_told g.given.header g.given.outside c.args.command.now c.args.line c.in_ok-events.events.items c.serve_on.new.kernel c.serve_on.new.ids c.args.self.now c.append.new.self
-    c.requires.0 (tells_gone _ _ _ _ _ passed.goes) passed.rests c.append.ensures.host posts grown) c.append.ensures.posts c.append.ensures.history
+    c.requires.0 (tells_gone _ _ _ _ _ passed.goes) passed.rests passed.queue c.append.ensures.host posts grown) c.append.ensures.posts c.append.ensures.history
 
 pub returns-clause-legal : goal.returns-clause-legal
 returns-clause-legal g c =

@@ -27,7 +27,7 @@ take-requires g c =
     let head = may_head g.given c.args.line c.args.number channel c.in-Some.message.now s may c.in-Some.ensures in
     let front = front_of g.given c.args.line c.args.number channel s may in
     let letter = down_letter g.given c.args.line c.args.number host c.args.object c.args.control c.in-Some.message.now s may head in
-    (front.rests, (refl, letter.1))
+    (front.rests, (front.queue, (refl, letter.1)))
 
 pub take_first-requires-clause-there : goal.take_first-requires-clause-there
 take_first-requires-clause-there g c = rw c.reserve.ensures.made (may_there g.given c.args.line c.args.number (Down c.requires.0 c.args.object c.args.control) c.args.self.now c.requires.1)
@@ -73,7 +73,7 @@ returns-clause-took g c =
     let events = c.in_ok-events.events.items in
     let passed : Passed given.header given.outside given.command (event.Taken (Down the_host c.args.object c.args.control) m ∷ given.past) new.kernel new.ids events =
     rw (three.kernel ∙ two.kernel ∙ one.kernel, three.ids ∙ two.ids ∙ one.ids) c.in_ok-events.ensures.passed in
-    took_down given c.args.line c.args.number c.args.object c.args.control m s new events own.0 own.1 passed c.in_ok-events.ensures.failed (three.size ∙ two.size ∙ one.size) (three.pager ∙ two.pager ∙ one.pager)
+    took_down given c.args.line c.args.number c.args.object c.args.control m s new events own.0 own.1 passed c.in_ok-events.ensures.failed c.in_ok-events.ensures.ended (three.size ∙ two.size ∙ one.size) (three.pager ∙ two.pager ∙ one.pager)
     (c.commit.ensures.history ∙ ap (λ (z : List Event). events ++ z) told) c.commit.ensures.posts
 
 pub returns-clause-kept : goal.returns-clause-kept

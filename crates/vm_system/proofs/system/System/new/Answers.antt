@@ -5,7 +5,8 @@ use Rattle.vm_system.proofs.system.System.new.Goals as goal
 pub returns-clause-stands : goal.returns-clause-stands
 returns-clause-stands c = λ outside. new_stands c.args.header.now outside _ c.requires.plain (record {
   size = refl;
-  rests = c.in_ok-kernel.ensures;
+  rests = c.in_ok-kernel.ensures.rests;
+  idle = c.in_ok-kernel.ensures.queue;
   pager = c.in_ok-pager.ensures.value;
   channels = c.new-3.ensures.channels;
   letters = c.new-3.ensures.letters;
@@ -17,7 +18,8 @@ returns-clause-stands c = λ outside. new_stands c.args.header.now outside _ c.r
 pub returns-clause-kept : goal.returns-clause-kept
 returns-clause-kept c = λ outside areas told. new_kept c.args.header.now outside areas _ (record {
   size = refl;
-  rests = c.in_ok-kernel.ensures;
+  rests = c.in_ok-kernel.ensures.rests;
+  idle = c.in_ok-kernel.ensures.queue;
   pager = c.in_ok-pager.ensures.value;
   channels = c.new-3.ensures.channels;
   letters = c.new-3.ensures.letters;
