@@ -25,19 +25,11 @@ use Rattle.vm_legal.specs.Licences.{Answers, HasCause, MaySendDown, MaySendUp}
 use Rattle.vm_legal.specs.Outside.{Outside}
 use Rattle.vm_legal.specs.Steps.{answers, is_answer, is_ready as says_ready, readies, since, taken}
 use Rattle.vm_legal.specs.Walks.{page_on}
+use Rattle.vm_quiet.specs.Carried.{is_request, opens}
 use Rattle.vm_quiet.specs.Places.{AllPaged}
 use Rattle.vm_quiet.proofs.Letters.{never, passed}
 use Rattle.vm_quiet.proofs.Sane.{paged, there_two, left, right, control_of}
 use Rattle.vm_quiet.proofs.Ways.{IsDone, OnTheWay, same_taken, some_last, way_line, way_sent, way_taken}
-
-abbrev pub is_request : ℕ → ℕ → Message → Bool
-is_request k p (message.Request control page access) = control == k && page.0 == p
-is_request k p other = false
-
-abbrev pub opens : ℕ → Message → Bool
-opens k (message.Init control size) = control == k
-opens k (message.Create control size) = control == k
-opens k other = false
 
 pub done_request : (header : Header) (past : List Event) → AllPaged header → IsPaid header past → (h o k p : ℕ) → IsDone (is_request k p) (answers o p) h o past
 done_request header past all paid h o k p (message.Request control page access) is test =

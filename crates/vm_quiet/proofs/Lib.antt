@@ -4,5 +4,6 @@ pub mod Sane
 pub mod Counting
 pub mod Ways
 pub mod Awaited
+pub mod Carried
 pub mod Quiet
 pub mod Full

@@ -15,6 +15,7 @@ use Rattle.vm_legal.specs.Outside.{Outside}
 use Rattle.vm_legal.specs.Prompt.{AnAnswer, AReady, AnUnlock, Awaits, IsExhausted, IsFull, Prompt, WaitsForPager}
 use Rattle.vm_legal.specs.Steps.{answers, is_answer, is_ready as says_ready, readies}
 use Rattle.vm_legal.specs.Walks.{page_on}
+use Rattle.vm_quiet.specs.Carried.{is_request, opens}
 use Rattle.vm_quiet.specs.Places.{AllPaged, has_frame}
 use Rattle.vm_quiet.specs.Quiet.{IsShortOfFrames, NobodyWaitsInVain}
 use Rattle.vm_quiet.proofs.Letters.{never, outs}
@@ -22,7 +23,7 @@ use Rattle.vm_quiet.proofs.Places.{held_one}
 use Rattle.vm_quiet.proofs.Sane.{Base, base_of}
 use Rattle.vm_quiet.proofs.Counting.{Count, count_of, framed}
 use Rattle.vm_quiet.proofs.Ways.{way_none}
-use Rattle.vm_quiet.proofs.Awaited.{asks_of, done_opening, done_request, is_request, opens, opens_of}
+use Rattle.vm_quiet.proofs.Awaited.{asks_of, done_opening, done_request, opens_of}
 
 record IsQuiet (header : Header) (outside : Outside) (history : List Event) : Type 0 where
   causes : EachEvent (HasCause header outside) history

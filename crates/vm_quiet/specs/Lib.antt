@@ -1,3 +1,4 @@
+pub mod Carried
 pub mod Full
 pub mod Letters
 pub mod Places

@@ -21,6 +21,7 @@ ghost use Rattle.vm_legal.specs.Outside.{Outside};
 ghost use Rattle.vm_legal.specs.Prompt.{Prompt};
 ghost use Rattle.vm_legal.specs.Undelivered.{undelivered};
 ghost use Rattle.vm_legal.specs.Walks.{page_on};
+ghost use Rattle.vm_quiet.specs.Carried.{IsCarried};
 ghost use Rattle.vm_quiet.specs.Full as full;
 ghost use Rattle.vm_quiet.specs.Letters.{messages_on};
 ghost use Rattle.vm_quiet.specs.Places.{AllPaged, FramesAreCounted};
@@ -44,6 +45,14 @@ pub fn channels_are_letters()
 pub fn frames_are_counted()
     ensures counted { (header : Header) (outside : Outside) (host : ℕ) (history : List Event) → AllPaged header → EachEvent (HasCause header outside) history → FramesAreCounted header host history }
     ensures apart { (header : Header) (outside : Outside) (host o p : ℕ) (history : List Event) → AllPaged header → EachEvent (HasCause header outside) history → (page_on header host o p history).here ≡ true → (page_on header host o p history).asked ≡ false }
+{}
+
+/// Where each step has done what it owes, whoever is asked has a message on its way: of each page that is
+/// asked its request is undelivered, or an answer to it; and of each control that is not ready yet what
+/// tells its pager of it, or that the pager is ready.
+#[tactic(auto, using(crate::proofs::Carried::carried))]
+pub fn what_is_asked_is_on_its_way()
+    ensures carried { (header : Header) (outside : Outside) (history : List Event) → AllPaged header → EachEvent (HasCause header outside) history → IsPaid header history → BeforeSteps (IsPaid header) history → IsCarried header history }
 {}
 
 /// Where nothing is undelivered, and each step has done what it owes, whoever still waits does so for
