@@ -24,7 +24,7 @@ use Rattle.vm_top.specs.Run.{CutIn, IsFull, IsRunnable, IsStuck, IsWhole, report
 use Rattle.vm_legal.specs.Legal.{LegalSoFar}
 use Rattle.vm_legal.specs.Outside.{Outside}
 use Rattle.vm_kernel.specs.Matches.{IsPlain}
-use Rattle.vm_top.specs.Top.{IsReadFrom, IsBadFrom, IsUnbuiltFrom, IsDone, IsEventLimit, IsStopped, IsNotBuilt, IsOutputFault, IsNoMemory, WroteFailed, WroteStopped, not_built_text, stopped_text}
+use Rattle.vm_top.specs.Top.{IsReadFrom, IsBadFrom, IsUnbuiltFrom, IsHeaderBuilt, IsDone, IsEventLimit, IsStopped, IsNotBuilt, IsOutputFault, IsNoMemory, WroteFailed, WroteStopped, not_built_text, stopped_text}
 use Rattle.vm_top.specs.Writing.{WroteStart}
 use Rattle.vm_top.proofs.Closing.{full_so_far, none_legal, part_so_far, whole_so_far}
 use Rattle.vm_top.proofs.Writings.{start_all}
@@ -74,12 +74,16 @@ unbuilt_from told after bytes script line read spells unbuilt = λ whole is. ap 
 -- a script was read, and nothing in its header isn't built
 pub record IsReady (told : Option (List ℕ)) (run : Script) : Type 0 where
   pub read : IsReadFrom told run
-  pub header : IsUnbuiltFrom told None
+  pub header : IsHeaderBuilt told run
 
-pub ready_of : (told after : Option (List ℕ)) (bytes first second : List ℕ) (script : Script) → ReadWhole told after bytes → first ≡ bytes → script_of first ≡ Ok (seen script) → second ≡ bytes → None ≡ unbuilt_of second → IsReady told script
-ready_of told after bytes first second script read one spells two none =
+pub ready_of : (told after : Option (List ℕ)) (bytes first second : List ℕ) (script : Script) → ReadWhole told after bytes → first ≡ bytes → script_of first ≡ Ok (seen script) → second ≡ bytes → None ≡ unbuilt_of second
+    → (script_of second ≡ Ok (seen script) → IsBuilt script.header) → IsReady told script
+ready_of told after bytes first second script read one spells two none built =
     let same = ap script_of (sym one) ∙ spells in
-    record { read = read_from told after bytes script read same; header = unbuilt_from told after bytes (seen script) None read same (ap unbuilt_of (sym two) ∙ sym none) }
+    record {
+      read = read_from told after bytes script read same;
+      header = record { lines = unbuilt_from told after bytes (seen script) None read same (ap unbuilt_of (sym two) ∙ sym none); built = built (ap script_of (two ∙ sym one) ∙ spells) };
+    }
 
 stuck_stops : (told : Option (List ℕ)) (run : Script) (outside : Outside) (script : Option Script) (h : List Event) (line : ℕ) → IsReady told run → script ≡ Some run → IsStuck run outside line h
     → IsStopped told outside line script h
@@ -125,6 +129,10 @@ memory_of told before after outside report run script h s ready has is = elim (s
   | inl cut ↦ inr (inl (record { run = run; held = record { held = has.held; read = ready.read }; header = ready.header; cut = cut.0 }, cut.1))
   | inr stuck ↦ inr (inr (inl (stuck_wrote told run outside script h before after ready has.held stuck)))
 ]
+
+-- the script that is held was read, and keeps its ranges
+pub held_ranges : (script : Option Script) (run : Script) → script ≡ Some run → KeepsRanges run → IfSome script KeepsRanges
+held_ranges script run held keeps = rw held keeps
 
 -- other ends have no such status
 pub never_usage : (report : Report) (run : Script) (outside : Outside) (script : Option Script) (h : List Event) (before after : Option (List ℕ)) (s : Status) → HasEnded report run outside script h before after s → s ≡ status.Usage → ⊥

@@ -10,7 +10,7 @@ use Rattle.vm_legal.specs.Legal.{LegalSoFar}
 use Rattle.vm_legal.specs.Outside.{Outside}
 use Rattle.vm_model.specs.Text.{text, field}
 use Rattle.vm_text.specs.Script.{script_of, seen}
-use Rattle.vm_text.specs.Unbuilt.{unbuilt_of}
+use Rattle.vm_text.specs.Unbuilt.{IsBuilt, unbuilt_of}
 use Rattle.vm_outside.specs.Areas.{Told}
 use Rattle.vm_outside.specs.Arming.{Arming}
 use Rattle.vm_system.specs.Keeping.{KeepsPages}
@@ -69,11 +69,16 @@ pub record IsHeld (told : Option (List ℕ)) (run : Script) (script : Option Scr
   pub held : script ≡ Some run
   pub read : IsReadFrom told run
 
+-- nothing in its header isn't built: it has one host, and no objects
+pub record IsHeaderBuilt (told : Option (List ℕ)) (run : Script) : Type 0 where
+  pub lines : IsUnbuiltFrom told None
+  pub built : IsBuilt run.header
+
 -- the whole script was run, all of which is built: its history is legal, and its report was written and nothing else
 pub record IsDone (told : Option (List ℕ)) (outside : Outside) (report : Report) (script : Option Script) (history : List Event) (before after : Option (List ℕ)) : Type 0 where
   pub run : Script
   pub held : IsHeld told run script
-  pub header : IsUnbuiltFrom told None
+  pub header : IsHeaderBuilt told run
   pub whole : IsWhole run outside history
   pub written : Appends before after (report_text report history)
 
@@ -81,14 +86,14 @@ pub record IsDone (told : Option (List ℕ)) (outside : Outside) (report : Repor
 pub record IsEventLimit (told : Option (List ℕ)) (outside : Outside) (report : Report) (script : Option Script) (history : List Event) (before after : Option (List ℕ)) : Type 0 where
   pub run : Script
   pub held : IsHeld told run script
-  pub header : IsUnbuiltFrom told None
+  pub header : IsHeaderBuilt told run
   pub full : IsFull run outside history
   pub written : Appends before after (report_text report history)
 
 -- this line isn't built: one of the header, and nothing was run; or that of the first such command, and those in front
 -- of it were run
 abbrev pub Stops : Option (List ℕ) → Outside → Script → ℕ → List Event → Type 0
-Stops told outside run line history = (IsUnbuiltFrom told (Some line) × (history ≡ [])) ⊎ (IsUnbuiltFrom told None × IsStuck run outside line history)
+Stops told outside run line history = (IsUnbuiltFrom told (Some line) × (history ≡ [])) ⊎ (IsHeaderBuilt told run × IsStuck run outside line history)
 
 -- a script was read, and run up to the line that isn't built
 pub record IsStopped (told : Option (List ℕ)) (outside : Outside) (line : ℕ) (script : Option Script) (history : List Event) : Type 0 where
@@ -121,14 +126,14 @@ WroteFailed Summary run outside history before after = LegalSoFar run outside hi
 pub record IsFailed (told : Option (List ℕ)) (outside : Outside) (report : Report) (script : Option Script) (history : List Event) (before after : Option (List ℕ)) : Type 0 where
   pub run : Script
   pub held : IsHeld told run script
-  pub header : IsUnbuiltFrom told None
+  pub header : IsHeaderBuilt told run
   pub failed : WroteFailed report run outside history before after
 
 -- a script was run until memory ended: its history is legal as far as it goes, and its last step may be cut
 pub record IsCut (told : Option (List ℕ)) (outside : Outside) (script : Option Script) (history : List Event) : Type 0 where
   pub run : Script
   pub held : IsHeld told run script
-  pub header : IsUnbuiltFrom told None
+  pub header : IsHeaderBuilt told run
   pub cut : CutIn run outside history
 
 -- a first part of what tells the line that isn't built

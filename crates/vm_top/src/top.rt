@@ -1,9 +1,10 @@
 // The call that does all that the program does.
-ghost use Rattle.std.specs.Prelude.{◌≡◌, ◌≢◌, ◌⊎◌, ◌≤◌, List, None, Some, ℕ};
+ghost use Rattle.std.specs.Prelude.{◌≡◌, ◌≢◌, ◌⊎◌, ◌≤◌, IfSome, List, None, Some, ℕ};
 ghost use Rattle.std.specs.declared.option.Option.{Option};
 ghost use Rattle.std.specs.Io.KnownBytes.{Appends};
 ghost use Rattle.vm_model.specs.declared.fault.ScriptFault.{ScriptFault};
 ghost use Rattle.vm_model.specs.declared.script.Script.{Script};
+ghost use Rattle.vm_model.specs.Ranges.{KeepsRanges};
 ghost use Rattle.vm_outside.specs.Causes.{Rose};
 ghost use Rattle.vm_top.specs.Ending.{EndsAs, HasEnded, Tells, status_after};
 ghost use Rattle.vm_top.specs.Top.{IsBad, IsDone, IsEventLimit, NothingRun, IsOutputFault, IsNoMemory, IsNotBuilt, NothingDone, KeptAt, FilesEnd, PagingEnds, bad_text, not_built_text, usage_text};
@@ -207,6 +208,7 @@ fn run<S: Source, K: Sink, F: Backing, P: Backing>(
     ensures output { result.status ≡ Status.OutputFault → IsOutputFault (S.left source.old) (outside_of (P.area paging.old.inner)) report result.script result.history.items (K.written out.old) (K.written out.new) }
     ensures memory { result.status ≡ Status.NoMemory → IsNoMemory (S.left source.old) (outside_of (P.area paging.old.inner)) report result.script result.history.items (K.written out.old) (K.written out.new) }
     ensures full { result.status ≡ Status.EventLimit → IsEventLimit (S.left source.old) (outside_of (P.area paging.old.inner)) report result.script result.history.items (K.written out.old) (K.written out.new) }
+    ensures ranges { IfSome result.script KeepsRanges }
     ensures limit { IsBelowLimit result.history.items }
     ensures not_built { (line : ℕ) → result.status ≡ Status.NotBuilt line → IsNotBuilt (S.left source.old) (outside_of (P.area paging.old.inner)) line result.script result.history.items (K.written out.old) (K.written out.new) }
     ensures read_cause { result.status ≡ Status.ReadFault → Rose (S.faults source.old) (S.faults source.new) }
@@ -296,6 +298,9 @@ pub fn pagers_main<S: Source, K: Sink, F: Backing, P: Backing>(
     // The script isn't built from exactly this line on.
     ensures not_built { (line : ℕ) → result.status ≡ Status.NotBuilt line → (report : Report) → asked_by words.now ≡ Some (jobs.Run report)
         → IsNotBuilt (S.left script.old) (outside_of (P.area paging.old.inner)) line result.script result.history.items (K.written out.old) (K.written out.new) }
+
+    // Whatever the source tells, the script that is held keeps the grammar's ranges.
+    ensures ranges { IfSome result.script KeepsRanges }
 
     // Counts of faults never fall.
     ensures source_later { S.faults script.old ≤ S.faults script.new }

@@ -4,7 +4,7 @@ use Rattle.vm_text.specs.Unbuilt.{unbuilt_of}
 use Rattle.vm_top.specs.declared.top.Status.TheVariants.{BadScript}
 use Rattle.vm_top.specs.Ending.{Tells}
 use Rattle.vm_top.specs.Top.{bad_text}
-use Rattle.vm_top.proofs.Ends.{bad_from, done_of, full_of, header_not_built, header_stops, header_wrote, memory_of, not_built_of, output_of, read_from, ready_of, runnable, tells_start, unbuilt_from}
+use Rattle.vm_top.proofs.Ends.{bad_from, done_of, full_of, header_not_built, header_stops, header_wrote, held_ranges, memory_of, not_built_of, output_of, read_from, ready_of, runnable, tells_start, unbuilt_from}
 use Rattle.vm_top.proofs.top.run.Goals as goal
 
 pub returns-in-Err-Bad-clause-output : goal.returns-in-Err-Bad-clause-output
@@ -27,29 +27,32 @@ run_read-requires-clause-run g c =
     let script = c.in-Ok-read_script.script in
     runnable script c.in-Ok-read_script.ensures.ranges (c.unbuilt_header.ensures.built c.in-None.is script (ap script_of same ∙ c.in-Ok-read_script.ensures.exact))
 
+pub returns-in-None-clause-ranges : goal.returns-in-None-clause-ranges
+returns-in-None-clause-ranges g c = held_ranges _ c.in-Ok-read_script.script c.run_read.ensures.ended.held c.in-Ok-read_script.ensures.ranges
+
 pub returns-in-None-clause-done : goal.returns-in-None-clause-done
 returns-in-None-clause-done g c =
-    let ready = ready_of (g.S.Source.left c.args.source.now) _ c.in-Ok.bytes.items c.deref.result.now c.deref-2.result.now c.in-Ok-read_script.script c.in-Ok.ensures.whole c.deref.ensures.value c.in-Ok-read_script.ensures.exact c.deref-2.ensures.value c.in-None.ensures.exact in
+    let ready = ready_of (g.S.Source.left c.args.source.now) _ c.in-Ok.bytes.items c.deref.result.now c.deref-2.result.now c.in-Ok-read_script.script c.in-Ok.ensures.whole c.deref.ensures.value c.in-Ok-read_script.ensures.exact c.deref-2.ensures.value c.in-None.ensures.exact (c.unbuilt_header.ensures.built c.in-None.is c.in-Ok-read_script.script) in
     done_of _ _ _ _ c.args.report c.in-Ok-read_script.script _ _ _ ready c.run_read.ensures.ended
 
 pub returns-in-None-clause-output : goal.returns-in-None-clause-output
 returns-in-None-clause-output g c =
-    let ready = ready_of (g.S.Source.left c.args.source.now) _ c.in-Ok.bytes.items c.deref.result.now c.deref-2.result.now c.in-Ok-read_script.script c.in-Ok.ensures.whole c.deref.ensures.value c.in-Ok-read_script.ensures.exact c.deref-2.ensures.value c.in-None.ensures.exact in
+    let ready = ready_of (g.S.Source.left c.args.source.now) _ c.in-Ok.bytes.items c.deref.result.now c.deref-2.result.now c.in-Ok-read_script.script c.in-Ok.ensures.whole c.deref.ensures.value c.in-Ok-read_script.ensures.exact c.deref-2.ensures.value c.in-None.ensures.exact (c.unbuilt_header.ensures.built c.in-None.is c.in-Ok-read_script.script) in
     output_of _ _ _ _ c.args.report c.in-Ok-read_script.script _ _ _ ready c.run_read.ensures.ended
 
 pub returns-in-None-clause-memory : goal.returns-in-None-clause-memory
 returns-in-None-clause-memory g c =
-    let ready = ready_of (g.S.Source.left c.args.source.now) _ c.in-Ok.bytes.items c.deref.result.now c.deref-2.result.now c.in-Ok-read_script.script c.in-Ok.ensures.whole c.deref.ensures.value c.in-Ok-read_script.ensures.exact c.deref-2.ensures.value c.in-None.ensures.exact in
+    let ready = ready_of (g.S.Source.left c.args.source.now) _ c.in-Ok.bytes.items c.deref.result.now c.deref-2.result.now c.in-Ok-read_script.script c.in-Ok.ensures.whole c.deref.ensures.value c.in-Ok-read_script.ensures.exact c.deref-2.ensures.value c.in-None.ensures.exact (c.unbuilt_header.ensures.built c.in-None.is c.in-Ok-read_script.script) in
     memory_of _ _ _ _ c.args.report c.in-Ok-read_script.script _ _ _ ready c.run_read.ensures.ended
 
 pub returns-in-None-clause-full : goal.returns-in-None-clause-full
 returns-in-None-clause-full g c =
-    let ready = ready_of (g.S.Source.left c.args.source.now) _ c.in-Ok.bytes.items c.deref.result.now c.deref-2.result.now c.in-Ok-read_script.script c.in-Ok.ensures.whole c.deref.ensures.value c.in-Ok-read_script.ensures.exact c.deref-2.ensures.value c.in-None.ensures.exact in
+    let ready = ready_of (g.S.Source.left c.args.source.now) _ c.in-Ok.bytes.items c.deref.result.now c.deref-2.result.now c.in-Ok-read_script.script c.in-Ok.ensures.whole c.deref.ensures.value c.in-Ok-read_script.ensures.exact c.deref-2.ensures.value c.in-None.ensures.exact (c.unbuilt_header.ensures.built c.in-None.is c.in-Ok-read_script.script) in
     full_of _ _ _ _ c.args.report c.in-Ok-read_script.script _ _ _ ready c.run_read.ensures.ended
 
 pub returns-in-None-clause-not_built : goal.returns-in-None-clause-not_built
 returns-in-None-clause-not_built g c = λ line.
-    let ready = ready_of (g.S.Source.left c.args.source.now) _ c.in-Ok.bytes.items c.deref.result.now c.deref-2.result.now c.in-Ok-read_script.script c.in-Ok.ensures.whole c.deref.ensures.value c.in-Ok-read_script.ensures.exact c.deref-2.ensures.value c.in-None.ensures.exact in
+    let ready = ready_of (g.S.Source.left c.args.source.now) _ c.in-Ok.bytes.items c.deref.result.now c.deref-2.result.now c.in-Ok-read_script.script c.in-Ok.ensures.whole c.deref.ensures.value c.in-Ok-read_script.ensures.exact c.deref-2.ensures.value c.in-None.ensures.exact (c.unbuilt_header.ensures.built c.in-None.is c.in-Ok-read_script.script) in
     not_built_of _ _ _ _ c.args.report c.in-Ok-read_script.script _ _ _ line ready c.run_read.ensures.ended
 
 pub returns-clause-output : goal.returns-clause-output
