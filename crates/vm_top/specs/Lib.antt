@@ -1,6 +1,7 @@
 pub mod Arming
 pub mod Ending
 pub mod Reading
+pub mod Resting
 pub mod Run
 pub mod Running
 pub mod Status

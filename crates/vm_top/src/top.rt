@@ -11,6 +11,7 @@ ghost use Rattle.vm_top.specs.Top.{IsBad, IsDone, IsEventLimit, NothingRun, IsOu
 ghost use Rattle.vm_legal.specs.Outside.{Outside};
 ghost use Rattle.vm_system.specs.Steps.{IsBelowLimit};
 ghost use Rattle.vm_top.specs.Arming.{FailuresCounted};
+ghost use Rattle.vm_top.specs.Resting.{CarriesAll, WaitsForFramesAlone};
 ghost use Rattle.vm_top.specs.Run.{IsRunnable, RanAs, outside_of};
 ghost use Rattle.vm_top.specs.Status.{number_of};
 ghost use Rattle.vm_top.specs.Words.{asked_by};
@@ -173,6 +174,8 @@ fn run_read<K: Sink, F: Backing, P: Backing>(
     requires files { files.old.left ≡ 0 }
     requires paging { paging.old.left ≡ 0 }
     ensures ended { HasEnded report script (outside_of (P.area paging.old.inner)) result.script result.history.items (K.written out.old) (K.written out.new) result.status }
+    ensures quiet { result.status ≢ Status.NoMemory → WaitsForFramesAlone result.script result.history.items }
+    ensures carried { result.status ≢ Status.NoMemory → CarriesAll result.script result.history.items }
     ensures limit { IsBelowLimit result.history.items }
     ensures cause { result.status ≡ Status.OutputFault → Rose (K.faults out.old) (K.faults out.new) }
     ensures later { K.faults out.old ≤ K.faults out.new }
@@ -208,6 +211,8 @@ fn run<S: Source, K: Sink, F: Backing, P: Backing>(
     ensures output { result.status ≡ Status.OutputFault → IsOutputFault (S.left source.old) (outside_of (P.area paging.old.inner)) report result.script result.history.items (K.written out.old) (K.written out.new) }
     ensures memory { result.status ≡ Status.NoMemory → IsNoMemory (S.left source.old) (outside_of (P.area paging.old.inner)) report result.script result.history.items (K.written out.old) (K.written out.new) }
     ensures full { result.status ≡ Status.EventLimit → IsEventLimit (S.left source.old) (outside_of (P.area paging.old.inner)) report result.script result.history.items (K.written out.old) (K.written out.new) }
+    ensures quiet { result.status ≢ Status.NoMemory → WaitsForFramesAlone result.script result.history.items }
+    ensures carried { result.status ≢ Status.NoMemory → CarriesAll result.script result.history.items }
     ensures ranges { IfSome result.script KeepsRanges }
     ensures limit { IsBelowLimit result.history.items }
     ensures not_built { (line : ℕ) → result.status ≡ Status.NotBuilt line → IsNotBuilt (S.left source.old) (outside_of (P.area paging.old.inner)) line result.script result.history.items (K.written out.old) (K.written out.new) }
@@ -301,6 +306,11 @@ pub fn pagers_main<S: Source, K: Sink, F: Backing, P: Backing>(
 
     // Whatever the source tells, the script that is held keeps the grammar's ranges.
     ensures ranges { IfSome result.script KeepsRanges }
+
+    // Wherever a script is held and memory did not end, the history ends with a whole step. Once nothing is undelivered there no access
+    // waits while frames are reclaimable; and whoever is asked has a message on its way.
+    ensures quiet { result.status ≢ Status.NoMemory → WaitsForFramesAlone result.script result.history.items }
+    ensures carried { result.status ≢ Status.NoMemory → CarriesAll result.script result.history.items }
 
     // Counts of faults never fall.
     ensures source_later { S.faults script.old ≤ S.faults script.new }

@@ -5,6 +5,7 @@ use Rattle.vm_top.specs.declared.top.Status.TheVariants.{BadScript}
 use Rattle.vm_top.specs.Ending.{Tells}
 use Rattle.vm_top.specs.Top.{bad_text}
 use Rattle.vm_top.proofs.Ends.{bad_from, done_of, full_of, header_not_built, header_stops, header_wrote, held_ranges, memory_of, not_built_of, output_of, read_from, ready_of, runnable, tells_start, unbuilt_from}
+use Rattle.vm_top.proofs.Resting.{none_carry, none_wait_for_frames}
 use Rattle.vm_top.proofs.top.run.Goals as goal
 
 pub returns-in-Err-Bad-clause-output : goal.returns-in-Err-Bad-clause-output
@@ -81,3 +82,9 @@ returns-clause-not_built g c = λ line is.
     let header = unbuilt_from (g.S.Source.left c.args.source.now) _ c.in-Ok.bytes.items (seen c.in-Ok-read_script.script) (Some c.in-Some.line) c.in-Ok.ensures.whole spells unbuilt in
     let stopped = header_stops (g.S.Source.left c.args.source.now) c.in-Ok-read_script.script _ (Some c.in-Ok-read_script.script) c.new.result.items c.in-Some.line read header refl c.new.ensures in
     header_not_built _ _ _ _ c.in-Some.line line _ _ _ stopped c.new.ensures c.tell_not_built-status.ensures.told is
+
+pub returns-clause-quiet : goal.returns-clause-quiet
+returns-clause-quiet g c = λ uncut. none_wait_for_frames c.in-Ok-read_script.script c.new.result.items c.new.ensures
+
+pub returns-clause-carried : goal.returns-clause-carried
+returns-clause-carried g c = λ uncut. none_carry c.in-Ok-read_script.script c.new.result.items c.new.ensures

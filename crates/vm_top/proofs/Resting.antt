@@ -1,0 +1,87 @@
+-- A run that ended, and whose last step isn't cut, is legal as far as it goes; so the laws of who waits and of what is on its way hold.
+use Rattle.std.proofs.Common.{◌≡◌, ℕ, inl, inr, List, [], ◌∷◌, length, refl, ap, arith, Some, None, Option}
+use Rattle.std.specs.Prelude.{◌≢◌}
+use Rattle.vm_model.specs.declared.event.Event.{Event}
+use Rattle.vm_model.specs.declared.script.Header.{Header}
+use Rattle.vm_model.specs.declared.script.Script.{Script}
+use Rattle.vm_model.specs.Moments.{EachEvent}
+use Rattle.vm_model.specs.Named.{named}
+use Rattle.vm_kernel.specs.Matches.{IsPlain}
+use Rattle.vm_legal.specs.Legal.{LegalSoFar}
+use Rattle.vm_legal.specs.Licences.{HasCause}
+use Rattle.vm_legal.specs.Outside.{Outside}
+use Rattle.vm_legal.proofs.Groups.{so_far}
+use Rattle.vm_quiet.specs.Carried.{IsCarried}
+use Rattle.vm_quiet.specs.Places.{AllPaged}
+use Rattle.vm_quiet.specs.Quiet.{NobodyWaitsInVain}
+use Rattle.vm_quiet.proofs.Carried.{carried}
+use Rattle.vm_quiet.proofs.Quiet.{quiet}
+use Rattle.vm_top.specs.declared.top.Status.{Status}
+use Rattle.vm_top.specs.declared.top.Status.TheVariants as status
+use Rattle.vm_top.specs.declared.words.Report.{Report}
+use Rattle.vm_top.specs.declared.words.Report.TheVariants.{History, Summary}
+use Rattle.vm_top.specs.Ending.{EndsAs}
+use Rattle.vm_top.specs.Resting.{CarriesAll, WaitsForFramesAlone}
+use Rattle.vm_top.specs.Run.{IsRunnable}
+use Rattle.vm_top.specs.Top.{WroteFailed}
+use Rattle.vm_top.proofs.Closing.{full_so_far, part_so_far, whole_so_far}
+
+-- also where a write failed
+failed_legal : (report : Report) (run : Script) (outside : Outside) (h : List Event) (before after : Option (List ℕ)) → WroteFailed report run outside h before after → LegalSoFar run outside h
+failed_legal History run outside h before after failed = record {
+  later = failed.later;
+  run = failed.next ∷ failed.run;
+  order = failed.order;
+  follows = failed.legal.follows;
+  holds = failed.legal.holds;
+  rests = failed.legal.rests;
+}
+failed_legal Summary run outside h before after failed = failed.0
+
+ends_legal : (report : Report) (run : Script) (outside : Outside) (h : List Event) (before after : Option (List ℕ)) (s : Status) → EndsAs report run outside h before after s → s ≢ status.NoMemory → LegalSoFar run outside h
+ends_legal report run outside h before after status.Done ends uncut = whole_so_far run outside h ends.0
+ends_legal report run outside h before after status.EventLimit ends uncut = full_so_far run outside h ends.0
+ends_legal report run outside h before after (status.NotBuilt line) ends uncut = part_so_far run outside _ _ h ends.0.part
+ends_legal report run outside h before after status.OutputFault ends uncut = elim ends [
+  | inl failed ↦ failed_legal report run outside h before after failed
+  | inr stuck ↦ part_so_far run outside _ _ h stuck.1.part
+]
+ends_legal report run outside h before after status.NoMemory ends uncut = absurd (uncut refl)
+ends_legal report run outside h before after status.Usage ends uncut = absurd ends
+ends_legal report run outside h before after status.ReadFault ends uncut = absurd ends
+ends_legal report run outside h before after (status.BadScript line kind) ends uncut = absurd ends
+
+-- no object is declared
+all_paged : (header : Header) → IsPlain header → AllPaged header
+all_paged header plain o below = let none : named header ≡ 0 = ap length plain.objects in absurd (omega (arith, below, none))
+
+causes_of : (run : Script) (outside : Outside) (h : List Event) → LegalSoFar run outside h → EachEvent (HasCause run.header outside) h
+causes_of run outside h legal = so_far run.header outside legal.run h legal.follows
+
+pub waits_for_frames : (report : Report) (run : Script) (outside : Outside) (h : List Event) (before after : Option (List ℕ)) (s : Status) → IsRunnable run → EndsAs report run outside h before after s → s ≢ status.NoMemory
+    → WaitsForFramesAlone (Some run) h
+waits_for_frames report run outside h before after s runs ends uncut delivered =
+    let legal = ends_legal report run outside h before after s ends uncut in
+    quiet run.header outside h (all_paged run.header runs.plain) (causes_of run outside h legal) legal.holds.paid legal.rests.paid legal.rests.prompt delivered
+
+pub carries_all : (report : Report) (run : Script) (outside : Outside) (h : List Event) (before after : Option (List ℕ)) (s : Status) → IsRunnable run → EndsAs report run outside h before after s → s ≢ status.NoMemory
+    → CarriesAll (Some run) h
+carries_all report run outside h before after s runs ends uncut =
+    let legal = ends_legal report run outside h before after s ends uncut in
+    carried run.header outside h (all_paged run.header runs.plain) (causes_of run outside h legal) legal.rests.paid legal.holds.paid
+
+-- nothing has happened: nobody waits, and nothing is asked
+none_waits : (header : Header) → NobodyWaitsInVain header []
+none_waits header = record { short = λ host task access below waits on. let bad : None ≡ Some access = waits.waits in cc }
+
+none_carried : (header : Header) → IsCarried header []
+none_carried header = record {
+  asked = λ host o p is. absurd (cc);
+  opening = λ host o control live ready. let bad : None ≡ Some control = live in absurd (cc);
+}
+
+pub none_wait_for_frames : (run : Script) (h : List Event) → h ≡ [] → WaitsForFramesAlone (Some run) h
+none_wait_for_frames run h empty = rw empty (λ delivered. none_waits run.header)
+
+pub none_carry : (run : Script) (h : List Event) → h ≡ [] → CarriesAll (Some run) h
+none_carry run h empty = rw empty (none_carried run.header)

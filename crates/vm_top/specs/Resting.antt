@@ -1,0 +1,15 @@
+-- What is true where the last step of a run has ended.
+use Rattle.std.specs.Prelude.{◌≡◌, IfSome, List, [], Option}
+use Rattle.vm_model.specs.declared.event.Event.{Event}
+use Rattle.vm_model.specs.declared.script.Script.{Script}
+use Rattle.vm_legal.specs.Undelivered.{undelivered}
+use Rattle.vm_quiet.specs.Carried.{IsCarried}
+use Rattle.vm_quiet.specs.Quiet.{NobodyWaitsInVain}
+
+-- once nothing is undelivered no access of the run waits while frames are reclaimable: whoever waits does so since its host is short of frames
+abbrev pub WaitsForFramesAlone : Option Script → List Event → Type 0
+WaitsForFramesAlone script history = IfSome script (λ run. undelivered history ≡ [] → NobodyWaitsInVain run.header history)
+
+-- whoever is asked in the run has a message on its way
+abbrev pub CarriesAll : Option Script → List Event → Type 0
+CarriesAll script history = IfSome script (λ run. IsCarried run.header history)
