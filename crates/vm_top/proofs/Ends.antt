@@ -24,7 +24,7 @@ use Rattle.vm_top.specs.Run.{CutIn, IsFull, IsRunnable, IsStuck, IsWhole, report
 use Rattle.vm_legal.specs.Legal.{LegalSoFar}
 use Rattle.vm_legal.specs.Outside.{Outside}
 use Rattle.vm_kernel.specs.Matches.{IsPlain}
-use Rattle.vm_top.specs.Top.{IsReadFrom, IsBadFrom, IsUnbuiltFrom, IsHeaderBuilt, IsDone, IsEventLimit, IsStopped, IsNotBuilt, IsOutputFault, IsNoMemory, WroteFailed, WroteStopped, not_built_text, stopped_text}
+use Rattle.vm_top.specs.Top.{IsBad, IsReadFrom, IsBadFrom, IsUnbuiltFrom, IsHeaderBuilt, NothingRun, IsDone, IsEventLimit, IsStopped, IsNotBuilt, IsOutputFault, IsNoMemory, WroteFailed, WroteStopped, bad_text, not_built_text, stopped_text}
 use Rattle.vm_top.specs.Writing.{WroteStart}
 use Rattle.vm_top.proofs.Closing.{full_so_far, none_legal, part_so_far, whole_so_far}
 use Rattle.vm_top.proofs.Writings.{start_all}
@@ -129,6 +129,16 @@ memory_of told before after outside report run script h s ready has is = elim (s
   | inl cut ↦ inr (inl (record { run = run; held = record { held = has.held; read = ready.read }; header = ready.header; cut = cut.0 }, cut.1))
   | inr stuck ↦ inr (inr (inl (stuck_wrote told run outside script h before after ready has.held stuck)))
 ]
+
+-- the first fault was told
+pub bad_of : (told before after : Option (List ℕ)) (line named : ℕ) (kind other : ScriptFault) (script : Option Script) (h : List Event) (s : Status) → NothingRun script h → IsBadFrom told line kind
+    → Tells (status.BadScript line kind) (bad_text line kind) before after s → s ≡ status.BadScript named other → IsBad told named other script h before after
+bad_of told before after line named kind other script h s nothing bad (inl wrote) is =
+    let one : line ≡ named = cc in
+    let two : kind ≡ other = cc in
+    subst (λ z. IsBad told z other script h before after) one (subst (λ z. IsBad told line z script h before after) two (record { nothing = nothing; bad = bad; written = wrote.1 }))
+bad_of told before after line named kind other script h s nothing bad (inr (inl failed, wrote)) is = absurd (cc)
+bad_of told before after line named kind other script h s nothing bad (inr (inr none, wrote)) is = absurd (cc)
 
 -- the script that is held was read, and keeps its ranges
 pub held_ranges : (script : Option Script) (run : Script) → script ≡ Some run → KeepsRanges run → IfSome script KeepsRanges

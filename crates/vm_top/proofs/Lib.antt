@@ -3,6 +3,7 @@ pub mod Closing
 pub mod Counting
 pub mod Ends
 pub mod Keeping
+pub mod Readings
 pub mod Resting
 pub mod Settling
 pub mod Starts

@@ -1,8 +1,8 @@
 // Reads a source to its end, or to one byte more than a script may have.
 ghost use Rattle.std.specs.Prelude.{◌≤◌, IfOk, IsErrOf};
 ghost use Rattle.vm_outside.specs.Causes.{Rose};
-ghost use Rattle.vm_top.specs.Reading.{ReadWhole};
-ghost use Rattle.vm_top.specs.declared.reading.ReadStop.TheVariants.{Failed};
+ghost use Rattle.vm_top.specs.Reading.{ReadAtMost, ReadWhole};
+ghost use Rattle.vm_top.specs.declared.reading.ReadStop.TheVariants.{Failed, NoMemory};
 
 use std::alloc::Global;
 use vm_outside::Source;
@@ -21,8 +21,10 @@ pub enum ReadStop {
 /// All that is left of the source, or a first part of more than 1,048,576 bytes.
 pub fn read_all<S: Source>(alloc: Global, source: &mut S) -> Result<Vec<u8>, ReadStop>
     ensures whole { IfOk result (λ bytes. ReadWhole (S.left source.old) (S.left source.new) bytes.items) }
+    ensures failed { IsErrOf result Failed → ReadAtMost 1048576 (S.left source.old) (S.left source.new) }
+    ensures stopped { IsErrOf result NoMemory → ReadAtMost 1052672 (S.left source.old) (S.left source.new) }
     ensures later { S.faults source.old ≤ S.faults source.new }
-    ensures failed { IsErrOf result Failed → Rose (S.faults source.old) (S.faults source.new) }
+    ensures cause { IsErrOf result Failed → Rose (S.faults source.old) (S.faults source.new) }
 {
     let mut bytes = Vec::new(alloc);
     let mut piece = [0u8; 4096];

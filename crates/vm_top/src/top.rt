@@ -7,10 +7,11 @@ ghost use Rattle.vm_model.specs.declared.script.Script.{Script};
 ghost use Rattle.vm_model.specs.Ranges.{KeepsRanges};
 ghost use Rattle.vm_outside.specs.Causes.{Rose};
 ghost use Rattle.vm_top.specs.Ending.{EndsAs, HasEnded, Tells, status_after};
-ghost use Rattle.vm_top.specs.Top.{IsBad, IsDone, IsEventLimit, NothingRun, IsOutputFault, IsNoMemory, IsNotBuilt, NothingDone, KeptAt, FilesEnd, PagingEnds, bad_text, not_built_text, usage_text};
+ghost use Rattle.vm_top.specs.Top.{IsBad, IsDone, IsEventLimit, NothingRun, IsOutputFault, IsNoMemory, IsNotBuilt, NothingDone, OfBytes, KeptAt, FilesEnd, PagingEnds, bad_text, not_built_text, usage_text};
 ghost use Rattle.vm_legal.specs.Outside.{Outside};
 ghost use Rattle.vm_system.specs.Steps.{IsBelowLimit};
 ghost use Rattle.vm_top.specs.Arming.{FailuresCounted};
+ghost use Rattle.vm_top.specs.Reading.{LeavesBytes, LeavesSource};
 ghost use Rattle.vm_top.specs.Resting.{CarriesAll, WaitsForFramesAlone};
 ghost use Rattle.vm_top.specs.Run.{IsRunnable, RanAs, outside_of};
 ghost use Rattle.vm_top.specs.Status.{number_of};
@@ -216,6 +217,7 @@ fn run<S: Source, K: Sink, F: Backing, P: Backing>(
     ensures ranges { IfSome result.script KeepsRanges }
     ensures limit { IsBelowLimit result.history.items }
     ensures not_built { (line : ℕ) → result.status ≡ Status.NotBuilt line → IsNotBuilt (S.left source.old) (outside_of (P.area paging.old.inner)) line result.script result.history.items (K.written out.old) (K.written out.new) }
+    ensures source { OfBytes (S.left source.old) (λ bytes. LeavesBytes result.status result.script bytes (S.left source.new)) }
     ensures read_cause { result.status ≡ Status.ReadFault → Rose (S.faults source.old) (S.faults source.new) }
     ensures output_cause { result.status ≡ Status.OutputFault → Rose (K.faults out.old) (K.faults out.new) }
     ensures source_later { S.faults source.old ≤ S.faults source.new }
@@ -303,6 +305,9 @@ pub fn pagers_main<S: Source, K: Sink, F: Backing, P: Backing>(
     // The script isn't built from exactly this line on.
     ensures not_built { (line : ℕ) → result.status ≡ Status.NotBuilt line → (report : Report) → asked_by words.now ≡ Some (jobs.Run report)
         → IsNotBuilt (S.left script.old) (outside_of (P.area paging.old.inner)) line result.script result.history.items (K.written out.old) (K.written out.new) }
+
+    // What is left of the source.
+    ensures source { LeavesSource S.left (asked_by words.now) result.status result.script script.old script.new }
 
     // Whatever the source tells, the script that is held keeps the grammar's ranges.
     ensures ranges { IfSome result.script KeepsRanges }
