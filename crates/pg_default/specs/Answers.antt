@@ -132,10 +132,11 @@ TellsFault [] = ⊥
 TellsFault (event.DeviceFailed who way object page ∷ past) = Unit {0}
 TellsFault (e ∷ past) = TellsFault past
 
--- a device event stands only where the count of faults rose, and want of memory leaves the count
+-- a device event stands exactly where the count of faults rose, unless that stands at its last value; want of memory leaves the count
 pub record AnswerHasCause (before now : ℕ) (result : Result (Listed Event) NoMemory) : Type 0 where
   pub later : before ≤ now
   pub failed : IfOk result (λ events. TellsFault events.items → Rose before now)
+  pub spared : IfOk result (λ events. (TellsFault events.items → ⊥) → now ≡ before)
   pub same : OnErr result (now ≡ before)
 
 -- the answer to a request of a page

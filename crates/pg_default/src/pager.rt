@@ -77,6 +77,7 @@ impl DefaultPager {
         ensures told { LeavesAreas message.now object self.new (P.area paging.old) (P.area paging.new) result }
         ensures cause { AnswerHasCause (P.faults paging.old) (P.faults paging.new) result }
         ensures later { P.later paging.old paging.new }
+        ensures unmoved { OnErr result (P.armed paging.new ≡ P.armed paging.old) }
         ensures untouched { LeavesBacking message.now object self.old paging.old paging.new result }
     {
         let mut events = Listing::new(self.alloc);

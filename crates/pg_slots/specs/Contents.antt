@@ -1,5 +1,5 @@
 -- What was stored of each page, and that slots and backing fit it.
-use Rattle.std.specs.Prelude.{ℕ, ◌≡◌, ◌<◌, ◌≤◌, ◌+◌, ◌*◌, ◌==◌, ◌&&◌, List, [], ◌∷◌, ◌++◌, length, codes, Option, Some, None, IsSome, unwrap_or, Result, Ok, Err, OnErr, if◌then◌else◌}
+use Rattle.std.specs.Prelude.{ℕ, ◌≡◌, ◌≢◌, ◌<◌, ◌≤◌, ◌+◌, ◌*◌, ◌==◌, ◌&&◌, List, [], ◌∷◌, ◌++◌, length, codes, Option, Some, None, IsSome, unwrap_or, Result, Ok, Err, OnErr, if◌then◌else◌}
 use Rattle.pg_slots.specs.Slots.{SlotTable, held_at}
 use Rattle.pg_slots.specs.declared.answers.Got.{Got}
 use Rattle.pg_slots.specs.declared.answers.Got.TheVariants as got
@@ -80,10 +80,11 @@ PutTold (Ok put.Failed) before after slots slot bytes = (s : ℕ) → slot ≡ S
 PutTold (Ok put.NoSlot) before after slots slot bytes = SameAreas before after
 PutTold (Err e) before after slots slot bytes = SameAreas before after
 
--- a put fails only where the count of faults rose, and want of memory leaves the count
+-- a put fails only where the count of faults rose, and any other answer leaves the count, want of memory too
 pub record PutHasCause (before now : ℕ) (result : Result Put NoMemory) : Type 0 where
   pub later : before ≤ now
   pub failed : result ≡ Ok put.Failed → Rose before now
+  pub spared : result ≢ Ok put.Failed → now ≡ before
   pub same : OnErr result (now ≡ before)
 
 -- what a get answers of a page of which this was stored
@@ -113,7 +114,8 @@ abbrev pub GivesStored : Got → Option Stored → Type 0
 GivesStored (got.Page bytes) stored = stored ≡ Some (Kept bytes)
 GivesStored answer stored = Unit {0}
 
--- a get fails only where the count of faults rose
+-- a get fails only where the count of faults rose, and any other answer leaves the count
 pub record GetHasCause (before now : ℕ) (result : Result Got NoMemory) : Type 0 where
   pub later : before ≤ now
   pub failed : result ≡ Ok got.Failed → Rose before now
+  pub spared : result ≢ Ok got.Failed → now ≡ before

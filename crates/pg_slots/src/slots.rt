@@ -67,8 +67,8 @@ impl Slots {
     }
 
     /// Stores a page in the slot that it has, or else in the lowest free one. It takes all its
-    /// memory before it calls the backing, and calls it at most once. A page that is lost for want
-    /// of a slot has none; one whose write failed has its slot, and is lost until it is stored.
+    /// memory before it calls the backing, and calls it at most once; it answers `Failed` exactly
+    /// where that call failed. A page that is lost for want of a slot has none; one whose write failed has its slot, and is lost until it is stored.
     pub fn put<P: Backing>(
         &mut self,
         key: PageKey,
@@ -86,6 +86,7 @@ impl Slots {
         ensures told { PutTold result (P.area paging.old) (P.area paging.new) self.new (slot_at self.new key.object.0 key.page.0) bytes.now }
         ensures cause { PutHasCause (P.faults paging.old) (P.faults paging.new) result }
         ensures later { P.later paging.old paging.new }
+        ensures unmoved { OnErr result (P.armed paging.new ≡ P.armed paging.old) }
         ensures untouched { result ≡ Ok Put.NoSlot → paging.new ≡ paging.old }
     {
         let slot = self.slot_for(key);
@@ -110,7 +111,7 @@ impl Slots {
     }
 
     /// The bytes of a page that were last put. It takes all its memory before it calls the backing,
-    /// and calls it at most once.
+    /// and calls it at most once; it answers `Failed` exactly where that call failed.
     pub fn get<P: Backing>(&self, key: PageKey, paging: &mut P) -> Result<Got, NoMemory>
         ensures held { IfOk result (λ got. AnswersHeld got (held_at self.now key.object.0 key.page.0)) }
         ensures answers { IfOk result (λ got. (content : Content) → Agrees self.now content → Answers got (content key.object.0 key.page.0)) }

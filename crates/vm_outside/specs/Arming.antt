@@ -28,8 +28,18 @@ Passes old new = (new.left ≡ old.left - 1) × (new.reached ≡ old.reached)
 abbrev pub KeepsArming : {B : Type 0} → Arming B → Arming B → Type 0
 KeepsArming old new = (new.left ≡ old.left) × (new.reached ≡ old.reached)
 
+-- at most one armed failure was reached, and only where one was armed, which is used up then
+abbrev pub ReachesOne : {B : Type 0} → Arming B → Arming B → Type 0
+ReachesOne old new = (new.reached ≡ old.reached) ⊎ ((0 < old.left) × (new.left ≡ 0) × (new.reached ≡ next_count old.reached))
+
 pub armed_later_same : (left reached : ℕ) → ArmedLater left reached left reached
 armed_later_same left reached = grind arith
 
 pub armed_later_more : (l r m s n t : ℕ) → ArmedLater l r m s → ArmedLater m s n t → ArmedLater l r n t
 armed_later_more l r m s n t one two = grind arith
+
+reaches : (l r m s : ℕ) → ArmedLater l r m s → (s ≡ r) ⊎ ((0 < l) × (m ≡ 0) × (s ≡ next_count r))
+reaches l r m s later = grind arith
+
+pub later_reaches_one : {B : Type 0} (old new : Arming B) → ArmedLater old.left old.reached new.left new.reached → ReachesOne old new
+later_reaches_one old new later = reaches old.left old.reached new.left new.reached later

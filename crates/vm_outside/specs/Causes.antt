@@ -1,5 +1,5 @@
 -- When a call may answer that the outside failed, and what it leaves.
-use Rattle.std.specs.Prelude.{ℕ, ◌≡◌, ◌+◌, ◌-◌, ◌^◌, ◌≤◌, min, List, take, OnErr, Option, Result, IsErrOf, Ok, Err}
+use Rattle.std.specs.Prelude.{ℕ, ◌≡◌, ◌+◌, ◌-◌, ◌^◌, ◌≤◌, min, List, take, OnErr, OnOk, Option, Result, IsErrOf, Ok, Err}
 use Rattle.std.specs.Io.KnownBytes.{Appends, Keeps}
 use Rattle.vm_base.specs.declared.failure.Failed.{Failed}
 use Rattle.vm_base.specs.declared.failure.WriteStop.{WriteStop}
@@ -17,15 +17,17 @@ sum_count m n = min (m + n) (2 ^ 64 - 1)
 abbrev pub Rose : ℕ → ℕ → Type 0
 Rose before now = next_count before ≤ now
 
--- a call that only reads or asks fails only where the count of faults rose in it
+-- a call that only reads or asks fails only where the count of faults rose in it, and any other answer leaves the count
 pub record HasCause {T : Type 0} (before now : ℕ) (result : Result T Failed) : Type 0 where
   pub later : before ≤ now
   pub failed : OnErr result (Rose before now)
+  pub spared : OnOk result (now ≡ before)
 
--- a call that writes fails only where the count rose in it, and want of memory leaves the count
+-- a call that writes fails only where the count rose in it, and any other answer leaves the count, want of memory too
 pub record WriteHasCause (before now : ℕ) (result : Result (Unit {0}) WriteStop) : Type 0 where
   pub later : before ≤ now
   pub failed : IsErrOf result stop.Failed → Rose before now
+  pub spared : OnOk result (now ≡ before)
   pub same : IsErrOf result stop.NoMemory → now ≡ before
 
 -- what a sink holds after a write: the piece more, a first part of it more, or the same

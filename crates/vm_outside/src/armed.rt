@@ -94,6 +94,8 @@ impl<B: Backing> Backing for Armed<B> {
 
     ghost faults = { λ s. sum_count (B.faults s.inner) s.reached };
 
+    ghost armed = { λ s. s.left };
+
     ghost later = { λ s t. B.later s.inner t.inner × ArmedLater s.left s.reached t.left t.reached };
 
     ghost later_same = { λ s. (B.later_same s.inner, armed_later_same s.left s.reached) };
@@ -141,6 +143,7 @@ impl<B: Backing> Backing for Armed<B> {
         ensures told { WriteTold (B.area self.old.inner) (B.area self.new.inner) name.now at bytes.now result }
         ensures cause { WriteHasCause (sum_count (B.faults self.old.inner) self.old.reached) (sum_count (B.faults self.new.inner) self.new.reached) result }
         ensures later { B.later self.old.inner self.new.inner × ArmedLater self.old.left self.old.reached self.new.left self.new.reached }
+        ensures unmoved { IsErrOf result WriteStop.NoMemory → self.new.left ≡ self.old.left }
 
         ensures fails { self.old.left ≡ 1 → IsErrOf result WriteStop.Failed }
         ensures strikes { self.old.left ≡ 1 → Strikes self.old self.new }

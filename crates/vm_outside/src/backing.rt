@@ -1,5 +1,5 @@
 // Named areas of bytes that outlast the pages.
-ghost use Rattle.std.specs.Prelude.{ℕ, List};
+ghost use Rattle.std.specs.Prelude.{ℕ, ◌≡◌, List, IsErrOf};
 ghost use Rattle.std.specs.declared.option.Option.{Option};
 ghost use Rattle.vm_outside.specs.Areas.{LengthTold, ReadTold, WriteTold};
 ghost use Rattle.vm_outside.specs.Causes.{HasCause, WriteHasCause};
@@ -14,6 +14,9 @@ pub trait Backing {
 
     /// How often it has failed; at most 18,446,744,073,709,551,615 are counted.
     ghost faults: { Self → ℕ };
+
+    /// The number of the coming call that was armed to fail, 0 where none was.
+    ghost armed: { Self → ℕ };
 
     /// The second state may come after the first: each call promises it of the states before and
     /// after it.
@@ -32,11 +35,13 @@ pub trait Backing {
         ensures cause { HasCause (faults self.old) (faults self.new) result }
         ensures later { later self.old self.new };
 
-    /// Writes bytes to an area from `at` on, and makes or lengthens the area for it.
+    /// Writes bytes to an area from `at` on, and makes or lengthens the area for it. A call that
+    /// answers `NoMemory` brings no armed failure nearer.
     fn write(&mut self, name: &str, at: u64, bytes: &[u8]) -> Result<(), WriteStop>
         ensures told { WriteTold (area self.old) (area self.new) name.now at bytes.now result }
         ensures cause { WriteHasCause (faults self.old) (faults self.new) result }
-        ensures later { later self.old self.new };
+        ensures later { later self.old self.new }
+        ensures unmoved { IsErrOf result WriteStop.NoMemory → armed self.new ≡ armed self.old };
 
     ghost later_same: { (s : Self) → later s s };
 

@@ -1,5 +1,5 @@
 // Backings in memory.
-ghost use Rattle.std.specs.Prelude.{◌≡◌, ◌≢◌, List, ℕ, Some, None, IsOk, IsOkUnless, OnOk, OnErr};
+ghost use Rattle.std.specs.Prelude.{◌≡◌, ◌≢◌, List, ℕ, Some, None, IsErrOf, IsOk, IsOkUnless, OnOk, OnErr};
 ghost use Rattle.std.specs.Option.{option_copied};
 ghost use Rattle.vm_outside.specs.Areas.{LengthTold, ReadTold, WriteTold};
 ghost use Rattle.vm_outside.specs.Causes.{HasCause, WriteHasCause};
@@ -51,6 +51,8 @@ impl Backing for SureBacking {
 
     ghost faults = { λ s. 0 };
 
+    ghost armed = { λ s. 0 };
+
     ghost later = { λ s t. Unit {0} };
 
     ghost later_same = { λ s. tt };
@@ -80,6 +82,7 @@ impl Backing for SureBacking {
         ensures told { WriteTold (λ other. Some (area_of self.old other)) (λ other. Some (area_of self.new other)) name.now at bytes.now result }
         ensures cause { WriteHasCause 0 0 result }
         ensures later { Unit {0} }
+        ensures unmoved { IsErrOf result WriteStop.NoMemory → ◌≡◌ {A = ℕ} 0 0 }
         ensures sure { IsOkUnless result WriteStop.NoMemory }
     {
         match self.areas.write(name, at, bytes) {

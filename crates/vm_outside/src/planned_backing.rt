@@ -59,6 +59,8 @@ impl Backing for MemBacking {
 
     ghost faults = { λ s. (plan_of s).faults };
 
+    ghost armed = { λ s. 0 };
+
     ghost later = { λ s t. Unit {0} };
 
     ghost later_same = { λ s. tt };
@@ -106,6 +108,7 @@ impl Backing for MemBacking {
         ensures told { WriteTold (λ other. Some (bytes_of self.old other)) (λ other. Some (bytes_of self.new other)) name.now at bytes.now result }
         ensures cause { WriteHasCause (plan_of self.old).faults (plan_of self.new).faults result }
         ensures later { Unit {0} }
+        ensures unmoved { IsErrOf result WriteStop.NoMemory → ◌≡◌ {A = ℕ} 0 0 }
 
         ensures fails { IsErrOf result WriteStop.Failed ↔ IsTrue (fails_next (plan_of self.old)) }
         ensures failed { IsErrOf result WriteStop.Failed → plan_of self.new ≡ after_fault (plan_of self.old) }
