@@ -1,5 +1,5 @@
 -- A step makes the history longer, and begins where it may.
-use Rattle.std.proofs.Common.{◌≡◌, ℕ, ◌<◌, List, [], ◌∷◌, ◌++◌, ◌+◌, length, refl, ap, sym, ◌∙◌, subst, append_assoc, Some, None, Option, inl, inr}
+use Rattle.std.proofs.Common.{◌≡◌, ℕ, ◌<◌, ◌≤◌, arith, length-append, List, [], ◌∷◌, ◌++◌, ◌+◌, length, refl, ap, sym, ◌∙◌, subst, append_assoc, Some, None, Option, inl, inr}
 use Rattle.vm_base.specs.declared.code.Code.{Code}
 use Rattle.vm_model.specs.declared.event.Event.{Event}
 use Rattle.vm_model.specs.declared.event.Event.TheVariants as event
@@ -95,3 +95,26 @@ takings_taken given new step = ap takings step.is ∙ takings_all step.more (eve
 pub grew_cut : (given : Taking) (line : Option ℕ) (old new : List Event) → MayBeCut given old new → given.past ≡ lined line old → Grew old new
 grew_cut given line old new (inl same) past = grew_none old new same
 grew_cut given line old new (inr step) past = grew_taken given line old new step past
+
+-- so it isn't what it was
+
+lined_long : (line : Option ℕ) (old : List Event) → length old ≤ length (lined line old)
+lined_long None old = omega arith
+lined_long (Some line) old = omega arith
+
+pub not_same : (line : Option ℕ) (events : List Event) (e : Event) (past old new : List Event) → past ≡ lined line old → new ≡ events ++ e ∷ past → new ≡ old → ⊥
+not_same line events e past old new front is same =
+    let long = lined_long line old in
+    let size : length past ≡ length (lined line old) = ap length front in
+    let grown : length new ≡ length (events ++ e ∷ past) = ap length is in
+    let more : length (events ++ e ∷ past) ≡ length events + length (e ∷ past) = length-append events (e ∷ past) in
+    let equal : length new ≡ length old = ap length same in
+    omega arith
+
+-- it grows further
+pub grew_more : (first old new : List Event) → Grew first old → Grew old new → length old < event_limit → Grew first new
+grew_more first old new one two below = record {
+  more = two.more ++ one.more;
+  is = two.is ∙ (ap (λ z. two.more ++ z) one.is ∙ sym (append_assoc two.more one.more first));
+  limit = λ few before. two.limit below (one.limit few before);
+}

@@ -1,12 +1,19 @@
 -- A settle goes on being legal with each message that it takes.
-use Rattle.std.proofs.Common.{◌≡◌, Err, IsErrOf, List, ◌∷◌, Result, ap, inl, inr, sym, subst}
+use Rattle.std.proofs.Common.{◌≡◌, ℕ, ◌+◌, ◌<◌, ◌≤◌, ◌⊎◌, ◌∙◌, Bool, false, Ok, Err, IsErrOf, List, [], ◌∷◌, length, Result, ap, arith, inl, inr, refl, sym, subst}
+use Rattle.std.specs.Prelude.{◌≢◌}
 use Rattle.vm_model.specs.declared.event.Event.{Event}
 use Rattle.vm_model.specs.declared.command.Command.{Command}
 use Rattle.vm_model.specs.declared.command.Numbered.{Numbered}
 use Rattle.vm_model.specs.declared.script.Header.{Header}
 use Rattle.vm_legal.specs.Outside.{Outside}
-use Rattle.vm_system.specs.Settling.{EndsCut, StaysOpen}
-use Rattle.vm_system.specs.Steps.{KeepsOpen, LegalCut, LegalOpen, MayCutOpen}
+use Rattle.vm_legal.specs.Steps.{Letter}
+use Rattle.vm_legal.specs.Undelivered.{undelivered}
+use Rattle.vm_outside.specs.Causes.{Rose}
+use Rattle.vm_system.specs.Settling.{DevicesCounted, EndsCut, StaysOpen}
+use Rattle.vm_system.specs.Steps.{DevicesHaveCause, Grew, KeepsOpen, LegalCut, LegalOpen, MayCutOpen, devices, event_limit}
+use Rattle.vm_system.specs.declared.stop.SystemStop.{SystemStop}
+use Rattle.vm_system.specs.declared.stop.SystemStop.TheVariants as stops
+use Rattle.vm_system.proofs.Growth.{grew_more}
 
 pub stays_more : (header : Header) (outside : Outside) (doing : Command) (first old new : List Event) → StaysOpen header outside doing first old → KeepsOpen header outside doing old new → StaysOpen header outside doing first new
 stays_more header outside doing first old new stays keeps = λ line run legal. (keeps line run (stays line run legal)).so_far
@@ -20,6 +27,36 @@ cut_more header outside doing first old new stays (inl same) = λ line run legal
     let commands : List Numbered = record { line = line; command = doing } ∷ run in
     subst (λ (z : List Event). LegalCut header outside commands z) (sym same) (may_be_cut header outside commands old (stays line run legal))
 cut_more header outside doing first old new stays (inr cuts) = λ line run legal. cuts line run (stays line run legal)
+
+-- memory ends in a taking only where one may begin
+pub below_of : (result : Result Bool SystemStop) (letters : List Letter) (n : ℕ) → (letters ≡ [] → result ≡ Ok false) → ((event_limit ≤ n) × (letters ≢ []) → result ≡ Err stops.EventLimit) → result ≡ Err stops.NoMemory
+    → n < event_limit
+below_of result letters n calm full none = by_order (grind arith)
+  where
+    by_letters : (rest : List Letter) → letters ≡ rest → event_limit ≤ n → n < event_limit
+    by_letters [] is over = let bad = calm is in absurd (cc)
+    by_letters (letter ∷ rest) is over = let bad = full (over, λ none. let both : letter ∷ rest ≡ [] = sym is ∙ none in absurd (cc)) in absurd (cc)
+
+    by_order : (n < event_limit) ⊎ (event_limit ≤ n) → n < event_limit
+    by_order (inl below) = below
+    by_order (inr over) = by_letters letters refl over
+
+-- where a taking stops, the history has grown so far
+pub grew_stop : (stop : SystemStop) (result : Result Bool SystemStop) (first old new : List Event) → result ≡ Err stop → (result ≡ Err stops.EventLimit → new ≡ old) → (undelivered old ≡ [] → result ≡ Ok false)
+    → ((event_limit ≤ length old) × (undelivered old ≢ []) → result ≡ Err stops.EventLimit) → Grew first old → Grew old new → Grew first new
+grew_stop stops.EventLimit result first old new is same calm full one two = subst (Grew first) (sym (same is)) one
+grew_stop stops.NoMemory result first old new is same calm full one two = grew_more first old new one two (below_of result (undelivered old) (length old) calm full is)
+
+-- the failures of the takings are counted together
+
+counted : (before was now a b c : ℕ) → before ≤ was → was ≤ now → (b + before ≤ a + was) ⊎ Rose was was → (c ≡ b) ⊎ Rose was now → c ≤ b + 1 → (c + before ≤ a + now) ⊎ Rose now now
+counted before was now a b c first then few cause one = grind arith
+
+pub counted_more : (before was now : ℕ) (first old new : List Event) → DevicesCounted before was first old → DevicesHaveCause was now old new → DevicesCounted before now first new
+counted_more before was now first old new one two = record {
+  later = omega (arith, one.later, two.later);
+  few = counted before was now (devices first) (devices old) (devices new) one.later two.later one.few two.cause two.few;
+}
 
 -- an error is the same, whatever else might have been answered
 

@@ -1,5 +1,5 @@
 -- A settle goes on, taking message after message.
-use Rattle.std.specs.Prelude.{ℕ, ◌+◌, ◌≤◌, ◌≡◌, List, ◌∷◌}
+use Rattle.std.specs.Prelude.{ℕ, ◌+◌, ◌≤◌, ◌≡◌, ◌⊎◌, List, ◌∷◌}
 use Rattle.vm_model.specs.declared.event.Event.{Event}
 use Rattle.vm_model.specs.declared.command.Command.{Command}
 use Rattle.vm_model.specs.declared.command.Command.TheVariants as command
@@ -7,7 +7,8 @@ use Rattle.vm_model.specs.declared.command.Numbered.{Numbered}
 use Rattle.vm_model.specs.declared.script.Header.{Header}
 use Rattle.vm_legal.specs.Outside.{Outside}
 use Rattle.vm_legal.specs.Steps.{takings}
-use Rattle.vm_system.specs.Steps.{LegalCut, LegalOpen}
+use Rattle.vm_outside.specs.Causes.{Rose}
+use Rattle.vm_system.specs.Steps.{LegalCut, LegalOpen, devices}
 
 -- a settle has so many takings left, or more
 pub record HasLeft (doing : Command) (n : ℕ) (history : List Event) : Type 0 where
@@ -22,3 +23,8 @@ StaysOpen header outside doing old new = (line : ℕ) (run : List Numbered) → 
 -- the same, where memory ended and the last step may be cut
 abbrev pub EndsCut : Header → Outside → Command → List Event → List Event → Type 0
 EndsCut header outside doing old new = (line : ℕ) (run : List Numbered) → LegalOpen header outside (record { line = line; command = doing } ∷ run) old → LegalCut header outside (record { line = line; command = doing } ∷ run) new
+
+-- the failures that are told are at most as many as the count of faults rose, unless that stands at its last value
+pub record DevicesCounted (before now : ℕ) (old new : List Event) : Type 0 where
+  pub later : before ≤ now
+  pub few : (devices new + before ≤ devices old + now) ⊎ Rose now now

@@ -2,9 +2,9 @@
 ghost use Rattle.std.specs.Prelude.{◌≡◌, ◌≢◌, ◌+◌, ◌<◌, ◌≤◌, [], IfOk, IsErrOf, OnOk, length};
 ghost use Rattle.vm_legal.specs.Steps.{takings};
 ghost use Rattle.vm_legal.specs.Undelivered.{undelivered};
-ghost use Rattle.vm_system.specs.Settling.{EndsCut, HasLeft, StaysOpen};
+ghost use Rattle.vm_system.specs.Settling.{DevicesCounted, EndsCut, HasLeft, StaysOpen};
 ghost use Rattle.vm_system.specs.Stands.{Kept, Stands};
-ghost use Rattle.vm_system.specs.Steps.{Stepping, event_limit};
+ghost use Rattle.vm_system.specs.Steps.{Grew, Stepping, event_limit};
 
 use crate::stop::SystemStop;
 use crate::system::System;
@@ -13,8 +13,8 @@ use vm_outside::{Armed, Backing};
 /// Takes up to `n` messages, each time the undelivered one that was sent first, in the step of a
 /// settle, and gives how many it took: fewer than `n` only where nothing is undelivered any more.
 ///
-/// `EventLimit` comes where something is undelivered and the history has 200,000 events or more; the
-/// takings in front of that stand. After `NoMemory` the system is asked for its history alone.
+/// `EventLimit` comes exactly where fewer than `n` were taken, something is undelivered and the
+/// history has 200,000 events or more; the takings in front of that stand. After `NoMemory` the system is asked for its history alone.
 pub fn settle<F: Backing, P: Backing>(
     system: &mut System,
     n: u32,
@@ -30,12 +30,15 @@ pub fn settle<F: Backing, P: Backing>(
     ensures count { IfOk result (λ taken. takings system.new.history.items ≡ takings system.old.history.items + taken) }
     ensures few { IfOk result (λ taken. taken ≤ n) }
     ensures quiet { IfOk result (λ taken. taken < n → undelivered system.new.history.items ≡ []) }
+    ensures grew { Grew system.old.history.items system.new.history.items }
     ensures full { IsErrOf result SystemStop.EventLimit → (event_limit ≤ length system.new.history.items) × (undelivered system.new.history.items ≢ []) }
+    ensures left { IsErrOf result SystemStop.EventLimit → takings system.new.history.items < takings system.old.history.items + n }
     ensures stood { IsErrOf result SystemStop.EventLimit → Stands given.header given.outside system.new × StaysOpen given.header given.outside given.command system.old.history.items system.new.history.items }
     ensures memory { IsErrOf result SystemStop.NoMemory → EndsCut given.header given.outside given.command system.old.history.items system.new.history.items }
     ensures kept { Kept given.header given.outside (P.area paging.new.inner) system.new }
     ensures files { files.new ≡ files.old }
     ensures later { ⟦<Armed<P> as Backing>⟧.later paging.old paging.new }
+    ensures devices { DevicesCounted (⟦<Armed<P> as Backing>⟧.faults paging.old) (⟦<Armed<P> as Backing>⟧.faults paging.new) system.old.history.items system.new.history.items }
 {
     'all: for taken in 0..n {
         match system.take_oldest(files, paging) {

@@ -1,10 +1,13 @@
-use Rattle.std.proofs.Common.{arith, subst, sym, ◌∙◌}
+use Rattle.std.proofs.Common.{◌≡◌, ap, arith, subst, sym, ◌∙◌}
+use Rattle.vm_legal.specs.Steps.{takings}
 use Rattle.vm_outside.specs.Arming.{armed_later_more}
 use Rattle.vm_system.specs.Settling.{StaysOpen}
 use Rattle.vm_system.specs.Stands.{Stands}
+use Rattle.vm_system.specs.Steps.{Grew}
 use Rattle.vm_system.specs.declared.state.State.{State}
 use Rattle.vm_system.specs.declared.stop.SystemStop.TheVariants.{EventLimit, NoMemory}
-use Rattle.vm_system.proofs.Settled.{cut_more, other_err, stays_more}
+use Rattle.vm_system.proofs.Growth.{grew_more}
+use Rattle.vm_system.proofs.Settled.{counted_more, cut_more, grew_stop, other_err, stays_more}
 use Rattle.vm_system.proofs.settling.settle.Goals as goal
 
 pub returns-in-Ok-false-clause-legal : goal.returns-in-Ok-false-clause-legal
@@ -39,5 +42,30 @@ all-preserved g c =
       legal = stays_more g.given.header g.given.outside g.given.command c.args.system.now.history.items c.all.system.history.items c.take_oldest.new.self.history.items before.legal (taking.legal took);
       count = omega (arith, taking.count took, before.count);
       files = c.take_oldest.ensures.files ∙ before.files;
+      grew = grew_more c.args.system.now.history.items c.all.system.history.items c.take_oldest.new.self.history.items before.grew c.take_oldest.ensures.grew (taking.below took);
+      devices = counted_more _ _ _ c.args.system.now.history.items c.all.system.history.items c.take_oldest.new.self.history.items before.devices c.take_oldest.ensures.devices;
       later = (g.met.P.Backing.later_more c.args.paging.now.inner c.all.paging.inner c.take_oldest.new.paging.inner before.later.0 more.0, armed_later_more _ _ _ _ _ _ before.later.1 more.1);
     }
+
+pub returns-in-Ok-false-clause-grew : goal.returns-in-Ok-false-clause-grew
+returns-in-Ok-false-clause-grew g c =
+    let same = (c.in-Ok-false.ensures.quiet c.in-Ok-false.field-0-test).1 in
+    subst (λ (z : State). Grew c.args.system.now.history.items z.history.items) (sym same) c.all.invariant.grew
+
+pub returns-in-Err-clause-grew : goal.returns-in-Err-clause-grew
+returns-in-Err-clause-grew g c =
+    let all = c.take_oldest.ensures in
+    grew_stop c.in-Err.stop c.take_oldest.result c.args.system.now.history.items c.all.system.history.items c.take_oldest.new.self.history.items c.in-Err.is (λ full. ap (λ (z : State). z.history.items) (all.unchanged full).0)
+    all.calm all.full.1 c.all.invariant.grew all.grew
+
+pub returns-in-Err-clause-left : goal.returns-in-Err-clause-left
+returns-in-Err-clause-left g c = λ full.
+    let same = (c.in-Err.ensures.unchanged (other_err c.in-Err.stop EventLimit full)).0 in
+    let count : takings c.take_oldest.new.self.history.items ≡ takings c.all.system.history.items = ap (λ (z : State). takings z.history.items) same in
+    omega (arith, count, c.all.invariant.count, c.all-test.true)
+
+pub returns-in-Err-clause-devices : goal.returns-in-Err-clause-devices
+returns-in-Err-clause-devices g c = counted_more _ _ _ c.args.system.now.history.items c.all.system.history.items c.take_oldest.new.self.history.items c.all.invariant.devices c.take_oldest.ensures.devices
+
+pub returns-in-Ok-false-clause-devices : goal.returns-in-Ok-false-clause-devices
+returns-in-Ok-false-clause-devices g c = counted_more _ _ _ c.args.system.now.history.items c.all.system.history.items c.take_oldest.new.self.history.items c.all.invariant.devices c.take_oldest.ensures.devices

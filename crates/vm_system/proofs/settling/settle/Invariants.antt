@@ -1,8 +1,10 @@
 use Rattle.std.proofs.Common.{◌≡◌, ◌+◌}
 use Rattle.vm_legal.specs.Steps.{takings}
 use Rattle.vm_outside.specs.Arming.{ArmedLater}
-use Rattle.vm_system.specs.Settling.{StaysOpen}
+use Rattle.vm_outside.specs.Causes.{sum_count}
+use Rattle.vm_system.specs.Settling.{DevicesCounted, StaysOpen}
 use Rattle.vm_system.specs.Stands.{Kept, Stands}
+use Rattle.vm_system.specs.Steps.{Grew}
 use Rattle.vm_system.proofs.settling.settle.Given as goal
 
 abbrev pub invariant-all : goal.invariant-all
@@ -12,6 +14,8 @@ invariant-all g l = record {
   legal : StaysOpen g.given.header g.given.outside g.given.command l.fn.system.history.items l.system.history.items;
   count : takings l.system.history.items ≡ takings l.fn.system.history.items + l.taken;
   files : l.files ≡ l.fn.files;
+  grew : Grew l.fn.system.history.items l.system.history.items;
+  devices : DevicesCounted (sum_count (g.P.Backing.faults l.fn.paging.inner) l.fn.paging.reached) (sum_count (g.P.Backing.faults l.paging.inner) l.paging.reached) l.fn.system.history.items l.system.history.items;
   later : g.P.Backing.later l.fn.paging.inner l.paging.inner × ArmedLater l.fn.paging.left l.fn.paging.reached l.paging.left l.paging.reached;
 }
 
