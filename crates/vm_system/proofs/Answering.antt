@@ -170,38 +170,38 @@ front_foreign object m (e ∷ events) reply is = (foreign_one e reply.0, front_f
 -- an answer tells of at most one fault
 pub record Faults (events past : List Event) : Type 0 where
   pub few : devices (events ++ past) ≤ devices past + 1
-  pub none : (devices (events ++ past) ≡ devices past) ⊎ TellsFault events
+  pub cause : ((devices (events ++ past) ≡ devices past) × (TellsFault events → ⊥)) ⊎ ((devices (events ++ past) ≡ devices past + 1) × TellsFault events)
 
-no_fault : (events past : List Event) → devices (events ++ past) ≡ devices past → Faults events past
-no_fault events past none = record { few = omega (arith, none); none = inl none }
+no_fault : (events past : List Event) → devices (events ++ past) ≡ devices past → (TellsFault events → ⊥) → Faults events past
+no_fault events past none silent = record { few = omega (arith, none); cause = inl (none, silent) }
 
 one_fault : (events past : List Event) → devices (events ++ past) ≡ devices past + 1 → TellsFault events → Faults events past
-one_fault events past one tells = record { few = omega (arith, one); none = inr tells }
+one_fault events past one tells = record { few = omega (arith, one); cause = inr (one, tells) }
 
 faults_at : (events is past : List Event) → events ≡ is → Faults is past → Faults events past
 faults_at events is past same faults = subst (λ (z : List Event). Faults z past) (sym same) faults
 
 request_faults : (size host : ℕ) (object : ObjectId) (control : ℕ) (page : PageNo) (has : Option Held) (events past : List Event) → Requested size host object control page has events → Faults events past
-request_faults size host object control page None events past is = faults_at events _ past is (no_fault _ past refl)
-request_faults size host object control page (Some held.Lost) events past is = faults_at events _ past is (no_fault _ past refl)
-request_faults size host object control page (Some (held.Torn s)) events past is = faults_at events _ past is (no_fault _ past refl)
-request_faults size host object control page (Some (held.Kept s)) events past (inl is) = faults_at events _ past is.2 (no_fault _ past refl)
+request_faults size host object control page None events past is = faults_at events _ past is (no_fault _ past refl (λ t. t))
+request_faults size host object control page (Some held.Lost) events past is = faults_at events _ past is (no_fault _ past refl (λ t. t))
+request_faults size host object control page (Some (held.Torn s)) events past is = faults_at events _ past is (no_fault _ past refl (λ t. t))
+request_faults size host object control page (Some (held.Kept s)) events past (inl is) = faults_at events _ past is.2 (no_fault _ past refl (λ t. t))
 request_faults size host object control page (Some (held.Kept s)) events past (inr is) = faults_at events _ past is (one_fault _ past refl tt)
 
 told_faults : (p : Put) (object : ObjectId) (page : PageNo) (past : List Event) → Faults (told_of p object page) past
-told_faults put.Kept object page past = no_fault [] past refl
-told_faults put.NoSlot object page past = no_fault _ past refl
+told_faults put.Kept object page past = no_fault [] past refl (λ t. t)
+told_faults put.NoSlot object page past = no_fault _ past refl (λ t. t)
 told_faults put.Failed object page past = one_fault _ past refl tt
 
 pub faults : (m : Message) (object : ObjectId) (old new : SlotTable) (events past : List Event) → Answered m object old new events → Faults events past
-faults (message.Init control size) object old new events past a = faults_at events _ past a.1 (no_fault _ past refl)
-faults (message.Create control size) object old new events past a = faults_at events _ past a.1 (no_fault _ past refl)
+faults (message.Init control size) object old new events past a = faults_at events _ past a.1 (no_fault _ past refl (λ t. t))
+faults (message.Create control size) object old new events past a = faults_at events _ past a.1 (no_fault _ past refl (λ t. t))
 faults (message.Request control page access) object old new events past a = request_faults old.size old.host object control page (held_at old object.0 page.0) events past a.1
 faults (message.Return control page dirty keep bytes) object old new events past a = faults_at events (told_of (became events) object page) past a.told (told_faults (became events) object page past)
-faults (message.Terminate control) object old new events past a = faults_at events [] past a.1 (no_fault [] past refl)
-faults (message.Unlock control page access) object old new events past a = faults_at events [] past a.1 (no_fault [] past refl)
-faults (message.Completed control page count) object old new events past a = faults_at events [] past a.1 (no_fault [] past refl)
-faults (message.Changed control cache strategy) object old new events past a = faults_at events [] past a.1 (no_fault [] past refl)
+faults (message.Terminate control) object old new events past a = faults_at events [] past a.1 (no_fault [] past refl (λ t. t))
+faults (message.Unlock control page access) object old new events past a = faults_at events [] past a.1 (no_fault [] past refl (λ t. t))
+faults (message.Completed control page count) object old new events past a = faults_at events [] past a.1 (no_fault [] past refl (λ t. t))
+faults (message.Changed control cache strategy) object old new events past a = faults_at events [] past a.1 (no_fault [] past refl (λ t. t))
 faults other object old new events past a = absurd a
 
 -- the host's area stays told

@@ -13,6 +13,7 @@ use Rattle.vm_model.specs.Moments.{EachEvent}
 use Rattle.vm_legal.specs.Bytes.{CopiesCurrent}
 use Rattle.vm_legal.specs.Licences.{AllLicensed}
 use Rattle.vm_legal.specs.Outside.{Outside}
+use Rattle.vm_legal.specs.Refusal.{refusal}
 use Rattle.vm_legal.specs.Stretches.{EachIn, EachOf}
 use Rattle.vm_outside.specs.Areas.{Told}
 use Rattle.vm_outside.specs.Arming.{Arming}
@@ -183,10 +184,18 @@ pub on_either : {A B : Type 0} {P Q R : Type 0} (r : Result A B) → (P → R) �
 on_either (Ok x) f g p q = f p
 on_either (Err e) f g p q = g q
 
+pub on_errs : {A B : Type 0} {P Q R S : Type 0} (r : Result A B) → (P → Q → R → S) → OnErr r P → OnErr r Q → OnErr r R → OnErr r S
+on_errs (Ok x) f p q s = tt
+on_errs (Err e) f p q s = f p q s
+
+-- a settle is never refused
+pub settle_goes_on : {R : Type 0} (header : Header) (past : List Event) (doing : Command) (count : ℕ) (why : Code) → refusal header past doing ≡ Some why → doing ≡ command.Settle count → R
+settle_goes_on header past doing count why refused is = absurd (let bad : None ≡ Some why = subst (λ (z : Command). refusal header past z ≡ Some why) is refused in cc)
+
 -- what a step leaves of the backings
 
 pub causes_same : (faults : ℕ) (old new : List Event) → devices new ≡ devices old → DevicesHaveCause faults faults old new
-causes_same faults old new same = record { later = omega arith; few = omega (arith, same); cause = inl same }
+causes_same faults old new same = record { later = omega arith; few = omega (arith, same); cause = inl same; spared = λ none. refl }
 
 pub files_same : {B : Type 0} (doing : Command) (files : Arming B) → ((count : ℕ) → doing ≡ command.FailFiles count → ⊥) → LeavesFiles doing files files
 files_same (command.FailFiles count) files none = absurd (none count refl)

@@ -38,7 +38,7 @@ use Rattle.vm_system.specs.Stands.{Kept}
 use Rattle.vm_system.specs.Steps.{DevicesHaveCause, Taking, devices, lined}
 use Rattle.vm_system.specs.Takings.{Answered, Followed, May, TakesStep, Took}
 use Rattle.vm_system.specs.declared.state.State.{State}
-use Rattle.vm_system.proofs.Answering.{failed_fits, faults, front_foreign, replies, reply_consequences, reply_copies, reply_frames, reply_inner, reply_laundered, reply_own, told_after, word_up}
+use Rattle.vm_system.proofs.Answering.{Faults, failed_fits, faults, front_foreign, replies, reply_consequences, reply_copies, reply_frames, reply_inner, reply_laundered, reply_own, told_after, word_up}
 use Rattle.vm_system.proofs.Following.{kept_at}
 use Rattle.vm_system.proofs.Letters.{letter_first, orderly_taken, unended_first, washed_out}
 use Rattle.vm_system.proofs.Paying.{paid_more}
@@ -202,21 +202,28 @@ kept_failed header outside object m s now before after e same leaves carried ite
     (λ on. let fits = kept.fits on in failed_fits m object before after s.pager now.pager e (content_of header 0 s.history.items) same leaves carried fits.0 fits.1)
 
 -- a device's failure has its cause
+device_cause : (before now : ℕ) (events : Listed Event) (past old new : List Event) → Faults events.items past → AnswerHasCause before now (Ok events) → devices new ≡ devices (events.items ++ past) → devices past ≡ devices old
+    → DevicesHaveCause before now old new
+device_cause before now events past old new f cause same front = record {
+  later = cause.later;
+  few = omega (arith, same, f.few, front);
+  cause = by f.cause;
+  spared = λ none. spared f.cause none;
+}
+  where
+    by : ((devices (events.items ++ past) ≡ devices past) × (TellsFault events.items → ⊥)) ⊎ ((devices (events.items ++ past) ≡ devices past + 1) × TellsFault events.items) → (devices new ≡ devices old) ⊎ Rose before now
+    by (inl none) = inl (same ∙ none.0 ∙ front)
+    by (inr tells) = inr (cause.failed tells.1)
+
+    spared : ((devices (events.items ++ past) ≡ devices past) × (TellsFault events.items → ⊥)) ⊎ ((devices (events.items ++ past) ≡ devices past + 1) × TellsFault events.items) → devices new ≡ devices old → now ≡ before
+    spared (inl none) is = cause.spared none.1
+    spared (inr tells) is = let more = tells.0 in absurd (omega (arith, more, same, front, is))
+
 pub devices_up : (given : Taking) (line : Option ℕ) (number : ChannelId) (object : ObjectId) (m : Message) (s : State) (slots : SlotTable) (events : Listed Event) (before now : ℕ) (new : List Event) → May given line number (Up the_host object) s
     → Answers m object s.pager slots events.items → AnswerHasCause before now (Ok events) → devices new ≡ devices (events.items ++ event.Taken (Up the_host object) m ∷ given.past) → DevicesHaveCause before now s.history.items new
 devices_up given line number object m s slots events before now new may answered cause same =
     let past = event.Taken (Up the_host object) m ∷ given.past in
-    let f = faults m object s.pager slots events.items past answered in
-    let front : devices past ≡ devices s.history.items = ap devices may.past ∙ devices_lined line s.history.items in
-    record {
-      later = cause.later;
-      few = omega (arith, same, f.few, front);
-      cause = by f.none;
-    }
-  where
-    by : (devices (events.items ++ event.Taken (Up the_host object) m ∷ given.past) ≡ devices (event.Taken (Up the_host object) m ∷ given.past)) ⊎ TellsFault events.items → (devices new ≡ devices s.history.items) ⊎ Rose before now
-    by (inl none) = inl (same ∙ none ∙ ap devices may.past ∙ devices_lined line s.history.items)
-    by (inr tells) = inr (cause.failed tells)
+    device_cause before now events past s.history.items new (faults m object s.pager slots events.items past answered) cause same (ap devices may.past ∙ devices_lined line s.history.items)
 
 -- the newest events, up to and with the taking
 front_at : (events : List Event) (e : Event) (past : List Event) → take (suc (length events)) (events ++ e ∷ past) ≡ events ++ e ∷ []

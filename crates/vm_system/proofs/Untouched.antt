@@ -1,5 +1,5 @@
 -- The paging area is asked only where a pager took a message.
-use Rattle.std.proofs.Common.{◌≡◌, ℕ, false, List, [], ◌∷◌, ◌++◌, refl, ap, sym, ◌∙◌}
+use Rattle.std.proofs.Common.{◌≡◌, ℕ, Bool, inl, inr, true, false, List, [], ◌∷◌, ◌++◌, refl, ap, sym, ◌∙◌}
 use Rattle.std.proofs.lemmas.Option.{same_Some}
 use Rattle.vm_model.specs.declared.command.Command.{Command}
 use Rattle.vm_model.specs.declared.command.Command.TheVariants as command
@@ -12,8 +12,11 @@ use Rattle.vm_model.specs.declared.script.Header.{Header}
 use Rattle.vm_legal.specs.Licences.{MayTake}
 use Rattle.vm_legal.specs.Outside.{Outside}
 use Rattle.vm_kernel.specs.Begun.{AllInner, IsInner}
-use Rattle.vm_system.specs.Steps.{Taking, takes_up, took_up}
-use Rattle.vm_system.specs.Takings.{TakesStep}
+use Rattle.vm_model.specs.Moments.{before_last_line}
+use Rattle.vm_outside.specs.Arming.{Arming}
+use Rattle.vm_system.specs.Steps.{StopsAt, Taking, takes_up, took_up}
+use Rattle.vm_system.specs.Takings.{MayBeCut, TakesStep}
+use Rattle.vm_system.proofs.Growth.{line_taken}
 use Rattle.vm_system.proofs.Stretched.{licensed_front}
 use Rattle.vm_system.proofs.TakenFrom.{taking_of}
 
@@ -52,3 +55,19 @@ not_up given channel new may step none = ap (λ (z : Channel). takes_up (command
 
 pub not_up_from : (header : Header) (outside : Outside) (line : ℕ) (channel : Channel) (old new : List Event) → TakesStep (taking_of header outside line channel old) new → took_up new ≡ false → takes_up (command.Take channel) ≡ false
 not_up_from header outside line channel old new step none = not_up (taking_of header outside line channel old) channel new (refl, refl) step none
+
+-- memory ended in a step: what a pager didn't take leaves all as it was
+pub stops_by : {B : Type 0} (front : List Event → List Event) (given : Taking) (channel : Channel) (old new : List Event) (before after : Arming B) → MayTake given.command channel given.past → (TakesStep given new → front new ≡ old)
+    → (takes_up (command.Take channel) ≡ false → new ≡ old) → (new ≡ old → after.left ≡ before.left) → MayBeCut given old new → StopsAt front old new before after
+stops_by front given channel old new before after may at down unmoved (inl same) = inl (same, unmoved same)
+stops_by front given channel old new before after may at down unmoved (inr step) = by (takes_up (command.Take channel)) refl
+  where
+    by : (b : Bool) → takes_up (command.Take channel) ≡ b → StopsAt front old new before after
+    by false is = inl (down is, unmoved (down is))
+    by true is = inr (at step, took_step given new step ∙ (ap (λ (z : Channel). takes_up (command.Take z)) (taken_on given channel new may step) ∙ is))
+
+pub stops_from : {B : Type 0} (header : Header) (outside : Outside) (line : ℕ) (channel : Channel) (old new : List Event) (before after : Arming B) → (takes_up (command.Take channel) ≡ false → new ≡ old)
+    → (new ≡ old → after.left ≡ before.left) → MayBeCut (taking_of header outside line channel old) old new → StopsAt before_last_line old new before after
+stops_from header outside line channel old new before after down unmoved cut =
+    let given = taking_of header outside line channel old in
+    stops_by before_last_line given channel old new before after (refl, refl) (λ step. line_taken given line old new step refl) down unmoved cut

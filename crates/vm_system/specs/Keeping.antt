@@ -7,7 +7,12 @@ use Rattle.vm_legal.specs.Pagers.{is_lost, last_return, slot_at}
 use Rattle.vm_outside.specs.Areas.{Told, read_at}
 use Rattle.pg_slots.specs.Contents.{area_name}
 
--- Where the paging area tells, each page that has a slot and isn't lost has there the bytes of its last return that its pager took.
+-- The paging area tells, and each page that has a slot and isn't lost has there the bytes of its last return that its pager took.
+abbrev pub HasPages : Header → (List ℕ → Told) → List Event → Type 0
+HasPages header areas history =
+    (was : Option (List ℕ)) × (areas (area_name 0) ≡ Some was) × ((o p s : ℕ) (bytes : List ℕ) → slot_at header 0 o p history ≡ Some s → is_lost o p history ≡ false → last_return 0 o p history ≡ Some bytes
+    → read_at (unwrap_or was []) (s * header.size) header.size ≡ bytes)
+
+-- where the paging area told before, it has the pages
 pub record KeepsPages (header : Header) (outside : Outside) (areas : List ℕ → Told) (history : List Event) : Type 0 where
-  pub at : outside.paging ≡ true → (o p s : ℕ) (bytes : List ℕ) → slot_at header 0 o p history ≡ Some s → is_lost o p history ≡ false → last_return 0 o p history ≡ Some bytes
-      → (was : Option (List ℕ)) → areas (area_name 0) ≡ Some was → read_at (unwrap_or was []) (s * header.size) header.size ≡ bytes
+  pub at : outside.paging ≡ true → HasPages header areas history

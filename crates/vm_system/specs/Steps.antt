@@ -94,11 +94,12 @@ devices [] = 0
 devices (event.DeviceFailed who way object page ∷ past) = devices past + 1
 devices (e ∷ past) = devices past
 
--- a backing's failure is told only where its count of faults rose, once for a step
+-- a backing's failure is told only where its count of faults rose, once for a step; and where none is told the count stays
 pub record DevicesHaveCause (before now : ℕ) (old new : List Event) : Type 0 where
   pub later : before ≤ now
   pub few : devices new ≤ devices old + 1
   pub cause : (devices new ≡ devices old) ⊎ Rose before now
+  pub spared : devices new ≡ devices old → now ≡ before
 
 -- a step may begin: the history has few enough events; the taking of a `take` begins with its line
 abbrev pub MayBegin : List Event → Type 0
@@ -149,6 +150,10 @@ arms_paging other = None
 pub record LeavesPaging {B : Type 0} (doing : Command) (old new : Arming B) : Type 0 where
   pub armed : (count : ℕ) → arms_paging doing ≡ Some count → new ≡ record { inner = old.inner; left = count; reached = old.reached }
   pub same : arms_paging doing ≡ None → takes_up doing ≡ false → new ≡ old
+
+-- memory ended in a step, before which the front stands: nothing was told, and the paging area's arming has come no nearer; or a pager took a message
+abbrev pub StopsAt : {B : Type 0} → (List Event → List Event) → List Event → List Event → Arming B → Arming B → Type 0
+StopsAt front old new before after = ((new ≡ old) × (after.left ≡ before.left)) ⊎ ((front new ≡ old) × (took_up new ≡ true))
 
 -- the command is nothing to the host
 abbrev pub is_idle : Command → Bool

@@ -116,6 +116,7 @@ impl State {
         ghost given: { Setting }
         requires stands { Stands given.header given.outside self.old }
         ensures stands { OnOk result (Stands given.header given.outside self.new) }
+        ensures line { OnOk result (self.new.history.items ≡ event.Line line ∷ self.old.history.items) }
         ensures legal { OnOk result (KeepsLegal given.header given.outside (record { line = line; command = command.Settle count }) self.old.history.items self.new.history.items) }
         ensures kept { (areas : List ℕ → Told) → Kept given.header given.outside areas self.old → Kept given.header given.outside areas self.new }
         ensures longer { OnOk result (IsLonger self.old.history.items self.new.history.items) }

@@ -1,12 +1,13 @@
 // One command's step.
-ghost use Rattle.std.specs.Prelude.{◌≡◌, false, true, None, Some, OnErr, OnOk};
+ghost use Rattle.std.specs.Prelude.{◌≡◌, ◌∷◌, ℕ, false, true, None, Some, OnErr, OnOk};
 ghost use Rattle.vm_model.specs.Moments.{before_last_line};
 ghost use Rattle.vm_model.specs.Ranges.{InRange};
 ghost use Rattle.vm_legal.specs.Refusal.{refusal};
 ghost use Rattle.vm_model.specs.declared.message.Channel.{Channel};
 ghost use Rattle.vm_model.specs.declared.command.Command.TheVariants as command;
+ghost use Rattle.vm_model.specs.declared.event.Event.TheVariants as event;
 ghost use Rattle.vm_system.specs.Stands.{Kept, Stands};
-ghost use Rattle.vm_system.specs.Steps.{DevicesHaveCause, Grew, IsLonger, KeepsLegal, LeavesFiles, LeavesPaging, MayCut, Setting, Stepping, arms_paging, is_built, is_held_up, takes_up, took_up};
+ghost use Rattle.vm_system.specs.Steps.{DevicesHaveCause, Grew, IsLonger, KeepsLegal, LeavesFiles, LeavesPaging, MayCut, Setting, Stepping, StopsAt, arms_paging, is_built, is_held_up, takes_up, took_up};
 
 use crate::state::State;
 use vm_base::NoMemory;
@@ -35,10 +36,14 @@ impl State {
         ensures front { OnOk result (before_last_line self.new.history.items ≡ self.old.history.items) }
         ensures memory { OnErr result (MayCut given.header given.outside (record { line = line; command = command.now }) self.old.history.items self.new.history.items) }
         ensures kept { Kept given.header given.outside (P.area paging.new.inner) self.new }
+        ensures alone { OnOk result ((count : ℕ) → command.now ≡ Command.Settle count → self.new.history.items ≡ event.Line line ∷ self.old.history.items) }
         ensures files { OnOk result (LeavesFiles command.now files.old files.new) }
         ensures paging { OnOk result (LeavesPaging command.now paging.old paging.new) }
         ensures unasked { OnOk result (arms_paging command.now ≡ None → took_up self.new.history.items ≡ false → paging.new ≡ paging.old) }
-        ensures later { OnOk result (arms_paging command.now ≡ None → ⟦<Armed<P> as Backing>⟧.later paging.old paging.new) }
+        ensures later { arms_paging command.now ≡ None → ⟦<Armed<P> as Backing>⟧.later paging.old paging.new }
+        ensures unarmed { OnErr result (files.new ≡ files.old) }
+        ensures calm { OnErr result (takes_up command.now ≡ false → (self.new.history.items ≡ self.old.history.items) × (paging.new ≡ paging.old)) }
+        ensures stops { OnErr result (StopsAt before_last_line self.old.history.items self.new.history.items paging.old paging.new) }
         ensures devices { DevicesHaveCause (⟦<Armed<P> as Backing>⟧.faults paging.old) (⟦<Armed<P> as Backing>⟧.faults paging.new) self.old.history.items self.new.history.items }
     {
         if let Some(code) = self.refusal(command) {
@@ -83,6 +88,8 @@ impl State {
         ensures paging { takes_up (command.Take channel) ≡ false → paging.new ≡ paging.old }
         ensures unasked { OnOk result (took_up self.new.history.items ≡ false → paging.new ≡ paging.old) }
         ensures later { ⟦<Armed<P> as Backing>⟧.later paging.old paging.new }
+        ensures calm { OnErr result (takes_up (command.Take channel) ≡ false → (self.new.history.items ≡ self.old.history.items) × (paging.new ≡ paging.old)) }
+        ensures stops { OnErr result (StopsAt before_last_line self.old.history.items self.new.history.items paging.old paging.new) }
         ensures devices { DevicesHaveCause (⟦<Armed<P> as Backing>⟧.faults paging.old) (⟦<Armed<P> as Backing>⟧.faults paging.new) self.old.history.items self.new.history.items }
     {
         let Some(number) = self.channels.number(channel) else {

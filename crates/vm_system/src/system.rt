@@ -1,17 +1,19 @@
 // The system of one host.
-ghost use Rattle.std.specs.Prelude.{◌≡◌, ◌≢◌, ◌+◌, ◌≤◌, ◌<◌, ◌↔◌, ◌⊎◌, ℕ, List, [], true, false, None, Ok, Some, IfOk, IsErrOf, IsOkAnd, IsTrue, OnOk, OnErr, length};
+ghost use Rattle.std.specs.Prelude.{◌≡◌, ◌≢◌, ◌+◌, ◌≤◌, ◌<◌, ◌↔◌, ◌⊎◌, ◌∷◌, ℕ, List, [], true, false, None, Ok, Some, IfOk, IsErrOf, IsOkAnd, IsTrue, OnOk, OnErr, length};
 ghost use Rattle.vm_base.specs.declared.code.Code.{Code};
 ghost use Rattle.vm_model.specs.Ranges.{InRange};
 ghost use Rattle.vm_legal.specs.Refusal.{refusal};
 ghost use Rattle.vm_legal.specs.Outside.{Outside};
 ghost use Rattle.vm_legal.specs.Undelivered.{undelivered};
 ghost use Rattle.vm_outside.specs.Areas.{Told};
+ghost use Rattle.vm_outside.specs.Arming.{ReachesOne};
+ghost use Rattle.vm_model.specs.declared.event.Event.TheVariants as event;
 ghost use Rattle.pg_slots.specs.Contents.{IsTold};
 ghost use Rattle.vm_legal.specs.Steps.{before_step, takings};
 ghost use Rattle.vm_model.specs.Moments.{before_last_line};
 ghost use Rattle.vm_kernel.specs.Matches.{IsPlain};
 ghost use Rattle.vm_system.specs.Stands.{Kept, Stands};
-ghost use Rattle.vm_system.specs.Steps.{DevicesHaveCause, Grew, HasMore, KeepsLegal, KeepsOpen, LeavesFiles, LeavesPaging, MayCut, MayCutOpen, Setting, Taking, arms_paging, event_limit, is_built, is_held_up, took_up};
+ghost use Rattle.vm_system.specs.Steps.{DevicesHaveCause, Grew, HasMore, KeepsLegal, KeepsOpen, LeavesFiles, LeavesPaging, MayCut, MayCutOpen, Setting, StopsAt, Taking, arms_paging, event_limit, is_built, is_held_up, takes_up, took_up};
 
 use crate::channels::Channels;
 use crate::limit::MOST_EVENTS;
@@ -125,10 +127,17 @@ impl System {
         ensures unchanged { IsErrOf result SystemStop.EventLimit → (self.new ≡ self.old) × (files.new ≡ files.old) × (paging.new ≡ paging.old) }
         ensures memory { IsErrOf result SystemStop.NoMemory → MayCut given.header given.outside (record { line = line; command = command.now }) self.old.history.items self.new.history.items }
         ensures kept { Kept given.header given.outside (P.area paging.new.inner) self.new }
+        ensures alone { OnOk result ((count : ℕ) → command.now ≡ Command.Settle count → self.new.history.items ≡ event.Line line ∷ self.old.history.items) }
+
+        // The backings; at an error the files are as they were, and so is all else unless the command takes a message that goes to a pager.
         ensures files { OnOk result (LeavesFiles command.now files.old files.new) }
+        ensures unarmed { OnErr result (files.new ≡ files.old) }
         ensures paging { OnOk result (LeavesPaging command.now paging.old paging.new) }
         ensures unasked { OnOk result (arms_paging command.now ≡ None → took_up self.new.history.items ≡ false → paging.new ≡ paging.old) }
-        ensures later { OnOk result ((arms_paging command.now ≡ None) → ⟦<Armed<P> as Backing>⟧.later paging.old paging.new) }
+        ensures later { arms_paging command.now ≡ None → ⟦<Armed<P> as Backing>⟧.later paging.old paging.new }
+        ensures reached { ReachesOne paging.old paging.new }
+        ensures calm { OnErr result (takes_up command.now ≡ false → (self.new.history.items ≡ self.old.history.items) × (paging.new ≡ paging.old)) }
+        ensures stops { OnErr result (StopsAt before_last_line self.old.history.items self.new.history.items paging.old paging.new) }
         ensures devices { DevicesHaveCause (⟦<Armed<P> as Backing>⟧.faults paging.old) (⟦<Armed<P> as Backing>⟧.faults paging.new) self.old.history.items self.new.history.items }
     {
         if self.state.history.len() >= MOST_EVENTS {
@@ -170,6 +179,8 @@ impl System {
         ensures memory { IsErrOf result SystemStop.NoMemory → MayCutOpen given.header given.outside given.command self.old.history.items self.new.history.items }
         ensures kept { Kept given.header given.outside (P.area paging.new.inner) self.new }
         ensures later { ⟦<Armed<P> as Backing>⟧.later paging.old paging.new }
+        ensures reached { ReachesOne paging.old paging.new }
+        ensures stops { IsErrOf result SystemStop.NoMemory → StopsAt before_step self.old.history.items self.new.history.items paging.old paging.new }
         ensures devices { DevicesHaveCause (⟦<Armed<P> as Backing>⟧.faults paging.old) (⟦<Armed<P> as Backing>⟧.faults paging.new) self.old.history.items self.new.history.items }
     {
         let Some(number) = self.state.ports.oldest() else {

@@ -47,6 +47,8 @@ impl State {
         ensures kept { Kept given.header given.outside (P.area paging.new.inner) self.new }
         ensures devices { DevicesHaveCause (⟦<Armed<P> as Backing>⟧.faults paging.old) (⟦<Armed<P> as Backing>⟧.faults paging.new) self.old.history.items self.new.history.items }
         ensures paging { (channel : Channel) → slice_get self.old.channels.made number.0 ≡ Some channel → takes_up (command.Take channel) ≡ false → paging.new ≡ paging.old }
+        ensures down { OnErr result ((channel : Channel) → slice_get self.old.channels.made number.0 ≡ Some channel → takes_up (command.Take channel) ≡ false → self.new.history.items ≡ self.old.history.items) }
+        ensures unmoved { OnErr result (self.new.history.items ≡ self.old.history.items → paging.new.left ≡ paging.old.left) }
         ensures later { ⟦<Armed<P> as Backing>⟧.later paging.old paging.new }
     {
         let channel = self.channels.channel(number);
@@ -103,6 +105,7 @@ impl State {
         ensures cut { OnErr result (MayBeCut given self.old.history.items self.new.history.items) }
         ensures kept { Kept given.header given.outside (P.area paging.new.inner) self.new }
         ensures devices { DevicesHaveCause (⟦<Armed<P> as Backing>⟧.faults paging.old) (⟦<Armed<P> as Backing>⟧.faults paging.new) self.old.history.items self.new.history.items }
+        ensures unmoved { OnErr result (self.new.history.items ≡ self.old.history.items → paging.new.left ≡ paging.old.left) }
         ensures later { ⟦<Armed<P> as Backing>⟧.later paging.old paging.new }
     {
         self.reserve(4)?;

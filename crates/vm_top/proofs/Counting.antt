@@ -56,3 +56,20 @@ untouched_taking n run (event.Line line ∷ past) old front more un = absurd (om
 untouched_taking n run (event.Taken (Up host object) m ∷ past) old front more un = absurd (cc)
 untouched_taking n run (event.Taken (Down host object control) m ∷ past) old front more un = (refl, subst (λ z. is_untouched (n ∷ run) z ≡ true) front un)
 untouched_taking n run (e ∷ past) old front more un = untouched_taking n run past old front more un
+
+-- a pager took a message in the step
+pub untouched_up : (run : List Numbered) (h : List Event) → took_up h ≡ true → is_untouched run h ≡ true → ⊥
+untouched_up run [] took un = absurd (cc)
+untouched_up run (event.Line line ∷ past) took un = absurd (cc)
+untouched_up [] (event.Taken (Up host object) m ∷ past) took un = absurd (cc)
+untouched_up (n ∷ run) (event.Taken (Up host object) m ∷ past) took un = absurd (cc)
+untouched_up run (event.Taken (Down host object control) m ∷ past) took un = absurd (cc)
+untouched_up [] (e ∷ past) took un = untouched_up [] past took un
+untouched_up (n ∷ run) (e ∷ past) took un = untouched_up (n ∷ run) past took un
+
+-- it begins with that taking, and has no line
+pub lines_up : (new old : List Event) → before_step new ≡ old → took_up new ≡ true → count_of is_line new ≡ count_of is_line old
+lines_up [] old front took = absurd (cc)
+lines_up (event.Line line ∷ past) old front took = absurd (cc)
+lines_up (event.Taken channel m ∷ past) old front took = let same : count_of is_line past ≡ count_of is_line old = ap (count_of is_line) front in omega arith
+lines_up (e ∷ past) old front took = let same = lines_up past old front took in omega arith

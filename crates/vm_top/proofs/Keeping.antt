@@ -1,6 +1,6 @@
 -- What the paging area keeps, in terms of the history alone.
 use Rattle.std.proofs.Common.{◌≡◌, ℕ, ◌*◌, ◌<◌, Bool, true, false, List, [], Option, Some, None, refl, ap, sym, ◌∙◌, subst, arith, nat_lt}
-use Rattle.std.specs.Prelude.{IsSome, unwrap_or}
+use Rattle.std.specs.Prelude.{IsSome, is_some, unwrap_or}
 use Rattle.std.proofs.lemmas.Bool.Decides.{nat_tests}
 use Rattle.vm_model.specs.declared.event.Event.{Event}
 use Rattle.vm_model.specs.declared.script.Header.{Header}
@@ -13,7 +13,7 @@ use Rattle.pg_slots.specs.Slots.{SlotTable, held_at, slot_of}
 use Rattle.pg_slots.specs.declared.slot_row.Held.{Held}
 use Rattle.pg_slots.specs.declared.slot_row.Held.TheVariants as held
 use Rattle.pg_default.specs.Stands.{Stands, content_of, is_ended}
-use Rattle.vm_system.specs.Keeping.{KeepsPages}
+use Rattle.vm_system.specs.Keeping.{HasPages, KeepsPages}
 use Rattle.vm_system.specs.Stands.{Kept as SystemKept}
 use Rattle.vm_top.specs.Run.{outside_of}
 use Rattle.vm_system.specs.declared.state.State.{State}
@@ -38,13 +38,16 @@ stored_at slots header h o p s bytes stands slot returned fine = by_tests (nat_l
     by_tests false true is ended = absurd (no_slot (held_at slots o p) s (stands.ended o p ended) slot)
     by_tests false false is ended = rw (is, ended, returned, fine) refl
 
--- where the paging area tells, it has the bytes of each page that was returned and isn't lost
+-- where the paging area told before, it tells, and has the bytes of each page that was returned and isn't lost
 pub kept_pages : (header : Header) (outside : Outside) (areas : List ℕ → Told) (s : State) → SystemKept header outside areas s → KeepsPages header outside areas s.history.items
-kept_pages header outside areas s kept = record { at = at_page }
+kept_pages header outside areas s kept = record { at = λ paging. by (areas (area_name 0)) refl paging }
   where
-    at_page : outside.paging ≡ true → (o p at : ℕ) (bytes : List ℕ) → slot_at header 0 o p s.history.items ≡ Some at → is_lost o p s.history.items ≡ false → last_return 0 o p s.history.items ≡ Some bytes
-        → (was : Option (List ℕ)) → areas (area_name 0) ≡ Some was → read_at (unwrap_or was []) (at * header.size) header.size ≡ bytes
-    at_page paging o p at bytes slotted fine returned was told =
+    tells : outside.paging ≡ true → IsSome (areas (area_name 0))
+    tells paging = subst (λ z. IsSome (areas (area_name z))) kept.pager.host_is (kept.fits paging).0
+
+    at_page : outside.paging ≡ true → (was : Option (List ℕ)) → areas (area_name 0) ≡ Some was → (o p at : ℕ) (bytes : List ℕ) → slot_at header 0 o p s.history.items ≡ Some at → is_lost o p s.history.items ≡ false
+        → last_return 0 o p s.history.items ≡ Some bytes → read_at (unwrap_or was []) (at * header.size) header.size ≡ bytes
+    at_page paging was told o p at bytes slotted fine returned =
         let fits = (kept.fits paging).1 in
         let slot : slot_of (held_at s.pager o p) ≡ Some at = kept.pager.slot o p ∙ slotted in
         let stored = stored_at s.pager header s.history.items o p at bytes kept.pager slot returned fine in
@@ -53,10 +56,18 @@ kept_pages header outside areas s kept = record { at = at_page }
         let named_so : areas (area_name s.pager.host) ≡ Some was = ap (λ z. areas (area_name z)) kept.pager.host_is ∙ told in
         subst (λ z. read_at (unwrap_or was []) (at * z) z ≡ bytes) kept.pager.size (fits.bytes o p at bytes here stored was named_so)
 
+    by : (t : Option (Option (List ℕ))) → areas (area_name 0) ≡ t → outside.paging ≡ true → HasPages header areas s.history.items
+    by None is paging = absurd (let some = tells paging in let bad : false ≡ true = ap is_some (sym is) ∙ some in cc)
+    by (Some was) is paging = (was, is, at_page paging was is)
+
 -- the paging area of the host is told, where the outside says so
 pub told_of : (areas : List ℕ → Told) (slots : SlotTable) → slots.host ≡ 0 → (outside_of areas).paging ≡ true → IsTold areas slots
 told_of areas slots host paging = subst (λ z. IsSome (areas (area_name z))) (sym host) paging
 
 -- nothing was returned yet
-pub kept_none : (header : Header) (outside : Outside) (areas : List ℕ → Told) → KeepsPages header outside areas []
-kept_none header outside areas = record { at = λ paging o p at bytes slotted. absurd (cc) }
+pub kept_none : (header : Header) (areas : List ℕ → Told) (h : List Event) → h ≡ [] → KeepsPages header (outside_of areas) areas h
+kept_none header areas h none = subst (KeepsPages header (outside_of areas) areas) (sym none) (record { at = λ paging. by (areas (area_name 0)) refl paging })
+  where
+    by : (t : Option (Option (List ℕ))) → areas (area_name 0) ≡ t → is_some (areas (area_name 0)) ≡ true → HasPages header areas []
+    by None is some = absurd (let bad : false ≡ true = ap is_some (sym is) ∙ some in cc)
+    by (Some was) is some = (was, is, λ o p s bytes slotted. absurd (cc))

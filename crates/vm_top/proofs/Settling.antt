@@ -1,5 +1,5 @@
 -- A taking of a settle keeps what a run keeps inside it, or stops the run.
-use Rattle.std.proofs.Common.{◌≡◌, ℕ, ◌-◌, ◌<◌, ◌≤◌, ◌⊎◌, inl, inr, List, [], ◌∷◌, ◌++◌, Bool, length, take, false, Option, Some, None, Result, Ok, Err, refl, ap, sym, ◌∙◌, subst, arith}
+use Rattle.std.proofs.Common.{◌≡◌, ℕ, ◌-◌, ◌<◌, ◌≤◌, ◌⊎◌, inl, inr, List, [], ◌∷◌, ◌++◌, length, take, true, false, Option, Some, None, ap, sym, ◌∙◌, subst}
 use Rattle.std.specs.Prelude.{◌≢◌}
 use Rattle.std.specs.Io.KnownBytes.{Appends}
 use Rattle.vm_model.specs.declared.event.Event.{Event}
@@ -11,22 +11,20 @@ use Rattle.vm_model.specs.Text.{text}
 use Rattle.vm_legal.specs.Follows.{Follows, FollowsSoFar}
 use Rattle.vm_legal.specs.Legal.{LegalFor}
 use Rattle.vm_legal.specs.Outside.{Outside}
-use Rattle.vm_legal.specs.Steps.{Letter, before_step, takings}
+use Rattle.vm_legal.specs.Steps.{before_step, takings}
 use Rattle.vm_legal.specs.Undelivered.{undelivered}
 use Rattle.vm_outside.specs.Arming.{Arming, ArmedLater}
-use Rattle.vm_system.specs.Steps.{DevicesHaveCause, Grew, HasMore, KeepsOpen, LegalCut, LegalOpen, MayCutOpen, TakesMore, event_limit, settles, took_up}
-use Rattle.vm_system.specs.declared.stop.SystemStop.{SystemStop}
-use Rattle.vm_system.specs.declared.stop.SystemStop.TheVariants as stops
-use Rattle.vm_top.specs.Arming.{FilesLeft, ran_of}
+use Rattle.vm_system.specs.Steps.{DevicesHaveCause, Grew, HasMore, KeepsOpen, LegalCut, LegalOpen, MayCutOpen, StopsAt, TakesMore, event_limit, settles, took_up}
+use Rattle.vm_top.specs.Arming.{FilesLeft, is_untouched, ran_of}
 use Rattle.vm_top.specs.Run.{CutIn, RanAs, front_of, shown, unbuilt_line}
-use Rattle.vm_top.specs.Running.{PagingRuns, Running, Runs, Settles, Stops, Taking, Turned}
+use Rattle.vm_top.specs.Running.{Arms, PagingRuns, Running, Runs, Settles, Stops, Taking, Turned}
 use Rattle.vm_top.specs.Writing.{WroteBeyond, oldest}
 use Rattle.vm_top.specs.declared.run.RunEnd.{RunEnd}
 use Rattle.vm_top.specs.declared.run.RunEnd.TheVariants as ends
 use Rattle.vm_top.specs.declared.words.Report.{Report}
 use Rattle.vm_top.specs.declared.words.Report.TheVariants as reports
-use Rattle.vm_top.proofs.Arms.{arms_of, failures_step, paging_taking}
-use Rattle.vm_top.proofs.Counting.{lines_same}
+use Rattle.vm_top.proofs.Arms.{arms_later, arms_of, failures_step, paging_taking}
+use Rattle.vm_top.proofs.Counting.{lines_same, lines_up, untouched_up}
 use Rattle.vm_top.proofs.Starts.{order_at}
 use Rattle.vm_top.proofs.Turns.{Left, cut_of, shown_grown}
 
@@ -131,22 +129,31 @@ pub held_stops : {F P : Type 0} (report : Report) (given : Taking F P) (line : �
     → (how ≡ ends.Failed) ⊎ (how ≡ ends.NoMemory) → Stops report given.running new now f1 p1 e1 how
 held_stops report given line run old new now f1 p1 e1 how more front grew step failed none (inl is) =
     subst (Stops report given.running new now f1 p1 e1) (sym is)
-    (record { ran = take_failed report given line run old new now f1 p1 e1 more front step (failed is); below = step.left.below; arms = λ other. step.left.arms; failed = step.left.failed })
+    (record { ran = take_failed report given line run old new now f1 p1 e1 more front step (failed is); below = step.left.below; arms = step.left.arms; failed = step.left.failed })
 held_stops report given line run old new now f1 p1 e1 how more front grew step failed none (inr is) =
     subst (Stops report given.running new now f1 p1 e1) (sym is)
-    (record { ran = take_unshown report given line run old new now f1 p1 e1 grew step (none is); below = step.left.below; arms = λ other. step.left.arms; failed = step.left.failed })
+    (record { ran = take_unshown report given line run old new now f1 p1 e1 grew step (none is); below = step.left.below; arms = step.left.arms; failed = step.left.failed })
 
 -- memory ended in the taking
 pub take_stops : {F P : Type 0} (report : Report) (given : Taking F P) (old new : List Event) (now : Option (List ℕ)) (f0 f1 : Arming F) (p0 p1 : Arming P) (e0 e1 : ℕ)
-    → Settles report given old now f0 p0 e0 → Grew old new → length old < event_limit → MayCutOpen given.running.script.header given.running.outside given.command old new → DevicesHaveCause e0 e1 old new
-    → Stops report given.running new now f1 p1 e1 ends.NoMemory
-take_stops report given old new now f0 f1 p0 p1 e0 e1 settles grew below may devices = record {
+    → Settles report given old now f0 p0 e0 → Grew old new → length old < event_limit → MayCutOpen given.running.script.header given.running.outside given.command old new → f1 ≡ f0
+    → ArmedLater p0.left p0.reached p1.left p1.reached → StopsAt before_step old new p0 p1 → DevicesHaveCause e0 e1 old new → Stops report given.running new now f1 p1 e1 ends.NoMemory
+take_stops report given old new now f0 f1 p0 p1 e0 e1 settles grew below may files later stops devices = record {
   ran = (by_way may, shown_grown report given.running.start now old new grew settles.keeps.written);
   below = grew.limit below settles.keeps.below;
-  arms = λ other. absurd (other refl);
+  arms = by_stop stops;
   failed = failures_step given.running.faults e0 e1 old new devices settles.keeps.failed;
 }
   where
+    ran : count_of is_line new ≡ count_of is_line old → ran_of given.running.script new ≡ ran_of given.running.script old
+    ran lines = ap (λ z. oldest z given.running.script.commands.items) lines
+
+    by_stop : StopsAt before_step old new p0 p1 → Arms given.running new f1 p1
+    by_stop (inl same) =
+        arms_later given.running old new f0 f1 p0 p1 (ran (ap (count_of is_line) same.0)) files later (λ un. (same.1, subst (λ z. is_untouched (ran_of given.running.script old) z ≡ true) same.0 un)) settles.keeps.arms
+    by_stop (inr took) =
+        arms_later given.running old new f0 f1 p0 p1 (ran (lines_up new old took.0 took.1)) files later (λ un. absurd (untouched_up (ran_of given.running.script old) new took.1 un)) settles.keeps.arms
+
     by_way : MayCutOpen given.running.script.header given.running.outside given.command old new → CutIn given.running.script given.running.outside new
     by_way (inl same) = record {
       later = behind given old;
@@ -183,7 +190,7 @@ take_full report given h now f p e settles more full some = record {
     settles.keeps.written,
   );
   below = settles.keeps.below;
-  arms = λ other. settles.keeps.arms;
+  arms = settles.keeps.arms;
   failed = settles.keeps.failed;
 }
 
@@ -196,19 +203,6 @@ stops_same report given old new now f0 f1 p0 p1 e0 e1 how end h f p e is was =
     (subst (λ z. Stops report given.running old now f0 z e1 end) (sym p)
     (subst (λ z. Stops report given.running old now f0 p0 z end) (sym e)
     (subst (Stops report given.running old now f0 p0 e0) (sym is) was))))
-
--- memory ends in a taking only where one may begin
-pub below_of : (result : Result Bool SystemStop) (letters : List Letter) (n : ℕ) → (letters ≡ [] → result ≡ Ok false) → ((event_limit ≤ n) × (letters ≢ []) → result ≡ Err stops.EventLimit) → result ≡ Err stops.NoMemory
-    → n < event_limit
-below_of result letters n calm full none = by_order (grind arith)
-  where
-    by_letters : (rest : List Letter) → letters ≡ rest → event_limit ≤ n → n < event_limit
-    by_letters [] is over = let bad = calm is in absurd (cc)
-    by_letters (letter ∷ rest) is over = let bad = full (over, λ none. let both : letter ∷ rest ≡ [] = sym is ∙ none in absurd (cc)) in absurd (cc)
-
-    by_order : (n < event_limit) ⊎ (event_limit ≤ n) → n < event_limit
-    by_order (inl below) = below
-    by_order (inr over) = by_letters letters refl over
 
 -- a settle that has taken its messages, or all, is whole
 settled : (header : Header) (outside : Outside) (line count : ℕ) (run : List Numbered) (h : List Event) → (takings h ≡ count) ⊎ (undelivered h ≡ [])

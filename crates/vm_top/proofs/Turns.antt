@@ -1,5 +1,5 @@
 -- A command's step keeps what a run keeps, or stops it.
-use Rattle.std.proofs.Common.{◌≡◌, ℕ, ◌+◌, ◌-◌, ◌<◌, ◌≤◌, ◌⊎◌, inl, inr, List, [], ◌∷◌, ◌++◌, length, reverse, slice_get, take, true, false, Option, Some, None, Err, refl, ap, sym, ◌∙◌, subst, arith, append_assoc, append-nil}
+use Rattle.std.proofs.Common.{◌≡◌, ℕ, ◌+◌, ◌-◌, ◌<◌, ◌≤◌, ◌⊎◌, inl, inr, List, [], ◌∷◌, ◌++◌, Bool, length, reverse, slice_get, take, true, false, Option, Some, None, Err, refl, ap, sym, ◌∙◌, subst, arith, append_assoc, append-nil}
 use Rattle.std.specs.Prelude.{IsErrOf}
 use Rattle.std.specs.Io.KnownBytes.{Appends}
 use Rattle.std.proofs.KnownBytes.{Appends-nil}
@@ -17,10 +17,10 @@ use Rattle.vm_legal.specs.Legal.{LegalFor}
 use Rattle.vm_legal.specs.Outside.{Outside}
 use Rattle.vm_legal.specs.Steps.{takings}
 use Rattle.vm_outside.specs.Arming.{Arming, ArmedLater}
-use Rattle.vm_system.specs.Steps.{DevicesHaveCause, Grew, IsNext, KeepsLegal, LeavesFiles, LeavesPaging, LegalCut, LegalOpen, MayCut, IsBelowLimit, arms_paging, event_limit, is_built, is_held_up, settles, took_up}
+use Rattle.vm_system.specs.Steps.{DevicesHaveCause, Grew, IsNext, KeepsLegal, LeavesFiles, LeavesPaging, LegalCut, LegalOpen, MayCut, IsBelowLimit, StopsAt, arms_paging, event_limit, is_built, is_held_up, settles, takes_up, took_up}
 use Rattle.vm_system.specs.declared.stop.SystemStop.{SystemStop}
 use Rattle.vm_system.specs.declared.stop.SystemStop.TheVariants as stops
-use Rattle.vm_top.specs.Arming.{FailuresCounted, ran_of}
+use Rattle.vm_top.specs.Arming.{FailuresCounted, is_untouched, ran_of}
 use Rattle.vm_top.specs.Run.{CutIn, IsPart, IsRunnable, RanAs, front_of, shown, unbuilt_line}
 use Rattle.vm_top.specs.Running.{Arms, IsNextOf, Running, Runs, Stops, Turned}
 use Rattle.vm_top.specs.Writing.{WroteBeyond, WroteStart, oldest}
@@ -28,8 +28,8 @@ use Rattle.vm_top.specs.declared.run.RunEnd.{RunEnd}
 use Rattle.vm_top.specs.declared.run.RunEnd.TheVariants as ends
 use Rattle.vm_top.specs.declared.words.Report.{Report}
 use Rattle.vm_top.specs.declared.words.Report.TheVariants as reports
-use Rattle.vm_top.proofs.Arms.{arms_of, failures_step, files_step, paging_step}
-use Rattle.vm_top.proofs.Counting.{lines_more, takings_none}
+use Rattle.vm_top.proofs.Arms.{arms_later, arms_of, arms_up, failures_step, files_step, paging_step, up_unarmed}
+use Rattle.vm_top.proofs.Counting.{lines_more, takings_none, untouched_up}
 use Rattle.vm_top.proofs.Starts.{legal_start, next_built, next_unbuilt, oldest_all, oldest_none, open_of, order_at, order_left, order_next, range_at}
 use Rattle.vm_top.proofs.Writings.{front_start, oldest_step, start_all}
 
@@ -177,18 +177,46 @@ pub shown_stops : {F P : Type 0} (report : Report) (given : Running F P) (n : Nu
     → (how ≡ ends.Failed → (report ≡ reports.History) × WroteBeyond given.start now (text old) (text new)) → (how ≡ ends.NoMemory → Appends given.start now (shown report old))
     → (how ≡ ends.Failed) ⊎ (how ≡ ends.NoMemory) → Stops report given new now f1 p1 e1 how
 shown_stops report given n old new now f1 p1 e1 how follows front grew step failed none (inl is) =
-    subst (Stops report given new now f1 p1 e1) (sym is) (record { ran = turn_failed report given n old new now f1 p1 e1 follows front step (failed is); below = step.left.below; arms = λ other. step.left.arms; failed = step.left.failed })
+    subst (Stops report given new now f1 p1 e1) (sym is) (record { ran = turn_failed report given n old new now f1 p1 e1 follows front step (failed is); below = step.left.below; arms = step.left.arms; failed = step.left.failed })
 shown_stops report given n old new now f1 p1 e1 how follows front grew step failed none (inr is) =
-    subst (Stops report given new now f1 p1 e1) (sym is) (record { ran = turn_unshown report given n old new now f1 p1 e1 follows grew step (none is); below = step.left.below; arms = λ other. step.left.arms; failed = step.left.failed })
+    subst (Stops report given new now f1 p1 e1) (sym is) (record { ran = turn_unshown report given n old new now f1 p1 e1 follows grew step (none is); below = step.left.below; arms = step.left.arms; failed = step.left.failed })
+
+-- how the backings are armed where memory ended in the step
+pub record Halted {F P : Type 0} (n : Numbered) (old new : List Event) (f0 f1 : Arming F) (p0 p1 : Arming P) : Type 0 where
+  pub unarmed : f1 ≡ f0
+  pub later : arms_paging n.command ≡ None → ArmedLater p0.left p0.reached p1.left p1.reached
+  pub calm : takes_up n.command ≡ false → (new ≡ old) × (p1 ≡ p0)
+  pub stops : StopsAt before_last_line old new p0 p1
+
+arms_halted : {F P : Type 0} (given : Running F P) (n : Numbered) (old new : List Event) (f0 f1 : Arming F) (p0 p1 : Arming P) → IsNextOf given.script n old → LegalFor given.script.header given.outside (ran_of given.script old) old
+    → MayCut given.script.header given.outside n old new → Halted n old new f0 f1 p0 p1 → Arms given old f0 p0 → Arms given new f1 p1
+arms_halted given n old new f0 f1 p0 p1 follows legal may halted was = by (takes_up n.command) refl
+  where
+    same_ran : new ≡ old → ran_of given.script new ≡ ran_of given.script old
+    same_ran same = ap (ran_of given.script) same
+
+    here : before_last_line new ≡ old → LegalCut given.script.header given.outside (n ∷ ran_of given.script old) new → ran_of given.script new ≡ n ∷ ran_of given.script old
+    here front cut =
+        let made = cut.follows in
+        ap (λ z. oldest z given.script.commands.items) (lines_more new old made.1 made.0 n.line front made.2) ∙ follows
+
+    at : takes_up n.command ≡ true → ArmedLater p0.left p0.reached p1.left p1.reached → StopsAt before_last_line old new p0 p1 → MayCut given.script.header given.outside n old new → Arms given new f1 p1
+    at up later (inl same) cut = arms_later given old new f0 f1 p0 p1 (same_ran same.0) halted.unarmed later (λ un. (same.1, subst (λ z. is_untouched (ran_of given.script old) z ≡ true) same.0 un)) was
+    at up later (inr took) (inl same) = arms_later given old new f0 f1 p0 p1 (same_ran same) halted.unarmed later (λ un. absurd (untouched_up (ran_of given.script old) new took.1 un)) was
+    at up later (inr took) (inr cut) = arms_up given n old new f0 f1 p0 p1 (here took.0 (cut (ran_of given.script old) legal)) up halted.unarmed later took.1 was
+
+    by : (b : Bool) → takes_up n.command ≡ b → Arms given new f1 p1
+    by false down = let both = halted.calm down in subst (λ z. Arms given z f1 p1) (sym both.0) (subst (λ z. Arms given old z p1) (sym halted.unarmed) (subst (λ z. Arms given old f0 z) (sym both.1) was))
+    by true up = at up (halted.later (up_unarmed n.command up).0) halted.stops may
 
 -- how a turn stops in its step
 pub step_stops : {F P : Type 0} (report : Report) (given : Running F P) (n : Numbered) (old new : List Event) (now : Option (List ℕ)) (f0 f1 : Arming F) (p0 p1 : Arming P) (e0 e1 : ℕ)
-    → Runs report given old now f0 p0 e0 → IsNextOf given.script n old → Grew old new → length old < event_limit → MayCut given.script.header given.outside n old new → DevicesHaveCause e0 e1 old new
+    → Runs report given old now f0 p0 e0 → IsNextOf given.script n old → Grew old new → length old < event_limit → MayCut given.script.header given.outside n old new → Halted n old new f0 f1 p0 p1 → DevicesHaveCause e0 e1 old new
     → Stops report given new now f1 p1 e1 ends.NoMemory
-step_stops report given n old new now f0 f1 p0 p1 e0 e1 runs follows grew below may devices = record {
+step_stops report given n old new now f0 f1 p0 p1 e0 e1 runs follows grew below may halted devices = record {
   ran = turn_cut report given n old new now follows grew runs.legal may runs.keeps.written;
   below = grew.limit below runs.keeps.below;
-  arms = λ other. absurd (other refl);
+  arms = arms_halted given n old new f0 f1 p0 p1 follows runs.legal may halted runs.keeps.arms;
   failed = failures_step given.faults e0 e1 old new devices runs.keeps.failed;
 }
 
@@ -232,7 +260,7 @@ unbuilt_stops report given n h now f p e runs follows unbuilt = record {
     runs.keeps.written,
   );
   below = runs.keeps.below;
-  arms = λ other. runs.keeps.arms;
+  arms = runs.keeps.arms;
   failed = runs.keeps.failed;
 }
 
@@ -251,7 +279,7 @@ held_up_stops report given n h now f p e runs follows built below held = record 
     runs.keeps.written,
   );
   below = runs.keeps.below;
-  arms = λ other. runs.keeps.arms;
+  arms = runs.keeps.arms;
   failed = runs.keeps.failed;
 }
 
@@ -273,7 +301,7 @@ full_stops report given n h now f p e runs follows built full = record {
     runs.keeps.written,
   );
   below = runs.keeps.below;
-  arms = λ other. runs.keeps.arms;
+  arms = runs.keeps.arms;
   failed = runs.keeps.failed;
 }
 
@@ -315,7 +343,7 @@ all_stops report given h now f p e runs all =
         runs.keeps.written,
       );
       below = runs.keeps.below;
-      arms = λ other. runs.keeps.arms;
+      arms = runs.keeps.arms;
       failed = runs.keeps.failed;
     }
 
@@ -335,7 +363,7 @@ start_run report given files paging =
         written = shown_none given.start report;
         arms = arms_of given [] [] given.files given.paging none
             (record { inner = refl; reached = refl; none = λ none. files; some = λ count some. absurd (cc) })
-            (record { left = record { none = λ none. (paging, refl); some = λ count some. absurd (cc); untouched = λ count some un. absurd (cc) }; rising = omega arith });
+            (record { left = record { none = λ none. (paging, refl); some = λ count some. absurd (cc); untouched = λ count some un. absurd (cc); few = omega arith }; rising = omega arith; spare = inr (paging, omega arith) });
         failed = inl (omega arith);
       };
       legal = subst (λ z. LegalFor given.script.header given.outside z []) (sym none) (legal_start given.script.header given.outside);

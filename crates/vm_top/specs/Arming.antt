@@ -26,6 +26,11 @@ abbrev pub last_arming : (Command → Option ℕ) → List Numbered → Option �
 last_arming arms [] = None
 last_arming arms (numbered ∷ before) = elim (arms numbered.command) [ Some count ↦ Some count | None ↦ last_arming arms before ]
 
+-- how many commands arm
+abbrev pub armings : (Command → Option ℕ) → List Numbered → ℕ
+armings arms [] = 0
+armings arms (numbered ∷ before) = if is_some (arms numbered.command) then armings arms before + 1 else armings arms before
+
 -- no pager took a message since the last command that armed the paging area
 abbrev pub is_untouched : List Numbered → List Event → Bool
 is_untouched run [] = true
@@ -41,13 +46,18 @@ pub record FilesLeft {B : Type 0} (run : List Numbered) (old new : Arming B) : T
   pub none : last_arming arms_files run ≡ None → new.left ≡ 0
   pub some : (count : ℕ) → last_arming arms_files run ≡ Some count → new.left ≡ count
 
--- where no `fail` of the paging area was run it isn't armed; else it is, or an armed failure was reached; and it is armed with the last one's number
--- where no pager took a message since
+-- where no `fail` of the paging area was run it isn't armed; else it is, or an armed failure was reached; it is armed with the last one's number
+-- where no pager took a message since; and at most as many armed failures were reached as `fail` commands were run
 pub record PagingLeft {B : Type 0} (run : List Numbered) (history : List Event) (old new : Arming B) : Type 0 where
   pub none : last_arming arms_paging run ≡ None → (new.left ≡ 0) × (new.reached ≡ old.reached)
   pub some : (count : ℕ) → last_arming arms_paging run ≡ Some count → (0 < new.left) ⊎ Rose old.reached new.reached
   pub untouched : (count : ℕ) → last_arming arms_paging run ≡ Some count → is_untouched run history ≡ true → new.left ≡ count
+  pub few : new.reached ≤ old.reached + armings arms_paging run
 
 -- the failures of the paging area that were told are at most as many as its count of faults rose, unless that stands at its last value
 abbrev pub FailuresCounted : ℕ → ℕ → List Event → Type 0
 FailuresCounted before now history = (devices history + before ≤ now) ⊎ Rose now now
+
+-- and at most as many as the backing within failed of its own and `fail` commands were run, unless the whole count stands at its last value
+abbrev pub FailuresBounded : List Numbered → ℕ → ℕ → ℕ → List Event → Type 0
+FailuresBounded run before now whole history = (devices history + before ≤ now + armings arms_paging run) ⊎ Rose whole whole

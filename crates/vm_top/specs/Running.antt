@@ -1,5 +1,5 @@
 -- What a run keeps between its steps, and how it stops.
-use Rattle.std.specs.Prelude.{ℕ, ◌+◌, ◌≡◌, ◌≢◌, ◌≤◌, List, ◌∷◌, Option, None}
+use Rattle.std.specs.Prelude.{ℕ, ◌+◌, ◌≡◌, ◌⊎◌, ◌≤◌, List, ◌∷◌, Option, None}
 use Rattle.std.specs.Io.KnownBytes.{Appends}
 use Rattle.vm_model.specs.declared.event.Event.{Event}
 use Rattle.vm_model.specs.declared.command.Command.{Command}
@@ -10,12 +10,11 @@ use Rattle.vm_legal.specs.Legal.{LegalFor}
 use Rattle.vm_legal.specs.Outside.{Outside}
 use Rattle.vm_outside.specs.Arming.{Arming}
 use Rattle.vm_outside.specs.Causes.{next_count}
-use Rattle.vm_system.specs.Steps.{IsBelowLimit, IsNext, LegalOpen}
-use Rattle.vm_top.specs.Arming.{FailuresCounted, FilesLeft, PagingLeft, ran_of}
+use Rattle.vm_system.specs.Steps.{IsBelowLimit, IsNext, LegalOpen, arms_paging}
+use Rattle.vm_top.specs.Arming.{FailuresCounted, FilesLeft, PagingLeft, armings, ran_of}
 use Rattle.vm_top.specs.Run.{RanAs, shown, unbuilt_line}
 use Rattle.vm_top.specs.Writing.{oldest}
 use Rattle.vm_top.specs.declared.run.RunEnd.{RunEnd}
-use Rattle.vm_top.specs.declared.run.RunEnd.TheVariants as end
 use Rattle.vm_top.specs.declared.words.Report.{Report}
 
 -- what is told to a run: its script, what is told of the outside, and what stood in the sink and in the backings in front of it
@@ -36,10 +35,12 @@ pub record Taking (F P : Type 0) : Type 0 where
 abbrev pub IsNextOf : Script → Numbered → List Event → Type 0
 IsNextOf script numbered history = oldest (count_of is_line history + 1) script.commands.items ≡ numbered ∷ oldest (count_of is_line history) script.commands.items
 
--- the arming of the paging area between two steps; its count of reached failures rose where one was reached
+-- the arming of the paging area between two steps; its count of reached failures rose where one was reached, and stands below the number of `fail`
+-- commands where it is armed
 pub record PagingRuns {B : Type 0} (run : List Numbered) (history : List Event) (old new : Arming B) : Type 0 where
   pub left : PagingLeft run history old new
   pub rising : next_count old.reached ≤ next_count new.reached
+  pub spare : (new.reached + 1 ≤ old.reached + armings arms_paging run) ⊎ ((new.left ≡ 0) × (new.reached ≤ old.reached + armings arms_paging run))
 
 -- how the backings are armed between two steps
 pub record Arms {F P : Type 0} (given : Running F P) (history : List Event) (f : Arming F) (p : Arming P) : Type 0 where
@@ -78,5 +79,5 @@ pub record Settles {F P : Type 0} (report : Report) (given : Taking F P) (histor
 pub record Stops {F P : Type 0} (report : Report) (given : Running F P) (history : List Event) (now : Option (List ℕ)) (f : Arming F) (p : Arming P) (faults : ℕ) (how : RunEnd) : Type 0 where
   pub ran : RanAs report given.script given.outside history how given.start now
   pub below : IsBelowLimit history
-  pub arms : how ≢ end.NoMemory → Arms given history f p
+  pub arms : Arms given history f p
   pub failed : FailuresCounted given.faults faults history

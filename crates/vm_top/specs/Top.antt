@@ -1,6 +1,7 @@
 -- What the top call promises, status by status.
-use Rattle.std.specs.Prelude.{ℕ, ◌≡◌, ◌⊎◌, List, [], ◌++◌, codes, Option, Some, None, Ok, Err}
+use Rattle.std.specs.Prelude.{ℕ, ◌≡◌, ◌⊎◌, true, List, [], ◌++◌, codes, Option, Some, None, IsSome, Ok, Err}
 use Rattle.std.specs.Io.KnownBytes.{Appends, Keeps}
+use Rattle.vm_model.specs.declared.command.Numbered.{Numbered}
 use Rattle.vm_model.specs.declared.event.Event.{Event}
 use Rattle.vm_model.specs.declared.fault.ScriptFault.{ScriptFault}
 use Rattle.vm_model.specs.declared.fault.ScriptFault.TheVariants as fault
@@ -13,6 +14,7 @@ use Rattle.vm_text.specs.Script.{script_of, seen}
 use Rattle.vm_text.specs.Unbuilt.{IsBuilt, unbuilt_of}
 use Rattle.vm_outside.specs.Areas.{Told}
 use Rattle.vm_outside.specs.Arming.{Arming}
+use Rattle.pg_slots.specs.Contents.{area_name}
 use Rattle.vm_system.specs.Keeping.{KeepsPages}
 use Rattle.vm_top.specs.Arming.{FilesLeft, PagingLeft, ran_of}
 use Rattle.vm_top.specs.Run.{CutIn, FailedIn, IsFull, IsStuck, IsWhole, report_text}
@@ -158,16 +160,20 @@ IsNoMemory told outside report script history before after =
     ⊎ ((IsCut told outside script history × WroteStart before after (report_text report history))
     ⊎ (WroteStopped told outside script history before after ⊎ WroteBad told script history before after))
 
--- each page that was returned and not lost stands at its slot
+-- the paging area goes on telling, and each page that was returned and not lost stands at its slot
 abbrev pub KeptAt : Outside → (List ℕ → Told) → Option Script → List Event → Type 0
-KeptAt outside areas None history = Unit {0}
+KeptAt outside areas None history = outside.paging ≡ true → IsSome (areas (area_name 0))
 KeptAt outside areas (Some script) history = KeepsPages script.header outside areas history
 
--- how the files are armed, by the commands that were run
+-- the commands that were run
+abbrev pub run_of : Option Script → List Event → List Numbered
+run_of None history = []
+run_of (Some script) history = ran_of script history
+
+-- how they leave the files and the paging area armed
+
 abbrev pub FilesEnd : {B : Type 0} → Option Script → List Event → Arming B → Arming B → Type 0
-FilesEnd None history old new = FilesLeft [] old new
-FilesEnd (Some script) history old new = FilesLeft (ran_of script history) old new
+FilesEnd script history old new = FilesLeft (run_of script history) old new
 
 abbrev pub PagingEnds : {B : Type 0} → Option Script → List Event → Arming B → Arming B → Type 0
-PagingEnds None history old new = PagingLeft [] history old new
-PagingEnds (Some script) history old new = PagingLeft (ran_of script history) history old new
+PagingEnds script history old new = PagingLeft (run_of script history) history old new

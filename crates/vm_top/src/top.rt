@@ -7,10 +7,10 @@ ghost use Rattle.vm_model.specs.declared.script.Script.{Script};
 ghost use Rattle.vm_model.specs.Ranges.{KeepsRanges};
 ghost use Rattle.vm_outside.specs.Causes.{Rose};
 ghost use Rattle.vm_top.specs.Ending.{EndsAs, HasEnded, Tells, status_after};
-ghost use Rattle.vm_top.specs.Top.{IsBad, IsDone, IsEventLimit, NothingRun, IsOutputFault, IsNoMemory, IsNotBuilt, NothingDone, OfBytes, KeptAt, FilesEnd, PagingEnds, bad_text, not_built_text, usage_text};
+ghost use Rattle.vm_top.specs.Top.{IsBad, IsDone, IsEventLimit, NothingRun, IsOutputFault, IsNoMemory, IsNotBuilt, NothingDone, OfBytes, KeptAt, FilesEnd, PagingEnds, bad_text, not_built_text, run_of, usage_text};
 ghost use Rattle.vm_legal.specs.Outside.{Outside};
 ghost use Rattle.vm_system.specs.Steps.{IsBelowLimit};
-ghost use Rattle.vm_top.specs.Arming.{FailuresCounted};
+ghost use Rattle.vm_top.specs.Arming.{FailuresBounded, FailuresCounted};
 ghost use Rattle.vm_top.specs.Reading.{LeavesBytes, LeavesSource};
 ghost use Rattle.vm_top.specs.Resting.{CarriesAll, WaitsForFramesAlone};
 ghost use Rattle.vm_top.specs.Run.{IsRunnable, RanAs, outside_of};
@@ -181,9 +181,10 @@ fn run_read<K: Sink, F: Backing, P: Backing>(
     ensures cause { result.status ≡ Status.OutputFault → Rose (K.faults out.old) (K.faults out.new) }
     ensures later { K.faults out.old ≤ K.faults out.new }
     ensures kept { KeptAt (outside_of (P.area paging.old.inner)) (P.area paging.new.inner) result.script result.history.items }
-    ensures files { result.status ≢ Status.NoMemory → FilesEnd result.script result.history.items files.old files.new }
-    ensures paging { result.status ≢ Status.NoMemory → PagingEnds result.script result.history.items paging.old paging.new }
+    ensures files { FilesEnd result.script result.history.items files.old files.new }
+    ensures paging { PagingEnds result.script result.history.items paging.old paging.new }
     ensures devices { FailuresCounted (⟦<Armed<P> as Backing>⟧.faults paging.old) (⟦<Armed<P> as Backing>⟧.faults paging.new) result.history.items }
+    ensures bounded { FailuresBounded (run_of result.script result.history.items) (P.faults paging.old.inner) (P.faults paging.new.inner) (⟦<Armed<P> as Backing>⟧.faults paging.new) result.history.items }
 {
     let ran = run_script(alloc, report, &script, out, files, paging);
     let status = finish(alloc, report, &ran, out);
@@ -223,9 +224,10 @@ fn run<S: Source, K: Sink, F: Backing, P: Backing>(
     ensures source_later { S.faults source.old ≤ S.faults source.new }
     ensures sink_later { K.faults out.old ≤ K.faults out.new }
     ensures kept { KeptAt (outside_of (P.area paging.old.inner)) (P.area paging.new.inner) result.script result.history.items }
-    ensures files { (result.status ≢ Status.NoMemory) ⊎ (result.script ≡ None) → FilesEnd result.script result.history.items files.old files.new }
-    ensures paging { (result.status ≢ Status.NoMemory) ⊎ (result.script ≡ None) → PagingEnds result.script result.history.items paging.old paging.new }
+    ensures files { FilesEnd result.script result.history.items files.old files.new }
+    ensures paging { PagingEnds result.script result.history.items paging.old paging.new }
     ensures devices { FailuresCounted (⟦<Armed<P> as Backing>⟧.faults paging.old) (⟦<Armed<P> as Backing>⟧.faults paging.new) result.history.items }
+    ensures bounded { FailuresBounded (run_of result.script result.history.items) (P.faults paging.old.inner) (P.faults paging.new.inner) (⟦<Armed<P> as Backing>⟧.faults paging.new) result.history.items }
 {
     let bytes = match read_all(alloc, source) {
         Ok(bytes) => bytes,
@@ -321,13 +323,14 @@ pub fn pagers_main<S: Source, K: Sink, F: Backing, P: Backing>(
     ensures source_later { S.faults script.old ≤ S.faults script.new }
     ensures sink_later { K.faults out.old ≤ K.faults out.new }
 
-    // At every status each page that was returned and not lost stands at its slot. An arming that stood before is gone, and `fail` alone
-    // arms; where memory ended while a script was run, the arming is not told. A failure of the paging area is told only where its count
-    // of faults rose.
+    // At every status, where the paging area told before it tells now, and each page that was returned and not lost stands at its slot. An
+    // arming that stood before is gone, and `fail` alone arms. Failures of the paging area are told at most as often as its count of faults
+    // rose, and as the backing within failed of its own and `fail` commands were run.
     ensures kept { KeptAt (outside_of (P.area paging.old.inner)) (P.area paging.new.inner) result.script result.history.items }
-    ensures files { (result.status ≢ Status.NoMemory) ⊎ (result.script ≡ None) → FilesEnd result.script result.history.items files.old files.new }
-    ensures paging { (result.status ≢ Status.NoMemory) ⊎ (result.script ≡ None) → PagingEnds result.script result.history.items paging.old paging.new }
+    ensures files { FilesEnd result.script result.history.items files.old files.new }
+    ensures paging { PagingEnds result.script result.history.items paging.old paging.new }
     ensures devices { FailuresCounted (⟦<Armed<P> as Backing>⟧.faults paging.old) (⟦<Armed<P> as Backing>⟧.faults paging.new) result.history.items }
+    ensures bounded { FailuresBounded (run_of result.script result.history.items) (P.faults paging.old.inner) (P.faults paging.new.inner) (⟦<Armed<P> as Backing>⟧.faults paging.new) result.history.items }
 {
     files.disarm();
     paging.disarm();

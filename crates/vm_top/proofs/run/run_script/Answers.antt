@@ -1,10 +1,11 @@
 use Rattle.std.proofs.Common.{refl, subst, sym}
 use Rattle.vm_outside.specs.Causes.{sum_count}
 use Rattle.vm_system.specs.Keeping.{KeepsPages}
-use Rattle.vm_system.specs.Steps.{IsBelowLimit}
-use Rattle.vm_top.specs.Arming.{FailuresCounted, FilesLeft, PagingLeft, ran_of}
+use Rattle.vm_system.specs.Steps.{IsBelowLimit, arms_paging, devices}
+use Rattle.vm_top.specs.Arming.{FailuresBounded, FailuresCounted, FilesLeft, PagingLeft, armings, ran_of}
 use Rattle.vm_top.specs.Run.{RanAs, outside_of}
 use Rattle.vm_top.specs.Running.{Running}
+use Rattle.vm_top.proofs.Arms.{bounded}
 use Rattle.vm_top.proofs.Keeping.{kept_none, kept_pages, told_of}
 use Rattle.vm_top.proofs.Turns.{nothing_ran, start_runs}
 use Rattle.vm_top.proofs.run.run_script.Goals as goal
@@ -48,12 +49,22 @@ returns-clause-kept g c =
     subst (λ z. KeepsPages c.args.script.now.header outside areas z.items) (sym c.into_history.ensures) (kept_pages c.args.script.now.header outside areas c.run_all-end.new.system c.run_all-end.ensures.kept)
 
 pub returns-clause-files : goal.returns-clause-files
-returns-clause-files g c = λ other.
-    subst (λ z. FilesLeft (ran_of c.args.script.now z.items) c.args.files.now c.run_all-end.new.files) (sym c.into_history.ensures) (c.run_all-end.ensures.stops.arms other).files
+returns-clause-files g c = subst (λ z. FilesLeft (ran_of c.args.script.now z.items) c.args.files.now c.run_all-end.new.files) (sym c.into_history.ensures) c.run_all-end.ensures.stops.arms.files
 
 pub returns-clause-paging : goal.returns-clause-paging
-returns-clause-paging g c = λ other.
-    subst (λ z. PagingLeft (ran_of c.args.script.now z.items) z.items c.args.paging.now c.run_all-end.new.paging) (sym c.into_history.ensures) (c.run_all-end.ensures.stops.arms other).paging.left
+returns-clause-paging g c =
+    subst (λ z. PagingLeft (ran_of c.args.script.now z.items) z.items c.args.paging.now c.run_all-end.new.paging) (sym c.into_history.ensures) c.run_all-end.ensures.stops.arms.paging.left
+
+pub returns-clause-bounded : goal.returns-clause-bounded
+returns-clause-bounded g c =
+    let i0 = g.P.Backing.faults c.args.paging.now.inner in
+    let i1 = g.P.Backing.faults c.run_all-end.new.paging.inner in
+    let r0 = c.args.paging.now.reached in
+    let r1 = c.run_all-end.new.paging.reached in
+    let h = c.run_all-end.new.system.history.items in
+    let run = ran_of c.args.script.now h in
+    let stops = c.run_all-end.ensures.stops in
+    subst (λ z. FailuresBounded (ran_of c.args.script.now z.items) i0 i1 (sum_count i1 r1) z.items) (sym c.into_history.ensures) (bounded (devices h) i0 i1 r0 r1 (armings arms_paging run) stops.failed stops.arms.paging.left.few)
 
 pub returns-clause-devices : goal.returns-clause-devices
 returns-clause-devices g c =
@@ -66,6 +77,28 @@ returns-in_default-clause-ran g c =
     nothing_ran c.args.report c.args.script.now (outside_of (g.P.Backing.area c.args.paging.now.inner)) c.new-in_default.result.items (g.K.Sink.written c.args.out.now) c.new-in_default.ensures
 
 pub returns-in_default-clause-kept : goal.returns-in_default-clause-kept
-returns-in_default-clause-kept g c =
-    let outside = outside_of (g.P.Backing.area c.args.paging.now.inner) in
-    subst (KeepsPages c.args.script.now.header outside (g.P.Backing.area c.args.paging.now.inner)) (sym c.new-in_default.ensures) (kept_none c.args.script.now.header outside (g.P.Backing.area c.args.paging.now.inner))
+returns-in_default-clause-kept g c = kept_none c.args.script.now.header (g.P.Backing.area c.args.paging.now.inner) c.new-in_default.result.items c.new-in_default.ensures
+
+pub returns-in_default-clause-files : goal.returns-in_default-clause-files
+returns-in_default-clause-files g c =
+    let given : Running g.row.F.Denot g.row.P.Denot = record {
+      script = c.args.script.now;
+      outside = outside_of (g.P.Backing.area c.args.paging.now.inner);
+      start = g.K.Sink.written c.args.out.now;
+      files = c.args.files.now;
+      paging = c.args.paging.now;
+      faults = sum_count (g.P.Backing.faults c.args.paging.now.inner) c.args.paging.now.reached;
+    } in
+    (start_runs c.args.report given c.new-in_default.result.items c.new-in_default.ensures c.requires.files c.requires.paging).keeps.arms.files
+
+pub returns-in_default-clause-paging : goal.returns-in_default-clause-paging
+returns-in_default-clause-paging g c =
+    let given : Running g.row.F.Denot g.row.P.Denot = record {
+      script = c.args.script.now;
+      outside = outside_of (g.P.Backing.area c.args.paging.now.inner);
+      start = g.K.Sink.written c.args.out.now;
+      files = c.args.files.now;
+      paging = c.args.paging.now;
+      faults = sum_count (g.P.Backing.faults c.args.paging.now.inner) c.args.paging.now.reached;
+    } in
+    (start_runs c.args.report given c.new-in_default.result.items c.new-in_default.ensures c.requires.files c.requires.paging).keeps.arms.paging.left

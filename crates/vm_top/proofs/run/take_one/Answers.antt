@@ -7,7 +7,8 @@ use Rattle.vm_top.specs.Run.{shown}
 use Rattle.vm_top.specs.Running.{Stops}
 use Rattle.vm_top.specs.Writing.{WroteBeyond, oldest}
 use Rattle.vm_top.specs.declared.run.RunEnd.TheVariants as ends
-use Rattle.vm_top.proofs.Settling.{Took, below_of, held, held_stops, settles_on, stops_same, take_full, take_stops}
+use Rattle.vm_system.proofs.Settled.{below_of}
+use Rattle.vm_top.proofs.Settling.{Took, held, held_stops, settles_on, stops_same, take_full, take_stops}
 use Rattle.vm_top.proofs.Turns.{same_end, step_ends}
 use Rattle.vm_top.proofs.Writings.{oldest_before}
 use Rattle.vm_top.proofs.run.take_one.Goals as goal
@@ -133,6 +134,6 @@ returns-in-Err-clause-stops g c = λ end is.
           let err : c.take_oldest.result ≡ Err c.in-Err.stop = c.in-Err.is in
           subst (Stops c.args.report g.given.running new written c.take_oldest.new.files c.take_oldest.new.paging e1) (sym none.1)
           (take_stops c.args.report g.given old new written c.args.files.now c.take_oldest.new.files c.args.paging.now c.take_oldest.new.paging e0 e1
-          c.requires.1.1.1.1.1.0 all.grew (below_of c.take_oldest.result (undelivered old) (length old) all.calm all.full.1 (err ∙ ap Err none.0)) (all.memory (err ∙ ap Err none.0)) all.devices)
+          c.requires.1.1.1.1.1.0 all.grew (below_of c.take_oldest.result (undelivered old) (length old) all.calm all.full.1 (err ∙ ap Err none.0)) (all.memory (err ∙ ap Err none.0)) all.files all.later.1 (all.stops (err ∙ ap Err none.0)) all.devices)
     ] in
     stop

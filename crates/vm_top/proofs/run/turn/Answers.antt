@@ -6,7 +6,7 @@ use Rattle.vm_system.specs.Steps.{event_limit}
 use Rattle.vm_top.specs.Run.{shown}
 use Rattle.vm_top.specs.Running.{Stops}
 use Rattle.vm_top.specs.Writing.{WroteBeyond, oldest}
-use Rattle.vm_top.proofs.Turns.{Stepped, made, same_end, shown_stops, step_ends, step_stops, turned}
+use Rattle.vm_top.proofs.Turns.{Halted, Stepped, made, same_end, shown_stops, step_ends, step_stops, turned}
 use Rattle.vm_top.proofs.Writings.{oldest_before}
 use Rattle.vm_top.proofs.run.turn.Goals as goal
 
@@ -19,12 +19,18 @@ returns-in-Err-clause-stops g c = λ end is.
     let step = c.step.ensures in
     let below : length old < event_limit = c.requires.1.1.1.1.1.1.1.1.0 in
     let same : c.end_of.result ≡ end = same_end is in
+    let halted : Halted c.args.numbered.now old new c.args.files.now c.step.new.files c.args.paging.now c.step.new.paging = record {
+      unarmed = c.in-Err.ensures.unarmed;
+      later = λ none. (step.later none).1;
+      calm = c.in-Err.ensures.calm;
+      stops = c.in-Err.ensures.stops;
+    } in
     let stop : Stops c.args.report g.given new (g.K.Sink.written c.args.out.now) c.step.new.files c.step.new.paging e1 end = elim (step_ends c.in-Err.stop c.end_of.result end c.end_of.ensures.full c.end_of.ensures.none same) [
       | inl full ↦ let over : event_limit ≤ length old = step.full.0 (c.in-Err.is ∙ ap Err full.0) in absurd (omega arith)
       | inr none ↦
           subst (Stops c.args.report g.given new (g.K.Sink.written c.args.out.now) c.step.new.files c.step.new.paging e1) (sym none.1)
           (step_stops c.args.report g.given c.args.numbered.now old new (g.K.Sink.written c.args.out.now) c.args.files.now c.step.new.files c.args.paging.now c.step.new.paging e0 e1
-          c.requires.1.1.1.1.1.1.1.1.1.0 c.requires.1.1.1.1.1.1.1.1.1.1 step.grew below (step.memory (c.in-Err.is ∙ ap Err none.0)) step.devices)
+          c.requires.1.1.1.1.1.1.1.1.1.0 c.requires.1.1.1.1.1.1.1.1.1.1 step.grew below (step.memory (c.in-Err.is ∙ ap Err none.0)) halted step.devices)
     ] in
     stop
 

@@ -7,6 +7,7 @@ use Rattle.vm_top.specs.Top.{bad_text}
 use Rattle.vm_top.proofs.Ends.{bad_from, bad_of, done_of, full_of, header_not_built, header_stops, header_wrote, held_ranges, memory_of, never_read, not_built_of, output_of, read_from, ready_of, runnable, tells_start, unbuilt_from}
 use Rattle.vm_top.proofs.Resting.{none_carry, none_wait_for_frames}
 use Rattle.vm_top.proofs.Readings.{failed_leaves, read_leaves, stopped_leaves, tells_no_read}
+use Rattle.vm_top.proofs.Keeping.{kept_none}
 use Rattle.vm_top.proofs.top.run.Goals as goal
 
 pub returns-in-Err-Bad-clause-output : goal.returns-in-Err-Bad-clause-output
@@ -111,3 +112,6 @@ returns-clause-quiet g c = λ uncut. none_wait_for_frames c.in-Ok-read_script.sc
 
 pub returns-clause-carried : goal.returns-clause-carried
 returns-clause-carried g c = λ uncut. none_carry c.in-Ok-read_script.script c.new.result.items c.new.ensures
+
+pub returns-clause-kept : goal.returns-clause-kept
+returns-clause-kept g c = kept_none c.in-Ok-read_script.script.header (g.P.Backing.area c.args.paging.now.inner) c.new.result.items c.new.ensures

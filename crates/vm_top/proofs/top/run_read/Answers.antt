@@ -1,9 +1,6 @@
 use Rattle.vm_top.proofs.Resting.{carries_all, waits_for_frames}
 use Rattle.vm_top.proofs.top.run_read.Goals as goal
 
-pub returns-clause-paging : goal.returns-clause-paging
-returns-clause-paging g c = λ some. c.run_script-ran.ensures.paging (λ none. some (c.finish-status.ensures.memory none))
-
 pub returns-clause-quiet : goal.returns-clause-quiet
 returns-clause-quiet g c = λ uncut.
     waits_for_frames c.args.report c.args.script _ _ _ _ c.finish-status.result c.requires.run (c.finish-status.ensures.ends c.args.script _ _ c.run_script-ran.ensures.ran) uncut

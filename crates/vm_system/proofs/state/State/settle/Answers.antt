@@ -19,3 +19,6 @@ returns-clause-grew g c = grew_line c.args.line _ _ (one_more _ _ _ _ c.in_ok-re
 
 pub returns-clause-front : goal.returns-clause-front
 returns-clause-front g c = front_line c.args.line _ _ (one_more _ _ _ _ c.in_ok-reserve.ensures.history c.tell.ensures.history)
+
+pub returns-clause-line : goal.returns-clause-line
+returns-clause-line g c = one_more _ _ _ _ c.in_ok-reserve.ensures.history c.tell.ensures.history

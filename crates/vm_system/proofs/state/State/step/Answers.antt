@@ -30,6 +30,10 @@ returns-in_default-command g c = record {
   files = on_ok_weaker c.begin.result (λ stands. files_same c.args.command.now c.args.files.now c.in_default-command.not-FailFiles) c.begin.ensures.stands;
   paging = on_ok_weaker c.begin.result (λ stands. paging_same c.args.command.now c.args.paging.now c.in_default-command.not-FailPaging) c.begin.ensures.stands;
   unasked = on_ok_weaker c.begin.result (λ stands unarmed none. refl) c.begin.ensures.stands;
-  later = on_ok_weaker c.begin.result (λ stands unarmed. (g.met.P.Backing.later_same c.args.paging.now.inner, armed_later_same c.args.paging.now.left c.args.paging.now.reached)) c.begin.ensures.stands;
+  later = λ unarmed. (g.met.P.Backing.later_same c.args.paging.now.inner, armed_later_same c.args.paging.now.left c.args.paging.now.reached);
+  alone = on_ok_weaker c.begin.result (λ stands count is. absurd (c.in_default-command.not-Settle count is)) c.begin.ensures.stands;
+  unarmed = on_err_weaker c.begin.result (λ same. refl) c.begin.ensures.err;
+  calm = on_err_weaker c.begin.result (λ same up. (same, refl)) c.begin.ensures.err;
+  stops = on_err_weaker c.begin.result (λ same. inl (same, refl)) c.begin.ensures.err;
   devices = causes_same _ _ _ c.begin.ensures.devices;
 }

@@ -5,11 +5,11 @@ use Rattle.vm_model.specs.declared.event.Event.{Event}
 use Rattle.vm_model.specs.declared.event.Event.TheVariants as event
 use Rattle.vm_system.specs.Steps.{Taking}
 use Rattle.vm_system.specs.Takings.{MayBeCut, Took}
-use Rattle.vm_system.proofs.Beginning.{longer_taken, on_either}
+use Rattle.vm_system.proofs.Beginning.{longer_taken, on_either, on_errs}
 use Rattle.vm_system.proofs.Growth.{grew_cut, grew_taken, line_taken}
 use Rattle.vm_system.proofs.Numbers.{number_read}
 use Rattle.vm_system.proofs.TakenFrom.{cuts_taken, keeps_taken}
-use Rattle.vm_system.proofs.Untouched.{not_up_from}
+use Rattle.vm_system.proofs.Untouched.{not_up_from, stops_from}
 use Rattle.vm_system.proofs.state.State.take_from.Goals as goal
 
 pub returns-clause-legal : goal.returns-clause-legal
@@ -65,3 +65,21 @@ returns-clause-unasked g c =
     on_ok_weaker c.take.result
     (λ took none. c.take.ensures.paging c.args.channel made (not_up_from given.header given.outside c.args.line c.args.channel old.history.items new.history.items (subst (λ (z : Command). Took (taking z) new) c.requires.1.0 took).step none))
     c.take.ensures.took
+
+pub returns-clause-calm : goal.returns-clause-calm
+returns-clause-calm g c =
+    let made = number_read c.args.channel c.args.self.now.channels.made c.in-Some.number.0 (sym c.in-Some.ensures) in
+    on_err_weaker c.take.result (λ down up. (down c.args.channel made up, c.take.ensures.paging c.args.channel made up)) c.take.ensures.down
+
+pub returns-clause-stops : goal.returns-clause-stops
+returns-clause-stops g c =
+    let given = g.given in
+    let old = c.args.self.now in
+    let new = c.take.new.self in
+    let past : List Event = event.Line c.args.line ∷ old.history.items in
+    let taking : Command → Taking = λ z. record { header = given.header; outside = given.outside; command = z; past = past } in
+    let made = number_read c.args.channel old.channels.made c.in-Some.number.0 (sym c.in-Some.ensures) in
+    on_errs c.take.result
+    (λ cut down unmoved. stops_from given.header given.outside c.args.line c.args.channel old.history.items new.history.items c.args.paging.now c.take.new.paging (down c.args.channel made) unmoved
+    (subst (λ (z : Command). MayBeCut (taking z) old.history.items new.history.items) c.requires.1.0 cut))
+    c.take.ensures.cut c.take.ensures.down c.take.ensures.unmoved

@@ -10,6 +10,7 @@ use Rattle.vm_kernel.specs.Matches.{the_host}
 use Rattle.vm_system.specs.Steps.{devices}
 use Rattle.vm_system.specs.Takings.{Answered, Followed}
 use Rattle.vm_system.proofs.Following.{kept_same}
+use Rattle.vm_system.proofs.Growth.{not_same}
 use Rattle.vm_system.proofs.Taken.{first_told, may_head, may_only, may_port, may_some, may_there}
 use Rattle.vm_system.proofs.TakenUp.{answered_up, can_reply, cut_up, devices_up, fewer_room, front_is, front_length, kept_failed, kept_up, may_reserved, reply_of, took_up, up_may, up_word}
 use Rattle.vm_system.proofs.state.State.take_up.Goals as goal
@@ -231,3 +232,21 @@ returns-clause-took g c =
     let passing : List Event → Passing = λ z. record { header = given.header; outside = given.outside; past = given.past; front = z; command = given.command } in
     on_ok_weaker c.follow.result
     (λ followed. took_up given c.args.line c.args.number c.args.object m t new slots events own.0 reply (subst (λ (z : List Event). Followed (passing z) new) front followed)) c.follow.ensures.followed
+
+pub returns-clause-unmoved : goal.returns-clause-unmoved
+returns-clause-unmoved g c =
+    let given = g.given in
+    let r = c.reserve.ensures in
+    let t = c.reserve.new.self in
+    let any = may_reserved given c.args.line c.args.number (Up c.requires.1.0.0 c.args.object) c.args.self.now t c.requires.1.0.1 r.host r.history r.made r.numbers r.letters r.buffers in
+    let m = c.in-Some.message.now in
+    let at = may_head given c.args.line c.args.number (Up c.requires.1.0.0 c.args.object) m t any c.in-Some.ensures in
+    let own = up_may given c.args.line c.args.number c.requires.1.0.0 c.args.object m t any at in
+    let channel = Up the_host c.args.object in
+    let events = c.in_ok-answers.answers.items in
+    let told = first_told given c.args.line c.args.number channel m t t c.take_first.new.self own.0 own.1 refl refl c.take_first.ensures.history in
+    let now = c.commit.new.self in
+    let items : now.history.items ≡ events ++ event.Taken channel m ∷ given.past = c.commit.ensures.history ∙ ap (λ (z : List Event). events ++ z) told in
+    let past = c.requires.1.0.1.past in
+    on_err_weaker c.follow.result
+    (λ same is. absurd (not_same c.args.line events (event.Taken channel m) given.past c.args.self.now.history.items c.follow.new.self.history.items past (same ∙ items) is)) c.follow.ensures.err

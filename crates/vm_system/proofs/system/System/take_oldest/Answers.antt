@@ -1,12 +1,12 @@
 use Rattle.std.proofs.Common.{◌+◌, None, ◌≡◌, ◌∙◌, sym, ap, subst}
-use Rattle.vm_legal.specs.Steps.{takings}
+use Rattle.vm_legal.specs.Steps.{before_step, takings}
 use Rattle.vm_system.specs.Stands.{Stands}
-use Rattle.vm_system.specs.Steps.{Grew, HasMore, MayCutOpen}
+use Rattle.vm_system.specs.Steps.{Grew, HasMore, MayCutOpen, StopsAt}
 use Rattle.vm_system.specs.declared.state.State.{State}
 use Rattle.vm_system.proofs.Following.{kept_same}
 use Rattle.vm_system.proofs.Growth.{grew_cut, grew_taken, step_taken, takings_taken}
 use Rattle.vm_system.proofs.Numbers.{number_read}
-use Rattle.vm_system.proofs.Untouched.{not_up}
+use Rattle.vm_system.proofs.Untouched.{not_up, stops_by}
 use Rattle.vm_system.proofs.Opening.{cuts_settle, keeps_settle, may_settle}
 use Rattle.vm_system.proofs.system.System.take_oldest.Goals as goal
 
@@ -66,3 +66,18 @@ returns-clause-unasked g c =
     let more : HasMore given.command s.history.items = subst (λ (z : State). HasMore given.command z.history.items) view c.requires.1.1.1.1.1 in
     let may = may_settle given c.in-Some.number s stands past more (sym c.oldest.ensures.oldest ∙ c.in-Some.is) in
     λ took none. c.take.ensures.paging may.0 (number_read may.0 s.channels.made c.in-Some.number.0 may.1.made) (not_up given may.0 c.take.new.self.history.items may.1.may c.in_ok-take.ensures.took.step none)
+
+pub returns-in_err-take-clause-stops : goal.returns-in_err-take-clause-stops
+returns-in_err-take-clause-stops g c =
+    let given = g.given in
+    let s = c.self.inside.state in
+    let new = c.take.new.self.history.items in
+    let view : c.args.self.now ≡ s = sym c.self.view_is in
+    let stands : Stands given.header given.outside s = subst (λ (z : State). Stands given.header given.outside z) view c.requires.1.1.0 in
+    let past = c.requires.1.1.1.1.0 ∙ ap (λ (z : State). z.history.items) view in
+    let more : HasMore given.command s.history.items = subst (λ (z : State). HasMore given.command z.history.items) view c.requires.1.1.1.1.1 in
+    let may = may_settle given c.in-Some.number s stands past more (sym c.oldest.ensures.oldest ∙ c.in-Some.is) in
+    let made = number_read may.0 s.channels.made c.in-Some.number.0 may.1.made in
+    let e = c.in_err-take.ensures in
+    λ none. subst (λ (z : State). StopsAt before_step z.history.items new c.args.paging.now c.take.new.paging) (sym view)
+    (stops_by before_step given may.0 s.history.items new c.args.paging.now c.take.new.paging may.1.may (λ step. step_taken given new step ∙ past) (e.down may.0 made) e.unmoved e.cut)
