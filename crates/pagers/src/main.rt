@@ -1,16 +1,27 @@
 // The program: the real source, sink and backings around the top call.
 #![tactic(auto)]
 
+use std::env;
+use std::io::ErrorKind;
 use std::process::ExitCode;
-use std::{env, io};
 use vm_outside::{Armed, StdSink, StdSource, SureBacking};
-use vm_top::pagers_main;
+use vm_top::{Status, pagers_main};
 
-fn main(rt: HostRuntime) -> io::Result<ExitCode> {
+fn main(rt: HostRuntime) -> ExitCode {
     let alloc = rt.alloc();
+    let no_memory = ExitCode::from(Status::NoMemory.number());
     let mut words = Vec::new(alloc);
-    for word in env::args(&rt)?.skip(1) {
-        words.push(word)?;
+    match env::args(&rt) {
+        Ok(given) => {
+            for word in given.skip(1) {
+                if words.push(word).is_err() {
+                    return no_memory;
+                }
+            }
+        }
+        Err(error) if error.kind() == ErrorKind::OutOfMemory => return no_memory,
+        // A word isn't UTF-8. Then the words are no command, as no words are none.
+        Err(_) => {}
     }
     let mut source = StdSource::new(rt.stdin());
     let mut sink = StdSink::new(rt.stdout());
@@ -24,5 +35,5 @@ fn main(rt: HostRuntime) -> io::Result<ExitCode> {
         &mut files,
         &mut paging,
     );
-    Ok(ExitCode::from(outcome.status.number()))
+    ExitCode::from(outcome.status.number())
 }
