@@ -12,7 +12,7 @@ use Rattle.vm_model.specs.declared.command.Command.{Command}
 use Rattle.vm_model.specs.declared.script.Header.{Header}
 use Rattle.vm_model.specs.Regions.{Backing, backing_of, region_of}
 use Rattle.vm_model.specs.Tasks.{entries_of}
-use Rattle.vm_model.specs.Waiting.{Access, Loading, Storing}
+use Rattle.vm_model.specs.Waiting.{Loading, Storing}
 use Rattle.vm_legal.specs.Accesses.{Comes, FindsPage, ToRead, ToWrite, Waits}
 use Rattle.vm_legal.specs.Follows.{EndsNext}
 use Rattle.vm_legal.specs.Outside.{Outside}
@@ -23,7 +23,7 @@ use Rattle.vm_resident.specs.Resident.{row_at}
 use Rattle.vm_resident.specs.declared.page_row.PageRow.{PageRow}
 use Rattle.vm_shadow.specs.declared.ids.Ids.{Ids}
 use Rattle.vm_supply.specs.declared.woken.Woken.TheVariants as woken
-use Rattle.vm_waits.specs.Waits.{PutsEntry, again, entry, is_again}
+use Rattle.vm_waits.specs.Waits.{again, entry, is_again}
 use Rattle.vm_waits.specs.declared.waiting.Waiting.{Waiting}
 use Rattle.vm_waits.specs.declared.waiting.Want.{Want}
 use Rattle.vm_waits.specs.declared.waiting.Want.TheVariants as want

@@ -1,6 +1,6 @@
 -- Who waits for a page that is asked has a row that says so, but in the frame queue.
 use Rattle.std.proofs.Common.{append-nil, ◌≡◌, ℕ, ◌&&◌, Bool, true, false, List, [], ◌∷◌, ◌++◌, refl, ap, sym, ◌∙◌, subst, Some, None, Option, inl, inr}
-use Rattle.std.specs.Prelude.{if◌then◌else◌, ◌⊎◌, ◌≢◌}
+use Rattle.std.specs.Prelude.{if◌then◌else◌, ◌≢◌}
 use Rattle.vm_base.specs.declared.entry.Entry.{Entry}
 use Rattle.vm_base.specs.declared.ids.ObjectId.{ObjectId}
 use Rattle.vm_base.specs.declared.ids.PageKey.{PageKey}
@@ -21,7 +21,7 @@ use Rattle.vm_legal.specs.Accesses.{Comes, Waits, is_ready, page_of}
 use Rattle.vm_legal.specs.Debts.{StopsAt}
 use Rattle.vm_legal.specs.Frames.{frames_free}
 use Rattle.vm_legal.specs.Outside.{Outside}
-use Rattle.vm_legal.specs.Steps.{Asked, before_step, error_taken, error_of}
+use Rattle.vm_legal.specs.Steps.{Asked, before_step, error_taken}
 use Rattle.vm_legal.specs.Walks.{IsTop}
 use Rattle.vm_objects.specs.declared.row.PagerState.TheVariants as state
 use Rattle.vm_resident.specs.Resident.{page_key}
