@@ -1,4 +1,4 @@
-// Reads a source to its end, or to one byte more than a script may have.
+// Reads a source to its end, or beyond the bytes that a script may have, by 4,096 at most.
 ghost use Rattle.std.specs.Prelude.{◌≤◌, IfOk, IsErrOf};
 ghost use Rattle.vm_outside.specs.Causes.{Rose};
 ghost use Rattle.vm_top.specs.Reading.{ReadAtMost, ReadWhole};

@@ -258,11 +258,11 @@ fn run<S: Source, K: Sink, F: Backing, P: Backing>(
 /// Does what the words say: `run` reads a script from the source, runs it, and writes its history;
 /// `summary` does the same, and writes eleven numbers in its place.
 ///
-/// `words` are without the program's name. The script is read to its end, or to its 1,048,577th
-/// byte, and is a script of the grammar before its first step. Under `run` the events of each step
-/// are written, in one piece, when the step has ended. The default pager keeps its pages in the area
-/// `paging0` of `paging`; the files aren't called yet. An arming that stands in a backing is taken
-/// away first.
+/// `words` are without the program's name. The script is read to its end, or beyond its 1,048,576th
+/// byte by 4,096 bytes at most, and is a script of the grammar before its first step. Under `run` the
+/// events of each step are written, in one piece, when the step has ended. The default pager keeps
+/// its pages in the area `paging0` of `paging`; the files aren't called yet. An arming that stands in
+/// a backing is taken away first.
 pub fn pagers_main<S: Source, K: Sink, F: Backing, P: Backing>(
     alloc: Global,
     words: &[String],
@@ -308,7 +308,7 @@ pub fn pagers_main<S: Source, K: Sink, F: Backing, P: Backing>(
     ensures not_built { (line : ℕ) → result.status ≡ Status.NotBuilt line → (report : Report) → asked_by words.now ≡ Some (jobs.Run report)
         → IsNotBuilt (S.left script.old) (outside_of (P.area paging.old.inner)) line result.script result.history.items (K.written out.old) (K.written out.new) }
 
-    // What is left of the source.
+    // Words that ask for no run leave the source as it was; a run reads it to its end, or beyond what a script may have.
     ensures source { LeavesSource S.left (asked_by words.now) result.status result.script script.old script.new }
 
     // Whatever the source tells, the script that is held keeps the grammar's ranges.
