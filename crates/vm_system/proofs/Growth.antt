@@ -6,7 +6,7 @@ use Rattle.vm_model.specs.declared.event.Event.TheVariants as event
 use Rattle.vm_model.specs.Moments.{before_last_line}
 use Rattle.vm_legal.specs.Steps.{before_step, takings}
 use Rattle.vm_kernel.specs.Begun.{AllInner, IsInner}
-use Rattle.vm_system.specs.Steps.{Grew, IsBelowLimit, MayBegin, Taking, event_limit, lined}
+use Rattle.vm_system.specs.Steps.{Grew, IsBelowLimit, MayBegin, Taking, devices, event_limit, lined}
 use Rattle.vm_system.specs.Takings.{MayBeCut, TakesStep}
 use Rattle.vm_system.proofs.Legal.{takings_all}
 use Rattle.vm_system.proofs.Stretched.{steps_whole}
@@ -118,3 +118,13 @@ grew_more first old new one two below = record {
   is = two.is ∙ (ap (λ z. two.more ++ z) one.is ∙ sym (append_assoc two.more one.more first));
   limit = λ few before. two.limit below (one.limit few before);
 }
+
+-- it tells of no fewer failures
+
+devices_behind : (more old : List Event) → devices old ≤ devices (more ++ old)
+devices_behind [] old = omega arith
+devices_behind (event.DeviceFailed who way object page ∷ more) old = let rest = devices_behind more old in omega arith
+devices_behind (e ∷ more) old = devices_behind more old
+
+pub devices_grow : (old new : List Event) → Grew old new → devices old ≤ devices new
+devices_grow old new grew = subst (λ z. devices old ≤ devices z) (sym grew.is) (devices_behind grew.more old)

@@ -13,7 +13,7 @@ use Rattle.vm_system.specs.Settling.{DevicesCounted, EndsCut, StaysOpen}
 use Rattle.vm_system.specs.Steps.{DevicesHaveCause, Grew, KeepsOpen, LegalCut, LegalOpen, MayCutOpen, devices, event_limit}
 use Rattle.vm_system.specs.declared.stop.SystemStop.{SystemStop}
 use Rattle.vm_system.specs.declared.stop.SystemStop.TheVariants as stops
-use Rattle.vm_system.proofs.Growth.{grew_more}
+use Rattle.vm_system.proofs.Growth.{devices_grow, grew_more}
 
 pub stays_more : (header : Header) (outside : Outside) (doing : Command) (first old new : List Event) → StaysOpen header outside doing first old → KeepsOpen header outside doing old new → StaysOpen header outside doing first new
 stays_more header outside doing first old new stays keeps = λ line run legal. (keeps line run (stays line run legal)).so_far
@@ -52,10 +52,14 @@ grew_stop stops.NoMemory result first old new is same calm full one two = grew_m
 counted : (before was now a b c : ℕ) → before ≤ was → was ≤ now → (b + before ≤ a + was) ⊎ Rose was was → (c ≡ b) ⊎ Rose was now → c ≤ b + 1 → (c + before ≤ a + now) ⊎ Rose now now
 counted before was now a b c first then few cause one = grind arith
 
-pub counted_more : (before was now : ℕ) (first old new : List Event) → DevicesCounted before was first old → DevicesHaveCause was now old new → DevicesCounted before now first new
-counted_more before was now first old new one two = record {
+spared_more : (before was now a b c : ℕ) → a ≤ b → b ≤ c → (b ≡ a → was ≡ before) → (c ≡ b → now ≡ was) → c ≡ a → now ≡ before
+spared_more before was now a b c first then one two same = let same_b : b ≡ a = omega arith in let same_c : c ≡ b = omega arith in two same_c ∙ one same_b
+
+pub counted_more : (before was now : ℕ) (first old new : List Event) → Grew first old → Grew old new → DevicesCounted before was first old → DevicesHaveCause was now old new → DevicesCounted before now first new
+counted_more before was now first old new grew more one two = record {
   later = omega (arith, one.later, two.later);
   few = counted before was now (devices first) (devices old) (devices new) one.later two.later one.few two.cause two.few;
+  spared = spared_more before was now (devices first) (devices old) (devices new) (devices_grow first old grew) (devices_grow old new more) one.spared two.spared;
 }
 
 -- an error is the same, whatever else might have been answered

@@ -24,7 +24,8 @@ StaysOpen header outside doing old new = (line : ℕ) (run : List Numbered) → 
 abbrev pub EndsCut : Header → Outside → Command → List Event → List Event → Type 0
 EndsCut header outside doing old new = (line : ℕ) (run : List Numbered) → LegalOpen header outside (record { line = line; command = doing } ∷ run) old → LegalCut header outside (record { line = line; command = doing } ∷ run) new
 
--- the failures that are told are at most as many as the count of faults rose, unless that stands at its last value
+-- the failures that are told are at most as many as the count of faults rose, unless that stands at its last value; and where none is told the count stays
 pub record DevicesCounted (before now : ℕ) (old new : List Event) : Type 0 where
   pub later : before ≤ now
   pub few : (devices new + before ≤ devices old + now) ⊎ Rose now now
+  pub spared : devices new ≡ devices old → now ≡ before

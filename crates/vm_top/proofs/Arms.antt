@@ -11,7 +11,8 @@ use Rattle.vm_model.specs.Ranges.{InRange}
 use Rattle.vm_legal.specs.Steps.{before_step, takings}
 use Rattle.vm_outside.specs.Arming.{Arming, ArmedLater}
 use Rattle.vm_outside.specs.Causes.{Rose, next_count, sum_count}
-use Rattle.vm_system.specs.Steps.{DevicesHaveCause, LeavesFiles, LeavesPaging, arms_paging, devices, takes_up, took_up}
+use Rattle.vm_system.specs.Steps.{DevicesHaveCause, Grew, LeavesFiles, LeavesPaging, arms_paging, devices, takes_up, took_up}
+use Rattle.vm_system.proofs.Growth.{devices_grow}
 use Rattle.vm_top.specs.Arming.{FailuresCounted, FilesLeft, armings, arms_files, is_untouched, last_arming, ran_of}
 use Rattle.vm_top.specs.Running.{Arms, PagingRuns, Running}
 use Rattle.vm_top.proofs.Counting.{untouched_line, untouched_taking, untouched_up}
@@ -122,8 +123,15 @@ paging_taking n run old_h new_h start old new later unasked front more was =
 counted_more : (before was now a b : ℕ) → was ≤ now → (a ≡ b) ⊎ Rose was now → a ≤ b + 1 → (b + before ≤ was) ⊎ Rose was was → (a + before ≤ now) ⊎ Rose now now
 counted_more before was now a b later cause few old = grind arith
 
-pub failures_step : (before was now : ℕ) (old new : List Event) → DevicesHaveCause was now old new → FailuresCounted before was old → FailuresCounted before now new
-failures_step before was now old new step counted = counted_more before was now (devices new) (devices old) step.later step.cause step.few counted
+stays : (before was now a b : ℕ) → b ≤ a → (a ≡ b → now ≡ was) → (b ≡ 0 → was ≡ before) → a ≡ 0 → now ≡ before
+stays before was now a b grown spared none is = let none_b : b ≡ 0 = omega arith in let same : a ≡ b = omega arith in spared same ∙ none none_b
+
+pub failures_step : (before was now : ℕ) (old new : List Event) → Grew old new → DevicesHaveCause was now old new → FailuresCounted before was old → FailuresCounted before now new
+failures_step before was now old new grew step counted =
+    record {
+      few = counted_more before was now (devices new) (devices old) step.later step.cause step.few counted.few;
+      none = stays before was now (devices new) (devices old) (devices_grow old new grew) step.spared counted.none;
+    }
 
 -- of the commands that have a line
 pub arms_of : {F P : Type 0} (given : Running F P) (run : List Numbered) (h : List Event) (f : Arming F) (p : Arming P) → ran_of given.script h ≡ run → FilesLeft run given.files f → PagingRuns run h given.paging p → Arms given h f p

@@ -70,7 +70,7 @@ held report given old new was f0 f1 p0 p1 e0 e1 settles took =
       left = record {
         below = took.grew.limit took.below settles.keeps.below;
         arms = arms_of given.running (n ∷ run) new f1 p1 here files paging;
-        failed = failures_step given.running.faults e0 e1 old new took.devices settles.keeps.failed;
+        failed = failures_step given.running.faults e0 e1 old new took.grew took.devices settles.keeps.failed;
       };
     }
 
@@ -142,7 +142,7 @@ take_stops report given old new now f0 f1 p0 p1 e0 e1 settles grew below may fil
   ran = (by_way may, shown_grown report given.running.start now old new grew settles.keeps.written);
   below = grew.limit below settles.keeps.below;
   arms = by_stop stops;
-  failed = failures_step given.running.faults e0 e1 old new devices settles.keeps.failed;
+  failed = failures_step given.running.faults e0 e1 old new grew devices settles.keeps.failed;
 }
   where
     ran : count_of is_line new ≡ count_of is_line old → ran_of given.running.script new ≡ ran_of given.running.script old

@@ -84,7 +84,7 @@ made {F = F} {P = P} report given n old new was f0 f1 p0 p1 e0 e1 runs follows b
       left = record {
         below = step.grew.limit below runs.keeps.below;
         arms = arms_of given (n ∷ run) new f1 p1 here files paging;
-        failed = failures_step given.faults e0 e1 old new step.devices runs.keeps.failed;
+        failed = failures_step given.faults e0 e1 old new step.grew step.devices runs.keeps.failed;
       };
     }
 
@@ -217,7 +217,7 @@ step_stops report given n old new now f0 f1 p0 p1 e0 e1 runs follows grew below 
   ran = turn_cut report given n old new now follows grew runs.legal may runs.keeps.written;
   below = grew.limit below runs.keeps.below;
   arms = arms_halted given n old new f0 f1 p0 p1 follows runs.legal may halted runs.keeps.arms;
-  failed = failures_step given.faults e0 e1 old new devices runs.keeps.failed;
+  failed = failures_step given.faults e0 e1 old new grew devices runs.keeps.failed;
 }
 
 -- behind the step, where it was shown
@@ -364,7 +364,7 @@ start_run report given files paging =
         arms = arms_of given [] [] given.files given.paging none
             (record { inner = refl; reached = refl; none = λ none. files; some = λ count some. absurd (cc) })
             (record { left = record { none = λ none. (paging, refl); some = λ count some. absurd (cc); untouched = λ count some un. absurd (cc); few = omega arith }; rising = omega arith; spare = inr (paging, omega arith) });
-        failed = inl (omega arith);
+        failed = record { few = inl (omega arith); none = λ none. refl };
       };
       legal = subst (λ z. LegalFor given.script.header given.outside z []) (sym none) (legal_start given.script.header given.outside);
     }

@@ -54,9 +54,11 @@ pub record PagingLeft {B : Type 0} (run : List Numbered) (history : List Event) 
   pub untouched : (count : ℕ) → last_arming arms_paging run ≡ Some count → is_untouched run history ≡ true → new.left ≡ count
   pub few : new.reached ≤ old.reached + armings arms_paging run
 
--- the failures of the paging area that were told are at most as many as its count of faults rose, unless that stands at its last value
-abbrev pub FailuresCounted : ℕ → ℕ → List Event → Type 0
-FailuresCounted before now history = (devices history + before ≤ now) ⊎ Rose now now
+-- the failures of the paging area that were told are at most as many as its count of faults rose, unless that stands at its last value; and where
+-- none is told the count stays
+pub record FailuresCounted (before now : ℕ) (history : List Event) : Type 0 where
+  pub few : (devices history + before ≤ now) ⊎ Rose now now
+  pub none : devices history ≡ 0 → now ≡ before
 
 -- and at most as many as the backing within failed of its own and `fail` commands were run, unless the whole count stands at its last value
 abbrev pub FailuresBounded : List Numbered → ℕ → ℕ → ℕ → List Event → Type 0

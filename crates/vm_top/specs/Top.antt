@@ -166,14 +166,14 @@ KeptAt outside areas None history = outside.paging ≡ true → IsSome (areas (a
 KeptAt outside areas (Some script) history = KeepsPages script.header outside areas history
 
 -- the commands that were run
-abbrev pub run_of : Option Script → List Event → List Numbered
-run_of None history = []
-run_of (Some script) history = ran_of script history
+abbrev pub commands_run : Option Script → List Event → List Numbered
+commands_run None history = []
+commands_run (Some script) history = ran_of script history
 
 -- how they leave the files and the paging area armed
 
 abbrev pub FilesEnd : {B : Type 0} → Option Script → List Event → Arming B → Arming B → Type 0
-FilesEnd script history old new = FilesLeft (run_of script history) old new
+FilesEnd script history old new = FilesLeft (commands_run script history) old new
 
 abbrev pub PagingEnds : {B : Type 0} → Option Script → List Event → Arming B → Arming B → Type 0
-PagingEnds script history old new = PagingLeft (run_of script history) history old new
+PagingEnds script history old new = PagingLeft (commands_run script history) history old new

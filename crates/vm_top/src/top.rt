@@ -7,7 +7,7 @@ ghost use Rattle.vm_model.specs.declared.script.Script.{Script};
 ghost use Rattle.vm_model.specs.Ranges.{KeepsRanges};
 ghost use Rattle.vm_outside.specs.Causes.{Rose};
 ghost use Rattle.vm_top.specs.Ending.{EndsAs, HasEnded, Tells, status_after};
-ghost use Rattle.vm_top.specs.Top.{IsBad, IsDone, IsEventLimit, NothingRun, IsOutputFault, IsNoMemory, IsNotBuilt, NothingDone, OfBytes, KeptAt, FilesEnd, PagingEnds, bad_text, not_built_text, run_of, usage_text};
+ghost use Rattle.vm_top.specs.Top.{IsBad, IsDone, IsEventLimit, NothingRun, IsOutputFault, IsNoMemory, IsNotBuilt, NothingDone, OfBytes, KeptAt, FilesEnd, PagingEnds, bad_text, commands_run, not_built_text, usage_text};
 ghost use Rattle.vm_legal.specs.Outside.{Outside};
 ghost use Rattle.vm_system.specs.Steps.{IsBelowLimit};
 ghost use Rattle.vm_top.specs.Arming.{FailuresBounded, FailuresCounted};
@@ -184,7 +184,7 @@ fn run_read<K: Sink, F: Backing, P: Backing>(
     ensures files { FilesEnd result.script result.history.items files.old files.new }
     ensures paging { PagingEnds result.script result.history.items paging.old paging.new }
     ensures devices { FailuresCounted (⟦<Armed<P> as Backing>⟧.faults paging.old) (⟦<Armed<P> as Backing>⟧.faults paging.new) result.history.items }
-    ensures bounded { FailuresBounded (run_of result.script result.history.items) (P.faults paging.old.inner) (P.faults paging.new.inner) (⟦<Armed<P> as Backing>⟧.faults paging.new) result.history.items }
+    ensures bounded { FailuresBounded (commands_run result.script result.history.items) (P.faults paging.old.inner) (P.faults paging.new.inner) (⟦<Armed<P> as Backing>⟧.faults paging.new) result.history.items }
 {
     let ran = run_script(alloc, report, &script, out, files, paging);
     let status = finish(alloc, report, &ran, out);
@@ -227,7 +227,7 @@ fn run<S: Source, K: Sink, F: Backing, P: Backing>(
     ensures files { FilesEnd result.script result.history.items files.old files.new }
     ensures paging { PagingEnds result.script result.history.items paging.old paging.new }
     ensures devices { FailuresCounted (⟦<Armed<P> as Backing>⟧.faults paging.old) (⟦<Armed<P> as Backing>⟧.faults paging.new) result.history.items }
-    ensures bounded { FailuresBounded (run_of result.script result.history.items) (P.faults paging.old.inner) (P.faults paging.new.inner) (⟦<Armed<P> as Backing>⟧.faults paging.new) result.history.items }
+    ensures bounded { FailuresBounded (commands_run result.script result.history.items) (P.faults paging.old.inner) (P.faults paging.new.inner) (⟦<Armed<P> as Backing>⟧.faults paging.new) result.history.items }
 {
     let bytes = match read_all(alloc, source) {
         Ok(bytes) => bytes,
@@ -325,12 +325,12 @@ pub fn pagers_main<S: Source, K: Sink, F: Backing, P: Backing>(
 
     // At every status, where the paging area told before it tells now, and each page that was returned and not lost stands at its slot. An
     // arming that stood before is gone, and `fail` alone arms. Failures of the paging area are told at most as often as its count of faults
-    // rose, and as the backing within failed of its own and `fail` commands were run.
+    // rose, and as the backing within failed of its own and `fail` commands were run; where none is told the count stays.
     ensures kept { KeptAt (outside_of (P.area paging.old.inner)) (P.area paging.new.inner) result.script result.history.items }
     ensures files { FilesEnd result.script result.history.items files.old files.new }
     ensures paging { PagingEnds result.script result.history.items paging.old paging.new }
     ensures devices { FailuresCounted (⟦<Armed<P> as Backing>⟧.faults paging.old) (⟦<Armed<P> as Backing>⟧.faults paging.new) result.history.items }
-    ensures bounded { FailuresBounded (run_of result.script result.history.items) (P.faults paging.old.inner) (P.faults paging.new.inner) (⟦<Armed<P> as Backing>⟧.faults paging.new) result.history.items }
+    ensures bounded { FailuresBounded (commands_run result.script result.history.items) (P.faults paging.old.inner) (P.faults paging.new.inner) (⟦<Armed<P> as Backing>⟧.faults paging.new) result.history.items }
 {
     files.disarm();
     paging.disarm();

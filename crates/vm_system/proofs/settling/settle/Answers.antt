@@ -43,7 +43,7 @@ all-preserved g c =
       count = omega (arith, taking.count took, before.count);
       files = c.take_oldest.ensures.files ∙ before.files;
       grew = grew_more c.args.system.now.history.items c.all.system.history.items c.take_oldest.new.self.history.items before.grew c.take_oldest.ensures.grew (taking.below took);
-      devices = counted_more _ _ _ c.args.system.now.history.items c.all.system.history.items c.take_oldest.new.self.history.items before.devices c.take_oldest.ensures.devices;
+      devices = counted_more _ _ _ c.args.system.now.history.items c.all.system.history.items c.take_oldest.new.self.history.items before.grew c.take_oldest.ensures.grew before.devices c.take_oldest.ensures.devices;
       later = (g.met.P.Backing.later_more c.args.paging.now.inner c.all.paging.inner c.take_oldest.new.paging.inner before.later.0 more.0, armed_later_more _ _ _ _ _ _ before.later.1 more.1);
     }
 
@@ -65,7 +65,7 @@ returns-in-Err-clause-left g c = λ full.
     omega (arith, count, c.all.invariant.count, c.all-test.true)
 
 pub returns-in-Err-clause-devices : goal.returns-in-Err-clause-devices
-returns-in-Err-clause-devices g c = counted_more _ _ _ c.args.system.now.history.items c.all.system.history.items c.take_oldest.new.self.history.items c.all.invariant.devices c.take_oldest.ensures.devices
+returns-in-Err-clause-devices g c = counted_more _ _ _ c.args.system.now.history.items c.all.system.history.items c.take_oldest.new.self.history.items c.all.invariant.grew c.take_oldest.ensures.grew c.all.invariant.devices c.take_oldest.ensures.devices
 
 pub returns-in-Ok-false-clause-devices : goal.returns-in-Ok-false-clause-devices
-returns-in-Ok-false-clause-devices g c = counted_more _ _ _ c.args.system.now.history.items c.all.system.history.items c.take_oldest.new.self.history.items c.all.invariant.devices c.take_oldest.ensures.devices
+returns-in-Ok-false-clause-devices g c = counted_more _ _ _ c.args.system.now.history.items c.all.system.history.items c.take_oldest.new.self.history.items c.all.invariant.grew c.take_oldest.ensures.grew c.all.invariant.devices c.take_oldest.ensures.devices
