@@ -1,5 +1,5 @@
 -- How steps leave the backings armed, and what failed.
-use Rattle.std.proofs.Common.{◌≡◌, ℕ, ◌+◌, ◌<◌, ◌≤◌, ◌⊎◌, inl, List, ◌∷◌, true, false, Option, Some, None, refl, ap, sym, ◌∙◌, subst, arith}
+use Rattle.std.proofs.Common.{◌≡◌, ℕ, min, ◌+◌, ◌<◌, ◌≤◌, ◌⊎◌, inl, List, ◌∷◌, true, false, Option, Some, None, refl, ap, sym, ◌∙◌, subst, arith}
 use Rattle.vm_model.specs.declared.event.Event.{Event}
 use Rattle.vm_model.specs.declared.command.Command.{Command}
 use Rattle.vm_model.specs.declared.command.Command.TheVariants as command
@@ -57,16 +57,15 @@ paging_armed n run old_h new_h start old new count arms some is was =
     let reached : new.reached ≡ old.reached = ap (λ z. z.reached) is in
     let more = armings_some arms_paging n run count arms in
     let few = was.left.few in
-    let fewer : new.reached + 1 ≤ start.reached + armings arms_paging (n ∷ run) = omega (arith, more, few, reached) in
+    let fewer : new.reached + min 1 new.left ≤ start.reached + armings arms_paging (n ∷ run) = omega (arith, more, few, reached) in
     record {
       left = record {
         none = λ none. absurd (cc);
         some = λ k more. inl (omega arith);
         untouched = λ k more un. let same : count ≡ k = cc in left ∙ same;
-        few = omega (arith, fewer);
+        few = fewer;
       };
       rising = rw reached was.rising;
-      spare = inl fewer;
     }
 
 later_rises : (start l r m s : ℕ) → ArmedLater l r m s → next_count start ≤ next_count r → next_count start ≤ next_count s
@@ -78,27 +77,22 @@ later_some start l r m s later rising was = grind arith
 later_none : (start l r m s : ℕ) → ArmedLater l r m s → (l ≡ 0) × (r ≡ start) → (m ≡ 0) × (s ≡ start)
 later_none start l r m s later was = let l0 = was.0 in let r0 = was.1 in (grind arith, grind arith)
 
-later_spare : (start l r m s k : ℕ) → ArmedLater l r m s → (r + 1 ≤ start + k) ⊎ ((l ≡ 0) × (r ≤ start + k)) → (s + 1 ≤ start + k) ⊎ ((m ≡ 0) × (s ≤ start + k))
-later_spare start l r m s k later spare = grind arith
-
-spare_few : (r l start k : ℕ) → (r + 1 ≤ start + k) ⊎ ((l ≡ 0) × (r ≤ start + k)) → r ≤ start + k
-spare_few r l start k spare = grind arith
+later_few : (start l r m s k : ℕ) → ArmedLater l r m s → r + min 1 l ≤ start + k → s + min 1 m ≤ start + k
+later_few start l r m s k later few = grind arith
 
 -- calls go to the paging area, or none does
 paging_later : {B : Type 0} (run more : List Numbered) (old_h new_h : List Event) (start old new : Arming B) → last_arming arms_paging more ≡ last_arming arms_paging run → armings arms_paging more ≡ armings arms_paging run
     → ArmedLater old.left old.reached new.left new.reached → (is_untouched more new_h ≡ true → (new.left ≡ old.left) × (is_untouched run old_h ≡ true))
     → PagingRuns run old_h start old → PagingRuns more new_h start new
 paging_later run more old_h new_h start old new last count later un was =
-    let spare = later_spare start.reached old.left old.reached new.left new.reached (armings arms_paging run) later was.spare in
     record {
       left = record {
         none = λ none. later_none start.reached old.left old.reached new.left new.reached later (was.left.none (sym last ∙ none));
         some = λ k some. later_some start.reached old.left old.reached new.left new.reached later was.rising (was.left.some k (sym last ∙ some));
         untouched = λ k some is. let both = un is in both.0 ∙ was.left.untouched k (sym last ∙ some) both.1;
-        few = rw count (spare_few new.reached new.left start.reached (armings arms_paging run) spare);
+        few = rw count (later_few start.reached old.left old.reached new.left new.reached (armings arms_paging run) later was.left.few);
       };
       rising = later_rises start.reached old.left old.reached new.left new.reached later was.rising;
-      spare = rw count spare;
     }
 
 -- a command's step
@@ -169,5 +163,5 @@ arms_up given n old new f0 f1 p0 p1 ran up files later took was =
     (paging_later run (n ∷ run) old new given.paging p0 p1 (last_none arms_paging n run unarmed.0) (armings_none arms_paging n run unarmed.0) later (λ un. absurd (untouched_up (n ∷ run) new took un)) was.paging)
 
 -- the failures that were told are bounded by the backing's own and by the commands
-pub bounded : (d i0 i1 r0 r1 k : ℕ) → (d + sum_count i0 r0 ≤ sum_count i1 r1) ⊎ Rose (sum_count i1 r1) (sum_count i1 r1) → r1 ≤ r0 + k → (d + i0 ≤ i1 + k) ⊎ Rose (sum_count i1 r1) (sum_count i1 r1)
-bounded d i0 i1 r0 r1 k counted few = grind arith
+pub bounded : (d i0 i1 r0 r1 l k : ℕ) → (d + sum_count i0 r0 ≤ sum_count i1 r1) ⊎ Rose (sum_count i1 r1) (sum_count i1 r1) → r1 + min 1 l ≤ r0 + k → (d + i0 ≤ i1 + k) ⊎ Rose (sum_count i1 r1) (sum_count i1 r1)
+bounded d i0 i1 r0 r1 l k counted few = grind arith

@@ -363,7 +363,7 @@ start_run report given files paging =
         written = shown_none given.start report;
         arms = arms_of given [] [] given.files given.paging none
             (record { inner = refl; reached = refl; none = λ none. files; some = λ count some. absurd (cc) })
-            (record { left = record { none = λ none. (paging, refl); some = λ count some. absurd (cc); untouched = λ count some un. absurd (cc); few = omega arith }; rising = omega arith; spare = inr (paging, omega arith) });
+            (record { left = record { none = λ none. (paging, refl); some = λ count some. absurd (cc); untouched = λ count some un. absurd (cc); few = omega (arith, paging) }; rising = omega arith });
         failed = record { few = inl (omega arith); none = λ none. refl };
       };
       legal = subst (λ z. LegalFor given.script.header given.outside z []) (sym none) (legal_start given.script.header given.outside);

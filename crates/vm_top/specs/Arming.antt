@@ -1,5 +1,5 @@
 -- How the backings are armed when a run ends.
-use Rattle.std.specs.Prelude.{ℕ, ◌+◌, ◌<◌, ◌≤◌, ◌≡◌, ◌⊎◌, Bool, true, false, if◌then◌else◌, List, [], ◌∷◌, Option, Some, None, is_some}
+use Rattle.std.specs.Prelude.{ℕ, min, ◌+◌, ◌<◌, ◌≤◌, ◌≡◌, ◌⊎◌, Bool, true, false, if◌then◌else◌, List, [], ◌∷◌, Option, Some, None, is_some}
 use Rattle.vm_model.specs.declared.event.Event.{Event}
 use Rattle.vm_model.specs.declared.event.Event.TheVariants as event
 use Rattle.vm_model.specs.declared.command.Command.{Command}
@@ -47,12 +47,13 @@ pub record FilesLeft {B : Type 0} (run : List Numbered) (old new : Arming B) : T
   pub some : (count : ℕ) → last_arming arms_files run ≡ Some count → new.left ≡ count
 
 -- where no `fail` of the paging area was run it isn't armed; else it is, or an armed failure was reached; it is armed with the last one's number
--- where no pager took a message since; and at most as many armed failures were reached as `fail` commands were run
+-- where no pager took a message since; and the armed failures that were reached, with one that is still armed, are at most as many as `fail` commands
+-- were run
 pub record PagingLeft {B : Type 0} (run : List Numbered) (history : List Event) (old new : Arming B) : Type 0 where
   pub none : last_arming arms_paging run ≡ None → (new.left ≡ 0) × (new.reached ≡ old.reached)
   pub some : (count : ℕ) → last_arming arms_paging run ≡ Some count → (0 < new.left) ⊎ Rose old.reached new.reached
   pub untouched : (count : ℕ) → last_arming arms_paging run ≡ Some count → is_untouched run history ≡ true → new.left ≡ count
-  pub few : new.reached ≤ old.reached + armings arms_paging run
+  pub few : new.reached + min 1 new.left ≤ old.reached + armings arms_paging run
 
 -- the failures of the paging area that were told are at most as many as its count of faults rose, unless that stands at its last value; and where
 -- none is told the count stays

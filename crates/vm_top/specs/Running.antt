@@ -1,5 +1,5 @@
 -- What a run keeps between its steps, and how it stops.
-use Rattle.std.specs.Prelude.{ℕ, ◌+◌, ◌≡◌, ◌⊎◌, ◌≤◌, List, ◌∷◌, Option, None}
+use Rattle.std.specs.Prelude.{ℕ, ◌+◌, ◌≡◌, ◌≤◌, List, ◌∷◌, Option, None}
 use Rattle.std.specs.Io.KnownBytes.{Appends}
 use Rattle.vm_model.specs.declared.event.Event.{Event}
 use Rattle.vm_model.specs.declared.command.Command.{Command}
@@ -10,8 +10,8 @@ use Rattle.vm_legal.specs.Legal.{LegalFor}
 use Rattle.vm_legal.specs.Outside.{Outside}
 use Rattle.vm_outside.specs.Arming.{Arming}
 use Rattle.vm_outside.specs.Causes.{next_count}
-use Rattle.vm_system.specs.Steps.{IsBelowLimit, IsNext, LegalOpen, arms_paging}
-use Rattle.vm_top.specs.Arming.{FailuresCounted, FilesLeft, PagingLeft, armings, ran_of}
+use Rattle.vm_system.specs.Steps.{IsBelowLimit, IsNext, LegalOpen}
+use Rattle.vm_top.specs.Arming.{FailuresCounted, FilesLeft, PagingLeft, ran_of}
 use Rattle.vm_top.specs.Run.{RanAs, shown, unbuilt_line}
 use Rattle.vm_top.specs.Writing.{oldest}
 use Rattle.vm_top.specs.declared.run.RunEnd.{RunEnd}
@@ -35,12 +35,10 @@ pub record Taking (F P : Type 0) : Type 0 where
 abbrev pub IsNextOf : Script → Numbered → List Event → Type 0
 IsNextOf script numbered history = oldest (count_of is_line history + 1) script.commands.items ≡ numbered ∷ oldest (count_of is_line history) script.commands.items
 
--- the arming of the paging area between two steps; its count of reached failures rose where one was reached, and stands below the number of `fail`
--- commands where it is armed
+-- the arming of the paging area between two steps; its count of reached failures rose where one was reached
 pub record PagingRuns {B : Type 0} (run : List Numbered) (history : List Event) (old new : Arming B) : Type 0 where
   pub left : PagingLeft run history old new
   pub rising : next_count old.reached ≤ next_count new.reached
-  pub spare : (new.reached + 1 ≤ old.reached + armings arms_paging run) ⊎ ((new.left ≡ 0) × (new.reached ≤ old.reached + armings arms_paging run))
 
 -- how the backings are armed between two steps
 pub record Arms {F P : Type 0} (given : Running F P) (history : List Event) (f : Arming F) (p : Arming P) : Type 0 where

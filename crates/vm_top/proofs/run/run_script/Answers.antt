@@ -64,7 +64,7 @@ returns-clause-bounded g c =
     let h = c.run_all-end.new.system.history.items in
     let run = ran_of c.args.script.now h in
     let stops = c.run_all-end.ensures.stops in
-    subst (λ z. FailuresBounded (ran_of c.args.script.now z.items) i0 i1 (sum_count i1 r1) z.items) (sym c.into_history.ensures) (bounded (devices h) i0 i1 r0 r1 (armings arms_paging run) stops.failed.few stops.arms.paging.left.few)
+    subst (λ z. FailuresBounded (ran_of c.args.script.now z.items) i0 i1 (sum_count i1 r1) z.items) (sym c.into_history.ensures) (bounded (devices h) i0 i1 r0 r1 c.run_all-end.new.paging.left (armings arms_paging run) stops.failed.few stops.arms.paging.left.few)
 
 pub returns-clause-devices : goal.returns-clause-devices
 returns-clause-devices g c =
