@@ -332,7 +332,7 @@ caused_43 : EachEvent (HasCause header outside) past_43
 caused_43 = ((settling, (refl, (refl, omega arith))), caused_42)
 
 caused_44 : EachEvent (HasCause header outside) past_44
-caused_44 = ((settling, record { access = Loading 0 1; waits = record { waits = refl; at = record { host = 0; entry = own; lives = refl; found = refl } }; error = refl; place = record { top = 1; top_page = 0; steps = 0; is_top = record { object = refl; page = refl }; leads = (refl, refl) } }), caused_43)
+caused_44 = ((settling, record { access = Loading 0 1; waits = record { waits = refl; at = record { host = 0; entry = own; lives = refl; found = refl } }; error = refl; place = record { top = 1; top_page = 0; steps = 0; is_top = record { object = refl; page = refl }; leads = (refl, refl) }; order = λ other ended. absurd (let bad : false ≡ true = ended in cc) }), caused_43)
 
 caused_45 : EachEvent (HasCause header outside) past_45
 caused_45 = ((settling, tt), caused_44)

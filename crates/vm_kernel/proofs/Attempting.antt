@@ -14,7 +14,7 @@ use Rattle.vm_model.specs.declared.message.Channel.TheVariants.{Up}
 use Rattle.vm_model.specs.declared.message.Message.TheVariants as message
 use Rattle.vm_model.specs.declared.script.Header.{Header}
 use Rattle.vm_model.specs.Waiting.{Access, waiting}
-use Rattle.vm_legal.specs.Accesses.{Comes, Wants, WantsFrame, Nowhere, Elsewhere, page_of}
+use Rattle.vm_legal.specs.Accesses.{Comes, begun_at, Wants, WantsFrame, Nowhere, Elsewhere, page_of}
 use Rattle.vm_legal.specs.Licences.{access_number}
 use Rattle.vm_legal.specs.Outside.{Outside}
 use Rattle.vm_frames.specs.Frames.{claimed, free, page_in}
@@ -23,7 +23,7 @@ use Rattle.vm_resident.specs.declared.page_row.PageRow.{PageRow}
 use Rattle.vm_shadow.specs.declared.ids.Ids.{Ids}
 use Rattle.vm_supply.specs.declared.woken.Woken.{Woken}
 use Rattle.vm_supply.specs.declared.woken.Woken.TheVariants as woken
-use Rattle.vm_waits.specs.Waits.{PutsEntry, WaitTable, again, entry, one_again, one_frame, queued, with_on}
+use Rattle.vm_waits.specs.Waits.{WaitTable, again, entry, one_again, one_frame, queued, with_on}
 use Rattle.vm_waits.specs.declared.waiting.On.{On}
 use Rattle.vm_waits.specs.declared.waiting.On.TheVariants as on
 use Rattle.vm_waits.specs.declared.waiting.Waiting.{Waiting}
@@ -32,15 +32,16 @@ use Rattle.vm_waits.specs.declared.waiting.Want.TheVariants as want
 use Rattle.vm_kernel.specs.Begun.{Goes}
 use Rattle.vm_kernel.specs.Changes.{Brought, IsHere, SamePlan, Wrote, zeroed}
 use Rattle.vm_kernel.specs.Faulting.{AfterZeros, AtOnce, Ended, Faulted, Faults, Hits, IsAvailable, IsUnavailable, Requested, Stays, Touched, WantsOne}
-use Rattle.vm_kernel.specs.Matches.{AllUsed, HasWaits, Matches, Works, the_host}
+use Rattle.vm_kernel.specs.Matches.{AllUsed, HasOrder, HasWaits, Matches, Works, the_host}
 use Rattle.vm_kernel.specs.Serving.{Queues}
-use Rattle.vm_kernel.specs.Waiters.{HasWaiters, IsAsked, IsAt, IsTold, Reason, access_in, address_in}
+use Rattle.vm_kernel.specs.Waiters.{BeganInOrder, HasWaiters, IsAsked, IsAt, IsTold, Reason, access_in, address_in}
 use Rattle.vm_kernel.specs.declared.parts.Parts.{Parts}
 use Rattle.vm_kernel.specs.declared.steps.FaultStep.{FaultStep}
 use Rattle.vm_kernel.specs.declared.steps.FaultStep.TheVariants as step
 use Rattle.vm_kernel.proofs.Accessing.{brought_here, leads_zeroed, loaded_follows, matches_loaded, matches_stored, matches_touched, matches_waits, matches_zeroed, stored_follows, zeroed_follows}
 use Rattle.vm_kernel.proofs.Growing.{Follows, goes_both, goes_none, goes_one, suffices}
 use Rattle.vm_kernel.proofs.Leading.{Leads, Lies, it_waits, leads_of, lies_of, top_at}
+use Rattle.vm_kernel.proofs.Ordering.{PutsInOrder}
 use Rattle.vm_kernel.proofs.Requesting.{matches_asked, request_follows, requesting}
 use Rattle.vm_kernel.proofs.Rows.{row_cases}
 use Rattle.vm_kernel.proofs.Standing.{may_answer, misses_of, passes_of, shows_of}
@@ -52,6 +53,7 @@ pub record Finishes (header : Header) (outside : Outside) (doing : Command) (pas
   pub goes : Goes header outside doing past events after
   pub ends : (u : ℕ) → waiting u (after ++ past) ≡ (if task.0 == u then None else waiting u (events ++ past))
   pub waits : HasWaits new woken.Nobody (events ++ past)
+  pub order : HasOrder new (after ++ past)
   pub at : IsAt new.maps new.chains task.0 what key
   pub here : IsNotAsked (row_at new.resident key.object.0 key.page.0)
   pub chains : new.chains ≡ k.chains
@@ -63,6 +65,7 @@ pub record Finishes (header : Header) (outside : Outside) (doing : Command) (pas
 pub record Tries (header : Header) (past : List Event) (k : Parts) (ids : Ids) (task : TaskId) (what : Want) (key : PageKey) : Type 0 where
   pub matches : Matches header k ids [] past
   pub waits : HasWaits k woken.Nobody past
+  pub order : HasOrder k past
   pub to : Leads header past task.0 what key
   pub at : IsAt k.maps k.chains task.0 what key
   pub lies : Lies k key
@@ -73,6 +76,7 @@ tries_of header past k ids w key works is at =
     record {
       matches = works.matches;
       waits = works.waits;
+      order = works.order;
       to = leads_of header k ids past woken.Nobody w.task.0 w key works.matches works.waits is at;
       at = at;
       lies = lies_of header k ids past [] w.task.0 w.want key works.matches at;
@@ -81,6 +85,9 @@ tries_of header past k ids w key works is at =
 -- the plan is the same, so those who wait do so still
 pub waits_planned : (k new : Parts) (who : Woken) (at : ℕ → Option Access) → SamePlan k new → HasWaiters k.maps k.chains new.resident k.objects k.waits.rows who at → HasWaiters new.maps new.chains new.resident new.objects new.waits.rows who at
 waits_planned k new who at plan has = rw (plan.maps, plan.chains, plan.objects, plan.waits) has
+
+order_planned : (k new : Parts) (past : List Event) → SamePlan k new → HasOrder k past → HasOrder new past
+order_planned k new past plan has = subst (λ (z : WaitTable). BeganInOrder (λ u. begun_at u past) 0 z.rows) (sym plan.waits) has
 
 at_planned : (k new : Parts) (task : ℕ) (what : Want) (key : PageKey) → SamePlan k new → IsAt k.maps k.chains task what key → IsAt new.maps new.chains task what key
 at_planned k new task what key plan at = rw (plan.maps, plan.chains) at
@@ -103,6 +110,7 @@ finish_load header outside doing past k new ids task address n value key frame e
           (loaded_follows header outside doing h task address n value key (page_in k.frames frame.0) t.to (shows_of header k ids [] h key frame m here) number (suffices header k.frames (e ∷ h) m.frames));
       ends = λ u. refl;
       waits = subst (λ (z : Parts). HasWaits z woken.Nobody h) (sym touched.is) t.waits;
+      order = subst (λ (z : Parts). HasOrder z h) (sym touched.is) t.order;
       at = subst (λ (z : Parts). IsAt z.maps z.chains task.0 (want.Load address n) key) (sym touched.is) t.at;
       here = subst (λ (z : Parts). IsNotAsked (row_at z.resident key.object.0 key.page.0)) (sym touched.is) (here_not_asked (row_at k.resident key.object.0 key.page.0) here.row here.found here.here);
       chains = ap (λ (z : Parts). z.chains) touched.is;
@@ -133,6 +141,7 @@ finish_store header outside doing past k mid new ids task address n value key fr
       goes = goes_one header outside doing past events e t.matches.settled
           (stored_follows header outside doing h task address n value key (page_in k.frames frame.0) t.to (shows_of header k ids [] h key frame t.matches here) (suffices header mid.frames (e ∷ h) m2.frames));
       ends = λ u. refl;
+      order = subst (λ (z : Parts). HasOrder z h) (sym touched.is) (order_planned k mid h wrote.plan t.order);
       waits = subst (λ (z : Parts). HasWaits z woken.Nobody h) (sym touched.is)
           (waits_planned k mid woken.Nobody (λ u. waiting u h) wrote.plan (waiters_page k.maps k.chains k.resident mid.resident k.objects k.waits.rows woken.Nobody (λ u. waiting u h) o p (Some row2) t.waits wrote.put before now));
       at = subst (λ (z : Parts). IsAt z.maps z.chains task.0 (want.Store address n value) key) (sym touched.is) (at_planned k mid task.0 (want.Store address n value) key wrote.plan t.at);
@@ -160,6 +169,7 @@ tries_zeroed : (header : Header) (past : List Event) (k mid : Parts) (ids : Ids)
 tries_zeroed header past k mid ids task what key frame t b =
     record {
       matches = matches_zeroed header k mid ids [] past key frame t.matches b t.lies;
+      order = order_planned k mid past b.plan t.order;
       waits = waits_planned k mid woken.Nobody (λ u. waiting u past) b.plan
           (waiters_page k.maps k.chains k.resident mid.resident k.objects k.waits.rows woken.Nobody (λ u. waiting u past) key.object.0 key.page.0 _ t.waits b.row
           (none_not_asked (row_at k.resident key.object.0 key.page.0) b.absent) (here_not_asked _ _ refl refl));
@@ -187,6 +197,7 @@ finishes header outside doing past k new ids task what key events after t (After
       goes = goes_both header outside doing past events (e ∷ events) after first f.goes;
       ends = f.ends;
       waits = f.waits;
+      order = f.order;
       at = f.at;
       here = f.here;
       chains = f.chains ∙ b.plan.chains;
@@ -197,7 +208,7 @@ finishes header outside doing past k new ids task what key events after t (After
 
 -- the row of an access that has ended is taken away
 pub works_finished : (header : Header) (outside : Outside) (doing : Command) (past : List Event) (k new : Parts) (ids : Ids) (w : Waiting) (key : PageKey) (events after : List Event) (waits2 : WaitTable)
-    → Works header k ids woken.Nobody (events ++ past) → entry k.waits.rows w.task.0 ≡ Some w → Finishes header outside doing past k new ids w.task w.want key events after → PutsEntry w.task.0 None new.waits.rows waits2.rows
+    → Works header k ids woken.Nobody (events ++ past) → entry k.waits.rows w.task.0 ≡ Some w → Finishes header outside doing past k new ids w.task w.want key events after → PutsInOrder w.task.0 None new.waits.rows waits2.rows
     → Works header (record new { waits = waits2 }) ids woken.Nobody (after ++ past)
 works_finished header outside doing past k new ids w key events after waits2 works is f put =
     let there : entry new.waits.rows w.task.0 ≡ Some w = ap (λ (z : WaitTable). entry z.rows w.task.0) f.kept ∙ is in
@@ -205,19 +216,21 @@ works_finished header outside doing past k new ids w key events after waits2 wor
       matches = matches_waits header new ids [] (after ++ past) waits2 f.matches;
       used = subst (λ z. AllUsed z) (sym f.chains) works.used;
       reached = rw (f.chains, f.objects) works.reached;
+      order = put.order.keeps (λ u. begun_at u (after ++ past)) 0 f.order;
       waits = waiters_over new.maps new.chains new.resident new.objects new.waits.rows waits2.rows (λ u. waiting u (events ++ past)) (λ u. waiting u (after ++ past)) w.task.0 w f.waits there
-          (asks_none new.maps new.chains new.resident new.objects new.waits.rows woken.Nobody (λ u. waiting u (events ++ past)) w.task.0 w key f.waits there f.at f.here) put f.ends;
+          (asks_none new.maps new.chains new.resident new.objects new.waits.rows woken.Nobody (λ u. waiting u (events ++ past)) w.task.0 w key f.waits there f.at f.here) put.entry f.ends;
     }
 
 -- an access waits for something else, with nothing else changed
 works_turned : (header : Header) (past : List Event) (k : Parts) (ids : Ids) (w : Waiting) (reason : On) (waits2 : WaitTable) → Works header k ids woken.Nobody past → entry k.waits.rows w.task.0 ≡ Some w → AsksNone k.resident w.on
-    → Reason k.maps k.chains k.resident k.objects w.task.0 w.want reason → PutsEntry w.task.0 (Some (with_on w reason)) k.waits.rows waits2.rows → Works header (record k { waits = waits2 }) ids woken.Nobody past
+    → Reason k.maps k.chains k.resident k.objects w.task.0 w.want reason → PutsInOrder w.task.0 (Some (with_on w reason)) k.waits.rows waits2.rows → Works header (record k { waits = waits2 }) ids woken.Nobody past
 works_turned header past k ids w reason waits2 works is none holds put =
     record {
       matches = matches_waits header k ids [] past waits2 works.matches;
       used = works.used;
       reached = works.reached;
-      waits = waiters_turned k.maps k.chains k.resident k.objects k.waits.rows waits2.rows (λ u. waiting u past) w.task.0 w reason works.waits is none put holds;
+      order = put.order.keeps (λ u. begun_at u past) 0 works.order;
+      waits = waiters_turned k.maps k.chains k.resident k.objects k.waits.rows waits2.rows (λ u. waiting u past) w.task.0 w reason works.waits is none put.entry holds;
     }
 
 absent_asks : (header : Header) (past : List Event) (k : Parts) (ids : Ids) (w : Waiting) (key : PageKey) → Works header k ids woken.Nobody past → entry k.waits.rows w.task.0 ≡ Some w → IsAt k.maps k.chains w.task.0 w.want key
@@ -227,25 +240,26 @@ absent_asks header past k ids w key works is at absent =
 
 -- it waits for the object's pager to be ready
 works_ready : (header : Header) (past : List Event) (k : Parts) (ids : Ids) (w : Waiting) (key : PageKey) (waits2 : WaitTable) → Works header k ids woken.Nobody past → entry k.waits.rows w.task.0 ≡ Some w → IsAt k.maps k.chains w.task.0 w.want key
-    → IsTold k.objects key.object.0 → row_at k.resident key.object.0 key.page.0 ≡ None → PutsEntry w.task.0 (Some (with_on w (on.Ready key.object))) k.waits.rows waits2.rows → Works header (record k { waits = waits2 }) ids woken.Nobody past
+    → IsTold k.objects key.object.0 → row_at k.resident key.object.0 key.page.0 ≡ None → PutsInOrder w.task.0 (Some (with_on w (on.Ready key.object))) k.waits.rows waits2.rows → Works header (record k { waits = waits2 }) ids woken.Nobody past
 works_ready header past k ids w key waits2 works is at told absent put =
     works_turned header past k ids w (on.Ready key.object) waits2 works is (absent_asks header past k ids w key works is at absent) (key, at, refl, told) put
 
 -- it joins the frame queue
 works_queued : (header : Header) (past : List Event) (k : Parts) (ids : Ids) (w : Waiting) (key : PageKey) (waits2 : WaitTable) → Works header k ids woken.Nobody past → entry k.waits.rows w.task.0 ≡ Some w → IsAt k.maps k.chains w.task.0 w.want key
-    → row_at k.resident key.object.0 key.page.0 ≡ None → PutsEntry w.task.0 (Some (with_on w on.Frame)) k.waits.rows waits2.rows → Works header (record k { waits = waits2 }) ids woken.Nobody past
+    → row_at k.resident key.object.0 key.page.0 ≡ None → PutsInOrder w.task.0 (Some (with_on w on.Frame)) k.waits.rows waits2.rows → Works header (record k { waits = waits2 }) ids woken.Nobody past
 works_queued header past k ids w key waits2 works is at absent put =
     works_turned header past k ids w on.Frame waits2 works is (absent_asks header past k ids w key works is at absent) tt put
 
 -- it waits for a page that was asked for before
 works_joined : (header : Header) (past : List Event) (k : Parts) (ids : Ids) (w : Waiting) (key : PageKey) (waits2 : WaitTable) → Works header k ids woken.Nobody past → entry k.waits.rows w.task.0 ≡ Some w → IsAt k.maps k.chains w.task.0 w.want key
-    → IsAsked k.resident key.object.0 key.page.0 → PutsEntry w.task.0 (Some (with_on w (on.Page key))) k.waits.rows waits2.rows → Works header (record k { waits = waits2 }) ids woken.Nobody past
+    → IsAsked k.resident key.object.0 key.page.0 → PutsInOrder w.task.0 (Some (with_on w (on.Page key))) k.waits.rows waits2.rows → Works header (record k { waits = waits2 }) ids woken.Nobody past
 works_joined header past k ids w key waits2 works is at asked put =
     record {
       matches = matches_waits header k ids [] past waits2 works.matches;
       used = works.used;
       reached = works.reached;
-      waits = waiters_joined k.maps k.chains k.resident k.objects k.waits.rows waits2.rows (λ u. waiting u past) w.task.0 w key works.waits is at asked put;
+      order = put.order.keeps (λ u. begun_at u past) 0 works.order;
+      waits = waiters_joined k.maps k.chains k.resident k.objects k.waits.rows waits2.rows (λ u. waiting u past) w.task.0 w key works.waits is at asked put.entry;
     }
 
 -- its page is asked for
@@ -280,19 +294,20 @@ goes_asked header outside doing past k new ids task what key events after t a =
 
 works_asked : (header : Header) (outside : Outside) (doing : Command) (past : List Event) (k new : Parts) (ids : Ids) (w : Waiting) (key : PageKey) (waits2 : WaitTable) (events after : List Event)
     → Works header k ids woken.Nobody (events ++ past) → entry k.waits.rows w.task.0 ≡ Some w → IsAt k.maps k.chains w.task.0 w.want key → Requested key (access_number (access_in w.want) 0) k new events after
-    → PutsEntry w.task.0 (Some (with_on w (on.Page key))) new.waits.rows waits2.rows → Works header (record new { waits = waits2 }) ids woken.Nobody (after ++ past)
+    → PutsInOrder w.task.0 (Some (with_on w (on.Page key))) new.waits.rows waits2.rows → Works header (record new { waits = waits2 }) ids woken.Nobody (after ++ past)
 works_asked header outside doing past k new ids w key waits2 events after works is at a put =
     let h = events ++ past in
     let e = requesting key a.control (access_number (access_in w.want) 0) in
     let asking = asking_of header outside doing past k new ids w.task w.want key events after (tries_of header h k ids w key works is at) a in
-    let put2 : PutsEntry w.task.0 (Some (with_on w (on.Page key))) k.waits.rows waits2.rows = subst (λ (z : WaitTable). PutsEntry w.task.0 (Some (with_on w (on.Page key))) z.rows waits2.rows) a.plan.waits put in
-    let waiters = waiters_asked k.maps k.chains k.resident new.resident k.objects k.waits.rows waits2.rows (λ u. waiting u h) w.task.0 w key _ works.waits is at a.absent a.row refl put2 in
+    let put2 : PutsInOrder w.task.0 (Some (with_on w (on.Page key))) k.waits.rows waits2.rows = subst (λ (z : WaitTable). PutsInOrder w.task.0 (Some (with_on w (on.Page key))) z.rows waits2.rows) a.plan.waits put in
+    let waiters = waiters_asked k.maps k.chains k.resident new.resident k.objects k.waits.rows waits2.rows (λ u. waiting u h) w.task.0 w key _ works.waits is at a.absent a.row refl put2.entry in
     subst (λ (z : List Event). Works header (record new { waits = waits2 }) ids woken.Nobody (z ++ past)) (sym (asked_is header past k new ids key (access_number (access_in w.want) 0) events after works.matches a))
     (record {
       matches = matches_waits header new ids [] (e ∷ h) waits2 asking.matches;
       used = rw a.plan.chains works.used;
       reached = rw (a.plan.chains, a.plan.objects) works.reached;
       waits = rw (a.plan.maps, a.plan.chains, a.plan.objects) waiters;
+      order = put2.order.keeps (λ u. begun_at u h) 0 works.order;
     })
 
 -- the access wants a frame
@@ -324,12 +339,12 @@ wants_of header past k ids task what key may t wants =
 
 -- nothing has changed but what an access waits for
 stays_works : (header : Header) (past : List Event) (k new : Parts) (ids : Ids) (task : ℕ) (x : Option Waiting) (waits2 : WaitTable) (events after : List Event) → Stays k new events after
-    → (PutsEntry task x k.waits.rows waits2.rows → Works header (record k { waits = waits2 }) ids woken.Nobody (events ++ past)) → PutsEntry task x new.waits.rows waits2.rows
+    → (PutsInOrder task x k.waits.rows waits2.rows → Works header (record k { waits = waits2 }) ids woken.Nobody (events ++ past)) → PutsInOrder task x new.waits.rows waits2.rows
     → Works header (record new { waits = waits2 }) ids woken.Nobody (after ++ past)
 stays_works header past k new ids task x waits2 events after stays works put =
     subst (λ (z : List Event). Works header (record new { waits = waits2 }) ids woken.Nobody (z ++ past)) (sym stays.told)
     (subst (λ (z : Parts). Works header (record z { waits = waits2 }) ids woken.Nobody (events ++ past)) (sym stays.same)
-    (works (subst (λ (z : Parts). PutsEntry task x z.waits.rows waits2.rows) stays.same put)))
+    (works (subst (λ (z : Parts). PutsInOrder task x z.waits.rows waits2.rows) stays.same put)))
 
 stays_goes : (header : Header) (outside : Outside) (doing : Command) (past : List Event) (k new : Parts) (events after : List Event) → Stays k new events after → Goes header outside doing past events after
 stays_goes header outside doing past k new events after stays = subst (λ (z : List Event). Goes header outside doing past events z) (sym stays.told) (goes_none header outside doing past events)
@@ -346,34 +361,34 @@ fault_goes header outside doing past k new ids w may (step.WaitAnswer key) event
 fault_goes header outside doing past k new ids w may step.NeedFrame events after works is f = stays_goes header outside doing past k new events after f.faults.1
 
 pub done_works : (header : Header) (outside : Outside) (doing : Command) (past : List Event) (k new : Parts) (ids : Ids) (w : Waiting) (may : Bool) (events after : List Event) (waits2 : WaitTable) → Works header k ids woken.Nobody (events ++ past)
-    → entry k.waits.rows w.task.0 ≡ Some w → Faulted w.task w.want may step.Done k new events after → PutsEntry w.task.0 None new.waits.rows waits2.rows → Works header (record new { waits = waits2 }) ids woken.Nobody (after ++ past)
+    → entry k.waits.rows w.task.0 ≡ Some w → Faulted w.task w.want may step.Done k new events after → PutsInOrder w.task.0 None new.waits.rows waits2.rows → Works header (record new { waits = waits2 }) ids woken.Nobody (after ++ past)
 done_works header outside doing past k new ids w may events after waits2 works is f put =
     works_finished header outside doing past k new ids w f.key events after waits2 works is (finishes header outside doing past k new ids w.task w.want f.key events after (tries_of header (events ++ past) k ids w f.key works is f.at) f.faults) put
 
 pub ready_works : (header : Header) (past : List Event) (k new : Parts) (ids : Ids) (w : Waiting) (may : Bool) (object : ObjectId) (events after : List Event) (waits2 : WaitTable)
-    → Works header k ids woken.Nobody (events ++ past) → entry k.waits.rows w.task.0 ≡ Some w → Faulted w.task w.want may (step.WaitReady object) k new events after → PutsEntry w.task.0 (Some (with_on w (on.Ready object))) new.waits.rows waits2.rows
+    → Works header k ids woken.Nobody (events ++ past) → entry k.waits.rows w.task.0 ≡ Some w → Faulted w.task w.want may (step.WaitReady object) k new events after → PutsInOrder w.task.0 (Some (with_on w (on.Ready object))) new.waits.rows waits2.rows
     → Works header (record new { waits = waits2 }) ids woken.Nobody (after ++ past)
 ready_works header past k new ids w may object events after waits2 works is f put =
     stays_works header past k new ids w.task.0 (Some (with_on w (on.Ready f.key.object))) waits2 events after f.faults.2
     (λ put2. works_ready header (events ++ past) k ids w f.key waits2 works is f.at f.faults.1 f.faults.3 put2)
-    (subst (λ (z : ObjectId). PutsEntry w.task.0 (Some (with_on w (on.Ready z))) new.waits.rows waits2.rows) f.faults.0 put)
+    (subst (λ (z : ObjectId). PutsInOrder w.task.0 (Some (with_on w (on.Ready z))) new.waits.rows waits2.rows) f.faults.0 put)
 
 -- it waits for a page that is asked now, or was asked before
 pub page_works : (header : Header) (outside : Outside) (doing : Command) (past : List Event) (k new : Parts) (ids : Ids) (w : Waiting) (may : Bool) (answer : FaultStep) (key : PageKey) (events after : List Event) (waits2 : WaitTable)
     → Works header k ids woken.Nobody (events ++ past) → entry k.waits.rows w.task.0 ≡ Some w → Faulted w.task w.want may answer k new events after → (answer ≡ step.Ask key) ⊎ (answer ≡ step.WaitAnswer key)
-    → PutsEntry w.task.0 (Some (with_on w (on.Page key))) new.waits.rows waits2.rows → Works header (record new { waits = waits2 }) ids woken.Nobody (after ++ past)
+    → PutsInOrder w.task.0 (Some (with_on w (on.Page key))) new.waits.rows waits2.rows → Works header (record new { waits = waits2 }) ids woken.Nobody (after ++ past)
 page_works header outside doing past k new ids w may answer key events after waits2 works is faulted (inl asks) put =
     let f : Faulted w.task w.want may (step.Ask key) k new events after = subst (λ (z : FaultStep). Faulted w.task w.want may z k new events after) asks faulted in
     works_asked header outside doing past k new ids w f.key waits2 events after works is f.at f.faults.1
-    (subst (λ (z : PageKey). PutsEntry w.task.0 (Some (with_on w (on.Page z))) new.waits.rows waits2.rows) f.faults.0 put)
+    (subst (λ (z : PageKey). PutsInOrder w.task.0 (Some (with_on w (on.Page z))) new.waits.rows waits2.rows) f.faults.0 put)
 page_works header outside doing past k new ids w may answer key events after waits2 works is faulted (inr joins) put =
     let f : Faulted w.task w.want may (step.WaitAnswer key) k new events after = subst (λ (z : FaultStep). Faulted w.task w.want may z k new events after) joins faulted in
     stays_works header past k new ids w.task.0 (Some (with_on w (on.Page f.key))) waits2 events after f.faults.2
     (λ put2. works_joined header (events ++ past) k ids w f.key waits2 works is f.at f.faults.1 put2)
-    (subst (λ (z : PageKey). PutsEntry w.task.0 (Some (with_on w (on.Page z))) new.waits.rows waits2.rows) f.faults.0 put)
+    (subst (λ (z : PageKey). PutsInOrder w.task.0 (Some (with_on w (on.Page z))) new.waits.rows waits2.rows) f.faults.0 put)
 
 pub queued_works : (header : Header) (past : List Event) (k new : Parts) (ids : Ids) (w : Waiting) (may : Bool) (events after : List Event) (waits2 : WaitTable)
-    → Works header k ids woken.Nobody (events ++ past) → entry k.waits.rows w.task.0 ≡ Some w → Faulted w.task w.want may step.NeedFrame k new events after → PutsEntry w.task.0 (Some (with_on w on.Frame)) new.waits.rows waits2.rows
+    → Works header k ids woken.Nobody (events ++ past) → entry k.waits.rows w.task.0 ≡ Some w → Faulted w.task w.want may step.NeedFrame k new events after → PutsInOrder w.task.0 (Some (with_on w on.Frame)) new.waits.rows waits2.rows
     → Works header (record new { waits = waits2 }) ids woken.Nobody (after ++ past)
 queued_works header past k new ids w may events after waits2 works is f put =
     stays_works header past k new ids w.task.0 (Some (with_on w on.Frame)) waits2 events after f.faults.1

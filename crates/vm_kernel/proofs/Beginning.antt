@@ -1,5 +1,5 @@
 -- A load or store begins: its task waits, and the access is to be run.
-use Rattle.std.proofs.Common.{◌≡◌, ℕ, ◌+◌, arith, ◌%◌, ◌==◌, ◌∷◌, ◌++◌, Bool, true, false, List, [], refl, ap, sym, ◌∙◌, subst, Some, None, Option, inl, inr}
+use Rattle.std.proofs.Common.{◌≡◌, ℕ, ◌+◌, ◌<◌, arith, ◌%◌, ◌==◌, ◌∷◌, ◌++◌, length, Bool, true, false, List, [], refl, ap, sym, ◌∙◌, subst, Some, None, Option, inl, inr}
 use Rattle.std.proofs.lemmas.Bool.Decides.{eqb_tells}
 use Rattle.std.specs.Prelude.{if◌then◌else◌, is_none, is_some, not}
 use Rattle.vm_base.specs.declared.code.Code.{Code}
@@ -15,7 +15,7 @@ use Rattle.vm_model.specs.declared.command.Command.TheVariants as command
 use Rattle.vm_model.specs.declared.script.Header.{Header}
 use Rattle.vm_model.specs.Tasks.{entries_of, host_of}
 use Rattle.vm_model.specs.Waiting.{Access, waiting}
-use Rattle.vm_legal.specs.Accesses.{FindsPage}
+use Rattle.vm_legal.specs.Accesses.{FindsPage, begun_at}
 use Rattle.vm_legal.specs.Follows.{EndsNext, IsDone}
 use Rattle.vm_legal.specs.Outside.{Outside}
 use Rattle.vm_legal.specs.Refusal.{access_refusal, acting, where_true}
@@ -31,13 +31,14 @@ use Rattle.vm_waits.specs.declared.waiting.Waiting.{Waiting}
 use Rattle.vm_waits.specs.declared.waiting.Want.{Want}
 use Rattle.vm_waits.specs.declared.waiting.Want.TheVariants as want
 use Rattle.vm_waits.proofs.Entries.{none_again, puts_cases, puts_elsewhere}
-use Rattle.vm_kernel.specs.Begun.{Goes, Grows, Ran, Starts}
+use Rattle.vm_kernel.specs.Begun.{Goes, Grows, IsLined, Ran, Starts}
 use Rattle.vm_kernel.specs.Changes.{IsAllowed}
 use Rattle.vm_kernel.specs.Matches.{Matches, Rests, Works}
 use Rattle.vm_kernel.specs.Serving.{IsNext, RunsFirst}
-use Rattle.vm_kernel.specs.Waiters.{Asker, HasWaiters, IsSizedWant, Reason, access_in, address_in, need_in, waiting_in}
+use Rattle.vm_kernel.specs.Waiters.{BeganInOrder, Asker, HasWaiters, IsSizedWant, Reason, access_in, address_in, need_in, waiting_in}
 use Rattle.vm_kernel.specs.declared.parts.Parts.{Parts}
 use Rattle.vm_kernel.proofs.Growing.{grows_goes, suffices}
+use Rattle.vm_kernel.proofs.Ordering.{begun_below, begun_order}
 use Rattle.vm_kernel.proofs.Heads.{grows_one, passed}
 use Rattle.vm_kernel.proofs.Tasks.{lives_of}
 
@@ -165,6 +166,13 @@ begun_waiting : (task : TaskId) (what : Want) (past : List Event) (t : ℕ) → 
 begun_waiting task (want.Load address size) past t = refl
 begun_waiting task (want.Store address size value) past t = refl
 
+begun_when : (task : TaskId) (what : Want) (past : List Event) (t : ℕ) → begun_at t (begun task what ∷ past) ≡ (if task.0 == t then length past else begun_at t past)
+begun_when task (want.Load address size) past t = refl
+begun_when task (want.Store address size value) past t = refl
+
+lined_below : (t : ℕ) (past : List Event) → IsLined past → begun_at t past < length past
+lined_below t past is = subst (λ (z : List Event). begun_at t z < length z) (sym is.is) (begun_below t (event.Line is.line) is.before)
+
 begun_grows : (header : Header) (outside : Outside) (k : Parts) (ids : Ids) (past : List Event) (task : TaskId) (what : Want) → Matches header k ids [] past → Grows header outside (asks task what) past (begun task what ∷ [])
 begun_grows header outside k ids past task (want.Load address size) m =
     grows_one header outside (command.Load task address size) past (event.BegunLoad task address size) refl
@@ -215,16 +223,21 @@ begun_log : (task : TaskId) (what : Want) (before log : List Event) → before �
 begun_log task what before log none told = told ∙ ap (λ (z : List Event). begun task what ∷ z) none
 
 pub begun_works : (header : Header) (doing : Command) (task : TaskId) (what : Want) (past : List Event) (k : Parts) (ids : Ids) (before log : List Event) (reserved waits : WaitTable) → doing ≡ asks task what → Starts header doing past k ids before
-    → log ≡ begun task what ∷ before → reserved.rows ≡ k.waits.rows → PutsEntry task.0 (Some (begun_row task what)) reserved.rows waits.rows → Works header (record k { waits = waits }) ids woken.Nobody (log ++ past)
-begun_works header doing task what past k ids before log reserved waits is starts told same puts =
+    → log ≡ begun task what ∷ before → reserved.rows ≡ k.waits.rows → PutsEntry task.0 (Some (begun_row task what)) reserved.rows waits.rows
+    → waits.rows ≡ reserved.rows ++ begun_row task what ∷ [] → Works header (record k { waits = waits }) ids woken.Nobody (log ++ past)
+begun_works header doing task what past k ids before log reserved waits is starts told same puts pushed =
     let s : Starts header (asks task what) past k ids before = subst (λ (z : Command). Starts header z past k ids before) is starts in
     let can = can_begin header task what past k ids before s in
     let puts_here : PutsEntry task.0 (Some (begun_row task what)) k.waits.rows waits.rows = subst (λ (z : List Waiting). PutsEntry task.0 (Some (begun_row task what)) z waits.rows) same puts in
+    let order : BeganInOrder (λ t. begun_at t (begun task what ∷ past)) 0 waits.rows =
+    subst (λ (z : List Waiting). BeganInOrder (λ t. begun_at t (begun task what ∷ past)) 0 z) (sym (pushed ∙ ap (λ z. z ++ begun_row task what ∷ []) same))
+    (begun_order (λ t. begun_at t past) (λ t. begun_at t (begun task what ∷ past)) (begun_row task what) (length past) 0 k.waits.rows (absent_row header task what past k ids before s) (begun_when task what past) (λ t. lined_below t past s.begins) (omega arith) s.rests.order) in
     subst (λ (z : List Event). Works header (record k { waits = waits }) ids woken.Nobody (z ++ past)) (sym (begun_log task what before log s.nothing told))
     (record {
       matches = begun_matches header k ids past waits task what s.rests.matches;
       used = s.rests.used;
       reached = s.rests.reached;
+      order = order;
       waits = waits_begun k.maps k.chains k.resident k.objects k.waits.rows waits.rows task what (λ t. waiting t past) (λ t. waiting t (begun task what ∷ past)) s.rests.waits puts_here (absent_row header task what past k ids before s) can.allowed can.sized (begun_waiting task what past);
     })
 

@@ -219,6 +219,7 @@ ran_protect header outside task address bytes prot past events k ids maps mid ch
       used = c.used;
       reached = c.reached;
       waits = c.waits;
+      order = s.rests.order;
       idle = s.rests.idle;
     } in
     record {
@@ -262,6 +263,7 @@ ran_inherit header outside task address bytes inherit past events k ids maps mid
       used = c.used;
       reached = c.reached;
       waits = c.waits;
+      order = s.rests.order;
       idle = s.rests.idle;
     } in
     record {

@@ -109,6 +109,7 @@ sweeps_exit header outside task past events k ids maps gone s value changes =
           frames = m.frames;
         };
         waits = shown_waits;
+        order = s.rests.order;
         idle = s.rests.idle;
         grows = grows_one header outside (command.Exit task) past (event.TaskEnded task) refl (record { quiet = m.settled; cause = tt; own_bytes = tt; copies = tt; frames = suffices header k.frames (event.TaskEnded task ∷ past) m.frames; inner = tt; said = tt });
       };
@@ -177,6 +178,7 @@ sweeps_removed header outside task address bytes past events k ids maps mid high
           frames = m.frames;
         };
         waits = c.waits;
+        order = s.rests.order;
         idle = s.rests.idle;
         grows = grows_one header outside (command.Deallocate task address bytes) past (event.Removed task address bytes) refl (record { quiet = m.settled; cause = tt; own_bytes = tt; copies = tt; frames = suffices header k.frames (event.Removed task address bytes ∷ past) m.frames; inner = tt; said = tt });
       };
@@ -187,5 +189,5 @@ sweeps_removed header outside task address bytes past events k ids maps mid high
 -- once all that has gone is swept
 pub ran_swept : (header : Header) (outside : Outside) (doing : Command) (past events : List Event) (k : Parts) (ids : Ids) → Sweeps header outside doing past k ids [] events → IsDone header doing events past → Ran header outside doing past k ids events
 ran_swept header outside doing past events k ids s done =
-    let rests : Rests header k ids (events ++ past) = record { matches = s.runs.matches; used = s.used; reached = s.reached; waits = s.runs.waits; idle = s.runs.idle } in
+    let rests : Rests header k ids (events ++ past) = record { matches = s.runs.matches; used = s.used; reached = s.reached; waits = s.runs.waits; order = s.runs.order; idle = s.runs.idle } in
     record { rests = rests; grows = s.runs.grows; done = done }

@@ -63,6 +63,7 @@ ends_lost header outside doing past k k2 ids rest region key events after e same
           frames = frames2;
         };
         waits = rw (lost.plan.maps, lost.plan.chains, lost.plan.objects, lost.plan.waits) waits2;
+        order = rw lost.plan.waits e.runs.order;
         idle = rw lost.plan.waits e.runs.idle;
         grows = grows_more header outside doing past events gone e.runs.grows m.settled (record { consequence = tt; cause = cause; own_bytes = tt; copies = tt; frames = suffices header k2.frames (gone ∷ h) frames2; inner = tt; said = tt });
       };
@@ -183,6 +184,7 @@ runs_less header outside doing past k ids entry rest events chains s put =
         frames = m.frames;
       };
       waits = waits_kept k.maps k.maps k.chains chains k.resident k.objects k.waits.rows woken.Nobody (λ t. waiting t h) s.waits (λ t w found. record { size = refl; entries = refl }) (tops_recounted count k.chains chains is);
+      order = s.order;
       idle = s.idle;
       grows = s.grows;
     }

@@ -1,5 +1,5 @@
 -- Those who wait for a page that its pager can't give are ended.
-use Rattle.std.proofs.Common.{append-nil, append_assoc, ◌≡◌, ℕ, ◌+◌, ◌==◌, ◌&&◌, ◌||◌, Bool, true, false, List, [], ◌∷◌, ◌++◌, refl, ap, sym, ◌∙◌, subst, Some, None, inl, inr}
+use Rattle.std.proofs.Common.{append-nil, append_assoc, ◌≡◌, ℕ, ◌+◌, ◌<◌, ◌==◌, ◌&&◌, ◌||◌, Bool, true, false, List, [], ◌∷◌, ◌++◌, refl, ap, sym, ◌∙◌, subst, Some, None, inl, inr}
 use Rattle.std.proofs.lemmas.Bool.Decides.{eqb_tells}
 use Rattle.std.specs.Prelude.{IfSome, if◌then◌else◌, nat_lt, ◌⊎◌}
 use Rattle.vm_base.specs.declared.ids.PageKey.{PageKey}
@@ -11,6 +11,7 @@ use Rattle.vm_model.specs.declared.event.Event.TheVariants as event
 use Rattle.vm_model.specs.declared.script.Header.{Header}
 use Rattle.vm_model.specs.Tasks.{entries_of}
 use Rattle.vm_model.specs.Waiting.{address_of, next_page, waiting}
+use Rattle.vm_legal.specs.Accesses.{begun_at}
 use Rattle.vm_legal.specs.Licences.{Fails}
 use Rattle.vm_legal.specs.Living.{tasks as made_tasks}
 use Rattle.vm_legal.specs.Outside.{Outside}
@@ -20,7 +21,7 @@ use Rattle.vm_resident.specs.Resident.{page_key}
 use Rattle.vm_shadow.specs.declared.ids.Ids.{Ids}
 use Rattle.vm_supply.specs.declared.woken.Woken.{Woken}
 use Rattle.vm_supply.specs.declared.woken.Woken.TheVariants as who
-use Rattle.vm_waits.specs.Waits.{PutsEntry, WaitTable, entry, woken_page}
+use Rattle.vm_waits.specs.Waits.{PutsEntry, WaitTable, entry, oldest, woken_page}
 use Rattle.vm_waits.specs.declared.waiting.On.{On}
 use Rattle.vm_waits.specs.declared.waiting.On.TheVariants as on
 use Rattle.vm_waits.specs.declared.waiting.Waiting.{Waiting}
@@ -30,10 +31,11 @@ use Rattle.vm_waits.proofs.Entries.{puts_cases}
 use Rattle.vm_kernel.specs.Begun.{AllInner, Goes, IsInner}
 use Rattle.vm_kernel.specs.Counts.{count_by, most_tasks}
 use Rattle.vm_kernel.specs.Matches.{HasUse, Works, host_for}
-use Rattle.vm_kernel.specs.Taking.{EndsEach, FailsNow, HasEnded, HasFailed, IsAnswered, IsErrorPaid}
-use Rattle.vm_kernel.specs.Waiters.{Asker, access_in, address_in, waiting_in}
+use Rattle.vm_kernel.specs.Taking.{EndsEach, EndsNobody, FailsNow, HasEnded, HasFailed, IsAnswered, IsErrorPaid}
+use Rattle.vm_kernel.specs.Waiters.{Asker, BeganInOrder, access_in, address_in, waiting_in}
 use Rattle.vm_kernel.specs.declared.parts.Parts.{Parts}
 use Rattle.vm_kernel.proofs.Growing.{goes_more, suffices}
+use Rattle.vm_kernel.proofs.Ordering.{PutsInOrder, oldest_first}
 use Rattle.vm_kernel.proofs.Rows.{some_is}
 use Rattle.vm_kernel.proofs.Uses.{kept_is}
 
@@ -64,9 +66,13 @@ aims_at : (size next : ℕ) (what : Want) → address_of size next (access_in wh
 aims_at size next (want.Load address bytes) = refl
 aims_at size next (want.Store address bytes value) = refl
 
+-- those whom the error has ended began earlier than each who still waits for the page
+abbrev pub EndsBefore : PageKey → List Waiting → List Event → Type 0
+EndsBefore key rows past = (u t : ℕ) (w : Waiting) → since (fails_task u key.object.0 key.page.0) past ≡ true → entry rows t ≡ Some w → woken_page key w.on ≡ true → begun_at u past < begun_at t past
+
 fails_cause : (header : Header) (k : Parts) (ids : Ids) (past : List Event) (key : PageKey) (w : Waiting) → Works header k ids (who.Fails key) past → FailsNow header (who.Fails key) past
-    → entry k.waits.rows w.task.0 ≡ Some w → w.on ≡ on.Page key → Fails header w.task.0 key.object.0 key.page.0 past
-fails_cause header k ids past key w works fails found waits =
+    → entry k.waits.rows w.task.0 ≡ Some w → w.on ≡ on.Page key → EndsBefore key k.waits.rows past → Fails header w.task.0 key.object.0 key.page.0 past
+fails_cause header k ids past key w works fails found waits before =
     let was = works.matches in
     let at = works.waits.aims w.task.0 w key found waits in
     let allowed = works.waits.allowed w.task.0 w found in
@@ -101,6 +107,7 @@ fails_cause header k ids past key w works fails found waits =
                 };
             leads = (refl, refl);
           };
+      order = λ other ended. before other w.task.0 w ended found (ap (woken_page key) waits ∙ itself key);
     }
 
 -- the table without its row
@@ -119,6 +126,26 @@ stays task t rows rows2 w puts apart found = elim (eqb_tells task t) [
   | inl same ↦ absurd (apart same.1)
   | inr other ↦ puts.at t ∙ (ap (λ b. if b then None else entry rows t) other.0 ∙ found)
 ]
+
+-- the oldest that waits is ended, so the others began later
+ends_before : (key : PageKey) (w : Waiting) (rows rows2 : List Waiting) (past : List Event) → EndsBefore key rows past → BeganInOrder (λ t. begun_at t past) 0 rows → oldest (woken_page key) rows ≡ Some w → PutsEntry w.task.0 None rows rows2
+    → EndsBefore key rows2 (event.Failed w.task key.object key.page ∷ past)
+ends_before key w rows rows2 past before order first puts u t v ended found passes = elim (eqb_tells w.task.0 u) [
+  | inl same ↦
+      subst (λ (z : ℕ). begun_at z past < begun_at t past) same.1
+      (oldest_first (λ z. begun_at z past) (woken_page key) 0 t rows w v order first (stood w.task.0 t rows rows2 v puts found) passes (gone t found))
+  | inr apart ↦ before u t v (rw apart.0 at ended) (stood w.task.0 t rows rows2 v puts found) passes
+]
+  where
+    gone : (t : ℕ) → entry rows2 t ≡ Some v → w.task.0 ≡ t → ⊥
+    gone t found same = elim (eqb_tells w.task.0 t) [
+      | inl is ↦ let bad : None ≡ Some v = sym (puts.at t ∙ ap (λ b. if b then None else entry rows t) is.0) ∙ found in cc
+      | inr apart ↦ apart.1 same
+    ]
+
+-- nobody was ended yet
+pub before_none : (key : PageKey) (rows : List Waiting) (past : List Event) → EndsNobody (who.Fails key) past → EndsBefore key rows past
+before_none key rows past none u t w ended found passes = absurd (let bad : false ≡ true = sym (none u) ∙ ended in cc)
 
 uses_failed : (header : Header) (k : Parts) (ids : Ids) (past : List Event) (key : PageKey) (task : TaskId) (rows : List Waiting) → Works header k ids (who.Fails key) past
     → ((t : ℕ) → waiting t (event.Failed task key.object key.page ∷ past) ≡ waiting_in (entry rows t))
@@ -144,20 +171,22 @@ pub record Failing (header : Header) (outside : Outside) (doing : Command) (past
   pub works : Works header k ids (who.Fails key) (events ++ past)
   pub fails : FailsNow header (who.Fails key) (events ++ past)
   pub answered : IsAnswered (who.Fails key) k.resident
+  pub before : EndsBefore key k.waits.rows (events ++ past)
   pub goes : Goes header outside doing past old events
 
 -- one is ended
 pub failed_one : (header : Header) (outside : Outside) (doing : Command) (past old events : List Event) (key : PageKey) (k : Parts) (ids : Ids) (w : Waiting) (waits : WaitTable)
-    → Failing header outside doing past old events key k ids → entry k.waits.rows w.task.0 ≡ Some w → woken_page key w.on ≡ true → PutsEntry w.task.0 None k.waits.rows waits.rows
+    → Failing header outside doing past old events key k ids → entry k.waits.rows w.task.0 ≡ Some w → woken_page key w.on ≡ true → oldest (woken_page key) k.waits.rows ≡ Some w → PutsInOrder w.task.0 None k.waits.rows waits.rows
     → Failing header outside doing past old (event.Failed w.task key.object key.page ∷ events) key (record k { waits = waits }) ids
-failed_one header outside doing past old events key k ids w waits f found passes puts =
+failed_one header outside doing past old events key k ids w waits f found passes first both =
+    let puts = both.entry in
     let was = f.works.matches in
     let h = events ++ past in
     let e = event.Failed w.task key.object key.page in
     let rows = k.waits.rows in
     let has = f.works.waits in
     let is : (t : ℕ) → waiting t (e ∷ h) ≡ waiting_in (entry waits.rows t) = waits_less w.task.0 rows waits.rows h has.is puts in
-    let cause = fails_cause header k ids h key w f.works f.fails found (waits_for key w.on passes) in
+    let cause = fails_cause header k ids h key w f.works f.fails found (waits_for key w.on passes) f.before in
     record {
       works =
           record {
@@ -188,9 +217,11 @@ failed_one header outside doing past old events key k ids w waits f found passes
                   aims = λ t v other at waits_on. has.aims t v other (stood w.task.0 t rows waits.rows v puts at) waits_on;
                   askers = λ o p row at away. asker_stays o p (has.askers o p row at away) (f.answered.at o p row at away);
                 };
+            order = both.order.keeps (λ t. begun_at t h) 0 f.works.order;
           };
       fails = f.fails;
       answered = f.answered;
+      before = ends_before key w k.waits.rows waits.rows h f.before f.works.order first puts;
       goes = goes_more header outside doing past old events e f.goes was.settled
           (record { consequence = tt; cause = cause; own_bytes = tt; copies = tt; frames = suffices header k.frames (e ∷ h) was.frames; inner = tt; said = tt });
     }
@@ -200,7 +231,7 @@ failed_one header outside doing past old events key k ids w waits f found passes
         record {
           task = asker.task;
           row = asker.row;
-          is = stays w.task.0 asker.task k.waits.rows waits.rows asker.row puts (λ same.
+          is = stays w.task.0 asker.task k.waits.rows waits.rows asker.row both.entry (λ same.
               let row : w ≡ asker.row = some_is w asker.row (sym found ∙ (ap (entry k.waits.rows) same ∙ asker.is)) in
               let bad : true ≡ false = sym passes ∙ (ap (λ z. woken_page key z.on) row ∙ (ap (woken_page key) asker.waits ∙ still)) in
               cc) asker.is;

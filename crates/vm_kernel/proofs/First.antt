@@ -17,7 +17,9 @@ use Rattle.vm_resident.specs.Resident.{IsOwned, owner_of, row_at}
 use Rattle.vm_shadow.specs.Chains.{region_at}
 use Rattle.vm_kernel.specs.Matches.{EachApart, IsPlain, IsWashed, Rests, first_ids, the_host}
 use Rattle.vm_kernel.specs.Pagers.{last_in, live_in}
-use Rattle.vm_kernel.specs.Waiters.{waiting_in}
+use Rattle.vm_waits.specs.declared.waiting.Waiting.{Waiting}
+use Rattle.vm_legal.specs.Accesses.{begun_at}
+use Rattle.vm_kernel.specs.Waiters.{BeganInOrder, waiting_in}
 use Rattle.vm_waits.specs.Waits.{again, entry}
 use Rattle.vm_shadow.specs.declared.ids.Ids.{Ids}
 use Rattle.vm_kernel.specs.Begun.{Starts}
@@ -132,6 +134,7 @@ first_rests header k count plain size host hosts frames queues empty rows owners
             aims = λ t w key is. none_of (entry k.waits.rows t) w (ap (λ z. entry z t) waits) is;
             askers = λ o p row is. none_of (row_at k.resident o p) row (rows o p) is;
           };
+      order = subst (λ (z : List Waiting). BeganInOrder (λ task. begun_at task []) 0 z) (sym waits) tt;
       idle = ap again waits;
     }
 
@@ -159,6 +162,7 @@ rests_line header k ids line past rests =
       used = rests.used;
       reached = rests.reached;
       waits = rests.waits;
+      order = rests.order;
       idle = rests.idle;
     }
 

@@ -117,6 +117,7 @@ works_of header k ids who new buffers past object control m rests fit same c =
           };
       used = rests.used;
       reached = c.reached;
+      order = rests.order;
       waits = c.waits;
     }
 

@@ -103,6 +103,7 @@ rests_taken header k ids past object control page dirty bytes f fs laundry rests
       used = rests.used;
       reached = rests.reached;
       waits = rests.waits;
+      order = rests.order;
       idle = rests.idle;
     }
 

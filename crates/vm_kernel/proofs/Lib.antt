@@ -26,6 +26,7 @@ pub mod Leading
 pub mod Losing
 pub mod Making
 pub mod Missing
+pub mod Ordering
 pub mod Pageout
 pub mod Pages
 pub mod Prompting

@@ -103,6 +103,7 @@ ran_task header outside task past k ids before after maps s changes told =
       used = s.rests.used;
       reached = s.rests.reached;
       waits = waits_made k.maps maps k.chains k.resident k.objects k.waits.rows _ task the_host past s.rests.waits free changes;
+      order = s.rests.order;
       idle = s.rests.idle;
     }))
 

@@ -411,6 +411,7 @@ rests_range header task address bytes past k k2 ids maps lined rests may below m
           waits_known maps k2.chains k.resident k.objects k2.objects k.waits.rows _ (λ t. waiting t past)
           (waits_changed k.maps maps k.chains k2.chains k.resident k.objects k.waits.rows _ (λ t. waiting t past) task.0 _ rests.waits changes may.idle (tops_range k.chains k2.chains n (new_region object pages) none made.region_row))
           (knows_made k.objects k2.objects ids.next_object (new_object pages) unknown made.object_row);
+      order = rests.order;
       idle = rests.idle;
     }
 

@@ -43,7 +43,7 @@ use Rattle.vm_shadow.specs.declared.ids.Ids.{Ids}
 use Rattle.vm_supply.specs.declared.woken.Woken.TheVariants as woken
 use Rattle.vm_kernel.specs.Begun.{Goes}
 use Rattle.vm_kernel.specs.Fits.{ArePlain, Fits}
-use Rattle.vm_kernel.specs.Matches.{HasControls, HasFrames, HasLaundry, HasPages, HasRegions, HasTasks, HasUse, HasWaits, Matches, Rests, the_host}
+use Rattle.vm_kernel.specs.Matches.{HasControls, HasFrames, HasLaundry, HasPages, HasRegions, HasTasks, HasUse, HasOrder, HasWaits, Matches, Rests, the_host}
 use Rattle.vm_kernel.specs.Pagers.{has_pager, last_in, live_in}
 use Rattle.vm_kernel.specs.Places.{place_of, shown}
 use Rattle.vm_kernel.specs.Serving.{Reclaimed}
@@ -122,6 +122,7 @@ took_nothing header outside doing past ids k k2 before after rests beside is =
             used = rw beside.chains rests.used;
             reached = rw (beside.chains, is.objects) rests.reached;
             waits = rw (beside.chains, beside.maps, beside.waits, is.objects, is.resident) rests.waits;
+            order = rw beside.waits rests.order;
             idle = rw beside.waits rests.idle;
           };
       goes = goes_none header outside doing past before;
@@ -182,6 +183,7 @@ took_freed header outside doing past ids k k2 before after rests beside may free
             used = rw beside.chains rests.used;
             reached = rw (beside.chains, freed.objects) rests.reached;
             waits = rw (beside.chains, beside.maps, beside.waits, freed.objects) (waiters_lost k.maps k.chains k.resident k2.resident k.objects k.objects k.waits.rows _ o p row rests.waits leaves.found leaves.here leaves.gone (λ object told. told));
+            order = rw beside.waits rests.order;
             idle = rw beside.waits rests.idle;
           };
       goes = goes_one header outside doing past before e m.settled follows;
@@ -214,6 +216,7 @@ record Before (header : Header) (k : Parts) (ids : Ids) (past : List Event) : Ty
   laundry : HasLaundry k.frames k.resident k.laundry (returns_out 0 past)
   frames : HasFrames (slice_get (reverse header.frames.items) 0) k.frames (frames_held header.size 0 past) (frames_wired 0 past)
   waits : HasWaits k woken.Nobody past
+  order : HasOrder k past
 
 -- the return of a page
 abbrev returning : PageKey → ℕ → Bool → List ℕ → Event
@@ -254,6 +257,7 @@ returned_rests header ids k k2 before after h past control rests beside is b con
       used = rw beside.chains rests.used;
       reached = rw beside.chains (reached_controlled k.chains k.objects k2.objects o (controlled is.object) rests.reached region is.objects);
       waits = rw (beside.chains, beside.maps, beside.waits) (waiters_lost k.maps k.chains k.resident k2.resident k.objects k2.objects k.waits.rows _ o p is.row b.waits leaves.found leaves.here leaves.gone (told_controlled k.objects k2.objects o is.object is.known is.objects));
+      order = rw beside.waits b.order;
       idle = rw beside.waits rests.idle;
     }
 
@@ -292,7 +296,7 @@ took_told header outside doing past ids k k2 before after rests beside may is di
     let lives : live_control 0 o h ≡ Some is.object.control = m.controls.live o ∙ (ap live_in is.known ∙ ap (λ b. if b then Some is.object.control else None) (first.live ∙ paged)) in
     let why : Gives header doing 0 o p false h = ForFrames refl (may_take header doing o p h seen.lock may) in
     let follows = back_follows header outside doing ids k key row is.frame.0 is.object.control h h m leaves.found (ap (λ z. z.0) leaves.framed) seen dirty lives why m.frames in
-    let b : Before header k ids h = record { tasks = m.tasks; regions = m.regions; pages = m.pages; uses = m.uses; laundry = m.laundry; frames = m.frames; waits = rests.waits } in
+    let b : Before header k ids h = record { tasks = m.tasks; regions = m.regions; pages = m.pages; uses = m.uses; laundry = m.laundry; frames = m.frames; waits = rests.waits; order = rests.order } in
     let controls = controls_same k.objects k2.objects _ _ _ m.controls (controls_told k.objects k2.objects o is.object is.known same is.objects) in
     subst (λ (z : List Event). Took header outside doing past ids reclaim.Returned k k2 before z) (sym log)
     (record {
@@ -333,7 +337,7 @@ took_first header outside doing past ids k k2 before after rests beside may is d
     let follows = back_follows header outside doing ids k key row is.frame.0 control h0 h m leaves.found (ap (λ z. z.0) leaves.framed) seen dirty lives why m.frames in
     let creates : Creates header 0 control o header.size h0 =
     record { number = ap (λ z. z + 1) none; sized = refl; temporary = subst (λ (z : List Declared). length z ≤ o) (sym m.plain.objects) (omega arith); never = m.controls.last o ∙ (ap last_in is.known ∙ none); page = p; here = seen0.here } in
-    let b : Before header k ids h = record { tasks = m.tasks; regions = m.regions; pages = pages; uses = m.uses; laundry = m.laundry; frames = m.frames; waits = rests.waits } in
+    let b : Before header k ids h = record { tasks = m.tasks; regions = m.regions; pages = pages; uses = m.uses; laundry = m.laundry; frames = m.frames; waits = rests.waits; order = rests.order } in
     subst (λ (z : List Event). Took header outside doing past ids reclaim.Returned k k2 before z) (sym log)
     (record {
       rests = returned_rests header ids k k2 before after h h0 control rests beside is b controls;
@@ -411,6 +415,7 @@ rests_touched header ids k queues past rests keeps count =
       used = rests.used;
       reached = rests.reached;
       waits = rests.waits;
+      order = rests.order;
       idle = rests.idle;
     }
 

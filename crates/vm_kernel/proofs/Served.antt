@@ -23,7 +23,7 @@ three_ok (Err e) P Q R S f p q s = tt
 
 -- nothing is left that is to be run again
 pub rests_of : (header : Header) (k : Parts) (ids : Ids) (past : List Event) → Works header k ids woken.Nobody past → again k.waits.rows ≡ 0 → Rests header k ids past
-rests_of header k ids past works idle = record { matches = works.matches; used = works.used; reached = works.reached; waits = works.waits; idle = idle }
+rests_of header k ids past works idle = record { matches = works.matches; used = works.used; reached = works.reached; waits = works.waits; order = works.order; idle = idle }
 
 -- running an access leaves no other to be run again
 pub attempts_idle : (header : Header) (was : Waiting) (may_claim needs : Bool) (old new : Parts) (before after : List Event) → Attempts header was may_claim needs old new before after → again old.waits.rows ≡ 0 → again new.waits.rows ≡ 0

@@ -36,7 +36,7 @@ use Rattle.vm_kernel.specs.Begun.{IsInner, IsSaid, Ran, Starts}
 use Rattle.vm_kernel.specs.Counts.{count_by, most_tasks}
 use Rattle.vm_kernel.specs.Fits.{ArePlain}
 use Rattle.vm_kernel.specs.Forking.{CanShare, HasForked, Shares, got, with_child}
-use Rattle.vm_kernel.specs.Matches.{HasEntries, HasWaits, IsInside, Matches, host_for, the_host}
+use Rattle.vm_kernel.specs.Matches.{HasEntries, HasOrder, HasWaits, IsInside, Matches, host_for, the_host}
 use Rattle.vm_kernel.specs.Waiters.{HasWaiters}
 use Rattle.vm_kernel.specs.Places.{entries_in_row, has_region, pages_in, place_of, region_entries, region_pages}
 use Rattle.vm_kernel.specs.Sweeping.{with_entries}
@@ -115,6 +115,7 @@ fork_start header outside task child past k ids before after maps s changes told
       waits =
           subst (λ (z : List Event). HasWaits (record k { maps = maps }) woken.Nobody (z ++ past)) (sym log)
           (waits_made k.maps maps k.chains k.resident k.objects k.waits.rows woken.Nobody child the_host past s.rests.waits may.free changes);
+      order = subst (λ (z : List Event). HasOrder (record k { maps = maps }) (z ++ past)) (sym log) s.rests.order;
       idle = s.rests.idle;
       others = changes.others task.0 apart ∙ may.lives;
       own = changes.changed;
@@ -270,6 +271,7 @@ fork_shared header outside task child rows i row past k k2 ids events after f so
       used = recount_used count_at k.chains k2.chains recounts (λ q there some. omega (arith, step q)) f.used;
       reached = λ o known found live. has_same count_at k.chains k2.chains recounts o ∙ f.reached o known (ap (λ z. object_at z o) (sym s.objects) ∙ found) live;
       waits = subst (λ (z : List Event). HasWaits k2 woken.Nobody (z ++ past)) (sym s.told) (rw (s.resident, s.objects, s.waits) now_waits);
+      order = subst (λ (z : List Event). HasOrder k2 (z ++ past)) (sym s.told) (rw s.waits f.order);
       idle = ap (λ z. again z.rows) s.waits ∙ f.idle;
       others = s.maps.others task.0 f.apart ∙ f.others;
       own = s.maps.changed ∙ ap Some (ap (entered row) own ∙ (last ∙ sym more));
@@ -313,6 +315,7 @@ fork_other header outside task child rows i row past k ids events f found isnt =
       used = f.used;
       reached = f.reached;
       waits = f.waits;
+      order = f.order;
       idle = f.idle;
       others = f.others;
       own = f.own ∙ ap Some (sym same);
@@ -380,4 +383,4 @@ ran_fork header outside task child i past k k2 ids before events s f end =
     let whole : events ≡ reverse first = f.told ∙ (ap (λ z. with_child child (shared z)) (take_all rows i end) ∙ sym turned) in
     let quiet : AllQuiet header events = subst (AllQuiet header) (sym (whole ∙ turned)) (quiet_append header (reverse (gets child (shared rows))) (event.TaskMade child the_host ∷ []) (quiet_gets header child (shared rows)) (quiet_made header child, tt)) in
     let is : head header past (command.Fork task child) ≡ Some first = rw (m.tasks.hosts task.0, m.tasks.rows task.0, ap host_for may.lives, may.shares) refl in
-    ran_head header outside (command.Fork task child) past k2 ids events first is whole (heads_quiet header outside (command.Fork task child) events past f.licensed quiet (suffices header k.frames past m.frames)) tt (record { matches = f.matches; used = f.used; reached = f.reached; waits = f.waits; idle = f.idle })
+    ran_head header outside (command.Fork task child) past k2 ids events first is whole (heads_quiet header outside (command.Fork task child) events past f.licensed quiet (suffices header k.frames past m.frames)) tt (record { matches = f.matches; used = f.used; reached = f.reached; waits = f.waits; order = f.order; idle = f.idle })

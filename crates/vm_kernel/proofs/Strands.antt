@@ -309,6 +309,7 @@ strands_ended header outside doing past k ids rest r left events chains objects 
           frames = m.frames;
         };
         waits = waits_told k.maps chains k.resident k.objects objects k.waits.rows woken.Nobody (λ t. waiting t h) (waits_without k.maps k.chains chains k.resident k.objects k.waits.rows woken.Nobody (λ t. waiting t h) r e.runs.waits put none) (told_referred k.maps chains r left was k.objects objects found put_object);
+        order = e.runs.order;
         idle = e.runs.idle;
         grows = e.runs.grows;
       };

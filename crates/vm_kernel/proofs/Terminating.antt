@@ -178,6 +178,7 @@ sweeps_told header outside doing past k ids rest object events after row objects
           frames = m.frames;
         };
         waits = waits_told k.maps k.chains k.resident k.objects objects k.waits.rows woken.Nobody (λ t. waiting t h) s.runs.waits (told_quiet header k ids rest h o row objects m s.none put);
+        order = s.runs.order;
         idle = s.runs.idle;
         grows = grows_more header outside doing past events ending s.runs.grows m.settled (record { consequence = tt; cause = cause; own_bytes = tt; copies = tt; frames = suffices header k.frames (ending ∷ h) m.frames; inner = tt; said = refl });
       };

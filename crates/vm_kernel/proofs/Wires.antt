@@ -90,6 +90,7 @@ ran_wired header outside doing past k ids wired rests few first done =
       used = rests.used;
       reached = rests.reached;
       waits = rests.waits;
+      order = rests.order;
       idle = rests.idle;
     })
 

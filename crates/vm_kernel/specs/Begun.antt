@@ -18,7 +18,7 @@ use Rattle.vm_legal.specs.Refusal.{refusal}
 use Rattle.vm_legal.specs.Stretches.{EachIn, EachOf, MomentsIn}
 use Rattle.vm_shadow.specs.declared.ids.Ids.{Ids}
 use Rattle.vm_kernel.specs.Built.{copies_entries}
-use Rattle.vm_kernel.specs.Matches.{HasWaits, Matches, Rests, the_host}
+use Rattle.vm_kernel.specs.Matches.{HasOrder, HasWaits, Matches, Rests, the_host}
 use Rattle.vm_kernel.specs.Serving.{HasQueue}
 use Rattle.vm_supply.specs.declared.woken.Woken.TheVariants as woken
 use Rattle.vm_waits.specs.Waits.{again}
@@ -108,6 +108,7 @@ pub record Runs (header : Header) (outside : Outside) (doing : Command) (past : 
   pub begins : IsLined past
   pub matches : Matches header k ids gone (events ++ past)
   pub waits : HasWaits k woken.Nobody (events ++ past)
+  pub order : HasOrder k (events ++ past)
   pub idle : again k.waits.rows ≡ 0
   pub grows : Grows header outside doing past events
 

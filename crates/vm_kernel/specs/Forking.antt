@@ -17,7 +17,7 @@ use Rattle.vm_shadow.specs.declared.ids.Ids.{Ids}
 use Rattle.vm_kernel.specs.Changes.{entering}
 use Rattle.vm_supply.specs.declared.woken.Woken.TheVariants as woken
 use Rattle.vm_waits.specs.Waits.{again}
-use Rattle.vm_kernel.specs.Matches.{AllReached, AllUsed, HasWaits, Matches, the_host}
+use Rattle.vm_kernel.specs.Matches.{AllReached, AllUsed, HasOrder, HasWaits, Matches, the_host}
 use Rattle.vm_kernel.specs.Places.{has_region, region_entries}
 use Rattle.vm_kernel.specs.Sweeping.{PutsEntries}
 use Rattle.vm_kernel.specs.declared.parts.Parts.{Parts}
@@ -60,6 +60,7 @@ pub record HasForked (header : Header) (outside : Outside) (task child : TaskId)
   pub used : AllUsed k.chains
   pub reached : AllReached k.chains k.objects
   pub waits : HasWaits k woken.Nobody (events ++ past)
+  pub order : HasOrder k (events ++ past)
   pub idle : again k.waits.rows ≡ 0
   pub others : entries_in task.0 k.maps ≡ Some rows
   pub own : entries_in child.0 k.maps ≡ Some (shared (take count rows))

@@ -14,7 +14,7 @@ use Rattle.vm_model.specs.Regions.{Backing, Region, backing_of, next_object, nex
 use Rattle.vm_model.specs.Rows.{AllRows, Inside}
 use Rattle.vm_model.specs.Tasks.{entries_of, host_of}
 use Rattle.vm_model.specs.Waiting.{waiting}
-use Rattle.vm_legal.specs.Accesses.{is_ready}
+use Rattle.vm_legal.specs.Accesses.{begun_at, is_ready}
 use Rattle.vm_legal.specs.Frames.{frames_held, frames_wired, returns_out}
 use Rattle.vm_legal.specs.Licences.{created}
 use Rattle.vm_legal.specs.Living.{tasks as made_tasks}
@@ -27,7 +27,7 @@ use Rattle.vm_supply.specs.declared.woken.Woken.{Woken}
 use Rattle.vm_supply.specs.declared.woken.Woken.TheVariants as woken
 use Rattle.vm_waits.specs.Waits.{again}
 use Rattle.vm_kernel.specs.Pagers.{has_pager, last_in, live_in, ready_in}
-use Rattle.vm_kernel.specs.Waiters.{HasWaiters}
+use Rattle.vm_kernel.specs.Waiters.{BeganInOrder, HasWaiters}
 use Rattle.vm_maps.specs.Maps.{Mapped, entries_in, rows_in}
 use Rattle.vm_objects.specs.Objects.{ObjectTable, absent_at, object_at}
 use Rattle.vm_objects.specs.declared.row.ObjectRow.{ObjectRow}
@@ -192,12 +192,17 @@ AllReached chains objects = (o : ℕ) (row : ObjectRow) → object_at objects o 
 abbrev pub HasWaits : Parts → Woken → List Event → Type 0
 HasWaits k who past = HasWaiters k.maps k.chains k.resident k.objects k.waits.rows who (λ task. waiting task past)
 
+-- their rows stand in the order in which they began
+abbrev pub HasOrder : Parts → List Event → Type 0
+HasOrder k past = BeganInOrder (λ task. begun_at task past) 0 k.waits.rows
+
 -- the kernel inside a step, with accesses that are to be run again, and whom an answer has woken
 pub record Works (header : Header) (k : Parts) (ids : Ids) (who : Woken) (past : List Event) : Type 0 where
   pub matches : Matches header k ids [] past
   pub used : AllUsed k.chains
   pub reached : AllReached k.chains k.objects
   pub waits : HasWaits k who past
+  pub order : HasOrder k past
 
 -- the kernel at the end of a step: no access is left that is to be run again
 pub record Rests (header : Header) (k : Parts) (ids : Ids) (past : List Event) : Type 0 where
@@ -205,4 +210,5 @@ pub record Rests (header : Header) (k : Parts) (ids : Ids) (past : List Event) :
   pub used : AllUsed k.chains
   pub reached : AllReached k.chains k.objects
   pub waits : HasWaits k woken.Nobody past
+  pub order : HasOrder k past
   pub idle : again k.waits.rows ≡ 0

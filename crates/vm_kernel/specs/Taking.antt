@@ -30,6 +30,11 @@ abbrev pub FailsNow : Header → Woken → List Event → Type 0
 FailsNow header (woken.Fails key) past = error_taken header.size past ≡ Some (record { host = 0; object = key.object.0; page = key.page.0 })
 FailsNow header other past = error_taken header.size past ≡ None
 
+-- and it has ended nobody yet
+abbrev pub EndsNobody : Woken → List Event → Type 0
+EndsNobody (woken.Fails key) past = (t : ℕ) → since (fails_task t key.object.0 key.page.0) past ≡ false
+EndsNobody other past = Unit {0}
+
 -- some access waits for the page that failed
 abbrev pub HasAsker : Woken → List Waiting → Type 0
 HasAsker (woken.Fails key) rows = Asker rows key.object.0 key.page.0

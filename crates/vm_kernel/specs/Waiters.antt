@@ -1,5 +1,5 @@
 -- The accesses that wait on a host, as its kernel keeps them, and what each waits for.
-use Rattle.std.specs.Prelude.{ℕ, ◌+◌, ◌%◌, ◌^◌, ◌<◌, ◌≡◌, Bool, false, List, Option, Some, None}
+use Rattle.std.specs.Prelude.{ℕ, suc, ◌+◌, ◌%◌, ◌^◌, ◌<◌, ◌≤◌, ◌≡◌, Bool, false, List, [], ◌∷◌, Option, Some, None}
 use Rattle.vm_base.specs.declared.entry.Entry.{Entry}
 use Rattle.vm_base.specs.declared.ids.Access.{Access as Need}
 use Rattle.vm_base.specs.declared.ids.Access.TheVariants as need
@@ -80,6 +80,11 @@ Reason maps chains resident objects task what on.Again = Unit {0}
 Reason maps chains resident objects task what (on.Ready object) = (key : PageKey) × IsAt maps chains task what key × (key.object ≡ object) × IsTold objects object.0
 Reason maps chains resident objects task what (on.Page key) = IsAt maps chains task what key × IsAsked resident key.object.0 key.page.0
 Reason maps chains resident objects task what on.Frame = Unit {0}
+
+-- the accesses of the rows began one behind the other, from an event on
+abbrev pub BeganInOrder : (ℕ → ℕ) → ℕ → List Waiting → Type 0
+BeganInOrder begun from [] = Unit {0}
+BeganInOrder begun from (w ∷ ws) = (from ≤ begun w.task.0) × BeganInOrder begun (suc (begun w.task.0)) ws
 
 -- a row of the table of waiting accesses waits for the page
 pub record Asker (rows : List Waiting) (o p : ℕ) : Type 0 where

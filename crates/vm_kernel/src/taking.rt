@@ -5,7 +5,7 @@ ghost use Rattle.vm_model.specs.declared.message.Channel.TheVariants.{Down};
 ghost use Rattle.vm_supply.specs.declared.woken.Woken.TheVariants as who;
 ghost use Rattle.vm_kernel.specs.Begun.{Doing, Goes, IsLaundered, Passing};
 ghost use Rattle.vm_kernel.specs.Matches.{Rests, Works, the_host};
-ghost use Rattle.vm_kernel.specs.Taking.{EndsEach, FailsNow, HasAsker, HasEnded, HasFailed, IsAnswered, IsErrorPaid, IsTempAnswer};
+ghost use Rattle.vm_kernel.specs.Taking.{EndsEach, EndsNobody, FailsNow, HasAsker, HasEnded, HasFailed, IsAnswered, IsErrorPaid, IsTempAnswer};
 
 use crate::parts::Parts;
 use vm_base::{NoMemory, ObjectId, PageKey};
@@ -30,6 +30,7 @@ impl Parts {
         requires nothing { log.old.items ≡ [] }
         ensures works { IfOk result (λ woken. Works given.header self.new ids.now woken (given.front ++ given.past)) }
         ensures fails { IfOk result (λ woken. FailsNow given.header woken (given.front ++ given.past)) }
+        ensures fresh { IfOk result (λ woken. EndsNobody woken (given.front ++ given.past)) }
         ensures asker { IfOk result (λ woken. HasAsker woken self.new.waits.rows) }
         ensures answered { IfOk result (λ woken. IsAnswered woken self.new.resident) }
         ensures waits { OnOk result (self.new.waits ≡ self.old.waits) }
@@ -56,6 +57,7 @@ impl Parts {
         ghost given: { Doing }
         requires works { Works given.header self.old ids.now woken (log.old.items ++ given.past) }
         requires fails { FailsNow given.header woken (log.old.items ++ given.past) }
+        requires fresh { EndsNobody woken (log.old.items ++ given.past) }
         requires asker { HasAsker woken self.old.waits.rows }
         requires answered { IsAnswered woken self.old.resident }
         ensures works { OnOk result (Works given.header self.new ids.now who.Nobody (log.new.items ++ given.past)) }
@@ -82,6 +84,7 @@ impl Parts {
         ghost given: { Doing }
         requires works { Works given.header self.old ids.now (who.Fails key) (log.old.items ++ given.past) }
         requires fails { FailsNow given.header (who.Fails key) (log.old.items ++ given.past) }
+        requires fresh { EndsNobody (who.Fails key) (log.old.items ++ given.past) }
         requires asker { HasAsker (who.Fails key) self.old.waits.rows }
         requires answered { IsAnswered (who.Fails key) self.old.resident }
         ensures works { OnOk result (Works given.header self.new ids.now who.Nobody (log.new.items ++ given.past)) }

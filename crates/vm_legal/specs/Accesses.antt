@@ -1,5 +1,5 @@
 -- The accesses that wait: where they lead, how far their walks get, and what they want.
-use Rattle.std.specs.Prelude.{ℕ, zero, suc, ◌≡◌, Bool, true, false, List, [], ◌∷◌, if◌then◌else◌, ◌==◌, ◌&&◌, ◌||◌, Some}
+use Rattle.std.specs.Prelude.{ℕ, zero, suc, ◌≡◌, Bool, true, false, List, [], ◌∷◌, length, if◌then◌else◌, ◌==◌, ◌&&◌, ◌||◌, Some}
 use Rattle.vm_base.specs.declared.entry.Entry.{Entry}
 use Rattle.vm_base.specs.Entries.{entry_at, page_at}
 use Rattle.vm_model.specs.declared.event.Event.{Event}
@@ -24,6 +24,14 @@ pub record At (header : Header) (task address : ℕ) (past : List Event) : Type 
 pub record Waits (header : Header) (task : ℕ) (access : Access) (past : List Event) : Type 0 where
   pub waits : waiting task past ≡ Some access
   pub at : At header task (address_of header.size (next_page task past) access) past
+
+-- when a task's last access began: how many events stood in front of that
+abbrev pub begun_at : ℕ → List Event → ℕ
+begun_at task [] = 0
+begun_at task (event.BegunLoad owner address bytes ∷ past) = if owner.0 == task then length past else begun_at task past
+begun_at task (event.BegunStore owner address bytes value ∷ past) = if owner.0 == task then length past else begun_at task past
+begun_at task (event.BegunCopy owner address bytes to ∷ past) = if owner.0 == task then length past else begun_at task past
+begun_at task (e ∷ past) = begun_at task past
 
 -- the page of its region that an access is about now
 abbrev pub page_of : (header : Header) (task : ℕ) (access : Access) (past : List Event) → Entry → ℕ

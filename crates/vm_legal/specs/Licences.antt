@@ -22,12 +22,12 @@ use Rattle.vm_model.specs.Regions.{next_region, next_object, region_of, backing_
 use Rattle.vm_model.specs.Server.{first}
 use Rattle.vm_model.specs.Tasks.{host_of, entries_of, has_entry}
 use Rattle.vm_model.specs.Waiting.{Access, Loading, Storing, Copying, waiting, next_page, copy_target, is_store}
-use Rattle.vm_legal.specs.Accesses.{At, Waits, Comes, HasPlace, is_ready, page_of}
+use Rattle.vm_legal.specs.Accesses.{At, Waits, Comes, HasPlace, begun_at, is_ready, page_of}
 use Rattle.vm_legal.specs.Living.{lives_on, tasks}
 use Rattle.vm_legal.specs.Outside.{Outside, is_file, is_said, start_page, zeros}
 use Rattle.vm_legal.specs.Pagers.{LacksSlot, is_lost, last_return, newer, slot_at}
 use Rattle.vm_legal.specs.Reclaims.{Reclaims}
-use Rattle.vm_legal.specs.Steps.{Letter, absence_taken, answers, error_taken, fails_reading, readies, since, taken, takings}
+use Rattle.vm_legal.specs.Steps.{Letter, absence_taken, answers, error_taken, fails_reading, fails_task, readies, since, taken, takings}
 use Rattle.vm_legal.specs.Undelivered.{oldest}
 use Rattle.vm_legal.specs.Used.{in_use, is_filled}
 use Rattle.vm_legal.specs.Walks.{IsTop, Reach, Sinks, Walks, page_on, sight}
@@ -121,6 +121,8 @@ pub record Fails (header : Header) (task object page : ℕ) (past : List Event) 
   pub waits : Waits header task access past
   pub error : error_taken header.size past ≡ Some (record { host = waits.at.host; object = object; page = page })
   pub place : HasPlace header waits.at.entry.region.0 (page_of header task access past waits.at.entry) object page past
+  -- those that the error has ended before began earlier
+  pub order : (other : ℕ) → since (fails_task other object page) past ≡ true → begun_at other past < begun_at task past
 
 -- 3 for a store on its top place, and 1 for everything else
 abbrev pub access_number : Access → ℕ → ℕ

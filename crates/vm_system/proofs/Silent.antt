@@ -34,7 +34,7 @@ matches_line header k ids line h m = record {
 }
 
 pub rests_line : (header : Header) (k : Parts) (ids : Ids) (line : ℕ) (h : List Event) → Rests header k ids h → Rests header k ids (event.Line line ∷ h)
-rests_line header k ids line h rests = record { matches = matches_line header k ids line h rests.matches; used = rests.used; reached = rests.reached; waits = rests.waits; idle = rests.idle }
+rests_line header k ids line h rests = record { matches = matches_line header k ids line h rests.matches; used = rests.used; reached = rests.reached; waits = rests.waits; order = rests.order; idle = rests.idle }
 
 -- the accesses that wait, and what they wait for
 
@@ -135,7 +135,7 @@ matches_code header k ids why h m = record {
 }
 
 pub rests_code : (header : Header) (k : Parts) (ids : Ids) (why : Code) (h : List Event) → Rests header k ids h → Rests header k ids (event.Refused why ∷ h)
-rests_code header k ids why h rests = record { matches = matches_code header k ids why h rests.matches; used = rests.used; reached = rests.reached; waits = rests.waits; idle = rests.idle }
+rests_code header k ids why h rests = record { matches = matches_code header k ids why h rests.matches; used = rests.used; reached = rests.reached; waits = rests.waits; order = rests.order; idle = rests.idle }
 
 -- the accesses that wait, and what they wait for
 

@@ -8,6 +8,7 @@ use Rattle.vm_kernel.specs.declared.steps.FaultStep.TheVariants as step
 use Rattle.vm_kernel.proofs.Attempting.{done_works, fault_goes, its_row, page_works, queued_works, queues_of, ready_works}
 use Rattle.vm_kernel.proofs.Finding.{ends_next}
 use Rattle.vm_kernel.proofs.Leading.{can_fault}
+use Rattle.vm_kernel.proofs.Ordering.{PutsInOrder, turned_keeps, without_keeps}
 use Rattle.vm_kernel.proofs.parts.Parts.attempt.Goals as goal
 use Rattle.vm_kernel.proofs.parts.Parts.attempt.Goals.{in-WaitReady, in-Ask, in-Ask-2}
 
@@ -16,7 +17,8 @@ fault-requires g c = can_fault _ _ _ _ _ _ c.args.waiting c.requires.0.matches c
 
 pub returns-in-Done-clause-works : goal.returns-in-Done-clause-works
 returns-in-Done-clause-works g c =
-    done_works _ g.given.outside g.given.command _ _ _ _ c.args.waiting c.args.may_claim _ _ c.remove.new.self c.requires.0 c.requires.1 (rw c.in-Done.is at c.in_ok-fault.ensures) c.remove.ensures.entry
+    done_works _ g.given.outside g.given.command _ _ _ _ c.args.waiting c.args.may_claim _ _ c.remove.new.self c.requires.0 c.requires.1 (rw c.in-Done.is at c.in_ok-fault.ensures)
+    (record { entry = c.remove.ensures.entry; order = without_keeps c.args.waiting.task.0 c.fault.new.self.waits.rows c.remove.new.self.rows c.remove.ensures.rows })
 
 pub returns-in-Done-clause-goes : goal.returns-in-Done-clause-goes
 returns-in-Done-clause-goes g c = fault_goes _ _ _ _ _ _ _ c.args.waiting c.args.may_claim c.in_ok-fault.field-0 _ _ c.requires.0 c.requires.1 c.in_ok-fault.ensures
@@ -25,7 +27,10 @@ pub returns-then-ne-clause-works : goal.returns-then-ne-clause-works
 returns-then-ne-clause-works g c =
     let w = c.args.waiting in
     queued_works _ _ _ _ _ w c.args.may_claim _ _ c.join_queue.new.self c.requires.0 c.requires.1 (rw c.in-NeedFrame.is at c.in_ok-fault.ensures)
-    (its_row w c.args.may_claim c.in_ok-fault.field-0 _ _ _ _ (λ was. PutsEntry w.task.0 (Some (with_on was on.Frame)) c.fault.new.self.waits.rows c.join_queue.new.self.rows) c.requires.1 c.in_ok-fault.ensures c.join_queue.ensures.entry)
+    (record {
+      entry = its_row w c.args.may_claim c.in_ok-fault.field-0 _ _ _ _ (λ was. PutsEntry w.task.0 (Some (with_on was on.Frame)) c.fault.new.self.waits.rows c.join_queue.new.self.rows) c.requires.1 c.in_ok-fault.ensures c.join_queue.ensures.entry;
+      order = turned_keeps w.task.0 on.Frame c.fault.new.self.waits.rows c.join_queue.new.self.rows c.join_queue.ensures.rows;
+    })
 
 pub returns-then-ne-clause-attempts : goal.returns-then-ne-clause-attempts
 returns-then-ne-clause-attempts g c =
@@ -47,7 +52,9 @@ pub returns-clause-works : goal.returns-clause-works
 returns-clause-works g c =
     let w = c.args.waiting in
     let row = its_row w c.args.may_claim c.in_ok-fault.field-0 _ _ _ _ (λ was. PutsEntry w.task.0 (Some (with_on was c.match-branch-2.on)) c.fault.new.self.waits.rows c.set_on.new.self.rows) c.requires.1 c.in_ok-fault.ensures c.set_on.ensures.entry in
-    let turns = λ (reason : On) (is : c.match-branch-2.on ≡ reason). subst (λ (z : On). PutsEntry w.task.0 (Some (with_on w z)) c.fault.new.self.waits.rows c.set_on.new.self.rows) is row in
+    let puts : PutsInOrder w.task.0 (Some (with_on w c.match-branch-2.on)) c.fault.new.self.waits.rows c.set_on.new.self.rows =
+    record { entry = row; order = turned_keeps w.task.0 c.match-branch-2.on c.fault.new.self.waits.rows c.set_on.new.self.rows c.set_on.ensures.rows } in
+    let turns = λ (reason : On) (is : c.match-branch-2.on ≡ reason). subst (λ (z : On). PutsInOrder w.task.0 (Some (with_on w z)) c.fault.new.self.waits.rows c.set_on.new.self.rows) is puts in
     let page = λ (key : PageKey) (comes : (c.in_ok-fault.field-0 ≡ step.Ask key) ⊎ (c.in_ok-fault.field-0 ≡ step.WaitAnswer key)) (is : c.match-branch-2.on ≡ on.Page key).
     page_works _ g.given.outside g.given.command _ _ _ _ w c.args.may_claim c.in_ok-fault.field-0 key _ _ c.set_on.new.self c.requires.0 c.requires.1 c.in_ok-fault.ensures comes (turns (on.Page key) is) in
     elim c.match-branch-2.branch [

@@ -1,8 +1,22 @@
-use Rattle.std.proofs.Common.{◌≡◌, ◌++◌, true, List, inl, sym, subst}
+use Rattle.std.proofs.Common.{rules, ◌≡◌, ◌++◌, true, List, inl, sym, subst}
 use Rattle.vm_model.specs.declared.event.Event.{Event}
 use Rattle.vm_legal.specs.Steps.{fails_access, since}
-use Rattle.vm_kernel.proofs.Failing.{EndsOr, Failing, ends_all, ends_or, failed_one, since_now}
+use Rattle.vm_kernel.proofs.Failing.{EndsOr, Failing, before_none, ends_all, ends_or, failed_one, since_now}
+use Rattle.vm_kernel.proofs.Ordering.{without_keeps}
 use Rattle.vm_kernel.proofs.parts.Parts.fail.Goals as goal
+
+pub all-init : goal.all-init
+all-init g c =
+    let past = c.args.log.now.items ++ g.given.past in
+    record {
+      works = search rules;
+      fails = search rules;
+      answered = search rules;
+      before = before_none c.args.key c.args.self.now.waits.rows past c.requires.1.1.0;
+      goes = search rules;
+      each = search rules;
+      some = search rules;
+    }
 
 pub all-preserved : goal.all-preserved
 all-preserved g c =
@@ -11,12 +25,14 @@ all-preserved g c =
     let was = c.all.invariant in
     let one =
     failed_one g.given.header g.given.outside g.given.command g.given.past c.args.log.now.items c.all.log.items key c.all.self c.args.ids.now w c.remove.new.self
-    (record { works = was.works; fails = was.fails; answered = was.answered; goes = was.goes }) c.in-Some.ensures.row.0 c.in-Some.ensures.row.1 c.remove.ensures.entry in
+    (record { works = was.works; fails = was.fails; answered = was.answered; before = was.before; goes = was.goes }) c.in-Some.ensures.row.0 c.in-Some.ensures.row.1 (sym c.in-Some.ensures.oldest)
+    (record { entry = c.remove.ensures.entry; order = without_keeps w.task.0 c.all.self.waits.rows c.remove.new.self.rows c.remove.ensures.rows }) in
     let now = subst (λ (z : List Event). Failing g.given.header g.given.outside g.given.command g.given.past c.args.log.now.items z key (record c.all.self { waits = c.remove.new.self }) c.args.ids.now) (sym c.in_ok-push.ensures.ok) one in
     record {
       works = now.works;
       fails = now.fails;
       answered = now.answered;
+      before = now.before;
       goes = now.goes;
       each =
           subst (λ (z : List Event). EndsOr key c.args.self.now.waits.rows c.remove.new.self.rows (z ++ g.given.past)) (sym c.in_ok-push.ensures.ok)

@@ -5,7 +5,7 @@ use Rattle.vm_kernel.specs.Begun.{Goes}
 use Rattle.vm_kernel.specs.Matches.{Works}
 use Rattle.vm_kernel.specs.Taking.{FailsNow, IsAnswered}
 use Rattle.vm_kernel.specs.Waiters.{Asker}
-use Rattle.vm_kernel.proofs.Failing.{EndsOr}
+use Rattle.vm_kernel.proofs.Failing.{EndsBefore, EndsOr}
 use Rattle.vm_kernel.proofs.parts.Parts.fail.Given as goal
 
 abbrev pub invariant-all : goal.invariant-all
@@ -13,6 +13,7 @@ invariant-all g l = record {
   works : Works g.given.header l.self l.ids (woken.Fails l.key) (l.log.items ++ g.given.past);
   fails : FailsNow g.given.header (woken.Fails l.key) (l.log.items ++ g.given.past);
   answered : IsAnswered (woken.Fails l.key) l.self.resident;
+  before : EndsBefore l.key l.self.waits.rows (l.log.items ++ g.given.past);
   goes : Goes g.given.header g.given.outside g.given.command g.given.past l.fn.log.items l.log.items;
   each : EndsOr l.key l.fn.self.waits.rows l.self.waits.rows (l.log.items ++ g.given.past);
   some : (since (fails_access l.key.object.0 l.key.page.0) (l.log.items ++ g.given.past) ≡ true) ⊎ Asker l.self.waits.rows l.key.object.0 l.key.page.0;

@@ -8,7 +8,7 @@ use Rattle.vm_kernel.proofs.parts.Parts.store.Goals as goal
 pub restart-requires : goal.restart-requires
 restart-requires g c =
     begun_works g.given.header g.given.command c.args.task (want.Store c.args.address c.args.size c.args.value) g.given.past c.args.self.now c.args.ids.now c.args.log.now.items c.push.new.self.items c.reserve.new.self c.begin.new.self
-    c.requires.0 c.requires.1 c.in_ok-push.ensures.ok c.reserve.ensures.rows c.begin.ensures.entry
+    c.requires.0 c.requires.1 c.in_ok-push.ensures.ok c.reserve.ensures.rows c.begin.ensures.entry c.begin.ensures.rows
 
 pub returns : goal.returns
 returns g c =

@@ -1,0 +1,24 @@
+use Rattle.std.proofs.Common.{rules}
+use Rattle.vm_waits.specs.Waits.{woken_page, woken_ready}
+use Rattle.vm_kernel.proofs.Ordering.{woken_keeps}
+use Rattle.vm_kernel.proofs.parts.Parts.wake.Goals as goal
+
+pub returns-in-ReadyOf-clause-works : goal.returns-in-ReadyOf-clause-works
+returns-in-ReadyOf-clause-works g c =
+    record {
+      matches = search rules;
+      used = search rules;
+      reached = search rules;
+      waits = search rules;
+      order = (woken_keeps (woken_ready c.in-ReadyOf.object.0) c.args.self.now.waits.rows c.wake_ready.new.self.rows c.wake_ready.ensures.rows).keeps _ 0 c.requires.0.order;
+    }
+
+pub returns-in-Page-clause-works : goal.returns-in-Page-clause-works
+returns-in-Page-clause-works g c =
+    record {
+      matches = search rules;
+      used = search rules;
+      reached = search rules;
+      waits = search rules;
+      order = (woken_keeps (woken_page c.in-Page.key) c.args.self.now.waits.rows c.wake_page.new.self.rows c.wake_page.ensures.rows).keeps _ 0 c.requires.0.order;
+    }
