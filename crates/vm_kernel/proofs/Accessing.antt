@@ -211,8 +211,8 @@ matches_stored header k mid ids lost past task at n value key frame m lives stan
     row_here x y same is = let it : x ≡ y = cc in sym (ap (λ (z : PageRow). z.here) it) ∙ is
 
 -- the lists of pages have another order
-pub matches_touched : (header : Header) (k new : Parts) (ids : Ids) (lost : List Entry) (past : List Event) → Matches header k ids lost past → Touched k new → Matches header new ids lost past
-matches_touched header k new ids lost past m touched = subst (λ (z : Parts). Matches header z ids lost past) (sym touched.is) with_queues
+pub matches_touched : (frame : FrameNo) (header : Header) (k new : Parts) (ids : Ids) (lost : List Entry) (past : List Event) → Matches header k ids lost past → Touched frame k new → Matches header new ids lost past
+matches_touched frame header k new ids lost past m touched = subst (λ (z : Parts). Matches header z ids lost past) (sym touched.is) with_queues
   where
     with_queues : Matches header (record k { queues = new.queues }) ids lost past
     with_queues =

@@ -98,14 +98,14 @@ lies_planned k new key plan lies = record { row = lies.row; region = rw plan.cha
 -- a load ends
 finish_load : (header : Header) (outside : Outside) (doing : Command) (past : List Event) (k new : Parts) (ids : Ids) (task : TaskId) (address n value : ℕ) (key : PageKey) (frame : FrameNo) (events : List Event)
     → Tries header (events ++ past) k ids task (want.Load address n) key → IsHere key frame k
-    → value ≡ little_endian (slice_range (page_in k.frames frame.0) (address % header.size) (address % header.size + n)) → Touched k new
+    → value ≡ little_endian (slice_range (page_in k.frames frame.0) (address % header.size) (address % header.size + n)) → Touched frame k new
     → Finishes header outside doing past k new ids task (want.Load address n) key events (event.Loaded task key.object key.page value ∷ events)
 finish_load header outside doing past k new ids task address n value key frame events t here number touched =
     let h = events ++ past in
     let e : Event = event.Loaded task key.object key.page value in
     let m = t.matches in
     record {
-      matches = matches_touched header k new ids [] (e ∷ h) (matches_loaded header k ids [] h task key.object key.page value m) touched;
+      matches = matches_touched frame header k new ids [] (e ∷ h) (matches_loaded header k ids [] h task key.object key.page value m) touched;
       goes = goes_one header outside doing past events e m.settled
           (loaded_follows header outside doing h task address n value key (page_in k.frames frame.0) t.to (shows_of header k ids [] h key frame m here) number (suffices header k.frames (e ∷ h) m.frames));
       ends = λ u. refl;
@@ -125,7 +125,7 @@ row_put rs rs2 o p x put = elim (row_cases o p x rs rs2 put o p) [ inl now ↦ n
 -- a store ends
 finish_store : (header : Header) (outside : Outside) (doing : Command) (past : List Event) (k mid new : Parts) (ids : Ids) (task : TaskId) (address n value : ℕ) (key : PageKey) (frame : FrameNo) (events : List Event)
     → Tries header (events ++ past) k ids task (want.Store address n value) key → IsHere key frame k
-    → Wrote key frame (with_bytes (address % header.size) (little_endian_bytes n value) (page_in k.frames frame.0)) k mid → Touched mid new
+    → Wrote key frame (with_bytes (address % header.size) (little_endian_bytes n value) (page_in k.frames frame.0)) k mid → Touched frame mid new
     → Finishes header outside doing past k new ids task (want.Store address n value) key events (event.Stored task key.object key.page (address % header.size) n value ∷ events)
 finish_store header outside doing past k mid new ids task address n value key frame events t here wrote touched =
     let h = events ++ past in
@@ -137,7 +137,7 @@ finish_store header outside doing past k mid new ids task address n value key fr
     let now = here_not_asked (Some row2) row2 refl (before.here wrote.row wrote.found) in
     let m2 = matches_stored header k mid ids [] h task (address % header.size) n value key frame t.matches t.to.lives here wrote in
     record {
-      matches = matches_touched header mid new ids [] (e ∷ h) m2 touched;
+      matches = matches_touched frame header mid new ids [] (e ∷ h) m2 touched;
       goes = goes_one header outside doing past events e t.matches.settled
           (stored_follows header outside doing h task address n value key (page_in k.frames frame.0) t.to (shows_of header k ids [] h key frame t.matches here) (suffices header mid.frames (e ∷ h) m2.frames));
       ends = λ u. refl;

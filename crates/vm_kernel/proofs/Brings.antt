@@ -101,6 +101,8 @@ brought k mid fs2 rs2 qs2 key frame fits absent inside some claims cleared put o
       absent = absent;
       row = put;
       owner = owner (fits.parts.unowned f claims.fresh);
+      lists = is;
+      unlisted = fits.parts.unlisted f (fits.parts.unowned f claims.fresh);
       page = page_put k.frames fs2 f (replicate k.size 0) below (ap (λ z. z.pages) zeros ∙ ap (λ z. set z.pages f (replicate k.size 0)) claims.is);
       fresh = claims.fresh;
       claim = now.claim;
@@ -125,6 +127,7 @@ lost k fs2 rs2 qs2 key row before after fits found here releases put owner owned
       here = here;
       put = put;
       owner = owner;
+      lists = is;
       pages = ap (λ z. z.pages) releases.is;
       claim = claim_put k.frames fs2 f false (claimed_inside k.frames.claims f (fits.parts.held key.object.0 key.page.0 row found)) (ap (λ z. z.claims) releases.is);
       claims = releases.count;

@@ -1,6 +1,7 @@
 -- The parts of a kernel fit each other still, once a page has come or gone or was written.
 use Rattle.std.proofs.Common.{◌≡◌, ℕ, ◌<◌, ◌==◌, true, false, List, length, refl, ap, sym, ◌∙◌, subst, Some, None, inl, inr}
 use Rattle.std.specs.Prelude.{if◌then◌else◌}
+use Rattle.vm_base.specs.declared.ids.FrameNo.{FrameNo}
 use Rattle.vm_base.specs.declared.ids.PageKey.{PageKey}
 use Rattle.vm_frames.specs.Frames.{Claims, FrameTable, Releases, is_claimed}
 use Rattle.vm_frames.specs.Lending.{with_page}
@@ -115,7 +116,7 @@ fits_wrote k fs2 rs2 key row row2 bytes fits found here same still plain whole f
     }
 
 -- the lists of pages have another order
-pub fits_touched : (old new : Parts) → Fits old → Touched old new → Fits new
-fits_touched old new fits touches =
+pub fits_touched : (frame : FrameNo) (old new : Parts) → Fits old → Touched frame old new → Fits new
+fits_touched frame old new fits touches =
     subst Fits (sym touches.is)
     (record { parts = fitting.fit_touched old.size old.frames old.resident old.queues new.queues old.objects fits.parts touches.keeps touches.frames; plain = fits.plain; buffers = fits.buffers })

@@ -329,7 +329,7 @@ asked_where true row was is = absurd (let bad : None ≡ Some was = is in cc)
 asked_where false row was is = (some_is row was is, refl)
 
 -- it has this row, and isn't here
-asked_is : (x : Option PageRow) (was : PageRow) → asked_row x ≡ Some was → (x ≡ Some was) × (was.here ≡ false)
+pub asked_is : (x : Option PageRow) (was : PageRow) → asked_row x ≡ Some was → (x ≡ Some was) × (was.here ≡ false)
 asked_is None was is = absurd (let bad : None ≡ Some was = is in cc)
 asked_is (Some row) was is = let both = asked_where row.here row was is in (ap (λ z. Some z) both.0, ap (λ z. z.here) (sym both.0) ∙ both.1)
 

@@ -33,8 +33,8 @@ pub inside_page : (k : Parts) (key : PageKey) (frame : FrameNo) (at : ℕ) (what
 inside_page k key frame at what some fits here inside is =
     subst (λ (z : Want). at + want_size z ≤ length (page_in k.frames frame.0)) is (subst (λ (z : ℕ). at + want_size what ≤ z) (sym (holds_of k key frame fits here).sized) inside)
 
-touched_of : (k : Parts) (f : ℕ) (qs : Queues) → KeepsPages k.queues qs → qs ≡ touched f k.queues → Touched k (record k { queues = qs })
-touched_of k f qs keeps is = record { is = refl; keeps = keeps; frames = ap (λ z. z.frames) is }
+touched_of : (k : Parts) (f : FrameNo) (qs : Queues) → KeepsPages k.queues qs → qs ≡ touched f.0 k.queues → Touched f k (record k { queues = qs })
+touched_of k f qs keeps is = record { is = refl; marks = is; keeps = keeps; frames = ap (λ z. z.frames) is }
 
 pub hits_load : (task : TaskId) (what : Want) (address size : ℕ) (key : PageKey) (frame : FrameNo) (at : ℕ) (old mid : Parts) (qs : Queues) (e : Event) (before after : List Event)
     → what ≡ want.Load address size → mid ≡ old → e ≡ event.Loaded task key.object key.page (little_endian (slice_range (page_in old.frames frame.0) at (at + size)))
@@ -42,7 +42,7 @@ pub hits_load : (task : TaskId) (what : Want) (address size : ℕ) (key : PageKe
     → Hits task what key frame at old (record mid { queues = qs }) before after
 hits_load task what address size key frame at old mid qs e before after is same loaded keeps touches told =
     subst (λ (z : Want). Hits task z key frame at old (record mid { queues = qs }) before after) (sym is)
-    (little_endian (slice_range (page_in old.frames frame.0) at (at + size)), refl, subst (λ (z : Parts). Touched z (record mid { queues = qs })) same (touched_of mid frame.0 qs keeps touches), told ∙ ap (λ z. z ∷ before) loaded)
+    (little_endian (slice_range (page_in old.frames frame.0) at (at + size)), refl, subst (λ (z : Parts). Touched frame z (record mid { queues = qs })) same (touched_of mid frame qs keeps touches), told ∙ ap (λ z. z ∷ before) loaded)
 
 pub hits_store : (task : TaskId) (what : Want) (address size value : ℕ) (key : PageKey) (frame : FrameNo) (at : ℕ) (old mid mid2 : Parts) (qs : Queues) (e : Event) (before after : List Event)
     → what ≡ want.Store address size value → mid2 ≡ mid → Wrote key frame (with_bytes at (little_endian_bytes size value) (page_in old.frames frame.0)) old mid → e ≡ event.Stored task key.object key.page at size value
@@ -50,7 +50,7 @@ pub hits_store : (task : TaskId) (what : Want) (address size value : ℕ) (key :
     → Hits task what key frame at old (record mid2 { queues = qs }) before after
 hits_store task what address size value key frame at old mid mid2 qs e before after is same wrote stored keeps touches told =
     subst (λ (z : Want). Hits task z key frame at old (record mid2 { queues = qs }) before after) (sym is)
-    (mid, wrote, subst (λ (z : Parts). Touched z (record mid2 { queues = qs })) same (touched_of mid2 frame.0 qs keeps touches), told ∙ ap (λ z. z ∷ before) stored)
+    (mid, wrote, subst (λ (z : Parts). Touched frame z (record mid2 { queues = qs })) same (touched_of mid2 frame qs keeps touches), told ∙ ap (λ z. z ∷ before) stored)
 
 -- the page of a place
 abbrev pub key_at : RegionRow → Place → PageKey

@@ -7,6 +7,7 @@ pub mod Built
 pub mod Changing
 pub mod Counts
 pub mod Cutting
+pub mod Departing
 pub mod Done
 pub mod Endings
 pub mod Ends
@@ -29,6 +30,7 @@ pub mod Missing
 pub mod Ordering
 pub mod Pageout
 pub mod Pages
+pub mod Playing
 pub mod Prompting
 pub mod Ranges
 pub mod Reclaims
@@ -42,6 +44,7 @@ pub mod Shares
 pub mod Standing
 pub mod Stopping
 pub mod Strands
+pub mod Supplying
 pub mod Tasks
 pub mod Terminating
 pub mod Uses

@@ -60,6 +60,8 @@ brought_roomier k mid rs key frame rows b =
       absent = sym (ap (row_among key.object.0 key.page.0) rows) ∙ b.absent;
       row = record { at = λ o p. b.row.at o p ∙ ap (λ z. if key.object.0 == o && key.page.0 == p then Some (fresh_row frame) else row_among o p z) rows };
       owner = record { at = λ g. b.owner.at g ∙ ap (λ z. if frame.0 == g then Some key else owner_among g z) rows };
+      lists = b.lists;
+      unlisted = b.unlisted;
       page = b.page;
       fresh = b.fresh;
       claim = b.claim;

@@ -19,6 +19,7 @@ use Rattle.vm_maps.specs.declared.change.MapChange.{MapChange}
 use Rattle.vm_maps.specs.declared.change.MapKind.TheVariants as kind
 use Rattle.vm_objects.specs.Objects.{PutsObject, SameMarks}
 use Rattle.vm_objects.specs.declared.row.PagerState.TheVariants.{Without}
+use Rattle.vm_queues.specs.Queues.{added, is_queued, removed}
 use Rattle.vm_resident.specs.Resident.{PutsOwner, PutsRow, owner_of, row_at}
 use Rattle.vm_resident.specs.declared.page_row.PageRow.{PageRow}
 use Rattle.vm_shadow.specs.Chains.{PutsRegion}
@@ -52,6 +53,8 @@ pub record Brought (key : PageKey) (frame : FrameNo) (old new : Parts) : Type 0 
   pub absent : row_at old.resident key.object.0 key.page.0 ≡ None
   pub row : PutsRow key.object.0 key.page.0 (Some (fresh_row frame)) old.resident new.resident
   pub owner : PutsOwner frame.0 (Some key) old.resident new.resident
+  pub lists : new.queues ≡ added frame.0 old.queues
+  pub unlisted : is_queued old.queues frame.0 ≡ false
   pub page : PutsPage frame.0 (replicate old.size 0) old.frames new.frames
   pub fresh : is_claimed old.frames frame.0 ≡ false
   pub claim : PutsClaim frame.0 true old.frames new.frames
@@ -93,6 +96,7 @@ pub record Lost (key : PageKey) (old new : Parts) (before after : List Event) : 
   pub here : row.here ≡ true
   pub put : PutsRow key.object.0 key.page.0 None old.resident new.resident
   pub owner : PutsOwner row.frame.0 None old.resident new.resident
+  pub lists : new.queues ≡ removed row.frame.0 old.queues
   pub pages : new.frames.pages ≡ old.frames.pages
   pub claim : PutsClaim row.frame.0 false old.frames new.frames
   pub claims : claimed old.frames ≡ suc (claimed new.frames)

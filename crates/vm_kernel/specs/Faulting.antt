@@ -15,7 +15,7 @@ use Rattle.vm_objects.specs.Objects.{absent_at, object_at}
 use Rattle.vm_objects.specs.declared.row.ObjectRow.{ObjectRow}
 use Rattle.vm_objects.specs.declared.row.PagerState.TheVariants as state
 use Rattle.vm_parts.specs.Fits.{object_pages}
-use Rattle.vm_queues.specs.Queues.{KeepsPages}
+use Rattle.vm_queues.specs.Queues.{KeepsPages, touched}
 use Rattle.vm_resident.specs.Resident.{PutsOwner, PutsRow, row_at}
 use Rattle.vm_resident.specs.declared.page_row.PageRow.{PageRow}
 use Rattle.vm_waits.specs.declared.waiting.Want.{Want}
@@ -77,18 +77,19 @@ pub record Requested (key : PageKey) (access : ℕ) (old new : Parts) (before af
   pub room : claimed new.frames + new.frames.wired < suc (frame_count new.frames)
   pub told : after ≡ event.Sent (Up old.host key.object) (message.Request control key.page access) ∷ before
 
--- the lists of pages have another order
-pub record Touched (old new : Parts) : Type 0 where
+-- the page in a frame is marked as referenced
+pub record Touched (frame : FrameNo) (old new : Parts) : Type 0 where
   pub is : new ≡ record old { queues = new.queues }
+  pub marks : new.queues ≡ touched frame.0 old.queues
   pub keeps : KeepsPages old.queues new.queues
   pub frames : new.queues.frames ≡ old.queues.frames
 
 -- the access ends with a page that is here
 abbrev pub Hits : TaskId → Want → PageKey → FrameNo → ℕ → Parts → Parts → List Event → List Event → Type 0
 Hits task (want.Load address size) key frame at old new before after =
-    (value : ℕ) × (value ≡ little_endian (slice_range (page_in old.frames frame.0) at (at + size))) × Touched old new × (after ≡ event.Loaded task key.object key.page value ∷ before)
+    (value : ℕ) × (value ≡ little_endian (slice_range (page_in old.frames frame.0) at (at + size))) × Touched frame old new × (after ≡ event.Loaded task key.object key.page value ∷ before)
 Hits task (want.Store address size value) key frame at old new before after =
-    (mid : Parts) × Wrote key frame (with_bytes at (little_endian_bytes size value) (page_in old.frames frame.0)) old mid × Touched mid new × (after ≡ event.Stored task key.object key.page at size value ∷ before)
+    (mid : Parts) × Wrote key frame (with_bytes at (little_endian_bytes size value) (page_in old.frames frame.0)) old mid × Touched frame mid new × (after ≡ event.Stored task key.object key.page at size value ∷ before)
 
 -- an access ends: its page was here, or came as zeros
 pub data Ended (task : TaskId) (what : Want) (key : PageKey) (at : ℕ) (old new : Parts) (before after : List Event) : Type 0 where

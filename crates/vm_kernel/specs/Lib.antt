@@ -8,6 +8,7 @@ pub mod Forking
 pub mod Matches
 pub mod Pagers
 pub mod Places
+pub mod Plays
 pub mod Serving
 pub mod Sweeping
 pub mod Taking

@@ -2,6 +2,7 @@
 ghost use Rattle.std.specs.Prelude.{◌≡◌, OnOk};
 ghost use Rattle.vm_model.specs.declared.command.Command.TheVariants as command;
 ghost use Rattle.vm_kernel.specs.Begun.{Doing, Ran, Starts};
+ghost use Rattle.vm_kernel.specs.Plays.{Plays, paging};
 
 use crate::parts::Parts;
 use vm_base::{NoMemory, TaskId};
@@ -21,7 +22,8 @@ impl Parts {
         ghost given: { Doing }
         requires is { given.command ≡ command.Load task address size }
         requires starts { Starts given.header given.command given.past self.old ids.now log.old.items }
-        ensures { OnOk result (Ran given.header given.outside given.command given.past self.new ids.now log.new.items) }
+        ensures ran { OnOk result (Ran given.header given.outside given.command given.past self.new ids.now log.new.items) }
+        ensures plays { OnOk result (Plays given.header given.past log.old.items (paging self.old) log.new.items (paging self.new)) }
     {
         self.waits.reserve(1)?;
         log.push(Event::BegunLoad {
@@ -45,7 +47,8 @@ impl Parts {
         ghost given: { Doing }
         requires is { given.command ≡ command.Store task address size value }
         requires starts { Starts given.header given.command given.past self.old ids.now log.old.items }
-        ensures { OnOk result (Ran given.header given.outside given.command given.past self.new ids.now log.new.items) }
+        ensures ran { OnOk result (Ran given.header given.outside given.command given.past self.new ids.now log.new.items) }
+        ensures plays { OnOk result (Plays given.header given.past log.old.items (paging self.old) log.new.items (paging self.new)) }
     {
         self.waits.reserve(1)?;
         log.push(Event::BegunStore {

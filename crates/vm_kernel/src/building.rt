@@ -8,6 +8,7 @@ ghost use Rattle.vm_model.specs.declared.event.Event.TheVariants as event;
 ghost use Rattle.vm_objects.specs.Objects.{object_at};
 ghost use Rattle.vm_shadow.specs.Chains.{region_at};
 ghost use Rattle.vm_kernel.specs.Matches.{the_host};
+ghost use Rattle.vm_kernel.specs.Plays.{Plays, paging};
 
 use crate::parts::Parts;
 use vm_base::{Entry, Inherit, NoMemory, ObjectId, ObjectKind, Prot, RegionId, TaskId};
@@ -65,7 +66,8 @@ impl Parts {
     pub fn make_task(&mut self, ids: &Ids, task: TaskId, log: &mut Events) -> Result<(), NoMemory>
         ghost given: { Given }
         requires { Starts given.header (command.Task task the_host) given.past self.old ids.now log.old.items }
-        ensures { OnOk result (Ran given.header given.outside (command.Task task the_host) given.past self.new ids.now log.new.items) }
+        ensures ran { OnOk result (Ran given.header given.outside (command.Task task the_host) given.past self.new ids.now log.new.items) }
+        ensures plays { OnOk result (Plays given.header given.past log.old.items (paging self.old) log.new.items (paging self.new)) }
     {
         self.maps.add_task(task)?;
         log.push(Event::TaskMade {
@@ -84,7 +86,8 @@ impl Parts {
     ) -> Result<(), NoMemory>
         ghost given: { Given }
         requires { Starts given.header (command.Allocate task address bytes) given.past self.old ids.old log.old.items }
-        ensures { OnOk result (Ran given.header given.outside (command.Allocate task address bytes) given.past self.new ids.new log.new.items) }
+        ensures ran { OnOk result (Ran given.header given.outside (command.Allocate task address bytes) given.past self.new ids.new log.new.items) }
+        ensures plays { OnOk result (Plays given.header given.past log.old.items (paging self.old) log.new.items (paging self.new)) }
     {
         let pages = (bytes / u64::from(self.size.bytes())) as u32;
         let region = RegionId(ids.next_region);
@@ -123,7 +126,8 @@ impl Parts {
     pub fn wire(&mut self, ids: &Ids, count: u32, log: &mut Events) -> Result<(), NoMemory>
         ghost given: { Given }
         requires { Starts given.header (command.Wire the_host count) given.past self.old ids.now log.old.items }
-        ensures { OnOk result (Ran given.header given.outside (command.Wire the_host count) given.past self.new ids.now log.new.items) }
+        ensures ran { OnOk result (Ran given.header given.outside (command.Wire the_host count) given.past self.new ids.now log.new.items) }
+        ensures plays { OnOk result (Plays given.header given.past log.old.items (paging self.old) log.new.items (paging self.new)) }
     {
         let _ = self.frames.wire(count);
         self.tell_wired(log)
@@ -132,7 +136,8 @@ impl Parts {
     pub fn unwire(&mut self, ids: &Ids, count: u32, log: &mut Events) -> Result<(), NoMemory>
         ghost given: { Given }
         requires { Starts given.header (command.Unwire the_host count) given.past self.old ids.now log.old.items }
-        ensures { OnOk result (Ran given.header given.outside (command.Unwire the_host count) given.past self.new ids.now log.new.items) }
+        ensures ran { OnOk result (Ran given.header given.outside (command.Unwire the_host count) given.past self.new ids.now log.new.items) }
+        ensures plays { OnOk result (Plays given.header given.past log.old.items (paging self.old) log.new.items (paging self.new)) }
     {
         let _ = self.frames.unwire(count);
         self.tell_wired(log)

@@ -3,6 +3,7 @@ ghost use Rattle.std.specs.Prelude.{◌≡◌, OnOk};
 ghost use Rattle.vm_model.specs.declared.command.Command.TheVariants as command;
 ghost use Rattle.vm_kernel.specs.Begun.{Ran, Doing, Given, Starts};
 ghost use Rattle.vm_kernel.specs.Changes.{enter, inheritance, protection, removal};
+ghost use Rattle.vm_kernel.specs.Plays.{Plays, paging};
 
 use crate::counting::{lower, raise};
 use crate::parts::Parts;
@@ -78,7 +79,8 @@ impl Parts {
         ghost given: { Doing }
         requires is { given.command ≡ command.Exit task }
         requires starts { Starts given.header given.command given.past self.old ids.now log.old.items }
-        ensures { OnOk result (Ran given.header given.outside given.command given.past self.new ids.now log.new.items) }
+        ensures ran { OnOk result (Ran given.header given.outside given.command given.past self.new ids.now log.new.items) }
+        ensures plays { OnOk result (Plays given.header given.past log.old.items (paging self.old) log.new.items (paging self.new)) }
     {
         let gone = self.maps.end_task(task);
         log.push(Event::TaskEnded { task })?;
@@ -97,7 +99,8 @@ impl Parts {
         ghost given: { Doing }
         requires is { given.command ≡ command.Deallocate task address bytes }
         requires starts { Starts given.header given.command given.past self.old ids.now log.old.items }
-        ensures { OnOk result (Ran given.header given.outside given.command given.past self.new ids.now log.new.items) }
+        ensures ran { OnOk result (Ran given.header given.outside given.command given.past self.new ids.now log.new.items) }
+        ensures plays { OnOk result (Plays given.header given.past log.old.items (paging self.old) log.new.items (paging self.new)) }
     {
         lower(&mut self.chains, self.maps.entries(task));
         let gone = self.maps.remove(task, &removal(address, bytes))?;
@@ -123,7 +126,8 @@ impl Parts {
     ) -> Result<(), NoMemory>
         ghost given: { Given }
         requires { Starts given.header (command.Protect task address bytes prot) given.past self.old ids.now log.old.items }
-        ensures { OnOk result (Ran given.header given.outside (command.Protect task address bytes prot) given.past self.new ids.now log.new.items) }
+        ensures ran { OnOk result (Ran given.header given.outside (command.Protect task address bytes prot) given.past self.new ids.now log.new.items) }
+        ensures plays { OnOk result (Plays given.header given.past log.old.items (paging self.old) log.new.items (paging self.new)) }
     {
         lower(&mut self.chains, self.maps.entries(task));
         let _ = self.maps.protect(task, &protection(address, bytes, prot))?;
@@ -148,7 +152,8 @@ impl Parts {
     ) -> Result<(), NoMemory>
         ghost given: { Given }
         requires { Starts given.header (command.Inherit task address bytes inherit) given.past self.old ids.now log.old.items }
-        ensures { OnOk result (Ran given.header given.outside (command.Inherit task address bytes inherit) given.past self.new ids.now log.new.items) }
+        ensures ran { OnOk result (Ran given.header given.outside (command.Inherit task address bytes inherit) given.past self.new ids.now log.new.items) }
+        ensures plays { OnOk result (Plays given.header given.past log.old.items (paging self.old) log.new.items (paging self.new)) }
     {
         lower(&mut self.chains, self.maps.entries(task));
         let _ = self

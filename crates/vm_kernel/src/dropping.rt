@@ -9,6 +9,7 @@ ghost use Rattle.vm_kernel.specs.Fits.{Fits};
 ghost use Rattle.vm_kernel.specs.Matches.{Rests, the_host};
 ghost use Rattle.vm_kernel.specs.Serving.{Reclaimed};
 ghost use Rattle.vm_kernel.specs.Taking.{EachGone};
+ghost use Rattle.vm_kernel.specs.Plays.{Plays, paging};
 
 use crate::parts::Parts;
 use vm_base::{NoMemory, PageKey};
@@ -36,11 +37,13 @@ impl Parts {
     }
 
     // Reclaims pages, as many as are asked for or as there are.
+    #[tactic(auto, using(crate::proofs::Playing::plays_still))]
     pub fn pageout(&mut self, ids: &Ids, count: u32, log: &mut Events) -> Result<(), NoMemory>
         ghost given: { Doing }
         requires is { given.command ≡ command.Pageout the_host count }
         requires starts { Starts given.header given.command given.past self.old ids.now log.old.items }
-        ensures { OnOk result (Ran given.header given.outside given.command given.past self.new ids.now log.new.items) }
+        ensures ran { OnOk result (Ran given.header given.outside given.command given.past self.new ids.now log.new.items) }
+        ensures plays { OnOk result (Plays given.header given.past log.old.items (paging self.old) log.new.items (paging self.new)) }
     {
         'pages: for _ in 0..count {
             match self.reclaim(ids, log)? {
@@ -60,6 +63,7 @@ impl Parts {
         ensures goes { OnOk result (Goes given.header given.outside given.command given.past log.old.items log.new.items) }
         ensures reclaims { OnOk result (EachGone log.old.items log.new.items) }
         ensures reclaimed { IfOk result (λ answer. Reclaimed answer self.old self.new (log.old.items ++ given.past) (log.new.items ++ given.past)) }
+        ensures plays { OnOk result (Plays given.header given.past log.old.items (paging self.old) log.new.items (paging self.new)) }
     {
         // The laundry has room for a page that is here, but may be full while none is.
         let Some(_) = self.queues.victim(&[]) else {

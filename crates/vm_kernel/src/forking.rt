@@ -4,6 +4,7 @@ ghost use Rattle.vm_model.specs.declared.command.Command.TheVariants as command;
 ghost use Rattle.vm_model.specs.Tasks.{is_shared};
 ghost use Rattle.vm_kernel.specs.Begun.{Ran, Given, Starts};
 ghost use Rattle.vm_kernel.specs.Forking.{CanShare, Shares};
+ghost use Rattle.vm_kernel.specs.Plays.{Plays, paging};
 
 use crate::building::{entered, entering};
 use crate::counting::{count_of, set_count};
@@ -32,7 +33,8 @@ impl Parts {
     ) -> Result<(), NoMemory>
         ghost given: { Given }
         requires { Starts given.header (command.Fork task child) given.past self.old ids.now log.old.items }
-        ensures { OnOk result (Ran given.header given.outside (command.Fork task child) given.past self.new ids.now log.new.items) }
+        ensures ran { OnOk result (Ran given.header given.outside (command.Fork task child) given.past self.new ids.now log.new.items) }
+        ensures plays { OnOk result (Plays given.header given.past log.old.items (paging self.old) log.new.items (paging self.new)) }
     {
         self.maps.add_task(child)?;
         log.push(Event::TaskMade {

@@ -9,6 +9,9 @@ ghost use Rattle.vm_frames.specs.Frames.{free};
 ghost use Rattle.vm_objects.specs.Objects.{object_at};
 ghost use Rattle.vm_kernel.specs.Begun.{Began, Given, IsForeign, IsLaundered, Passed, Passing, Starts};
 ghost use Rattle.vm_kernel.specs.Built.{is_built};
+ghost use Rattle.vm_kernel.specs.Plays.{Plays, PlaysAnswer, paging};
+ghost use Rattle.vm_resident.specs.Resident.{row_at};
+ghost use Rattle.vm_supply.specs.Answers.{outcome_of};
 ghost use Rattle.vm_kernel.specs.Matches.{IsPlain, Rests, first_ids, the_host};
 ghost use Rattle.vm_kernel.specs.Taking.{EndsAll, IsErrorPaid, IsTempAnswer};
 
@@ -80,7 +83,8 @@ impl Kernel {
         ghost given: { Given }
         requires starts { Starts given.header command.now given.past self.old ids.old [] }
         requires built { is_built command.now ≡ true }
-        ensures { IfOk result (λ events. Began given.header given.outside command.now given.past self.new ids.new events.items) }
+        ensures began { IfOk result (λ events. Began given.header given.outside command.now given.past self.new ids.new events.items) }
+        ensures plays { IfOk result (λ events. Plays given.header given.past [] (paging self.old) events.items (paging self.new)) }
     {
         let mut log = Events::new(self.parts.alloc);
         self.parts.begin(command, ids, &mut log)?;
@@ -105,6 +109,7 @@ impl Kernel {
         requires answer { IsTempAnswer given.header.size message.now }
         ensures passed { IfOk result (λ events. Passed given.header given.outside given.command (given.front ++ given.past) self.new ids.new events.items) }
         ensures failed { IfOk result (λ events. IsErrorPaid given.header (events.items ++ (given.front ++ given.past))) }
+        ensures plays { IfOk result (λ events. PlaysAnswer given.header (given.front ++ given.past) object (outcome_of (object_at self.old.objects object.0) control (row_at self.old.resident object.0) message.now) (paging self.old) events.items (paging self.new)) }
         ensures ended { IfOk result (λ events. EndsAll given.header (events.items ++ (given.front ++ given.past))) }
     {
         let mut log = Events::new(self.parts.alloc);
@@ -122,7 +127,8 @@ impl Kernel {
         requires rests { Rests given.header self.old ids.old given.past }
         requires front { IsLaundered given.front }
         requires held { self.old.laundry.held ≢ [] }
-        ensures { IfOk result (λ events. Passed given.header given.outside given.command (given.front ++ given.past) self.new ids.new events.items) }
+        ensures passed { IfOk result (λ events. Passed given.header given.outside given.command (given.front ++ given.past) self.new ids.new events.items) }
+        ensures plays { IfOk result (λ events. Plays given.header (given.front ++ given.past) [] (paging self.old) events.items (paging self.new)) }
     {
         let mut log = Events::new(self.parts.alloc);
         self.parts.launder(ids);
@@ -138,7 +144,8 @@ impl Kernel {
         ghost given: { Passing }
         requires rests { Rests given.header self.old ids.old given.past }
         requires front { EachOf IsForeign given.front }
-        ensures { IfOk result (λ events. Passed given.header given.outside given.command (given.front ++ given.past) self.new ids.new events.items) }
+        ensures passed { IfOk result (λ events. Passed given.header given.outside given.command (given.front ++ given.past) self.new ids.new events.items) }
+        ensures plays { IfOk result (λ events. Plays given.header (given.front ++ given.past) [] (paging self.old) events.items (paging self.new)) }
     {
         let mut log = Events::new(self.parts.alloc);
         self.parts.go_on(ids, &mut log)?;

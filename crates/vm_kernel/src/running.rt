@@ -2,6 +2,7 @@
 ghost use Rattle.std.specs.Prelude.{◌≡◌, true, OnOk};
 ghost use Rattle.vm_kernel.specs.Begun.{Began, Doing, Given, Ran, Starts};
 ghost use Rattle.vm_kernel.specs.Built.{is_built};
+ghost use Rattle.vm_kernel.specs.Plays.{Plays, paging};
 
 use crate::parts::Parts;
 use vm_base::NoMemory;
@@ -20,7 +21,8 @@ impl Parts {
         requires is { given.command ≡ command.now }
         requires starts { Starts given.header command.now given.past self.old ids.old log.old.items }
         requires built { is_built command.now ≡ true }
-        ensures { OnOk result (Began given.header given.outside command.now given.past self.new ids.new log.new.items) }
+        ensures began { OnOk result (Began given.header given.outside command.now given.past self.new ids.new log.new.items) }
+        ensures plays { OnOk result (Plays given.header given.past log.old.items (paging self.old) log.new.items (paging self.new)) }
     {
         self.run(command, ids, log)?;
         self.serve(ids, log)
@@ -31,7 +33,8 @@ impl Parts {
         ghost given: { Given }
         requires starts { Starts given.header command.now given.past self.old ids.old log.old.items }
         requires built { is_built command.now ≡ true }
-        ensures { OnOk result (Ran given.header given.outside command.now given.past self.new ids.new log.new.items) }
+        ensures ran { OnOk result (Ran given.header given.outside command.now given.past self.new ids.new log.new.items) }
+        ensures plays { OnOk result (Plays given.header given.past log.old.items (paging self.old) log.new.items (paging self.new)) }
     {
         match command {
             Command::Task { task, .. } => self.make_task(ids, *task, log),

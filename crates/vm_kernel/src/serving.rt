@@ -9,6 +9,7 @@ ghost use Rattle.vm_waits.specs.Waits.{entry};
 ghost use Rattle.vm_kernel.specs.Begun.{Doing, Goes};
 ghost use Rattle.vm_kernel.specs.Matches.{Rests, Works};
 ghost use Rattle.vm_kernel.specs.Serving.{Attempts, HasQueue, IsServed, RunsFirst};
+ghost use Rattle.vm_kernel.specs.Plays.{Plays, paging};
 
 use crate::parts::Parts;
 use crate::steps::FaultStep;
@@ -34,6 +35,7 @@ impl Parts {
         ensures goes { OnOk result (Goes given.header given.outside given.command given.past log.old.items log.new.items) }
         ensures ends { OnOk result (FindsPage given.header waiting.task.0 (log.old.items ++ given.past) → EndsNext waiting.task.0 log.old.items log.new.items) }
         ensures attempts { IfOk result (λ needs. Attempts given.header waiting may_claim needs self.old self.new (log.old.items ++ given.past) (log.new.items ++ given.past)) }
+        ensures plays { OnOk result (Plays given.header given.past log.old.items (paging self.old) log.new.items (paging self.new)) }
     {
         let on = match self.fault(waiting.task, waiting.want, may_claim, log)? {
             FaultStep::Done => {
@@ -54,12 +56,14 @@ impl Parts {
     }
 
     /// Runs each access again that is to be, in the order in which they began.
+    #[tactic(auto, using(crate::proofs::Playing::plays_still))]
     pub fn restart(&mut self, ids: &Ids, log: &mut Events) -> Result<(), NoMemory>
         ghost given: { Doing }
         requires works { Works given.header self.old ids.now woken.Nobody (log.old.items ++ given.past) }
         ensures rests { OnOk result (Rests given.header self.new ids.now (log.new.items ++ given.past)) }
         ensures goes { OnOk result (Goes given.header given.outside given.command given.past log.old.items log.new.items) }
         ensures first { OnOk result (RunsFirst given.header self.old.waits.rows given.past log.old.items log.new.items) }
+        ensures plays { OnOk result (Plays given.header given.past log.old.items (paging self.old) log.new.items (paging self.new)) }
     {
         'again: while let Some(waiting) = self.waits.next_again() {
             let may_claim = !self.waits.has_queue();
@@ -69,12 +73,14 @@ impl Parts {
     }
 
     /// Serves the queue of accesses that want a frame, as far as it goes.
+    #[tactic(auto, using(crate::proofs::Playing::plays_still))]
     pub fn serve(&mut self, ids: &Ids, log: &mut Events) -> Result<(), NoMemory>
         ghost given: { Doing }
         requires rests { Rests given.header self.old ids.now (log.old.items ++ given.past) }
         ensures rests { OnOk result (Rests given.header self.new ids.now (log.new.items ++ given.past)) }
         ensures goes { OnOk result (Goes given.header given.outside given.command given.past log.old.items log.new.items) }
         ensures served { OnOk result (IsServed given.header self.new (log.new.items ++ given.past)) }
+        ensures plays { OnOk result (Plays given.header given.past log.old.items (paging self.old) log.new.items (paging self.new)) }
     {
         'serve: while let Some(waiting) = self.waits.front() {
             if self.attempt(ids, waiting, true, log)? && self.stops(ids, log)? {
@@ -85,6 +91,7 @@ impl Parts {
     }
 
     // The front wants a frame and none is free: a page is reclaimed, unless a return is on its way. True where the front has to wait.
+    #[tactic(auto, using(crate::proofs::Playing::plays_still))]
     fn stops(&mut self, ids: &Ids, log: &mut Events) -> Result<bool, NoMemory>
         ghost given: { Doing }
         requires rests { Rests given.header self.old ids.now (log.old.items ++ given.past) }
@@ -95,6 +102,7 @@ impl Parts {
         ensures waits { OnOk result (self.new.waits ≡ self.old.waits) }
         ensures freed { IfOk result (λ stops. stops ≡ false → claimed self.old.frames ≡ claimed self.new.frames + 1) }
         ensures full { IfOk result (λ stops. stops ≡ true → IsFull given.header 0 (log.new.items ++ given.past)) }
+        ensures plays { OnOk result (Plays given.header given.past log.old.items (paging self.old) log.new.items (paging self.new)) }
     {
         if !self.laundry.is_empty() {
             return Ok(true);
@@ -113,6 +121,7 @@ impl Parts {
         ensures goes { OnOk result (Goes given.header given.outside given.command given.past log.old.items log.new.items) }
         ensures queue { OnOk result (HasQueue given.header self.new (log.new.items ++ given.past)) }
         ensures prompt { OnOk result (Prompt given.header (log.new.items ++ given.past)) }
+        ensures plays { OnOk result (Plays given.header given.past log.old.items (paging self.old) log.new.items (paging self.new)) }
     {
         self.serve(ids, log)
     }

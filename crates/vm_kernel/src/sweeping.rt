@@ -4,6 +4,7 @@ ghost use Rattle.vm_base.specs.Entries.{by_address};
 ghost use Rattle.vm_resident.specs.Resident.{row_at};
 ghost use Rattle.vm_kernel.specs.Begun.{Doing};
 ghost use Rattle.vm_kernel.specs.Sweeping.{Ends, Releasing, Strands, Sweeps};
+ghost use Rattle.vm_kernel.specs.Plays.{Plays, paging};
 
 use crate::counting::{count_of, set_count};
 use crate::parts::Parts;
@@ -14,10 +15,12 @@ use vm_shadow::Ids;
 impl Parts {
     // Takes entries that have gone out of the counts, by rising address, and ends each region that
     // has none left.
+    #[tactic(auto, using(crate::proofs::Playing::plays_both, crate::proofs::Playing::plays_still))]
     pub fn sweep(&mut self, ids: &Ids, gone: &Entries, log: &mut Events) -> Result<(), NoMemory>
         ghost given: { Doing }
         requires { Sweeps given.header given.outside given.command given.past self.old ids.now (by_address gone.now) log.old.items }
-        ensures { OnOk result (Sweeps given.header given.outside given.command given.past self.new ids.now [] log.new.items) }
+        ensures sweeps { OnOk result (Sweeps given.header given.outside given.command given.past self.new ids.now [] log.new.items) }
+        ensures plays { OnOk result (Plays given.header given.past log.old.items (paging self.old) log.new.items (paging self.new)) }
     {
         'all: for i in 0..gone.len() {
             self.release(ids, gone, i, log)?;
@@ -26,6 +29,7 @@ impl Parts {
     }
 
     // Takes one entry out of the counts.
+    #[tactic(auto, using(crate::proofs::Playing::plays_still))]
     fn release(
         &mut self,
         ids: &Ids,
@@ -37,7 +41,8 @@ impl Parts {
         requires inside { i < length gone.now.items }
         requires rest { given.rest ≡ drop (i + 1) (by_address gone.now) }
         requires sweeps { Sweeps given.header given.outside given.command given.past self.old ids.now (drop i (by_address gone.now)) log.old.items }
-        ensures { OnOk result (Sweeps given.header given.outside given.command given.past self.new ids.now given.rest log.new.items) }
+        ensures sweeps { OnOk result (Sweeps given.header given.outside given.command given.past self.new ids.now given.rest log.new.items) }
+        ensures plays { OnOk result (Plays given.header given.past log.old.items (paging self.old) log.new.items (paging self.new)) }
     {
         let region = gone.at(i).region;
         let count = count_of(&self.chains, region);
@@ -52,7 +57,8 @@ impl Parts {
     fn end_region(&mut self, ids: &Ids, region: RegionId, log: &mut Events) -> Result<(), NoMemory>
         ghost given: { Releasing }
         requires { Ends given.header given.outside given.command given.past self.old ids.now given.rest region.0 log.old.items }
-        ensures { OnOk result (Sweeps given.header given.outside given.command given.past self.new ids.now given.rest log.new.items) }
+        ensures sweeps { OnOk result (Sweeps given.header given.outside given.command given.past self.new ids.now given.rest log.new.items) }
+        ensures plays { OnOk result (Plays given.header given.past log.old.items (paging self.old) log.new.items (paging self.new)) }
     {
         self.drop_pages(ids, ObjectId(region.0), log)?;
         let object = self.chains.drop_region(region);
@@ -61,10 +67,12 @@ impl Parts {
     }
 
     // Ends the control of an object to which no region leads any more, where it has one.
+    #[tactic(auto, using(crate::proofs::Playing::plays_still))]
     fn end_object(&mut self, ids: &Ids, object: ObjectId, log: &mut Events) -> Result<(), NoMemory>
         ghost given: { Releasing }
         requires { Strands given.header given.outside given.command given.past self.old ids.now given.rest object.0 log.old.items }
-        ensures { OnOk result (Sweeps given.header given.outside given.command given.past self.new ids.now given.rest log.new.items) }
+        ensures sweeps { OnOk result (Sweeps given.header given.outside given.command given.past self.new ids.now given.rest log.new.items) }
+        ensures plays { OnOk result (Plays given.header given.past log.old.items (paging self.old) log.new.items (paging self.new)) }
     {
         let Some(row) = self.objects.find(object) else {
             unreachable!()
@@ -85,10 +93,12 @@ impl Parts {
     }
 
     // Drops the pages of an object, by rising number.
+    #[tactic(auto, using(crate::proofs::Playing::plays_still))]
     fn drop_pages(&mut self, ids: &Ids, object: ObjectId, log: &mut Events) -> Result<(), NoMemory>
         ghost given: { Releasing }
         requires { Ends given.header given.outside given.command given.past self.old ids.now given.rest object.0 log.old.items }
         ensures ends { OnOk result (Ends given.header given.outside given.command given.past self.new ids.now given.rest object.0 log.new.items) }
+        ensures plays { OnOk result (Plays given.header given.past log.old.items (paging self.old) log.new.items (paging self.new)) }
         ensures gone { OnOk result ((p : ℕ) → row_at self.new.resident object.0 p ≡ None) }
     {
         'pages: while let Some(page) = self.resident.next_page(object, PageNo(0)) {

@@ -6,6 +6,10 @@ ghost use Rattle.vm_supply.specs.declared.woken.Woken.TheVariants as who;
 ghost use Rattle.vm_kernel.specs.Begun.{Doing, Goes, IsLaundered, Passing};
 ghost use Rattle.vm_kernel.specs.Matches.{Rests, Works, the_host};
 ghost use Rattle.vm_kernel.specs.Taking.{EndsEach, EndsNobody, FailsNow, HasAsker, HasEnded, HasFailed, IsAnswered, IsErrorPaid, IsTempAnswer};
+ghost use Rattle.vm_objects.specs.Objects.{object_at};
+ghost use Rattle.vm_resident.specs.Resident.{row_at};
+ghost use Rattle.vm_supply.specs.Answers.{outcome_of};
+ghost use Rattle.vm_kernel.specs.Plays.{AnswerBrings, Plays, PlaysAnswer, paging};
 
 use crate::parts::Parts;
 use vm_base::{NoMemory, ObjectId, PageKey};
@@ -35,6 +39,7 @@ impl Parts {
         ensures answered { IfOk result (λ woken. IsAnswered woken self.new.resident) }
         ensures waits { OnOk result (self.new.waits ≡ self.old.waits) }
         ensures nothing { OnOk result (log.new.items ≡ []) }
+        ensures brings { OnOk result (AnswerBrings object (outcome_of (object_at self.old.objects object.0) control (row_at self.old.resident object.0) message.now) (paging self.old) (paging self.new)) }
     {
         let woken = answer(
             self.alloc,
@@ -53,6 +58,7 @@ impl Parts {
     }
 
     // Lets those be run again whom an answer wakes, and ends those whose page has failed.
+    #[tactic(auto, using(crate::proofs::Playing::plays_still))]
     fn wake(&mut self, ids: &Ids, woken: Woken, log: &mut Events) -> Result<(), NoMemory>
         ghost given: { Doing }
         requires works { Works given.header self.old ids.now woken (log.old.items ++ given.past) }
@@ -63,6 +69,7 @@ impl Parts {
         ensures works { OnOk result (Works given.header self.new ids.now who.Nobody (log.new.items ++ given.past)) }
         ensures goes { OnOk result (Goes given.header given.outside given.command given.past log.old.items log.new.items) }
         ensures failed { OnOk result (HasFailed woken (log.new.items ++ given.past)) }
+        ensures plays { OnOk result (Plays given.header given.past log.old.items (paging self.old) log.new.items (paging self.new)) }
         ensures ended { OnOk result (HasEnded woken self.old.waits.rows (log.new.items ++ given.past)) }
     {
         match woken {
@@ -80,6 +87,7 @@ impl Parts {
     }
 
     // Ends each access that waits for a page that its pager can't give.
+    #[tactic(auto, using(crate::proofs::Playing::plays_still))]
     fn fail(&mut self, ids: &Ids, key: PageKey, log: &mut Events) -> Result<(), NoMemory>
         ghost given: { Doing }
         requires works { Works given.header self.old ids.now (who.Fails key) (log.old.items ++ given.past) }
@@ -90,6 +98,7 @@ impl Parts {
         ensures works { OnOk result (Works given.header self.new ids.now who.Nobody (log.new.items ++ given.past)) }
         ensures goes { OnOk result (Goes given.header given.outside given.command given.past log.old.items log.new.items) }
         ensures failed { OnOk result (HasFailed (who.Fails key) (log.new.items ++ given.past)) }
+        ensures plays { OnOk result (Plays given.header given.past log.old.items (paging self.old) log.new.items (paging self.new)) }
         ensures ended { OnOk result (HasEnded (who.Fails key) self.old.waits.rows (log.new.items ++ given.past)) }
     {
         'all: while let Some(waiting) = self.waits.next_on(key) {
@@ -120,6 +129,7 @@ impl Parts {
         ensures rests { OnOk result (Rests given.header self.new ids.now (log.new.items ++ (given.front ++ given.past))) }
         ensures goes { OnOk result (Goes given.header given.outside given.command (given.front ++ given.past) [] log.new.items) }
         ensures failed { OnOk result (IsErrorPaid given.header (log.new.items ++ (given.front ++ given.past))) }
+        ensures plays { OnOk result (PlaysAnswer given.header (given.front ++ given.past) object (outcome_of (object_at self.old.objects object.0) control (row_at self.old.resident object.0) message.now) (paging self.old) log.new.items (paging self.new)) }
         ensures ended { OnOk result (EndsEach given.header self.old.waits.rows (log.new.items ++ (given.front ++ given.past))) }
     {
         let woken = self.hear(ids, object, control, message, log)?;
@@ -133,7 +143,8 @@ impl Parts {
         requires rests { Rests given.header self.old ids.now given.past }
         requires front { IsLaundered given.front }
         requires held { self.old.laundry.held ≢ [] }
-        ensures { Rests given.header self.new ids.now (given.front ++ given.past) }
+        ensures rests { Rests given.header self.new ids.now (given.front ++ given.past) }
+        ensures same { paging self.new ≡ paging self.old }
     {
         let Some(frame) = self.laundry.first() else {
             unreachable!()

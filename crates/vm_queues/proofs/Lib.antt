@@ -1,4 +1,4 @@
 mod Apart
-mod Balance
+pub mod Balance
 mod Moves
 mod Queued

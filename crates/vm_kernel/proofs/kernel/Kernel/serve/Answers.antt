@@ -1,3 +1,4 @@
+use Rattle.vm_kernel.proofs.Playing.{called_plays}
 use Rattle.std.proofs.Common.{sym, subst}
 use Rattle.vm_kernel.specs.Matches.{Rests}
 use Rattle.vm_kernel.specs.declared.parts.Parts.{Parts}
@@ -8,3 +9,6 @@ pub go_on-requires : goal.go_on-requires
 go_on-requires g c =
     let rests : Rests g.given.header c.self.inside.parts c.args.ids.now g.given.past = subst (λ (z : Parts). Rests g.given.header z c.args.ids.now g.given.past) (sym c.self.view_is) c.requires.0 in
     rw c.new-log.ensures (rests_foreign g.given.header c.self.inside.parts c.args.ids.now g.given.front g.given.past rests c.requires.1)
+
+pub returns-clause-plays : goal.returns-clause-plays
+returns-clause-plays g c = called_plays c.self.view_is c.new-log.ensures c.in_ok-go_on.ensures.plays

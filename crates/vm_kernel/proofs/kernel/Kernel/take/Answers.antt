@@ -1,6 +1,7 @@
 use Rattle.std.proofs.Common.{◌++◌, [], subst}
 use Rattle.vm_kernel.specs.Taking.{EndsEach}
 use Rattle.vm_kernel.specs.declared.parts.Parts.{Parts}
+use Rattle.vm_kernel.proofs.Supplying.{taken_plays}
 use Rattle.vm_kernel.proofs.Failing.{each_goes, paid_goes}
 use Rattle.vm_kernel.proofs.Stopping.{ends_waiters}
 use Rattle.vm_kernel.proofs.Growing.{goes_both}
@@ -28,3 +29,6 @@ returns-clause-ended g c =
     (each_goes g.given.header g.given.outside g.given.command c.self.inside.parts.waits.rows past c.take.new.log.items c.go_on.new.log.items c.in_ok-go_on.ensures.goes c.in_ok-take.ensures.ended) in
     let goes = goes_both g.given.header g.given.outside g.given.command past [] c.take.new.log.items c.go_on.new.log.items c.in_ok-take.ensures.goes c.in_ok-go_on.ensures.goes in
     ends_waiters g.given.header g.given.outside g.given.command c.args.self.now c.args.ids.now g.given.past g.given.front c.args.object c.args.control c.args.message.now c.go_on.new.log.items c.requires.0 c.requires.1.0 c.requires.1.1.0 goes each
+
+pub returns-clause-plays : goal.returns-clause-plays
+returns-clause-plays g c = taken_plays c.args.object c.args.control c.args.message.now c.self.view_is c.in_ok-take.ensures.plays c.in_ok-go_on.ensures.plays

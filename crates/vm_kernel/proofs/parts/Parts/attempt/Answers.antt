@@ -1,3 +1,4 @@
+use Rattle.vm_kernel.proofs.Playing.{fault_plays}
 use Rattle.std.proofs.Common.{◌≡◌, ◌+◌, Some, rules, arith, false, ap, subst}
 use Rattle.std.specs.Prelude.{◌⊎◌}
 use Rattle.vm_base.specs.declared.ids.PageKey.{PageKey}
@@ -79,3 +80,15 @@ returns-else-ne-clause-ends g c = ends_next g.given.header g.given.past c.args.s
 
 pub returns-clause-ends : goal.returns-clause-ends
 returns-clause-ends g c = ends_next g.given.header g.given.past c.args.self.now c.fault.new.self c.args.ids.now c.args.waiting c.args.may_claim c.in_ok-fault.field-0 c.args.log.now.items c.fault.new.log.items c.requires.0 c.requires.1 c.in_ok-fault.ensures
+
+pub returns-in-Done-clause-plays : goal.returns-in-Done-clause-plays
+returns-in-Done-clause-plays g c = fault_plays g.given.header g.given.past c.args.waiting.task c.args.waiting.want c.args.may_claim c.in_ok-fault.field-0 c.args.self.now c.fault.new.self c.args.log.now.items c.fault.new.log.items c.in_ok-fault.ensures
+
+pub returns-then-ne-clause-plays : goal.returns-then-ne-clause-plays
+returns-then-ne-clause-plays g c = fault_plays g.given.header g.given.past c.args.waiting.task c.args.waiting.want c.args.may_claim c.in_ok-fault.field-0 c.args.self.now c.fault.new.self c.args.log.now.items c.fault.new.log.items c.in_ok-fault.ensures
+
+pub returns-else-ne-clause-plays : goal.returns-else-ne-clause-plays
+returns-else-ne-clause-plays g c = fault_plays g.given.header g.given.past c.args.waiting.task c.args.waiting.want c.args.may_claim c.in_ok-fault.field-0 c.args.self.now c.fault.new.self c.args.log.now.items c.fault.new.log.items c.in_ok-fault.ensures
+
+pub returns-clause-plays : goal.returns-clause-plays
+returns-clause-plays g c = fault_plays g.given.header g.given.past c.args.waiting.task c.args.waiting.want c.args.may_claim c.in_ok-fault.field-0 c.args.self.now c.fault.new.self c.args.log.now.items c.fault.new.log.items c.in_ok-fault.ensures

@@ -1,4 +1,5 @@
-use Rattle.std.proofs.Common.{◌≤◌, ap, sym, ◌∙◌, subst, arith, List, [], ◌∷◌}
+use Rattle.vm_kernel.proofs.Playing.{plays_both, plays_told}
+use Rattle.std.proofs.Common.{refl, ◌≤◌, ap, sym, ◌∙◌, subst, arith, List, [], ◌∷◌}
 use Rattle.std.proofs.lemmas.List.{length-reverse}
 use Rattle.vm_base.specs.declared.entry.Entry.{Entry}
 use Rattle.vm_base.specs.Entries.{by_address}
@@ -72,9 +73,12 @@ sweep-requires g c =
     subst (λ (z : Command). Sweeps g.given.header g.given.outside z g.given.past mid c.args.ids.now gone c.push.new.self.items) (sym c.requires.0)
     (subst (λ (z : List Event). Sweeps g.given.header g.given.outside (command.Deallocate c.args.task c.args.address c.args.bytes) g.given.past mid c.args.ids.now gone z) (sym (c.in_ok-push.ensures.ok ∙ ap (λ z. event.Removed c.args.task c.args.address c.args.bytes ∷ z) starts.nothing)) sweeps)
 
-pub returns : goal.returns
-returns g c =
+pub returns-clause-ran : goal.returns-clause-ran
+returns-clause-ran g c =
     on_ok c.sweep.result _ _
     (λ is. ran_swept g.given.header g.given.outside g.given.command g.given.past c.sweep.new.log.items c.sweep.new.self c.args.ids.now is
     (subst (λ (z : Command). IsDone g.given.header z c.sweep.new.log.items g.given.past) (sym c.requires.0) tt))
-    c.sweep.ensures
+    c.sweep.ensures.sweeps
+
+pub returns-clause-plays : goal.returns-clause-plays
+returns-clause-plays g c = on_ok c.sweep.result _ _ (λ more. plays_both (plays_told c.in_ok-push.ensures.ok refl) more) c.sweep.ensures.plays

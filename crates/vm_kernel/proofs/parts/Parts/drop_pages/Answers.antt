@@ -1,3 +1,6 @@
+use Rattle.vm_base.specs.declared.ids.PageKey.{PageKey}
+use Rattle.vm_kernel.proofs.Departing.{lost_plays}
+use Rattle.vm_kernel.proofs.Playing.{plays_both}
 use Rattle.std.proofs.Common.{arith, refl}
 use Rattle.vm_kernel.proofs.Ends.{ends_lost}
 use Rattle.vm_kernel.proofs.Strands.{all_here}
@@ -5,9 +8,17 @@ use Rattle.vm_kernel.proofs.parts.Parts.drop_pages.Goals as goal
 
 pub pages-preserved : goal.pages-preserved
 pages-preserved g c =
-    ends_lost g.given.header g.given.outside g.given.command g.given.past c.pages.self c.drop_page.new.self c.args.ids.now g.given.rest c.args.object.0 (record { object = c.args.object; page = c.in-Some.page }) c.pages.log.items c.drop_page.new.log.items
-    c.pages.invariant refl (λ q low. c.in-Some.ensures.first q (omega arith) low) c.in_ok-drop_page.ensures
+    let key : PageKey = record { object = c.args.object; page = c.in-Some.page } in
+    let was = c.pages.invariant in
+    record {
+      ends =
+          ends_lost g.given.header g.given.outside g.given.command g.given.past c.pages.self c.drop_page.new.self c.args.ids.now g.given.rest c.args.object.0 key c.pages.log.items c.drop_page.new.log.items
+          was.ends refl (λ q low. c.in-Some.ensures.first q (omega arith) low) c.in_ok-drop_page.ensures;
+      plays =
+          plays_both was.plays
+          (lost_plays g.given.header g.given.outside g.given.command g.given.past c.pages.self c.drop_page.new.self c.args.ids.now g.given.rest c.args.object.0 key c.pages.log.items c.drop_page.new.log.items was.ends refl c.in_ok-drop_page.ensures);
+    }
 
 pub drop_page-requires-clause-there : goal.drop_page-requires-clause-there
 drop_page-requires-clause-there g c =
-    all_here g.given.header g.given.outside g.given.command g.given.past c.pages.self c.args.ids.now g.given.rest c.args.object.0 c.pages.log.items c.in-Some.page.0 c.pages.invariant c.in-Some.ensures.there
+    all_here g.given.header g.given.outside g.given.command g.given.past c.pages.self c.args.ids.now g.given.rest c.args.object.0 c.pages.log.items c.in-Some.page.0 c.pages.invariant.ends c.in-Some.ensures.there

@@ -1,4 +1,5 @@
-use Rattle.std.proofs.Common.{ap, sym, ◌∙◌, subst, List, ◌∷◌}
+use Rattle.vm_kernel.proofs.Playing.{plays_both, plays_told}
+use Rattle.std.proofs.Common.{refl, ap, sym, ◌∙◌, subst, List, ◌∷◌}
 use Rattle.vm_base.specs.Entries.{by_address}
 use Rattle.vm_model.specs.declared.command.Command.{Command}
 use Rattle.vm_model.specs.declared.command.Command.TheVariants as command
@@ -22,9 +23,12 @@ sweep-requires g c =
     subst (λ (z : Command). Sweeps g.given.header g.given.outside z g.given.past mid c.args.ids.now gone c.push.new.self.items) (sym c.requires.0)
     (subst (λ (z : List Event). Sweeps g.given.header g.given.outside (command.Exit c.args.task) g.given.past mid c.args.ids.now gone z) (sym (c.in_ok-push.ensures.ok ∙ ap (λ z. event.TaskEnded c.args.task ∷ z) starts.nothing)) sweeps)
 
-pub returns : goal.returns
-returns g c =
+pub returns-clause-ran : goal.returns-clause-ran
+returns-clause-ran g c =
     on_ok c.sweep.result _ _
     (λ is. ran_swept g.given.header g.given.outside g.given.command g.given.past c.sweep.new.log.items c.sweep.new.self c.args.ids.now is
     (subst (λ (z : Command). IsDone g.given.header z c.sweep.new.log.items g.given.past) (sym c.requires.0) tt))
-    c.sweep.ensures
+    c.sweep.ensures.sweeps
+
+pub returns-clause-plays : goal.returns-clause-plays
+returns-clause-plays g c = on_ok c.sweep.result _ _ (λ more. plays_both (plays_told c.in_ok-push.ensures.ok refl) more) c.sweep.ensures.plays

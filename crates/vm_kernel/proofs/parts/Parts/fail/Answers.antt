@@ -1,6 +1,9 @@
-use Rattle.std.proofs.Common.{rules, ◌≡◌, ◌++◌, true, List, inl, sym, subst}
+use Rattle.std.proofs.Common.{refl, rules, ◌≡◌, ◌++◌, true, List, inl, sym, subst}
 use Rattle.vm_model.specs.declared.event.Event.{Event}
 use Rattle.vm_legal.specs.Steps.{fails_access, since}
+use Rattle.vm_model.specs.declared.event.Event.TheVariants as event
+use Rattle.vm_kernel.specs.Plays.{paging}
+use Rattle.vm_kernel.proofs.Playing.{plays_both, plays_one}
 use Rattle.vm_kernel.proofs.Failing.{EndsOr, Failing, before_none, ends_all, ends_or, failed_one, since_now}
 use Rattle.vm_kernel.proofs.Ordering.{without_keeps}
 use Rattle.vm_kernel.proofs.parts.Parts.fail.Goals as goal
@@ -14,6 +17,7 @@ all-init g c =
       answered = search rules;
       before = before_none c.args.key c.args.self.now.waits.rows past c.requires.1.1.0;
       goes = search rules;
+      plays = search rules;
       each = search rules;
       some = search rules;
     }
@@ -34,6 +38,7 @@ all-preserved g c =
       answered = now.answered;
       before = now.before;
       goes = now.goes;
+      plays = plays_both was.plays (plays_one g.given.header g.given.past c.all.log.items _ (event.Failed w.task key.object key.page) (paging c.all.self) (paging c.all.self) c.in_ok-push.ensures.ok refl);
       each =
           subst (λ (z : List Event). EndsOr key c.args.self.now.waits.rows c.remove.new.self.rows (z ++ g.given.past)) (sym c.in_ok-push.ensures.ok)
           (ends_or key w c.args.self.now.waits.rows c.all.self.waits.rows c.remove.new.self.rows (c.all.log.items ++ g.given.past) was.each c.remove.ensures.entry);

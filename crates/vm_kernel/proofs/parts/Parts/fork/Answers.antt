@@ -1,4 +1,5 @@
-use Rattle.std.proofs.Common.{◌≡◌, List, Some, length, ap, sym, ◌∙◌, slice_get, subst, arith}
+use Rattle.vm_kernel.proofs.Playing.{lists_same, plays_both, plays_told}
+use Rattle.std.proofs.Common.{refl, ◌≡◌, List, Some, length, ap, sym, ◌∙◌, slice_get, subst, arith}
 use Rattle.std.proofs.lemmas.List.{length-reverse}
 use Rattle.vm_base.specs.declared.entry.Entry.{Entry}
 use Rattle.vm_base.specs.Entries.{AreEntries}
@@ -8,15 +9,19 @@ use Rattle.vm_kernel.proofs.parts.Parts.fork.Goals as goal
 use Rattle.vm_kernel.proofs.parts.Parts.fork.Goals.{then-is_shared+in_ok-share, else-is_shared}
 
 pub all-init : goal.all-init
-all-init g c = fork_start g.given.header g.given.outside c.args.task c.args.child g.given.past c.args.self.now c.args.ids.now c.args.log.now.items _ c.add_task.new.self c.requires c.in_ok-add_task.ensures.ok c.in_ok-push.ensures.ok
+all-init g c =
+    record {
+      forked = fork_start g.given.header g.given.outside c.args.task c.args.child g.given.past c.args.self.now c.args.ids.now c.args.log.now.items _ c.add_task.new.self c.requires c.in_ok-add_task.ensures.ok c.in_ok-push.ensures.ok;
+      plays = plays_told c.in_ok-push.ensures.ok refl;
+    }
 
 pub entries-requires-in-all : goal.entries-requires-in-all
-entries-requires-in-all g c = lives_some _ _ c.all.invariant.others
+entries-requires-in-all g c = lives_some _ _ c.all.invariant.forked.others
 
 pub share-requires : goal.share-requires
 share-requires g c =
     let rows = rows_in c.args.task.0 c.args.self.now.maps in
-    let f = c.all.invariant in
+    let f = c.all.invariant.forked in
     let same = same_rows _ _ _ c.entries-in-all.ensures.value f.others in
     let sound = subst (AreEntries c.all.self.maps.size) same c.entries-in-all.ensures.sound in
     let found = subst (λ (z : List Entry). slice_get z c.all.i ≡ Some c.at-entry.result.now) same c.at-entry.ensures in
@@ -25,22 +30,25 @@ share-requires g c =
 pub all-preserved : goal.all-preserved
 all-preserved g c =
     let rows = rows_in c.args.task.0 c.args.self.now.maps in
-    let f = c.all.invariant in
+    let f = c.all.invariant.forked in
     let same = same_rows _ _ _ c.entries-in-all.ensures.value f.others in
     let sound = subst (AreEntries c.all.self.maps.size) same c.entries-in-all.ensures.sound in
     let found = subst (λ (z : List Entry). slice_get z c.all.i ≡ Some c.at-entry.result.now) same c.at-entry.ensures in
     elim c.if-is_shared.branch [
       | then-is_shared+in_ok-share w ↦
           rw (w.self-is, w.log-is)
-          (fork_shared g.given.header g.given.outside c.args.task c.args.child rows c.all.i c.at-entry.result.now g.given.past c.all.self _ c.args.ids.now c.all.log.items _ f sound found (sym c.is_shared.ensures ∙ w.if-is_shared.true) w.in_ok-share.ensures)
+          (record {
+            forked = fork_shared g.given.header g.given.outside c.args.task c.args.child rows c.all.i c.at-entry.result.now g.given.past c.all.self _ c.args.ids.now c.all.log.items _ f sound found (sym c.is_shared.ensures ∙ w.if-is_shared.true) w.in_ok-share.ensures;
+            plays = plays_both c.all.invariant.plays (plays_told w.in_ok-share.ensures.told (lists_same c.all.self w.share.new.self w.in_ok-share.ensures.resident w.in_ok-share.ensures.queues));
+          })
       | else-is_shared w ↦
           rw (w.self-is, w.log-is)
-          (fork_other g.given.header g.given.outside c.args.task c.args.child rows c.all.i c.at-entry.result.now g.given.past c.all.self c.args.ids.now c.all.log.items f found (sym c.is_shared.ensures ∙ w.if-is_shared.false))
+          (record { forked = fork_other g.given.header g.given.outside c.args.task c.args.child rows c.all.i c.at-entry.result.now g.given.past c.all.self c.args.ids.now c.all.log.items f found (sym c.is_shared.ensures ∙ w.if-is_shared.false); plays = c.all.invariant.plays })
     ]
 
-pub returns : goal.returns
-returns g c =
+pub returns-clause-ran : goal.returns-clause-ran
+returns-clause-ran g c =
     let may = may_fork g.given.header c.args.task c.args.child g.given.past c.args.self.now c.args.ids.now c.args.log.now.items c.requires in
-    let same = same_rows _ _ _ c.entries.ensures.value (c.in_ok-add_task.ensures.ok.others c.args.task.0 c.all.invariant.apart ∙ may.lives) in
-    ran_fork g.given.header g.given.outside c.args.task c.args.child c.all.i g.given.past c.args.self.now c.all.self c.args.ids.now c.args.log.now.items c.all.log.items c.requires c.all.invariant
+    let same = same_rows _ _ _ c.entries.ensures.value (c.in_ok-add_task.ensures.ok.others c.args.task.0 c.all.invariant.forked.apart ∙ may.lives) in
+    ran_fork g.given.header g.given.outside c.args.task c.args.child c.all.i g.given.past c.args.self.now c.all.self c.args.ids.now c.args.log.now.items c.all.log.items c.requires c.all.invariant.forked
     (omega (arith, ap length same, length-reverse c.entries.result.now.items, c.len-i-end.ensures, c.all-test.false))

@@ -2,6 +2,7 @@ use Rattle.std.proofs.Common.{◌≡◌, ℕ, ◌++◌, sym, ◌∙◌, subst}
 use Rattle.vm_parts.specs.Fits.{Fit}
 use Rattle.vm_supply.specs.Answers.{IsAnswer}
 use Rattle.vm_supply.specs.Pages.{HostParts, host_parts}
+use Rattle.vm_kernel.proofs.Supplying.{answer_brings}
 use Rattle.vm_kernel.proofs.Hearing.{Hears, heard, hears_done, plain_answer}
 use Rattle.vm_kernel.proofs.parts.Parts.hear.Given as given
 use Rattle.vm_kernel.proofs.parts.Parts.hear.Goals as goal
@@ -35,3 +36,7 @@ returns-clause-answered g c = (all_done g c).0.answered
 
 pub returns-clause-nothing : goal.returns-clause-nothing
 returns-clause-nothing g c = (all_done g c).1 ∙ c.requires.1.1.1
+
+pub returns-clause-brings : goal.returns-clause-brings
+returns-clause-brings g c =
+    answer_brings c.args.self.now.buffers.size c.args.self.now.host c.args.object _ c.in_ok-woken.woken c.args.self.now c.args.log.now.items (after_host g c) c.answer.new.buffers c.requires.0.matches.fits c.in_ok-woken.ensures.answered (all_done g c).1

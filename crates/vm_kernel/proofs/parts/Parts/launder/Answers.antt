@@ -1,7 +1,7 @@
 use Rattle.vm_kernel.proofs.Laundering.{rests_laundered}
 use Rattle.vm_kernel.proofs.parts.Parts.launder.Goals as goal
 
-pub returns : goal.returns
-returns g c =
+pub returns-clause-rests : goal.returns-clause-rests
+returns-clause-rests g c =
     rests_laundered g.given.header c.args.self.now c.args.ids.now g.given.front g.given.past c.in-Some.frame c.release.new.self c.first.new.self c.requires.0 c.requires.1.0 c.in-Some.ensures.0 c.in-Some.ensures.1
     c.release.ensures

@@ -1,3 +1,4 @@
+use Rattle.vm_kernel.specs.Plays.{Plays, paging}
 use Rattle.vm_kernel.proofs.Pageout.{Reclaiming}
 use Rattle.vm_kernel.proofs.parts.Parts.pageout.Given as goal
 
@@ -5,4 +6,7 @@ abbrev pub ghost-reclaim : goal.ghost-reclaim
 ghost-reclaim g a = g.given
 
 abbrev pub invariant-pages : goal.invariant-pages
-invariant-pages g l = Reclaiming g.given.header g.given.outside g.given.command l.count l.counter g.given.past l.self l.ids l.log.items
+invariant-pages g l = record {
+  reclaiming : Reclaiming g.given.header g.given.outside g.given.command l.count l.counter g.given.past l.self l.ids l.log.items;
+  plays : Plays g.given.header g.given.past l.fn.log.items (paging l.fn.self) l.log.items (paging l.self);
+}

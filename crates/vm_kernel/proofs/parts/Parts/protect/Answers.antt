@@ -1,4 +1,5 @@
-use Rattle.std.proofs.Common.{◌≤◌, ap, sym, ◌∙◌, subst, arith, List, [], ◌∷◌}
+use Rattle.vm_kernel.proofs.Playing.{plays_told}
+use Rattle.std.proofs.Common.{refl, ◌≤◌, ap, sym, ◌∙◌, subst, arith, List, [], ◌∷◌}
 use Rattle.std.proofs.lemmas.List.{length-reverse}
 use Rattle.vm_base.specs.declared.entry.Entry.{Entry}
 use Rattle.vm_model.specs.declared.event.Event.{Event}
@@ -38,11 +39,14 @@ raise-requires-clause-few g c =
     let made = c.entries-2.ensures.sound.few in
     omega arith
 
-pub returns : goal.returns
-returns g c =
+pub returns-clause-ran : goal.returns-clause-ran
+returns-clause-ran g c =
     on_ok c.push.result _ _
     (λ is. subst (λ (z : List Event). Ran g.given.header g.given.outside (command.Protect c.args.task c.args.address c.args.bytes c.args.prot) g.given.past (record c.args.self.now { maps = c.protect.new.self; chains = c.raise.new.chains }) c.args.ids.now z)
     (sym (is ∙ ap (λ z. event.Protected c.args.task c.args.address c.args.bytes c.args.prot ∷ z) c.requires.nothing))
     (ran_protect g.given.header g.given.outside c.args.task c.args.address c.args.bytes c.args.prot g.given.past _ c.args.self.now c.args.ids.now c.protect.new.self c.lower.new.chains c.raise.new.chains c.protection.result _ _
     c.requires c.protection.ensures c.in_ok-protect.ensures.changes c.entries.ensures.value c.entries-2.ensures.value c.entries-2.ensures.sound.few c.lower.ensures c.raise.ensures))
     c.push.ensures.ok
+
+pub returns-clause-plays : goal.returns-clause-plays
+returns-clause-plays g c = on_ok c.push.result _ _ (λ told. plays_told told refl) c.push.ensures.ok

@@ -1,6 +1,10 @@
 use Rattle.std.specs.Prelude.{◌++◌}
-use Rattle.std.proofs.Common.{ap, refl}
-use Rattle.vm_kernel.proofs.Reclaims.{Took, none_queued, reclaimed_touched, rests_touched, room_for, took}
+use Rattle.std.proofs.Common.{[], ap, refl, subst, ◌∙◌}
+use Rattle.vm_pageout.specs.Reclaims.{Reclaims}
+use Rattle.vm_queues.specs.Queues.{KeepsPages, Queues}
+use Rattle.vm_kernel.specs.Plays.{paging}
+use Rattle.vm_kernel.proofs.Playing.{plays_none, reclaim_plays, searched_none}
+use Rattle.vm_kernel.proofs.Reclaims.{Took, parts_of, none_queued, reclaimed_touched, rests_touched, room_for, took}
 use Rattle.vm_kernel.proofs.parts.Parts.reclaim.Given.{Over}
 use Rattle.vm_kernel.proofs.parts.Parts.reclaim.Goals as goal
 
@@ -31,3 +35,16 @@ returns-clause-reclaims g c = (took_it g c).gone
 
 pub returns-clause-reclaimed : goal.returns-clause-reclaimed
 returns-clause-reclaimed g c = reclaimed_touched c.in_ok-answer.answer c.args.self.now _ c.victim.new.self _ _ (took_it g c).reclaimed
+
+pub returns-in_default-clause-plays : goal.returns-in_default-clause-plays
+returns-in_default-clause-plays g c =
+    plays_none g.given.header g.given.past c.args.log.now.items c.args.log.now.items (paging c.args.self.now) (paging (record c.args.self.now { queues = c.victim.new.self })) refl
+    (ap (λ z. paging (record c.args.self.now { queues = z })) (c.victim.ensures.queues ∙ searched_none c.args.self.now.queues c.in_default.ensures.none))
+
+pub returns-clause-plays : goal.returns-clause-plays
+returns-clause-plays g c =
+    let k = c.args.self.now in
+    let k2 = record k { frames = c.reclaim.new.frames; resident = c.reclaim.new.resident; queues = c.reclaim.new.queues; objects = c.reclaim.new.objects; buffers = c.reclaim.new.buffers; laundry = c.reclaim.new.laundry } in
+    reclaim_plays g.given.header g.given.past c.args.ids.now k.buffers.size c.in_ok-answer.answer k k2 c.args.log.now.items c.reclaim.new.log.items c.requires.0
+    (subst (λ (z : Queues). KeepsPages k.queues z) c.victim.ensures.queues c.victim.ensures.pages)
+    (subst (λ (z : Queues). Reclaims c.in_ok-answer.answer k.host k.buffers.size [] (parts_of (record k { queues = z }) c.args.log.now.items) (parts_of k2 c.reclaim.new.log.items)) c.victim.ensures.queues c.in_ok-answer.ensures.ok)

@@ -22,7 +22,7 @@ returns-in_default g c =
       unwire = c.in_default.not-Unwire;
     }))
 
-pub returns-in-Pageout : goal.returns-in-Pageout
-returns-in-Pageout g c =
+pub returns-in-Pageout-clause-ran : goal.returns-in-Pageout-clause-ran
+returns-in-Pageout-clause-ran g c =
     let is = pageout_of g.given.header c.args.command.now g.given.past c.args.self.now c.args.ids.now c.args.log.now.items c.in-Pageout.host c.in-Pageout.count c.requires.0 c.in-Pageout.is in
-    on_ok c.pageout.result _ _ (λ ran. subst (λ (z : Command). Ran g.given.header g.given.outside z g.given.past c.pageout.new.self c.args.ids.now c.pageout.new.log.items) (sym is) ran) c.pageout.ensures
+    on_ok c.pageout.result _ _ (λ ran. subst (λ (z : Command). Ran g.given.header g.given.outside z g.given.past c.pageout.new.self c.args.ids.now c.pageout.new.log.items) (sym is) ran) c.pageout.ensures.ran

@@ -1,3 +1,4 @@
+use Rattle.vm_kernel.specs.Plays.{Plays, paging}
 use Rattle.std.proofs.Common.{◌+◌, ◌*◌, ◌++◌}
 use Rattle.vm_frames.specs.Frames.{claimed, frame_count}
 use Rattle.vm_kernel.specs.Begun.{Goes}
@@ -12,7 +13,7 @@ abbrev pub ghost-stops : goal.ghost-stops
 ghost-stops g a = g.given
 
 abbrev pub invariant-serve : goal.invariant-serve
-invariant-serve g l = record { rests : Rests g.given.header l.self l.ids (l.log.items ++ g.given.past); goes : Goes g.given.header g.given.outside g.given.command g.given.past l.fn.log.items l.log.items }
+invariant-serve g l = record { rests : Rests g.given.header l.self l.ids (l.log.items ++ g.given.past); goes : Goes g.given.header g.given.outside g.given.command g.given.past l.fn.log.items l.log.items; plays : Plays g.given.header g.given.past l.fn.log.items (paging l.fn.self) l.log.items (paging l.self) }
 
 abbrev pub decreases-serve : goal.decreases-serve
 decreases-serve g l = queued l.self.waits.rows * (frame_count l.self.frames + 1) + claimed l.self.frames

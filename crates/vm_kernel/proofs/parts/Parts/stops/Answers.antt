@@ -1,3 +1,4 @@
+use Rattle.vm_kernel.specs.Plays.{Still}
 use Rattle.std.specs.Prelude.{◌++◌}
 use Rattle.std.proofs.Common.{◌≡◌, true, false}
 use Rattle.vm_kernel.proofs.Reclaims.{full_after}
@@ -10,6 +11,10 @@ returns-in-Returned g c =
       rests = all.rests;
       goes = all.goes;
       waits = all.reclaimed.waits;
+      plays = all.plays;
       freed = λ bad. absurd (let clash : true ≡ false = bad in cc);
       full = λ same. full_after g.given.header c.args.self.now c.reclaim.new.self c.args.ids.now c.in_ok-reclaim.field-0 (c.args.log.now.items ++ g.given.past) (c.reclaim.new.log.items ++ g.given.past) all.rests c.requires.1.1 all.reclaimed c.in-Returned.is;
     }
+
+pub returns-then-not-is_empty-clause-plays : goal.returns-then-not-is_empty-clause-plays
+returns-then-not-is_empty-clause-plays g c = Still

@@ -1,4 +1,6 @@
-use Rattle.std.proofs.Common.{ap, ◌∙◌}
+use Rattle.vm_kernel.proofs.Growing.{on_ok}
+use Rattle.vm_kernel.proofs.Playing.{plays_both, plays_told}
+use Rattle.std.proofs.Common.{refl, ap, ◌∙◌}
 use Rattle.vm_waits.specs.Waits.{again}
 use Rattle.vm_waits.specs.declared.waiting.Want.TheVariants as want
 use Rattle.vm_kernel.proofs.Beginning.{begun_next, begun_ran, begun_works}
@@ -10,11 +12,14 @@ restart-requires g c =
     begun_works g.given.header g.given.command c.args.task (want.Store c.args.address c.args.size c.args.value) g.given.past c.args.self.now c.args.ids.now c.args.log.now.items c.push.new.self.items c.reserve.new.self c.begin.new.self
     c.requires.0 c.requires.1 c.in_ok-push.ensures.ok c.reserve.ensures.rows c.begin.ensures.entry c.begin.ensures.rows
 
-pub returns : goal.returns
-returns g c =
+pub returns-clause-ran : goal.returns-clause-ran
+returns-clause-ran g c =
     let next =
     begun_next c.args.task (want.Store c.args.address c.args.size c.args.value) c.reserve.new.self.rows c.begin.new.self.rows (ap again c.reserve.ensures.rows ∙ c.requires.1.rests.idle) c.begin.ensures.again c.begin.ensures.entry in
     three_ok c.restart.result _ _ _ _
     (begun_ran g.given.header g.given.outside g.given.command c.args.task (want.Store c.args.address c.args.size c.args.value) g.given.past c.args.self.now c.restart.new.self c.args.ids.now c.args.log.now.items c.push.new.self.items c.restart.new.log.items
     c.begin.new.self.rows c.requires.0 c.requires.1 c.in_ok-push.ensures.ok next)
     c.restart.ensures.rests c.restart.ensures.goes c.restart.ensures.first
+
+pub returns-clause-plays : goal.returns-clause-plays
+returns-clause-plays g c = on_ok c.restart.result _ _ (λ more. plays_both (plays_told c.in_ok-push.ensures.ok refl) more) c.restart.ensures.plays

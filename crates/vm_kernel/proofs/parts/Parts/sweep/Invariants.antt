@@ -1,3 +1,4 @@
+use Rattle.vm_kernel.specs.Plays.{Plays, paging}
 use Rattle.std.proofs.Common.{◌+◌, drop}
 use Rattle.vm_base.specs.Entries.{by_address}
 use Rattle.vm_kernel.specs.Sweeping.{Sweeps}
@@ -7,4 +8,7 @@ abbrev pub ghost-release : goal.ghost-release
 ghost-release g a = record { header = g.given.header; outside = g.given.outside; past = g.given.past; command = g.given.command; rest = drop (a.i + 1) (by_address a.gone.now) }
 
 abbrev pub invariant-all : goal.invariant-all
-invariant-all g l = Sweeps g.given.header g.given.outside g.given.command g.given.past l.self l.ids (drop l.i (by_address l.gone)) l.log.items
+invariant-all g l = record {
+  sweeps : Sweeps g.given.header g.given.outside g.given.command g.given.past l.self l.ids (drop l.i (by_address l.gone)) l.log.items;
+  plays : Plays g.given.header g.given.past l.fn.log.items (paging l.fn.self) l.log.items (paging l.self);
+}

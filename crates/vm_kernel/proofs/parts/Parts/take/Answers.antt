@@ -3,6 +3,8 @@ use Rattle.vm_model.specs.declared.event.Event.{Event}
 use Rattle.vm_kernel.specs.Begun.{Goes}
 use Rattle.vm_waits.specs.Waits.{WaitTable}
 use Rattle.vm_kernel.specs.Taking.{HasEnded}
+use Rattle.vm_kernel.specs.Plays.{Plays, paging}
+use Rattle.vm_kernel.proofs.Playing.{plays_both}
 use Rattle.vm_kernel.proofs.Failing.{each_failed, each_goes, paid_failed, paid_goes}
 use Rattle.vm_kernel.proofs.Growing.{goes_both, on_ok}
 use Rattle.vm_kernel.proofs.parts.Parts.take.Given as given
@@ -30,3 +32,9 @@ returns-clause-ended g c =
     subst (λ (z : WaitTable). HasEnded c.in_ok-woken.woken z.rows (c.wake.new.log.items ++ past)) c.in_ok-woken.ensures.waits c.in_ok-wake.ensures.ended in
     let each = each_failed g.given.header g.given.outside g.given.command c.in_ok-woken.woken rows past c.wake.new.log.items c.in_ok-woken.ensures.fails (woken_goes g c) ended in
     on_ok c.restart.result _ _ (λ goes. each_goes g.given.header g.given.outside g.given.command rows past c.wake.new.log.items c.restart.new.log.items goes each) c.restart.ensures.goes
+
+pub returns-clause-plays : goal.returns-clause-plays
+returns-clause-plays g c =
+    let past = g.given.front ++ g.given.past in
+    let woken = subst (λ (z : List Event). Plays g.given.header past z (paging c.hear.new.self) c.wake.new.log.items (paging c.wake.new.self)) c.in_ok-woken.ensures.nothing c.in_ok-wake.ensures.plays in
+    on_ok c.restart.result _ _ (λ more. record { heard = paging c.hear.new.self; brings = c.in_ok-woken.ensures.brings; plays = plays_both woken more }) c.restart.ensures.plays

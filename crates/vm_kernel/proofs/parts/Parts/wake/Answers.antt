@@ -1,6 +1,7 @@
 use Rattle.std.proofs.Common.{rules}
 use Rattle.vm_waits.specs.Waits.{woken_page, woken_ready}
 use Rattle.vm_kernel.proofs.Ordering.{woken_keeps}
+use Rattle.vm_kernel.specs.Plays.{Still}
 use Rattle.vm_kernel.proofs.parts.Parts.wake.Goals as goal
 
 pub returns-in-ReadyOf-clause-works : goal.returns-in-ReadyOf-clause-works
@@ -22,3 +23,9 @@ returns-in-Page-clause-works g c =
       waits = search rules;
       order = (woken_keeps (woken_page c.in-Page.key) c.args.self.now.waits.rows c.wake_page.new.self.rows c.wake_page.ensures.rows).keeps _ 0 c.requires.0.order;
     }
+
+pub returns-in-ReadyOf-clause-plays : goal.returns-in-ReadyOf-clause-plays
+returns-in-ReadyOf-clause-plays g c = Still
+
+pub returns-in-Page-clause-plays : goal.returns-in-Page-clause-plays
+returns-in-Page-clause-plays g c = Still

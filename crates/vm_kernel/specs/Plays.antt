@@ -1,0 +1,88 @@
+-- What happens to the lists of a host's pages over a call: what its events say, one after another.
+use Rattle.std.specs.Prelude.{ℕ, ◌≡◌, ◌==◌, ◌&&◌, Bool, true, false, List, [], ◌∷◌, ◌++◌, Option, Some, None, if◌then◌else◌}
+use Rattle.vm_base.specs.declared.ids.FrameNo.{FrameNo}
+use Rattle.vm_base.specs.declared.ids.ObjectId.{ObjectId}
+use Rattle.vm_model.specs.declared.event.Event.{Event}
+use Rattle.vm_model.specs.declared.event.Event.TheVariants as event
+use Rattle.vm_model.specs.declared.message.Channel.TheVariants.{Up}
+use Rattle.vm_model.specs.declared.message.Message.TheVariants as message
+use Rattle.vm_model.specs.declared.script.Header.{Header}
+use Rattle.vm_legal.specs.Used.{in_use}
+use Rattle.vm_pageout.specs.Reclaims.{searched}
+use Rattle.vm_queues.specs.Queues.{Queues, added, chosen, is_queued, removed, touched}
+use Rattle.vm_resident.specs.Resident.{row_at}
+use Rattle.vm_resident.specs.declared.page_row.PageRow.{PageRow}
+use Rattle.vm_supply.specs.Answers.{Outcome, Supplied}
+use Rattle.vm_kernel.specs.declared.parts.Parts.{Parts}
+
+-- the frame of each page that is here, and the lists of these frames
+pub record Paging : Type 0 where
+  pub frame_at : ℕ → ℕ → Option FrameNo
+  pub queues : Queues
+
+-- the frame of a page that is here
+abbrev pub frame_here : Option PageRow → Option FrameNo
+frame_here None = None
+frame_here (Some row) = if row.here then Some row.frame else None
+
+-- those of a kernel
+abbrev pub paging : Parts → Paging
+paging k = record { frame_at = λ o p. frame_here (row_at k.resident o p); queues = k.queues }
+
+-- one page is in this frame now, or not here, and each other page where it was
+abbrev pub with_frame : ℕ → ℕ → Option FrameNo → (ℕ → ℕ → Option FrameNo) → ℕ → ℕ → Option FrameNo
+with_frame object page frame was = λ o p. if object == o && page == p then frame else was o p
+
+-- a page that is here is marked as referenced
+pub record Marks (object page : ℕ) (old new : Paging) : Type 0 where
+  pub frame : FrameNo
+  pub here : old.frame_at object page ≡ Some frame
+  pub is : new ≡ record old { queues = touched frame.0 old.queues }
+
+-- a page has come into a frame that was on no list
+pub record Arrives (object page : ℕ) (old new : Paging) : Type 0 where
+  pub frame : FrameNo
+  pub absent : old.frame_at object page ≡ None
+  pub unlisted : is_queued old.queues frame.0 ≡ false
+  pub is : new ≡ record { frame_at = with_frame object page (Some frame) old.frame_at; queues = added frame.0 old.queues }
+
+-- a page that is here has gone, and its frame is off the lists
+pub record Departs (object page : ℕ) (lists : Queues) (old new : Paging) : Type 0 where
+  pub frame : FrameNo
+  pub here : old.frame_at object page ≡ Some frame
+  pub is : new ≡ record { frame_at = with_frame object page None old.frame_at; queues = removed frame.0 lists }
+
+-- the page that has gone is the victim: the one that the lists choose, with none skipped
+pub record IsVictim (object page : ℕ) (old new : Paging) : Type 0 where
+  pub victim : chosen [] (searched old.queues) ≡ old.frame_at object page
+  pub departs : Departs object page (searched old.queues) old new
+
+-- a page of an object in use goes as the victim, and each of another one in any order
+abbrev pub DepartsFrom : Bool → ℕ → ℕ → Paging → Paging → Type 0
+DepartsFrom true object page old new = IsVictim object page old new
+DepartsFrom false object page old new = Departs object page old.queues old new
+
+-- what an event behind a history says of the lists
+abbrev pub Does : Header → List Event → Event → Paging → Paging → Type 0
+Does header past (event.Loaded task object page value) old new = Marks object.0 page.0 old new
+Does header past (event.Stored task object page at size value) old new = Marks object.0 page.0 old new
+Does header past (event.Zeroed host object page) old new = Arrives object.0 page.0 old new
+Does header past (event.Dropped host object page) old new = DepartsFrom (in_use header host.0 object.0 past) object.0 page.0 old new
+Does header past (event.Sent (Up host object) (message.Return control page dirty false bytes)) old new = IsVictim object.0 page.0 old new
+Does header past other old new = new ≡ old
+
+-- The lists are as the events say that were added to some, one after another.
+pub data Plays (header : Header) (past before : List Event) (old : Paging) : List Event → Paging → Type 0 where
+  Still : Plays header past before old before old
+  Then : (e : Event) (events : List Event) (mid new : Paging) → Plays header past before old events mid → Does header (events ++ past) e mid new → Plays header past before old (e ∷ events) new
+
+-- a page that an answer supplies has come; no other answer does anything to the lists
+abbrev pub AnswerBrings : ObjectId → Outcome → Paging → Paging → Type 0
+AnswerBrings object (Supplied page lock precious bytes) old new = Arrives object.0 page.0 old new
+AnswerBrings object other old new = new ≡ old
+
+-- an answer was heard, and the events followed
+pub record PlaysAnswer (header : Header) (past : List Event) (object : ObjectId) (outcome : Outcome) (old : Paging) (events : List Event) (new : Paging) : Type 0 where
+  pub heard : Paging
+  pub brings : AnswerBrings object outcome old heard
+  pub plays : Plays header past [] heard events new
