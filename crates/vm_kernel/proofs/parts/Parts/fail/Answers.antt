@@ -2,7 +2,7 @@ use Rattle.std.proofs.Common.{refl, rules, ◌≡◌, ◌++◌, true, List, inl,
 use Rattle.vm_model.specs.declared.event.Event.{Event}
 use Rattle.vm_legal.specs.Steps.{fails_access, since}
 use Rattle.vm_model.specs.declared.event.Event.TheVariants as event
-use Rattle.vm_kernel.specs.Plays.{paging}
+use Rattle.vm_kernel.specs.Plays.{Still, paging}
 use Rattle.vm_kernel.proofs.Playing.{plays_both, plays_one}
 use Rattle.vm_kernel.proofs.Failing.{EndsOr, Failing, before_none, ends_all, ends_or, failed_one, since_now}
 use Rattle.vm_kernel.proofs.Ordering.{without_keeps}
@@ -17,7 +17,7 @@ all-init g c =
       answered = search rules;
       before = before_none c.args.key c.args.self.now.waits.rows past c.requires.1.1.0;
       goes = search rules;
-      plays = search rules;
+      plays = Still;
       each = search rules;
       some = search rules;
     }
