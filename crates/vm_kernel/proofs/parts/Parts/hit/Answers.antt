@@ -1,3 +1,4 @@
+use Rattle.std.proofs.Common.{rules}
 use Rattle.std.proofs.Common.{◌∙◌}
 use Rattle.vm_waits.specs.declared.waiting.Want.TheVariants as want
 use Rattle.vm_kernel.proofs.Hitting.{hits_load, hits_store, inside_page}
@@ -20,10 +21,10 @@ returns c =
     on_ok c.push.result _ _
     (λ told. elim c.match-want.branch [
       | in-Load w ↦
-          hits_load c.args.task c.args.want w.in-Load.address w.in-Load.size c.args.key c.args.frame c.args.at k c.match-want.self c.touch.new.self c.match-want.event log c.push.new.self.items
-          w.in-Load.is w.self-is (w.event-is ∙ w.loaded-event.ensures) c.touch.ensures.pages c.touch.ensures.queues told
+          hits_load c.args.task c.args.want w.in-Load.address w.in-Load.size c.args.key c.args.frame c.args.at k c.match-want.self _ c.match-want.event log c.push.new.self.items
+          w.in-Load.is w.self-is (w.event-is ∙ w.loaded-event.ensures) (search rules) (search rules) told
       | in-Store w ↦
-          hits_store c.args.task c.args.want w.in-Store.address w.in-Store.size w.in-Store.value c.args.key c.args.frame c.args.at k w.write.new.self c.match-want.self c.touch.new.self c.match-want.event log c.push.new.self.items
-          w.in-Store.is w.self-is w.write.ensures w.event-is c.touch.ensures.pages c.touch.ensures.queues told
+          hits_store c.args.task c.args.want w.in-Store.address w.in-Store.size w.in-Store.value c.args.key c.args.frame c.args.at k w.write.new.self c.match-want.self _ c.match-want.event log c.push.new.self.items
+          w.in-Store.is w.self-is w.write.ensures w.event-is (search rules) (search rules) told
     ])
     c.push.ensures.ok
