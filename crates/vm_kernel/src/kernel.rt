@@ -53,6 +53,7 @@ impl Kernel {
         requires host { host ≡ the_host }
         ensures rests { IfOk result (λ kernel. Rests header.now kernel first_ids []) }
         ensures queue { IfOk result (λ kernel. queued kernel.waits.rows ≡ 0) }
+        ensures lists { IfOk result (λ kernel. (kernel.queues.active ≡ []) × (kernel.queues.inactive ≡ [])) }
     {
         let count = *header.frames.at(host.0);
         let frames = Frames::new(alloc, count, header.size)?;

@@ -14,3 +14,6 @@ returns-clause-rests c =
 
 pub returns-clause-queue : goal.returns-clause-queue
 returns-clause-queue c = ap (λ z. queued z.rows) c.new-9.ensures
+
+pub returns-clause-lists : goal.returns-clause-lists
+returns-clause-lists c = (ap (λ z. z.active) c.in_ok-queues.ensures.queues, ap (λ z. z.inactive) c.in_ok-queues.ensures.queues)
