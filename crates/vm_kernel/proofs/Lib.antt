@@ -5,6 +5,7 @@ pub mod Beginning
 pub mod Brings
 pub mod Built
 pub mod Changing
+pub mod Claiming
 pub mod Counts
 pub mod Cutting
 pub mod Departing
@@ -47,6 +48,7 @@ pub mod Strands
 pub mod Supplying
 pub mod Tasks
 pub mod Terminating
+pub mod Turning
 pub mod Uses
 pub mod Waited
 pub mod Waiting

@@ -12,4 +12,5 @@ pub mod Plays
 pub mod Serving
 pub mod Sweeping
 pub mod Taking
+pub mod Turns
 pub mod Waiters

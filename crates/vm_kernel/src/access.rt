@@ -3,6 +3,7 @@ ghost use Rattle.std.specs.Prelude.{◌≡◌, OnOk};
 ghost use Rattle.vm_model.specs.declared.command.Command.TheVariants as command;
 ghost use Rattle.vm_kernel.specs.Begun.{Doing, Ran, Starts};
 ghost use Rattle.vm_kernel.specs.Plays.{Plays, paging};
+ghost use Rattle.vm_kernel.specs.Turns.{Joins};
 
 use crate::parts::Parts;
 use vm_base::{NoMemory, TaskId};
@@ -24,6 +25,7 @@ impl Parts {
         requires starts { Starts given.header given.command given.past self.old ids.now log.old.items }
         ensures ran { OnOk result (Ran given.header given.outside given.command given.past self.new ids.now log.new.items) }
         ensures plays { OnOk result (Plays given.header given.past log.old.items (paging self.old) log.new.items (paging self.new)) }
+        ensures joins { OnOk result (Joins self.old.waits.queue self.new.waits.queue log.old.items log.new.items) }
     {
         self.waits.reserve(1)?;
         log.push(Event::BegunLoad {
@@ -49,6 +51,7 @@ impl Parts {
         requires starts { Starts given.header given.command given.past self.old ids.now log.old.items }
         ensures ran { OnOk result (Ran given.header given.outside given.command given.past self.new ids.now log.new.items) }
         ensures plays { OnOk result (Plays given.header given.past log.old.items (paging self.old) log.new.items (paging self.new)) }
+        ensures joins { OnOk result (Joins self.old.waits.queue self.new.waits.queue log.old.items log.new.items) }
     {
         self.waits.reserve(1)?;
         log.push(Event::BegunStore {

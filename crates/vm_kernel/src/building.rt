@@ -9,6 +9,7 @@ ghost use Rattle.vm_objects.specs.Objects.{object_at};
 ghost use Rattle.vm_shadow.specs.Chains.{region_at};
 ghost use Rattle.vm_kernel.specs.Matches.{the_host};
 ghost use Rattle.vm_kernel.specs.Plays.{Plays, paging};
+ghost use Rattle.vm_kernel.specs.Turns.{Quiet};
 
 use crate::parts::Parts;
 use vm_base::{Entry, Inherit, NoMemory, ObjectId, ObjectKind, Prot, RegionId, TaskId};
@@ -68,6 +69,7 @@ impl Parts {
         requires { Starts given.header (command.Task task the_host) given.past self.old ids.now log.old.items }
         ensures ran { OnOk result (Ran given.header given.outside (command.Task task the_host) given.past self.new ids.now log.new.items) }
         ensures plays { OnOk result (Plays given.header given.past log.old.items (paging self.old) log.new.items (paging self.new)) }
+        ensures quiet { OnOk result (Quiet self.old.waits.queue self.new.waits.queue log.old.items log.new.items) }
     {
         self.maps.add_task(task)?;
         log.push(Event::TaskMade {
@@ -88,6 +90,7 @@ impl Parts {
         requires { Starts given.header (command.Allocate task address bytes) given.past self.old ids.old log.old.items }
         ensures ran { OnOk result (Ran given.header given.outside (command.Allocate task address bytes) given.past self.new ids.new log.new.items) }
         ensures plays { OnOk result (Plays given.header given.past log.old.items (paging self.old) log.new.items (paging self.new)) }
+        ensures quiet { OnOk result (Quiet self.old.waits.queue self.new.waits.queue log.old.items log.new.items) }
     {
         let pages = (bytes / u64::from(self.size.bytes())) as u32;
         let region = RegionId(ids.next_region);
@@ -128,6 +131,7 @@ impl Parts {
         requires { Starts given.header (command.Wire the_host count) given.past self.old ids.now log.old.items }
         ensures ran { OnOk result (Ran given.header given.outside (command.Wire the_host count) given.past self.new ids.now log.new.items) }
         ensures plays { OnOk result (Plays given.header given.past log.old.items (paging self.old) log.new.items (paging self.new)) }
+        ensures quiet { OnOk result (Quiet self.old.waits.queue self.new.waits.queue log.old.items log.new.items) }
     {
         let _ = self.frames.wire(count);
         self.tell_wired(log)
@@ -138,6 +142,7 @@ impl Parts {
         requires { Starts given.header (command.Unwire the_host count) given.past self.old ids.now log.old.items }
         ensures ran { OnOk result (Ran given.header given.outside (command.Unwire the_host count) given.past self.new ids.now log.new.items) }
         ensures plays { OnOk result (Plays given.header given.past log.old.items (paging self.old) log.new.items (paging self.new)) }
+        ensures quiet { OnOk result (Quiet self.old.waits.queue self.new.waits.queue log.old.items log.new.items) }
     {
         let _ = self.frames.unwire(count);
         self.tell_wired(log)

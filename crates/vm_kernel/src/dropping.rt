@@ -10,6 +10,7 @@ ghost use Rattle.vm_kernel.specs.Matches.{Rests, the_host};
 ghost use Rattle.vm_kernel.specs.Serving.{Reclaimed};
 ghost use Rattle.vm_kernel.specs.Taking.{EachGone};
 ghost use Rattle.vm_kernel.specs.Plays.{Plays, paging};
+ghost use Rattle.vm_kernel.specs.Turns.{Quiet};
 
 use crate::parts::Parts;
 use vm_base::{NoMemory, PageKey};
@@ -44,6 +45,7 @@ impl Parts {
         requires starts { Starts given.header given.command given.past self.old ids.now log.old.items }
         ensures ran { OnOk result (Ran given.header given.outside given.command given.past self.new ids.now log.new.items) }
         ensures plays { OnOk result (Plays given.header given.past log.old.items (paging self.old) log.new.items (paging self.new)) }
+        ensures quiet { OnOk result (Quiet self.old.waits.queue self.new.waits.queue log.old.items log.new.items) }
     {
         'pages: for _ in 0..count {
             match self.reclaim(ids, log)? {

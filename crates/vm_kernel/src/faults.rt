@@ -1,9 +1,9 @@
 // Page faults: what an access comes to, each time that it is run.
-ghost use Rattle.std.specs.Prelude.{◌≡◌, ◌+◌, ◌∷◌, ◌<◌, ◌≤◌, ◌^◌, IfOk, IfSome, IsSome, None, OnOk, Some, length, slice_range, true, ◌%◌};
+ghost use Rattle.std.specs.Prelude.{◌≡◌, ◌+◌, ◌∷◌, ◌<◌, ◌≤◌, ◌^◌, IfOk, IfSome, IsSome, None, OnOk, Some, length, slice_range, false, true, ◌%◌};
 ghost use Rattle.vm_base.specs.Entries.{entry_at};
 ghost use Rattle.vm_base.specs.Pages.{IsAccessSize, IsPageSize, little_endian, little_endian_bytes, with_bytes};
 ghost use Rattle.vm_base.specs.declared.entry.Entry.{Entry as Row};
-ghost use Rattle.vm_frames.specs.Frames.{free, is_claimed, page_in};
+ghost use Rattle.vm_frames.specs.Frames.{claimed, free, is_claimed, page_in};
 ghost use Rattle.vm_legal.specs.Licences.{access_number};
 ghost use Rattle.vm_maps.specs.Judge.{place_at};
 ghost use Rattle.vm_maps.specs.Maps.{rows_in};
@@ -76,7 +76,8 @@ impl Parts {
         log: &mut Events,
     ) -> Result<FaultStep, NoMemory>
         requires { CanFault self.old task.0 want }
-        ensures { IfOk result (λ step. Faulted task want may_claim step self.old self.new log.old.items log.new.items) }
+        ensures faulted { IfOk result (λ step. Faulted task want may_claim step self.old self.new log.old.items log.new.items) }
+        ensures claims { OnOk result (may_claim ≡ false → claimed self.new.frames ≡ claimed self.old.frames) }
     {
         let place = self.find(task, address_of(want), need_of(want));
         let key = self.key_of(place);
@@ -109,7 +110,8 @@ impl Parts {
         requires at { at ≡ address_in want % self.old.size }
         requires inside { at + want_size want ≤ self.old.size }
         requires sized { IsSizedWant want }
-        ensures { IfOk result (λ step. Faults task want may_claim key step self.old self.new log.old.items log.new.items) }
+        ensures faults { IfOk result (λ step. Faults task want may_claim key step self.old self.new log.old.items log.new.items) }
+        ensures claims { OnOk result (may_claim ≡ false → claimed self.new.frames ≡ claimed self.old.frames) }
     {
         let Some(known) = self.objects.find(key.object) else {
             unreachable!()

@@ -10,6 +10,8 @@ ghost use Rattle.vm_kernel.specs.Begun.{Doing, Goes};
 ghost use Rattle.vm_kernel.specs.Matches.{Rests, Works};
 ghost use Rattle.vm_kernel.specs.Serving.{Attempts, HasQueue, IsServed, RunsFirst};
 ghost use Rattle.vm_kernel.specs.Plays.{Plays, paging};
+ghost use Rattle.vm_kernel.specs.Taking.{EachGone};
+ghost use Rattle.vm_kernel.specs.Turns.{Joins, Leaves, RunsOnce};
 
 use crate::parts::Parts;
 use crate::steps::FaultStep;
@@ -36,6 +38,7 @@ impl Parts {
         ensures ends { OnOk result (FindsPage given.header waiting.task.0 (log.old.items ++ given.past) → EndsNext waiting.task.0 log.old.items log.new.items) }
         ensures attempts { IfOk result (λ needs. Attempts given.header waiting may_claim needs self.old self.new (log.old.items ++ given.past) (log.new.items ++ given.past)) }
         ensures plays { OnOk result (Plays given.header given.past log.old.items (paging self.old) log.new.items (paging self.new)) }
+        ensures once { IfOk result (λ wants. RunsOnce waiting may_claim wants self.old.waits self.new.waits log.old.items log.new.items) }
     {
         let on = match self.fault(waiting.task, waiting.want, may_claim, log)? {
             FaultStep::Done => {
@@ -64,6 +67,7 @@ impl Parts {
         ensures goes { OnOk result (Goes given.header given.outside given.command given.past log.old.items log.new.items) }
         ensures first { OnOk result (RunsFirst given.header self.old.waits.rows given.past log.old.items log.new.items) }
         ensures plays { OnOk result (Plays given.header given.past log.old.items (paging self.old) log.new.items (paging self.new)) }
+        ensures joins { OnOk result (Joins self.old.waits.queue self.new.waits.queue log.old.items log.new.items) }
     {
         'again: while let Some(waiting) = self.waits.next_again() {
             let may_claim = !self.waits.has_queue();
@@ -81,6 +85,7 @@ impl Parts {
         ensures goes { OnOk result (Goes given.header given.outside given.command given.past log.old.items log.new.items) }
         ensures served { OnOk result (IsServed given.header self.new (log.new.items ++ given.past)) }
         ensures plays { OnOk result (Plays given.header given.past log.old.items (paging self.old) log.new.items (paging self.new)) }
+        ensures leaves { OnOk result (Leaves self.old.waits.queue self.new.waits log.old.items log.new.items) }
     {
         'serve: while let Some(waiting) = self.waits.front() {
             if self.attempt(ids, waiting, true, log)? && self.stops(ids, log)? {
@@ -100,6 +105,7 @@ impl Parts {
         ensures rests { OnOk result (Rests given.header self.new ids.now (log.new.items ++ given.past)) }
         ensures goes { OnOk result (Goes given.header given.outside given.command given.past log.old.items log.new.items) }
         ensures waits { OnOk result (self.new.waits ≡ self.old.waits) }
+        ensures reclaims { OnOk result (EachGone log.old.items log.new.items) }
         ensures freed { IfOk result (λ stops. stops ≡ false → claimed self.old.frames ≡ claimed self.new.frames + 1) }
         ensures full { IfOk result (λ stops. stops ≡ true → IsFull given.header 0 (log.new.items ++ given.past)) }
         ensures plays { OnOk result (Plays given.header given.past log.old.items (paging self.old) log.new.items (paging self.new)) }
@@ -122,6 +128,7 @@ impl Parts {
         ensures queue { OnOk result (HasQueue given.header self.new (log.new.items ++ given.past)) }
         ensures prompt { OnOk result (Prompt given.header (log.new.items ++ given.past)) }
         ensures plays { OnOk result (Plays given.header given.past log.old.items (paging self.old) log.new.items (paging self.new)) }
+        ensures leaves { OnOk result (Leaves self.old.waits.queue self.new.waits log.old.items log.new.items) }
     {
         self.serve(ids, log)
     }

@@ -5,6 +5,7 @@ ghost use Rattle.vm_resident.specs.Resident.{row_at};
 ghost use Rattle.vm_kernel.specs.Begun.{Doing};
 ghost use Rattle.vm_kernel.specs.Sweeping.{Ends, Releasing, Strands, Sweeps};
 ghost use Rattle.vm_kernel.specs.Plays.{Plays, paging};
+ghost use Rattle.vm_kernel.specs.Turns.{Quiet};
 
 use crate::counting::{count_of, set_count};
 use crate::parts::Parts;
@@ -21,6 +22,7 @@ impl Parts {
         requires { Sweeps given.header given.outside given.command given.past self.old ids.now (by_address gone.now) log.old.items }
         ensures sweeps { OnOk result (Sweeps given.header given.outside given.command given.past self.new ids.now [] log.new.items) }
         ensures plays { OnOk result (Plays given.header given.past log.old.items (paging self.old) log.new.items (paging self.new)) }
+        ensures quiet { OnOk result (Quiet self.old.waits.queue self.new.waits.queue log.old.items log.new.items) }
     {
         'all: for i in 0..gone.len() {
             self.release(ids, gone, i, log)?;
@@ -43,6 +45,7 @@ impl Parts {
         requires sweeps { Sweeps given.header given.outside given.command given.past self.old ids.now (drop i (by_address gone.now)) log.old.items }
         ensures sweeps { OnOk result (Sweeps given.header given.outside given.command given.past self.new ids.now given.rest log.new.items) }
         ensures plays { OnOk result (Plays given.header given.past log.old.items (paging self.old) log.new.items (paging self.new)) }
+        ensures quiet { OnOk result (Quiet self.old.waits.queue self.new.waits.queue log.old.items log.new.items) }
     {
         let region = gone.at(i).region;
         let count = count_of(&self.chains, region);
@@ -59,6 +62,7 @@ impl Parts {
         requires { Ends given.header given.outside given.command given.past self.old ids.now given.rest region.0 log.old.items }
         ensures sweeps { OnOk result (Sweeps given.header given.outside given.command given.past self.new ids.now given.rest log.new.items) }
         ensures plays { OnOk result (Plays given.header given.past log.old.items (paging self.old) log.new.items (paging self.new)) }
+        ensures quiet { OnOk result (Quiet self.old.waits.queue self.new.waits.queue log.old.items log.new.items) }
     {
         self.drop_pages(ids, ObjectId(region.0), log)?;
         let object = self.chains.drop_region(region);
@@ -73,6 +77,7 @@ impl Parts {
         requires { Strands given.header given.outside given.command given.past self.old ids.now given.rest object.0 log.old.items }
         ensures sweeps { OnOk result (Sweeps given.header given.outside given.command given.past self.new ids.now given.rest log.new.items) }
         ensures plays { OnOk result (Plays given.header given.past log.old.items (paging self.old) log.new.items (paging self.new)) }
+        ensures quiet { OnOk result (Quiet self.old.waits.queue self.new.waits.queue log.old.items log.new.items) }
     {
         let Some(row) = self.objects.find(object) else {
             unreachable!()
@@ -100,6 +105,7 @@ impl Parts {
         ensures ends { OnOk result (Ends given.header given.outside given.command given.past self.new ids.now given.rest object.0 log.new.items) }
         ensures plays { OnOk result (Plays given.header given.past log.old.items (paging self.old) log.new.items (paging self.new)) }
         ensures gone { OnOk result ((p : ℕ) → row_at self.new.resident object.0 p ≡ None) }
+        ensures quiet { OnOk result (Quiet self.old.waits.queue self.new.waits.queue log.old.items log.new.items) }
     {
         'pages: while let Some(page) = self.resident.next_page(object, PageNo(0)) {
             self.drop_page(PageKey { object, page }, log)?;

@@ -10,6 +10,7 @@ ghost use Rattle.vm_objects.specs.Objects.{object_at};
 ghost use Rattle.vm_resident.specs.Resident.{row_at};
 ghost use Rattle.vm_supply.specs.Answers.{outcome_of};
 ghost use Rattle.vm_kernel.specs.Plays.{AnswerBrings, Plays, PlaysAnswer, paging};
+ghost use Rattle.vm_kernel.specs.Turns.{Joins, Quiet};
 
 use crate::parts::Parts;
 use vm_base::{NoMemory, ObjectId, PageKey};
@@ -71,6 +72,7 @@ impl Parts {
         ensures failed { OnOk result (HasFailed woken (log.new.items ++ given.past)) }
         ensures plays { OnOk result (Plays given.header given.past log.old.items (paging self.old) log.new.items (paging self.new)) }
         ensures ended { OnOk result (HasEnded woken self.old.waits.rows (log.new.items ++ given.past)) }
+        ensures quiet { OnOk result (Quiet self.old.waits.queue self.new.waits.queue log.old.items log.new.items) }
     {
         match woken {
             Woken::Nobody => Ok(()),
@@ -100,6 +102,7 @@ impl Parts {
         ensures failed { OnOk result (HasFailed (who.Fails key) (log.new.items ++ given.past)) }
         ensures plays { OnOk result (Plays given.header given.past log.old.items (paging self.old) log.new.items (paging self.new)) }
         ensures ended { OnOk result (HasEnded (who.Fails key) self.old.waits.rows (log.new.items ++ given.past)) }
+        ensures quiet { OnOk result (Quiet self.old.waits.queue self.new.waits.queue log.old.items log.new.items) }
     {
         'all: while let Some(waiting) = self.waits.next_on(key) {
             log.push(Event::Failed {
@@ -131,6 +134,7 @@ impl Parts {
         ensures failed { OnOk result (IsErrorPaid given.header (log.new.items ++ (given.front ++ given.past))) }
         ensures plays { OnOk result (PlaysAnswer given.header (given.front ++ given.past) object (outcome_of (object_at self.old.objects object.0) control (row_at self.old.resident object.0) message.now) (paging self.old) log.new.items (paging self.new)) }
         ensures ended { OnOk result (EndsEach given.header self.old.waits.rows (log.new.items ++ (given.front ++ given.past))) }
+        ensures joins { OnOk result (Joins self.old.waits.queue self.new.waits.queue log.old.items log.new.items) }
     {
         let woken = self.hear(ids, object, control, message, log)?;
         self.wake(ids, woken, log)?;
@@ -145,6 +149,7 @@ impl Parts {
         requires held { self.old.laundry.held ≢ [] }
         ensures rests { Rests given.header self.new ids.now (given.front ++ given.past) }
         ensures same { paging self.new ≡ paging self.old }
+        ensures waits { self.new.waits ≡ self.old.waits }
     {
         let Some(frame) = self.laundry.first() else {
             unreachable!()

@@ -1,6 +1,7 @@
 // The waiting accesses of a host, and the queue for its frames.
 ghost use Rattle.std.specs.Prelude.{ℕ, ◌≡◌, ◌+◌, ◌<◌, ◌≤◌, ◌++◌, ◌∷◌, [], true, false, length, map, nat_lt, IfSome, IsOk, IsSome, IsSomeAnd, MatchOption, None, OnErr, OnOk, Some};
 ghost use Rattle.vm_waits.specs.Waits.{EachOnce, PutsEntry, Waked, again, counted, entry, first, is_again, is_frame, is_listed, oldest, one_again, one_frame, others, queued, turned, waits_for_frame, with_on, without, woken, woken_page, woken_ready};
+ghost use Rattle.vm_waits.specs.Kept.{AreQueued};
 ghost use Rattle.vm_waits.specs.declared.waiting.On.TheVariants.{Again, Frame};
 
 use crate::place::{Place, close_gap, find, known_place, place_of};
@@ -110,6 +111,7 @@ impl Waits {
         ensures oldest { result ≡ oldest is_again self.now.rows }
         ensures row { MatchOption result (again self.now.rows ≡ 0)
             (λ w. (entry self.now.rows w.task.0 ≡ Some w) × (is_again w.on ≡ true)) }
+        ensures line { AreQueued self.now.rows self.now.queue }
     {
         oldest_again(&self.rows)
     }
@@ -119,6 +121,7 @@ impl Waits {
         ensures first { MatchOption result (self.now.queue ≡ []) (λ w. first self.now.queue ≡ Some w.task) }
         ensures row { MatchOption result (queued self.now.rows ≡ 0)
             (λ w. (entry self.now.rows w.task.0 ≡ Some w) × (is_frame w.on ≡ true)) }
+        ensures line { AreQueued self.now.rows self.now.queue }
     {
         let task = *self.queue.first()?;
         self.get(task)
@@ -138,6 +141,7 @@ impl Waits {
         ensures row { MatchOption result
             ((t : ℕ) → IfSome (entry self.now.rows t) (λ w. woken_page key w.on ≡ false))
             (λ w. (entry self.now.rows w.task.0 ≡ Some w) × (woken_page key w.on ≡ true)) }
+        ensures line { AreQueued self.now.rows self.now.queue }
     {
         oldest_on(&self.rows, key)
     }

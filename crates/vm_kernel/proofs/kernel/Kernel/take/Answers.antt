@@ -5,6 +5,8 @@ use Rattle.vm_kernel.proofs.Supplying.{taken_plays}
 use Rattle.vm_kernel.proofs.Failing.{each_goes, paid_goes}
 use Rattle.vm_kernel.proofs.Stopping.{ends_waiters}
 use Rattle.vm_kernel.proofs.Growing.{goes_both}
+use Rattle.vm_kernel.specs.Turns.{InTurn}
+use Rattle.vm_kernel.proofs.Turning.{turns_of}
 use Rattle.vm_kernel.proofs.kernel.Kernel.take.Goals as goal
 
 pub returns-clause-passed : goal.returns-clause-passed
@@ -32,3 +34,8 @@ returns-clause-ended g c =
 
 pub returns-clause-plays : goal.returns-clause-plays
 returns-clause-plays g c = taken_plays c.args.object c.args.control c.args.message.now c.self.view_is c.in_ok-take.ensures.plays c.in_ok-go_on.ensures.plays
+
+pub returns-clause-turns : goal.returns-clause-turns
+returns-clause-turns g c =
+    subst (λ (z : Parts). InTurn z.waits c.go_on.new.self.waits c.go_on.new.log.items) c.self.view_is
+    (turns_of c.self.inside.parts.waits c.take.new.self.waits c.go_on.new.self.waits c.new-log.result.items c.take.new.log.items c.go_on.new.log.items c.new-log.ensures c.in_ok-take.ensures.joins c.in_ok-go_on.ensures.leaves)

@@ -2,6 +2,7 @@ use Rattle.vm_kernel.proofs.Growing.{on_ok}
 use Rattle.vm_kernel.proofs.Playing.{plays_both}
 use Rattle.vm_kernel.proofs.Done.{began_served}
 use Rattle.vm_kernel.proofs.Served.{three_ok}
+use Rattle.vm_kernel.proofs.Turning.{turns_of}
 use Rattle.vm_kernel.proofs.parts.Parts.begin.Goals as goal
 
 pub returns-clause-began : goal.returns-clause-began
@@ -13,3 +14,7 @@ returns-clause-began g c =
 
 pub returns-clause-plays : goal.returns-clause-plays
 returns-clause-plays g c = on_ok c.serve.result _ _ (λ more. plays_both c.in_ok-run.ensures.plays more) c.serve.ensures.plays
+
+pub returns-clause-turns : goal.returns-clause-turns
+returns-clause-turns g c =
+    on_ok c.serve.result _ _ (turns_of c.args.self.now.waits c.run.new.self.waits c.serve.new.self.waits c.args.log.now.items c.run.new.log.items c.serve.new.log.items c.requires.1.0.nothing c.in_ok-run.ensures.joins) c.serve.ensures.leaves

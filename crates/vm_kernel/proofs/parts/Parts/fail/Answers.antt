@@ -6,6 +6,7 @@ use Rattle.vm_kernel.specs.Plays.{Still, paging}
 use Rattle.vm_kernel.proofs.Playing.{plays_both, plays_one}
 use Rattle.vm_kernel.proofs.Failing.{EndsOr, Failing, before_none, ends_all, ends_or, failed_one, since_now}
 use Rattle.vm_kernel.proofs.Ordering.{without_keeps}
+use Rattle.vm_kernel.proofs.Turning.{page_other, quiet_both, quiet_none, quiet_unlisted}
 use Rattle.vm_kernel.proofs.parts.Parts.fail.Goals as goal
 
 pub all-init : goal.all-init
@@ -20,6 +21,7 @@ all-init g c =
       plays = Still;
       each = search rules;
       some = search rules;
+      quiet = quiet_none c.args.self.now.waits.queue c.args.log.now.items;
     }
 
 pub all-preserved : goal.all-preserved
@@ -46,7 +48,13 @@ all-preserved g c =
           inl
           (subst (λ (z : List Event). since (fails_access key.object.0 key.page.0) (z ++ g.given.past) ≡ true) (sym c.in_ok-push.ensures.ok)
           (since_now key w.task (c.all.log.items ++ g.given.past)));
+      quiet =
+          quiet_both c.args.self.now.waits.queue c.all.self.waits.queue c.remove.new.self.queue c.args.log.now.items c.all.log.items c.push.new.self.items was.quiet
+          (quiet_unlisted c.all.self.waits.rows c.all.self.waits.queue c.remove.new.self.queue w c.all.log.items c.push.new.self.items _ c.next_on.ensures.line c.in-Some.ensures.row.0 (page_other key w.on c.in-Some.ensures.row.1) c.remove.ensures.queue c.in_ok-push.ensures.ok tt);
     }
 
 pub returns-clause-ended : goal.returns-clause-ended
 returns-clause-ended g c = ends_all c.args.key c.args.self.now.waits.rows c.all.self.waits.rows (c.all.log.items ++ g.given.past) c.all.invariant.each (rw c.in_default.is at c.next_on.ensures.row)
+
+pub returns-clause-quiet : goal.returns-clause-quiet
+returns-clause-quiet g c = c.all.invariant.quiet

@@ -2,8 +2,8 @@ use Rattle.std.proofs.Common.{◌%◌, ◌∙◌, ap, sym}
 use Rattle.vm_kernel.proofs.Hitting.{done_at_once, leads}
 use Rattle.vm_kernel.proofs.parts.Parts.fault.Goals as goal
 
-pub returns-in_ok-hit-in-Some : goal.returns-in_ok-hit-in-Some
-returns-in_ok-hit-in-Some c =
+pub returns-in_ok-hit-in-Some-clause-faulted : goal.returns-in_ok-hit-in-Some-clause-faulted
+returns-in_ok-hit-in-Some-clause-faulted c =
     let k = c.args.self.now in
     let key = c.key_of-key.result in
     done_at_once c.args.task c.args.want c.args.may_claim key c.offset_of-at.result c.in-Some.row k c.hit.new.self c.args.log.now.items c.hit.new.log.items

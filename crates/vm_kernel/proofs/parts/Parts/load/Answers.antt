@@ -5,6 +5,8 @@ use Rattle.vm_waits.specs.Waits.{again}
 use Rattle.vm_waits.specs.declared.waiting.Want.TheVariants as want
 use Rattle.vm_kernel.proofs.Beginning.{begun_next, begun_ran, begun_works}
 use Rattle.vm_kernel.proofs.Served.{three_ok}
+use Rattle.vm_model.specs.declared.event.Event.TheVariants as event
+use Rattle.vm_kernel.proofs.Turning.{joins_behind, quiet_more}
 use Rattle.vm_kernel.proofs.parts.Parts.load.Goals as goal
 
 pub restart-requires : goal.restart-requires
@@ -23,3 +25,8 @@ returns-clause-ran g c =
 
 pub returns-clause-plays : goal.returns-clause-plays
 returns-clause-plays g c = on_ok c.restart.result _ _ (λ more. plays_both (plays_told c.in_ok-push.ensures.ok refl) more) c.restart.ensures.plays
+
+pub returns-clause-joins : goal.returns-clause-joins
+returns-clause-joins g c =
+    let quiet = quiet_more c.args.self.now.waits.queue c.begin.new.self.queue c.args.log.now.items c.push.new.self.items (event.BegunLoad c.args.task c.args.address c.args.size) (c.begin.ensures.queue ∙ c.reserve.ensures.queue) c.in_ok-push.ensures.ok tt in
+    on_ok c.restart.result _ _ (joins_behind c.args.self.now.waits.queue c.begin.new.self.queue c.restart.new.self.waits.queue c.args.log.now.items c.push.new.self.items c.restart.new.log.items c.requires.1.nothing quiet) c.restart.ensures.joins

@@ -6,16 +6,16 @@ use Rattle.vm_kernel.proofs.Missing.{ended_zeroed, unavailable, wants_one}
 use Rattle.vm_kernel.proofs.parts.Parts.miss.Goals as goal
 use Rattle.vm_kernel.proofs.parts.Parts.miss.Goals.{then-not-may_claim-via-then-not-may_claim, then-not-may_claim-via-else-not-may_claim+then-free-eq0, else-eq-2-via-then-eq-2+else-not-known_absent, else-eq-2-via-else-eq-2}
 
-pub returns-then-not-may_claim : goal.returns-then-not-may_claim
-returns-then-not-may_claim c =
+pub returns-then-not-may_claim-clause-faults : goal.returns-then-not-may_claim-clause-faults
+returns-then-not-may_claim-clause-faults c =
     wants_one c.args.self.now c.args.key c.args.may_claim c.in-Some.known c.args.log.now.items c.requires.absent (sym c.find.ensures ∙ c.in-Some.is) (λ e. (let bad : false ≡ true = rw e at c.if-eq.ensures in cc))
     (λ may. elim c.then-not-may_claim.branch [
       | then-not-may_claim-via-then-not-may_claim w ↦ absurd (let bad : false ≡ true = sym w.if-not-may_claim.true ∙ may in cc)
       | then-not-may_claim-via-else-not-may_claim+then-free-eq0 w ↦ sym w.free.ensures.value ∙ w.if-free-eq0.true
     ])
 
-pub returns : goal.returns
-returns c =
+pub returns-clause-faults : goal.returns-clause-faults
+returns-clause-faults c =
     let k = c.args.self.now in
     let key = c.args.key in
     let lacks : (c.in-Some.known.state ≡ state.Ready → ⊥) ⊎ (absent_at k.objects key.object.0 key.page.0 ≡ true) =

@@ -3,6 +3,7 @@ use Rattle.vm_kernel.specs.Plays.{Plays, paging}
 use Rattle.vm_legal.specs.Accesses.{FindsPage}
 use Rattle.vm_kernel.specs.Matches.{Works}
 use Rattle.vm_kernel.specs.Serving.{IsNext}
+use Rattle.vm_kernel.specs.Turns.{Joins}
 use Rattle.vm_kernel.proofs.Finding.{FirstOf}
 use Rattle.std.proofs.Common.{◌++◌, ℕ}
 use Rattle.vm_supply.specs.declared.woken.Woken.TheVariants as woken
@@ -18,6 +19,7 @@ invariant-again g l = record {
   goes : Goes g.given.header g.given.outside g.given.command g.given.past l.fn.log.items l.log.items;
   plays : Plays g.given.header g.given.past l.fn.log.items (paging l.fn.self) l.log.items (paging l.self);
   first : (task : ℕ) → IsNext task l.fn.self.waits.rows → FindsPage g.given.header task (l.fn.log.items ++ g.given.past) → FirstOf task l.fn.self.waits.rows l.self.waits.rows l.fn.log.items l.log.items;
+  joins : Joins l.fn.self.waits.queue l.self.waits.queue l.fn.log.items l.log.items;
 }
 
 abbrev pub decreases-again : goal.decreases-again

@@ -12,6 +12,7 @@ returns-in-Returned g c =
       goes = all.goes;
       waits = all.reclaimed.waits;
       plays = all.plays;
+      reclaims = all.reclaims;
       freed = λ bad. absurd (let clash : true ≡ false = bad in cc);
       full = λ same. full_after g.given.header c.args.self.now c.reclaim.new.self c.args.ids.now c.in_ok-reclaim.field-0 (c.args.log.now.items ++ g.given.past) (c.reclaim.new.log.items ++ g.given.past) all.rests c.requires.1.1 all.reclaimed c.in-Returned.is;
     }

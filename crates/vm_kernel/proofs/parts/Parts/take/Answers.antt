@@ -1,4 +1,4 @@
-use Rattle.std.proofs.Common.{◌++◌, List, [], subst}
+use Rattle.std.proofs.Common.{◌++◌, List, [], ap, subst}
 use Rattle.vm_model.specs.declared.event.Event.{Event}
 use Rattle.vm_kernel.specs.Begun.{Goes}
 use Rattle.vm_waits.specs.Waits.{WaitTable}
@@ -7,6 +7,7 @@ use Rattle.vm_kernel.specs.Plays.{Plays, paging}
 use Rattle.vm_kernel.proofs.Playing.{plays_both}
 use Rattle.vm_kernel.proofs.Failing.{each_failed, each_goes, paid_failed, paid_goes}
 use Rattle.vm_kernel.proofs.Growing.{goes_both, on_ok}
+use Rattle.vm_kernel.proofs.Turning.{joins_behind, quiet_behind}
 use Rattle.vm_kernel.proofs.parts.Parts.take.Given as given
 use Rattle.vm_kernel.proofs.parts.Parts.take.Goals as goal
 
@@ -38,3 +39,10 @@ returns-clause-plays g c =
     let past = g.given.front ++ g.given.past in
     let woken = subst (λ (z : List Event). Plays g.given.header past z (paging c.hear.new.self) c.wake.new.log.items (paging c.wake.new.self)) c.in_ok-woken.ensures.nothing c.in_ok-wake.ensures.plays in
     on_ok c.restart.result _ _ (λ more. record { heard = paging c.hear.new.self; brings = c.in_ok-woken.ensures.brings; plays = plays_both woken more }) c.restart.ensures.plays
+
+pub returns-clause-joins : goal.returns-clause-joins
+returns-clause-joins g c =
+    let before = c.args.log.now.items in
+    let nothing = c.requires.1.1.1 in
+    let quiet = quiet_behind c.args.self.now.waits.queue _ c.wake.new.self.waits.queue before _ c.wake.new.log.items (ap (λ z. z.queue) c.in_ok-woken.ensures.waits) nothing c.in_ok-woken.ensures.nothing c.in_ok-wake.ensures.quiet in
+    on_ok c.restart.result _ _ (joins_behind c.args.self.now.waits.queue c.wake.new.self.waits.queue c.restart.new.self.waits.queue before c.wake.new.log.items c.restart.new.log.items nothing quiet) c.restart.ensures.joins

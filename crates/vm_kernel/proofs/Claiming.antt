@@ -1,0 +1,140 @@
+-- What running an access once claims.
+use Rattle.std.proofs.Common.{◌≡◌, ℕ, Bool, true, false, List, [], ◌∷◌, ◌++◌, refl, ap, sym, ◌∙◌, arith, Some, None, Option, inl, inr}
+use Rattle.std.proofs.lemmas.Bool.Decides.{eqb_tells}
+use Rattle.std.specs.Prelude.{◌≢◌, ◌⊎◌}
+use Rattle.vm_base.specs.declared.ids.FrameNo.{FrameNo}
+use Rattle.vm_base.specs.declared.ids.ObjectId.{ObjectId}
+use Rattle.vm_base.specs.declared.ids.PageKey.{PageKey}
+use Rattle.vm_base.specs.declared.ids.TaskId.{TaskId}
+use Rattle.vm_model.specs.declared.event.Event.{Event}
+use Rattle.vm_model.specs.declared.event.Event.TheVariants as event
+use Rattle.vm_model.specs.declared.message.Channel.TheVariants.{Up}
+use Rattle.vm_model.specs.declared.message.Message.TheVariants as message
+use Rattle.vm_legal.specs.Licences.{access_number}
+use Rattle.vm_legal.specs.Stretches.{EachOf}
+use Rattle.vm_frames.specs.Frames.{claimed, count_claims}
+use Rattle.vm_waits.specs.Waits.{PutsEntry, WaitTable, entry, is_frame, others, with_on}
+use Rattle.vm_waits.specs.declared.waiting.On.{On}
+use Rattle.vm_waits.specs.declared.waiting.On.TheVariants as on
+use Rattle.vm_waits.specs.declared.waiting.Waiting.{Waiting}
+use Rattle.vm_waits.specs.declared.waiting.Want.{Want}
+use Rattle.vm_waits.specs.declared.waiting.Want.TheVariants as want
+use Rattle.vm_kernel.specs.Changes.{zeroed}
+use Rattle.vm_kernel.specs.Faulting.{AfterZeros, AtOnce, Ended, Faulted, Hits}
+use Rattle.vm_kernel.specs.Waiters.{access_in}
+use Rattle.vm_waits.proofs.Entries.{puts_here}
+use Rattle.vm_kernel.specs.Turns.{ClaimsNone, ClaimsOne, ForAsked, ForZeros, NoFrame, QueueAfter, RunsOnce}
+use Rattle.vm_kernel.specs.declared.parts.Parts.{Parts}
+use Rattle.vm_kernel.specs.declared.steps.FaultStep.{FaultStep}
+use Rattle.vm_kernel.specs.declared.steps.FaultStep.TheVariants as step
+use Rattle.vm_kernel.proofs.Attempting.{waits_kept}
+
+-- the rows of others are as they were
+puts_rest : (task : TaskId) (x : Option Waiting) (k new : Parts) (waits2 : WaitTable) → new.waits ≡ k.waits → PutsEntry task.0 x new.waits.rows waits2.rows → (t : ℕ) → t ≢ task.0 → entry waits2.rows t ≡ entry k.waits.rows t
+puts_rest task x k new waits2 kept put t apart = elim (eqb_tells task.0 t) [
+  | inl same ↦ absurd (apart (sym same.1))
+  | inr other ↦ put.at t ∙ (rw other.0 (ap (λ z. entry z.rows t) kept))
+]
+
+-- the events of one that ends: one end, or a page of zeros and an end
+record EndsBy (rows : List Waiting) (task : TaskId) (may : Bool) (before after : List Event) : Type 0 where
+  more : List Event
+  told : after ≡ more ++ before
+  claims : ClaimsOne rows task more
+  none : may ≡ false → EachOf ClaimsNone more
+
+hits_claimed : (task : TaskId) (what : Want) (key : PageKey) (frame : FrameNo) (at : ℕ) (k new : Parts) (before after : List Event) → Hits task what key frame at k new before after → claimed new.frames ≡ claimed k.frames
+hits_claimed task (want.Load address n) key frame at k new before after hits = ap (λ (z : Parts). claimed z.frames) hits.2.is
+hits_claimed task (want.Store address n value) key frame at k new before after hits = ap (λ (z : Parts). claimed z.frames) hits.2.is ∙ ap count_claims hits.1.claims
+
+at_once : (rows : List Waiting) (task : TaskId) (what : Want) (may : Bool) (key : PageKey) (frame : FrameNo) (at : ℕ) (k new : Parts) (before after : List Event) → Hits task what key frame at k new before after → EndsBy rows task may before after
+at_once rows task (want.Load address n) may key frame at k new before after hits =
+    record { more = event.Loaded task key.object key.page hits.0 ∷ []; told = hits.3; claims = NoFrame (tt, tt); none = λ bar. (tt, tt) }
+at_once rows task (want.Store address n value) may key frame at k new before after hits =
+    record { more = event.Stored task key.object key.page at n value ∷ []; told = hits.3; claims = NoFrame (tt, tt); none = λ bar. (tt, tt) }
+
+after_zeros : (rows : List Waiting) (task : TaskId) (what : Want) (may : Bool) (key : PageKey) (frame : FrameNo) (at : ℕ) (k mid new : Parts) (before after : List Event) → Hits task what key frame at mid new (zeroed key k ∷ before) after → (may ≡ false → ⊥)
+    → EndsBy rows task may before after
+after_zeros rows task (want.Load address n) may key frame at k mid new before after hits bar =
+    let end = event.Loaded task key.object key.page hits.0 in
+    record { more = end ∷ zeroed key k ∷ []; told = hits.3; claims = ForZeros end k.host key refl refl; none = λ bad. absurd (bar bad) }
+after_zeros rows task (want.Store address n value) may key frame at k mid new before after hits bar =
+    let end = event.Stored task key.object key.page at n value in
+    record { more = end ∷ zeroed key k ∷ []; told = hits.3; claims = ForZeros end k.host key refl refl; none = λ bad. absurd (bar bad) }
+
+ended_by : (rows : List Waiting) (task : TaskId) (what : Want) (may : Bool) (key : PageKey) (at : ℕ) (k new : Parts) (before after : List Event) → Ended task what key at k new before after → (may ≡ false → claimed new.frames ≡ claimed k.frames) → EndsBy rows task may before after
+ended_by rows task what may key at k new before after (AtOnce frame here hits) kept = at_once rows task what may key frame at k new before after hits
+ended_by rows task what may key at k new before after (AfterZeros frame mid none brought hits) kept =
+    let same = hits_claimed task what key frame at mid new (zeroed key k ∷ before) after hits in
+    let more = brought.claims in
+    after_zeros rows task what may key frame at k mid new before after hits (λ bar. (let even = kept bar in omega arith))
+
+pub once_done : (w : Waiting) (may : Bool) (k new : Parts) (before after : List Event) (waits2 : WaitTable) → Faulted w.task w.want may step.Done k new before after → (may ≡ false → claimed new.frames ≡ claimed k.frames)
+    → PutsEntry w.task.0 None new.waits.rows waits2.rows → waits2.queue ≡ others w.task.0 new.waits.queue → RunsOnce w may false k.waits waits2 before after
+once_done w may k new before after waits2 f kept put queue =
+    let same = waits_kept w may step.Done k new before after f in
+    let e = ended_by waits2.rows w.task w.want may f.key _ k new before after f.faults kept in
+    record {
+      more = e.more;
+      told = e.told;
+      claims = e.claims;
+      none = e.none;
+      nothing = λ bad. absurd (let clash : false ≡ true = bad in cc);
+      rest = puts_rest w.task None k new waits2 same put;
+      queue = queue ∙ ap (λ z. others w.task.0 z.queue) same;
+    }
+
+-- nothing has happened
+stayed : (w : Waiting) (may wants : Bool) (k new : Parts) (before after : List Event) (waits2 : WaitTable) → after ≡ before → ((t : ℕ) → t ≢ w.task.0 → entry waits2.rows t ≡ entry k.waits.rows t) → QueueAfter w wants k.waits.queue waits2.queue
+    → RunsOnce w may wants k.waits waits2 before after
+stayed w may wants k new before after waits2 told rest queue = record { more = []; told = told; claims = NoFrame tt; none = λ bar. tt; nothing = λ yes. refl; rest = rest; queue = queue }
+
+pub once_joins : (w : Waiting) (may : Bool) (k new : Parts) (before after : List Event) (waits2 : WaitTable) → Faulted w.task w.want may step.NeedFrame k new before after → is_frame w.on ≡ false → PutsEntry w.task.0 (Some (with_on w on.Frame)) new.waits.rows waits2.rows
+    → waits2.queue ≡ new.waits.queue ++ w.task ∷ [] → RunsOnce w may true k.waits waits2 before after
+once_joins w may k new before after waits2 f other put queue =
+    let same = waits_kept w may step.NeedFrame k new before after f in
+    stayed w may true k new before after waits2 f.faults.1.told (puts_rest w.task (Some (with_on w on.Frame)) k new waits2 same put) (rw other (queue ∙ ap (λ z. z.queue ++ w.task ∷ []) same))
+
+pub once_queued : (w : Waiting) (may : Bool) (k new : Parts) (before after : List Event) → Faulted w.task w.want may step.NeedFrame k new before after → w.on ≡ on.Frame → RunsOnce w may true k.waits new.waits before after
+once_queued w may k new before after f frame =
+    let same = waits_kept w may step.NeedFrame k new before after f in
+    let is : is_frame w.on ≡ true = ap is_frame frame in
+    stayed w may true k new before after new.waits f.faults.1.told (λ t apart. ap (λ z. entry z.rows t) same) (rw is (ap (λ z. z.queue) same))
+
+-- an access waits for something else, and nothing has happened
+waited : (w : Waiting) (may : Bool) (k new : Parts) (before after : List Event) (waits2 : WaitTable) (reason : On) (answer : FaultStep) → Faulted w.task w.want may answer k new before after → after ≡ before
+    → PutsEntry w.task.0 (Some (with_on w reason)) new.waits.rows waits2.rows → waits2.queue ≡ others w.task.0 new.waits.queue → RunsOnce w may false k.waits waits2 before after
+waited w may k new before after waits2 reason answer f told put queue =
+    let same = waits_kept w may answer k new before after f in
+    stayed w may false k new before after waits2 told (puts_rest w.task (Some (with_on w reason)) k new waits2 same put) (queue ∙ ap (λ z. others w.task.0 z.queue) same)
+
+pub once_ready : (w : Waiting) (may : Bool) (object : ObjectId) (k new : Parts) (before after : List Event) (waits2 : WaitTable) → Faulted w.task w.want may (step.WaitReady object) k new before after
+    → PutsEntry w.task.0 (Some (with_on w (on.Ready object))) new.waits.rows waits2.rows → waits2.queue ≡ others w.task.0 new.waits.queue → RunsOnce w may false k.waits waits2 before after
+once_ready w may object k new before after waits2 f put queue = waited w may k new before after waits2 (on.Ready object) (step.WaitReady object) f f.faults.2.told put queue
+
+once_answer : (w : Waiting) (may : Bool) (key : PageKey) (k new : Parts) (before after : List Event) (waits2 : WaitTable) → Faulted w.task w.want may (step.WaitAnswer key) k new before after
+    → PutsEntry w.task.0 (Some (with_on w (on.Page key))) new.waits.rows waits2.rows → waits2.queue ≡ others w.task.0 new.waits.queue → RunsOnce w may false k.waits waits2 before after
+once_answer w may key k new before after waits2 f put queue = waited w may k new before after waits2 (on.Page key) (step.WaitAnswer key) f f.faults.2.told put queue
+
+-- it asks for its page
+once_asks : (w : Waiting) (may : Bool) (key : PageKey) (k new : Parts) (before after : List Event) (waits2 : WaitTable) → Faulted w.task w.want may (step.Ask key) k new before after → (may ≡ false → claimed new.frames ≡ claimed k.frames)
+    → PutsEntry w.task.0 (Some (with_on w (on.Page key))) new.waits.rows waits2.rows → waits2.queue ≡ others w.task.0 new.waits.queue → RunsOnce w may false k.waits waits2 before after
+once_asks w may key k new before after waits2 f kept put queue =
+    let same = waits_kept w may (step.Ask key) k new before after f in
+    let asked = f.faults.1 in
+    let mine : on.Page key ≡ on.Page f.key = ap on.Page f.faults.0 in
+    let row : entry waits2.rows w.task.0 ≡ Some (with_on w (on.Page key)) = puts_here w.task.0 (Some (with_on w (on.Page key))) new.waits.rows waits2.rows put in
+    record {
+      more = event.Sent (Up k.host f.key.object) (message.Request asked.control f.key.page (access_number (access_in w.want) 0)) ∷ [];
+      told = asked.told;
+      claims = ForAsked k.host f.key asked.control (access_number (access_in w.want) 0) (with_on w (on.Page key)) refl row mine;
+      none = λ bar. (let even = kept bar in let more = asked.claims in absurd (omega arith));
+      nothing = λ bad. absurd (let clash : false ≡ true = bad in cc);
+      rest = puts_rest w.task (Some (with_on w (on.Page key))) k new waits2 same put;
+      queue = queue ∙ ap (λ z. others w.task.0 z.queue) same;
+    }
+
+pub once_page : (w : Waiting) (may : Bool) (answer : FaultStep) (key : PageKey) (k new : Parts) (before after : List Event) (waits2 : WaitTable) → Faulted w.task w.want may answer k new before after → (may ≡ false → claimed new.frames ≡ claimed k.frames)
+    → (answer ≡ step.Ask key) ⊎ (answer ≡ step.WaitAnswer key) → PutsEntry w.task.0 (Some (with_on w (on.Page key))) new.waits.rows waits2.rows → waits2.queue ≡ others w.task.0 new.waits.queue → RunsOnce w may false k.waits waits2 before after
+once_page w may answer key k new before after waits2 f kept (inl is) put queue = once_asks w may key k new before after waits2 (rw is at f) kept put queue
+once_page w may answer key k new before after waits2 f kept (inr is) put queue = once_answer w may key k new before after waits2 (rw is at f) put queue
