@@ -16,9 +16,17 @@ use Rattle.vm_waits.specs.Waits.{WaitTable, entry, first, is_again, is_frame, is
 use Rattle.vm_waits.specs.declared.waiting.On.{On}
 use Rattle.vm_waits.specs.declared.waiting.On.TheVariants as on
 use Rattle.vm_waits.specs.declared.waiting.Waiting.{Waiting}
+use Rattle.vm_kernel.specs.Matches.{Works}
+use Rattle.vm_kernel.specs.Serving.{Attempts}
 use Rattle.vm_kernel.specs.Taking.{EachGone}
+use Rattle.vm_kernel.specs.declared.parts.Parts.{Parts}
+use Rattle.vm_shadow.specs.declared.ids.Ids.{Ids}
+use Rattle.vm_supply.specs.declared.woken.Woken.TheVariants as woken
+use Rattle.vm_frames.specs.Frames.{free}
+use Rattle.vm_legal.specs.Frames.{frames_free}
+use Rattle.vm_model.specs.declared.script.Header.{Header}
 use Rattle.vm_kernel.specs.Turns.{ClaimsInTurn, ClaimsNone, ClaimsOne, ForAsked, ForZeros, Joins, InTurn, Leaves, NoFrame, QueueAfter, Quiet, RunsOnce}
-use Rattle.vm_kernel.proofs.Growing.{of_both}
+use Rattle.vm_kernel.proofs.Growing.{free_is, of_both}
 
 -- the queue
 
@@ -153,22 +161,23 @@ page_other key on.Frame is = absurd (let bad : false ≡ true = is in cc)
 
 -- joining
 
-pub joins_none : (queue : List TaskId) (events : List Event) → Joins queue queue events events
-joins_none queue events = record { joined = []; queue = sym (append-nil queue); run = []; told = refl; behind = inr tt }
+pub joins_none : (header : Header) (past : List Event) (queue : List TaskId) (events : List Event) → Joins header past queue queue events events
+joins_none header past queue events = record { joined = []; queue = sym (append-nil queue); run = []; told = refl; behind = inr tt; full = λ empty some. absurd (some refl) }
 
-pub joins_quiet : (old new : List TaskId) (before after : List Event) → before ≡ [] → Quiet old new before after → Joins old new before after
-joins_quiet old new before after nothing quiet =
+pub joins_quiet : (header : Header) (past : List Event) (old new : List TaskId) (before after : List Event) → before ≡ [] → Quiet old new before after → Joins header past old new before after
+joins_quiet header past old new before after nothing quiet =
     record {
       joined = [];
       queue = quiet.queue ∙ sym (append-nil old);
       run = after;
       told = sym (append-nil after) ∙ ap (λ z. after ++ z) (sym nothing);
       behind = inr (quiet.none (subst (EachOf ClaimsNone) (sym nothing) tt));
+      full = λ empty some. absurd (some refl);
     }
 
 -- what was done before claimed none
-pub joins_behind : (old mid new : List TaskId) (before events after : List Event) → before ≡ [] → Quiet old mid before events → Joins mid new events after → Joins old new before after
-joins_behind old mid new before events after nothing quiet joins =
+pub joins_behind : (header : Header) (past : List Event) (old mid new : List TaskId) (before events after : List Event) → before ≡ [] → Quiet old mid before events → Joins header past mid new events after → Joins header past old new before after
+joins_behind header past old mid new before events after nothing quiet joins =
     record {
       joined = joins.joined;
       queue = joins.queue ∙ ap (λ z. z ++ joins.joined) quiet.queue;
@@ -178,16 +187,20 @@ joins_behind old mid new before events after nothing quiet joins =
         | inl empty ↦ inl (sym quiet.queue ∙ empty)
         | inr none ↦ inr (of_both ClaimsNone joins.run events none (quiet.none (subst (EachOf ClaimsNone) (sym nothing) tt)))
       ];
+      full = λ empty some. joins.full (quiet.queue ∙ empty) some;
     }
 
-record Joined (old new : List TaskId) : Type 0 where
+record Joined (wants : Bool) (old new : List TaskId) : Type 0 where
   more : List TaskId
   is : new ≡ old ++ more
+  none : wants ≡ false → more ≡ []
 
 -- where an access was run that isn't in the queue, it joins, or nothing changes there
-joined : (w : Waiting) (wants : Bool) (rows : List Waiting) (old new : List TaskId) → AreQueued rows old → entry rows w.task.0 ≡ Some w → is_frame w.on ≡ false → QueueAfter w wants old new → Joined old new
-joined w true rows old new line is other after = record { more = w.task ∷ []; is = subst (λ (z : Bool). new ≡ (if z then old else old ++ w.task ∷ [])) other after }
-joined w false rows old new line is other after = record { more = []; is = after ∙ (others_none w.task.0 old (line.listed w.task.0 ∙ (ap waits_for_frame is ∙ other)) ∙ sym (append-nil old)) }
+joined : (w : Waiting) (wants : Bool) (rows : List Waiting) (old new : List TaskId) → AreQueued rows old → entry rows w.task.0 ≡ Some w → is_frame w.on ≡ false → QueueAfter w wants old new → Joined wants old new
+joined w true rows old new line is other after =
+    record { more = w.task ∷ []; is = subst (λ (z : Bool). new ≡ (if z then old else old ++ w.task ∷ [])) other after; none = λ bad. absurd (let clash : true ≡ false = bad in cc) }
+joined w false rows old new line is other after =
+    record { more = []; is = after ∙ (others_none w.task.0 old (line.listed w.task.0 ∙ (ap waits_for_frame is ∙ other)) ∙ sym (append-nil old)); none = λ same. refl }
 
 again_other : (reason : On) → is_again reason ≡ true → is_frame reason ≡ false
 again_other on.Again is = refl
@@ -202,9 +215,35 @@ may_none x xs more queue rows may is line may_is =
     let some : nat_lt 0 (queued rows) ≡ true = let even = line.even in grind (arith, nat_tests) in
     may_is ∙ ap not some
 
-pub joins_more : (q : List TaskId) (w : Waiting) (may wants : Bool) (old new : WaitTable) (first before after : List Event) → Joins q old.queue first before → AreQueued old.rows old.queue → entry old.rows w.task.0 ≡ Some w → is_again w.on ≡ true
-    → may ≡ not (nat_lt 0 (queued old.rows)) → RunsOnce w may wants old new before after → Joins q new.queue first after
-joins_more q w may wants old new first before after was line is again may_is run =
+-- nobody queues: who is run may claim one
+may_some : (queue : List TaskId) (rows : List Waiting) (may : Bool) → queue ≡ [] → AreQueued rows queue → may ≡ not (nat_lt 0 (queued rows)) → may ≡ true
+may_some queue rows may is line may_is =
+    let long : length queue ≡ 0 = ap length is in
+    let none : nat_lt 0 (queued rows) ≡ false = let even = line.even in grind (arith, nat_tests) in
+    may_is ∙ ap not none
+
+-- an access was run once: if it may claim a frame and wants one still, none is free; if it may not, as many are free as were
+pub record Fills (header : Header) (may wants : Bool) (before after : List Event) : Type 0 where
+  pub none : may ≡ true → wants ≡ true → frames_free header 0 after ≡ 0
+  pub still : may ≡ false → frames_free header 0 after ≡ frames_free header 0 before
+
+pub fills_of : (header : Header) (w : Waiting) (may wants : Bool) (old new : Parts) (ids : Ids) (before after : List Event) → Works header old ids woken.Nobody before → Works header new ids woken.Nobody after → Attempts header w may wants old new before after
+    → (may ≡ false → free new.frames ≡ free old.frames) → Fills header may wants before after
+fills_of header w may true old new ids before after was now attempts same =
+    record { none = λ may wants. free_is header new.frames after now.matches.frames ∙ attempts.none may; still = λ may. free_is header new.frames after now.matches.frames ∙ (same may ∙ sym (free_is header old.frames before was.matches.frames)) }
+fills_of header w may false old new ids before after was now attempts same =
+    record { none = λ may wants. absurd (let clash : false ≡ true = wants in cc); still = λ may. free_is header new.frames after now.matches.frames ∙ (same may ∙ sym (free_is header old.frames before was.matches.frames)) }
+
+filled : (header : Header) (q joined more queue : List TaskId) (rows : List Waiting) (may wants : Bool) (before after : List Event) → queue ≡ q ++ joined → AreQueued rows queue → may ≡ not (nat_lt 0 (queued rows)) → Fills header may wants before after
+    → (wants ≡ false → more ≡ []) → (q ≡ [] → joined ≢ [] → frames_free header 0 before ≡ 0) → q ≡ [] → joined ++ more ≢ [] → frames_free header 0 after ≡ 0
+filled header q [] more queue rows may true before after is line may_is fills none full empty some = fills.none (may_some queue rows may (is ∙ (append-nil q ∙ empty)) line may_is) refl
+filled header q [] more queue rows may false before after is line may_is fills none full empty some = absurd (some (none refl))
+filled header q (x ∷ xs) more queue rows may wants before after is line may_is fills none full empty some =
+    fills.still (may_none x xs [] queue rows may (is ∙ (ap (λ z. z ++ x ∷ xs) empty ∙ sym (append-nil (x ∷ xs)))) line may_is) ∙ full empty (λ bad. (let clash : x ∷ xs ≡ [] = bad in cc))
+
+pub joins_more : (header : Header) (past : List Event) (q : List TaskId) (w : Waiting) (may wants : Bool) (old new : WaitTable) (first before after : List Event) → Joins header past q old.queue first before → AreQueued old.rows old.queue → entry old.rows w.task.0 ≡ Some w → is_again w.on ≡ true
+    → may ≡ not (nat_lt 0 (queued old.rows)) → RunsOnce w may wants old new before after → Fills header may wants (before ++ past) (after ++ past) → Joins header past q new.queue first after
+joins_more header past q w may wants old new first before after was line is again may_is run fills =
     let j = joined w wants old.rows old.queue new.queue line is (again_other w.on again) run.queue in
     record {
       joined = was.joined ++ j.more;
@@ -212,6 +251,7 @@ joins_more q w may wants old new first before after was line is again may_is run
       run = run.more ++ was.run;
       told = run.told ∙ (ap (λ z. run.more ++ z) was.told ∙ sym (append_assoc run.more was.run first));
       behind = behind q was.queue was.behind;
+      full = filled header q was.joined j.more old.queue old.rows may wants (before ++ past) (after ++ past) was.queue line may_is fills j.none was.full;
     }
   where
     behind : (q : List TaskId) → old.queue ≡ q ++ was.joined → (q ≡ []) ⊎ EachOf ClaimsNone was.run → (q ≡ []) ⊎ EachOf ClaimsNone (run.more ++ was.run)
@@ -273,9 +313,9 @@ leaves_gone q old new start before after was same gone =
 
 -- both
 
-pub turns_of : (old mid new : WaitTable) (before events after : List Event) → before ≡ [] → Joins old.queue mid.queue before events → Leaves mid.queue new events after → InTurn old new after
-turns_of old mid new before events after nothing joins leaves = record { queue = mid.queue; run = events; joins = subst (λ (z : List Event). Joins old.queue mid.queue z events) nothing joins; leaves = leaves }
+pub turns_of : (header : Header) (past : List Event) (old mid new : WaitTable) (before events after : List Event) → before ≡ [] → Joins header past old.queue mid.queue before events → Leaves mid.queue new events after → InTurn header past old new after
+turns_of header past old mid new before events after nothing joins leaves = record { queue = mid.queue; run = events; joins = subst (λ (z : List Event). Joins header past old.queue mid.queue z events) nothing joins; leaves = leaves }
 
 -- nobody was run before
-pub turns_served : (old mid new : WaitTable) (before events : List Event) → mid ≡ old → before ≡ [] → Leaves mid.queue new before events → InTurn old new events
-turns_served old mid new before events same nothing leaves = turns_of old old new before before events nothing (joins_none old.queue before) (subst (λ (z : WaitTable). Leaves z.queue new before events) same leaves)
+pub turns_served : (header : Header) (past : List Event) (old mid new : WaitTable) (before events : List Event) → mid ≡ old → before ≡ [] → Leaves mid.queue new before events → InTurn header past old new events
+turns_served header past old mid new before events same nothing leaves = turns_of header past old old new before before events nothing (joins_none header past old.queue before) (subst (λ (z : WaitTable). Leaves z.queue new before events) same leaves)

@@ -4,11 +4,13 @@ use Rattle.vm_base.specs.declared.ids.HostId.{HostId}
 use Rattle.vm_base.specs.declared.ids.PageKey.{PageKey}
 use Rattle.vm_base.specs.declared.ids.TaskId.{TaskId}
 use Rattle.vm_legal.specs.Follows.{IsEnd}
+use Rattle.vm_legal.specs.Frames.{frames_free}
 use Rattle.vm_legal.specs.Stretches.{EachOf}
 use Rattle.vm_model.specs.declared.event.Event.{Event}
 use Rattle.vm_model.specs.declared.event.Event.TheVariants as event
 use Rattle.vm_model.specs.declared.message.Channel.TheVariants.{Up}
 use Rattle.vm_model.specs.declared.message.Message.TheVariants as message
+use Rattle.vm_model.specs.declared.script.Header.{Header}
 use Rattle.vm_waits.specs.Kept.{EachListedOnce}
 use Rattle.vm_waits.specs.Waits.{WaitTable, entry, is_frame, others}
 use Rattle.vm_waits.specs.declared.waiting.On.TheVariants as on
@@ -33,13 +35,14 @@ ClaimsInTurn rows [] events = EachOf ClaimsNone events
 ClaimsInTurn rows (task ∷ left) events =
     (late own early : List Event) × (events ≡ late ++ (own ++ early)) × EachOf ClaimsNone late × ClaimsOne rows task own × ClaimsInTurn rows left early
 
--- some joined the back of the queue, and nobody left; where somebody had queued before, no frame was claimed
-pub record Joins (old new : List TaskId) (before after : List Event) : Type 0 where
+-- some joined the back of the queue, and nobody left; where somebody had queued before, no frame was claimed; and who joined an empty queue found no frame free, nor is one free since
+pub record Joins (header : Header) (past : List Event) (old new : List TaskId) (before after : List Event) : Type 0 where
   pub joined : List TaskId
   pub queue : new ≡ old ++ joined
   pub run : List Event
   pub told : after ≡ run ++ before
   pub behind : (old ≡ []) ⊎ EachOf ClaimsNone run
+  pub full : old ≡ [] → joined ≢ [] → frames_free header 0 (after ++ past) ≡ 0
 
 -- some left from the front of a queue in which nobody stood twice, nobody joined, and frames were claimed in turn
 pub record Leaves (old : List TaskId) (new : WaitTable) (before after : List Event) : Type 0 where
@@ -51,10 +54,10 @@ pub record Leaves (old : List TaskId) (new : WaitTable) (before after : List Eve
   pub turns : ClaimsInTurn new.rows left served
 
 -- a call's first events are those of the accesses that were run, of which some joined the queue; the others are those of serving it
-pub record InTurn (old new : WaitTable) (events : List Event) : Type 0 where
+pub record InTurn (header : Header) (past : List Event) (old new : WaitTable) (events : List Event) : Type 0 where
   pub queue : List TaskId
   pub run : List Event
-  pub joins : Joins old.queue queue [] run
+  pub joins : Joins header past old.queue queue [] run
   pub leaves : Leaves queue new run events
 
 -- nobody joined or left, and no frame was claimed by what was added

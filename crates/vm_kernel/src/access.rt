@@ -25,7 +25,7 @@ impl Parts {
         requires starts { Starts given.header given.command given.past self.old ids.now log.old.items }
         ensures ran { OnOk result (Ran given.header given.outside given.command given.past self.new ids.now log.new.items) }
         ensures plays { OnOk result (Plays given.header given.past log.old.items (paging self.old) log.new.items (paging self.new)) }
-        ensures joins { OnOk result (Joins self.old.waits.queue self.new.waits.queue log.old.items log.new.items) }
+        ensures joins { OnOk result (Joins given.header given.past self.old.waits.queue self.new.waits.queue log.old.items log.new.items) }
     {
         self.waits.reserve(1)?;
         log.push(Event::BegunLoad {
@@ -51,7 +51,7 @@ impl Parts {
         requires starts { Starts given.header given.command given.past self.old ids.now log.old.items }
         ensures ran { OnOk result (Ran given.header given.outside given.command given.past self.new ids.now log.new.items) }
         ensures plays { OnOk result (Plays given.header given.past log.old.items (paging self.old) log.new.items (paging self.new)) }
-        ensures joins { OnOk result (Joins self.old.waits.queue self.new.waits.queue log.old.items log.new.items) }
+        ensures joins { OnOk result (Joins given.header given.past self.old.waits.queue self.new.waits.queue log.old.items log.new.items) }
     {
         self.waits.reserve(1)?;
         log.push(Event::BegunStore {

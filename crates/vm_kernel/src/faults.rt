@@ -78,6 +78,7 @@ impl Parts {
         requires { CanFault self.old task.0 want }
         ensures faulted { IfOk result (λ step. Faulted task want may_claim step self.old self.new log.old.items log.new.items) }
         ensures claims { OnOk result (may_claim ≡ false → claimed self.new.frames ≡ claimed self.old.frames) }
+        ensures still { OnOk result (may_claim ≡ false → free self.new.frames ≡ free self.old.frames) }
     {
         let place = self.find(task, address_of(want), need_of(want));
         let key = self.key_of(place);
@@ -112,6 +113,7 @@ impl Parts {
         requires sized { IsSizedWant want }
         ensures faults { IfOk result (λ step. Faults task want may_claim key step self.old self.new log.old.items log.new.items) }
         ensures claims { OnOk result (may_claim ≡ false → claimed self.new.frames ≡ claimed self.old.frames) }
+        ensures still { OnOk result (may_claim ≡ false → free self.new.frames ≡ free self.old.frames) }
     {
         let Some(known) = self.objects.find(key.object) else {
             unreachable!()

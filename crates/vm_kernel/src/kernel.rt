@@ -87,7 +87,7 @@ impl Kernel {
         requires built { is_built command.now ≡ true }
         ensures began { IfOk result (λ events. Began given.header given.outside command.now given.past self.new ids.new events.items) }
         ensures plays { IfOk result (λ events. Plays given.header given.past [] (paging self.old) events.items (paging self.new)) }
-        ensures turns { IfOk result (λ events. InTurn self.old.waits self.new.waits events.items) }
+        ensures turns { IfOk result (λ events. InTurn given.header given.past self.old.waits self.new.waits events.items) }
     {
         let mut log = Events::new(self.parts.alloc);
         self.parts.begin(command, ids, &mut log)?;
@@ -114,7 +114,7 @@ impl Kernel {
         ensures failed { IfOk result (λ events. IsErrorPaid given.header (events.items ++ (given.front ++ given.past))) }
         ensures plays { IfOk result (λ events. PlaysAnswer given.header (given.front ++ given.past) object (outcome_of (object_at self.old.objects object.0) control (row_at self.old.resident object.0) message.now) (paging self.old) events.items (paging self.new)) }
         ensures ended { IfOk result (λ events. EndsAll given.header (events.items ++ (given.front ++ given.past))) }
-        ensures turns { IfOk result (λ events. InTurn self.old.waits self.new.waits events.items) }
+        ensures turns { IfOk result (λ events. InTurn given.header (given.front ++ given.past) self.old.waits self.new.waits events.items) }
     {
         let mut log = Events::new(self.parts.alloc);
         self.parts.take(ids, object, control, message, &mut log)?;
@@ -133,7 +133,7 @@ impl Kernel {
         requires held { self.old.laundry.held ≢ [] }
         ensures passed { IfOk result (λ events. Passed given.header given.outside given.command (given.front ++ given.past) self.new ids.new events.items) }
         ensures plays { IfOk result (λ events. Plays given.header (given.front ++ given.past) [] (paging self.old) events.items (paging self.new)) }
-        ensures turns { IfOk result (λ events. InTurn self.old.waits self.new.waits events.items) }
+        ensures turns { IfOk result (λ events. InTurn given.header (given.front ++ given.past) self.old.waits self.new.waits events.items) }
     {
         let mut log = Events::new(self.parts.alloc);
         self.parts.launder(ids);
@@ -151,7 +151,7 @@ impl Kernel {
         requires front { EachOf IsForeign given.front }
         ensures passed { IfOk result (λ events. Passed given.header given.outside given.command (given.front ++ given.past) self.new ids.new events.items) }
         ensures plays { IfOk result (λ events. Plays given.header (given.front ++ given.past) [] (paging self.old) events.items (paging self.new)) }
-        ensures turns { IfOk result (λ events. InTurn self.old.waits self.new.waits events.items) }
+        ensures turns { IfOk result (λ events. InTurn given.header (given.front ++ given.past) self.old.waits self.new.waits events.items) }
     {
         let mut log = Events::new(self.parts.alloc);
         self.parts.go_on(ids, &mut log)?;

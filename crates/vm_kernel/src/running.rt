@@ -24,7 +24,7 @@ impl Parts {
         requires built { is_built command.now ≡ true }
         ensures began { OnOk result (Began given.header given.outside command.now given.past self.new ids.new log.new.items) }
         ensures plays { OnOk result (Plays given.header given.past log.old.items (paging self.old) log.new.items (paging self.new)) }
-        ensures turns { OnOk result (InTurn self.old.waits self.new.waits log.new.items) }
+        ensures turns { OnOk result (InTurn given.header given.past self.old.waits self.new.waits log.new.items) }
     {
         self.run(command, ids, log)?;
         self.serve(ids, log)
@@ -37,7 +37,7 @@ impl Parts {
         requires built { is_built command.now ≡ true }
         ensures ran { OnOk result (Ran given.header given.outside command.now given.past self.new ids.new log.new.items) }
         ensures plays { OnOk result (Plays given.header given.past log.old.items (paging self.old) log.new.items (paging self.new)) }
-        ensures joins { OnOk result (Joins self.old.waits.queue self.new.waits.queue log.old.items log.new.items) }
+        ensures joins { OnOk result (Joins given.header given.past self.old.waits.queue self.new.waits.queue log.old.items log.new.items) }
     {
         match command {
             Command::Task { task, .. } => self.make_task(ids, *task, log),

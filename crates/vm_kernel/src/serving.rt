@@ -38,6 +38,7 @@ impl Parts {
         ensures ends { OnOk result (FindsPage given.header waiting.task.0 (log.old.items ++ given.past) → EndsNext waiting.task.0 log.old.items log.new.items) }
         ensures attempts { IfOk result (λ needs. Attempts given.header waiting may_claim needs self.old self.new (log.old.items ++ given.past) (log.new.items ++ given.past)) }
         ensures plays { OnOk result (Plays given.header given.past log.old.items (paging self.old) log.new.items (paging self.new)) }
+        ensures still { OnOk result (may_claim ≡ false → free self.new.frames ≡ free self.old.frames) }
         ensures once { IfOk result (λ wants. RunsOnce waiting may_claim wants self.old.waits self.new.waits log.old.items log.new.items) }
     {
         let on = match self.fault(waiting.task, waiting.want, may_claim, log)? {
@@ -67,7 +68,7 @@ impl Parts {
         ensures goes { OnOk result (Goes given.header given.outside given.command given.past log.old.items log.new.items) }
         ensures first { OnOk result (RunsFirst given.header self.old.waits.rows given.past log.old.items log.new.items) }
         ensures plays { OnOk result (Plays given.header given.past log.old.items (paging self.old) log.new.items (paging self.new)) }
-        ensures joins { OnOk result (Joins self.old.waits.queue self.new.waits.queue log.old.items log.new.items) }
+        ensures joins { OnOk result (Joins given.header given.past self.old.waits.queue self.new.waits.queue log.old.items log.new.items) }
     {
         'again: while let Some(waiting) = self.waits.next_again() {
             let may_claim = !self.waits.has_queue();

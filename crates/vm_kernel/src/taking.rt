@@ -134,7 +134,7 @@ impl Parts {
         ensures failed { OnOk result (IsErrorPaid given.header (log.new.items ++ (given.front ++ given.past))) }
         ensures plays { OnOk result (PlaysAnswer given.header (given.front ++ given.past) object (outcome_of (object_at self.old.objects object.0) control (row_at self.old.resident object.0) message.now) (paging self.old) log.new.items (paging self.new)) }
         ensures ended { OnOk result (EndsEach given.header self.old.waits.rows (log.new.items ++ (given.front ++ given.past))) }
-        ensures joins { OnOk result (Joins self.old.waits.queue self.new.waits.queue log.old.items log.new.items) }
+        ensures joins { OnOk result (Joins given.header (given.front ++ given.past) self.old.waits.queue self.new.waits.queue log.old.items log.new.items) }
     {
         let woken = self.hear(ids, object, control, message, log)?;
         self.wake(ids, woken, log)?;

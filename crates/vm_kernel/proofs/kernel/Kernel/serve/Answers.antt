@@ -1,5 +1,5 @@
 use Rattle.vm_kernel.proofs.Playing.{called_plays}
-use Rattle.std.proofs.Common.{ap, sym, subst}
+use Rattle.std.proofs.Common.{◌++◌, ap, sym, subst}
 use Rattle.vm_kernel.specs.Matches.{Rests}
 use Rattle.vm_kernel.specs.declared.parts.Parts.{Parts}
 use Rattle.vm_kernel.proofs.Foreign.{rests_foreign}
@@ -16,4 +16,4 @@ returns-clause-plays g c = called_plays c.self.view_is c.new-log.ensures c.in_ok
 
 pub returns-clause-turns : goal.returns-clause-turns
 returns-clause-turns g c =
-    turns_served c.args.self.now.waits c.self.inside.parts.waits c.go_on.new.self.waits c.new-log.result.items c.go_on.new.log.items (ap (λ (z : Parts). z.waits) c.self.view_is) c.new-log.ensures c.in_ok-go_on.ensures.leaves
+    turns_served g.given.header (g.given.front ++ g.given.past) c.args.self.now.waits c.self.inside.parts.waits c.go_on.new.self.waits c.new-log.result.items c.go_on.new.log.items (ap (λ (z : Parts). z.waits) c.self.view_is) c.new-log.ensures c.in_ok-go_on.ensures.leaves

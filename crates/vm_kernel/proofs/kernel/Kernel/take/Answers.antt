@@ -37,5 +37,5 @@ returns-clause-plays g c = taken_plays c.args.object c.args.control c.args.messa
 
 pub returns-clause-turns : goal.returns-clause-turns
 returns-clause-turns g c =
-    subst (λ (z : Parts). InTurn z.waits c.go_on.new.self.waits c.go_on.new.log.items) c.self.view_is
-    (turns_of c.self.inside.parts.waits c.take.new.self.waits c.go_on.new.self.waits c.new-log.result.items c.take.new.log.items c.go_on.new.log.items c.new-log.ensures c.in_ok-take.ensures.joins c.in_ok-go_on.ensures.leaves)
+    subst (λ (z : Parts). InTurn g.given.header (g.given.front ++ g.given.past) z.waits c.go_on.new.self.waits c.go_on.new.log.items) c.self.view_is
+    (turns_of g.given.header (g.given.front ++ g.given.past) c.self.inside.parts.waits c.take.new.self.waits c.go_on.new.self.waits c.new-log.result.items c.take.new.log.items c.go_on.new.log.items c.new-log.ensures c.in_ok-take.ensures.joins c.in_ok-go_on.ensures.leaves)

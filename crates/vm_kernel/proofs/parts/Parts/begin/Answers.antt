@@ -17,4 +17,4 @@ returns-clause-plays g c = on_ok c.serve.result _ _ (λ more. plays_both c.in_ok
 
 pub returns-clause-turns : goal.returns-clause-turns
 returns-clause-turns g c =
-    on_ok c.serve.result _ _ (turns_of c.args.self.now.waits c.run.new.self.waits c.serve.new.self.waits c.args.log.now.items c.run.new.log.items c.serve.new.log.items c.requires.1.0.nothing c.in_ok-run.ensures.joins) c.serve.ensures.leaves
+    on_ok c.serve.result _ _ (turns_of g.given.header g.given.past c.args.self.now.waits c.run.new.self.waits c.serve.new.self.waits c.args.log.now.items c.run.new.log.items c.serve.new.log.items c.requires.1.0.nothing c.in_ok-run.ensures.joins) c.serve.ensures.leaves

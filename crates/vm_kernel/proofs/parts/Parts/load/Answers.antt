@@ -29,4 +29,4 @@ returns-clause-plays g c = on_ok c.restart.result _ _ (λ more. plays_both (play
 pub returns-clause-joins : goal.returns-clause-joins
 returns-clause-joins g c =
     let quiet = quiet_more c.args.self.now.waits.queue c.begin.new.self.queue c.args.log.now.items c.push.new.self.items (event.BegunLoad c.args.task c.args.address c.args.size) (c.begin.ensures.queue ∙ c.reserve.ensures.queue) c.in_ok-push.ensures.ok tt in
-    on_ok c.restart.result _ _ (joins_behind c.args.self.now.waits.queue c.begin.new.self.queue c.restart.new.self.waits.queue c.args.log.now.items c.push.new.self.items c.restart.new.log.items c.requires.1.nothing quiet) c.restart.ensures.joins
+    on_ok c.restart.result _ _ (joins_behind g.given.header g.given.past c.args.self.now.waits.queue c.begin.new.self.queue c.restart.new.self.waits.queue c.args.log.now.items c.push.new.self.items c.restart.new.log.items c.requires.1.nothing quiet) c.restart.ensures.joins

@@ -19,7 +19,7 @@ invariant-again g l = record {
   goes : Goes g.given.header g.given.outside g.given.command g.given.past l.fn.log.items l.log.items;
   plays : Plays g.given.header g.given.past l.fn.log.items (paging l.fn.self) l.log.items (paging l.self);
   first : (task : ℕ) → IsNext task l.fn.self.waits.rows → FindsPage g.given.header task (l.fn.log.items ++ g.given.past) → FirstOf task l.fn.self.waits.rows l.self.waits.rows l.fn.log.items l.log.items;
-  joins : Joins l.fn.self.waits.queue l.self.waits.queue l.fn.log.items l.log.items;
+  joins : Joins g.given.header g.given.past l.fn.self.waits.queue l.self.waits.queue l.fn.log.items l.log.items;
 }
 
 abbrev pub decreases-again : goal.decreases-again

@@ -45,4 +45,4 @@ returns-clause-joins g c =
     let before = c.args.log.now.items in
     let nothing = c.requires.1.1.1 in
     let quiet = quiet_behind c.args.self.now.waits.queue _ c.wake.new.self.waits.queue before _ c.wake.new.log.items (ap (λ z. z.queue) c.in_ok-woken.ensures.waits) nothing c.in_ok-woken.ensures.nothing c.in_ok-wake.ensures.quiet in
-    on_ok c.restart.result _ _ (joins_behind c.args.self.now.waits.queue c.wake.new.self.waits.queue c.restart.new.self.waits.queue before c.wake.new.log.items c.restart.new.log.items nothing quiet) c.restart.ensures.joins
+    on_ok c.restart.result _ _ (joins_behind g.given.header (g.given.front ++ g.given.past) c.args.self.now.waits.queue c.wake.new.self.waits.queue c.restart.new.self.waits.queue before c.wake.new.log.items c.restart.new.log.items nothing quiet) c.restart.ensures.joins
