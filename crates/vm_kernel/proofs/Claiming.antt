@@ -1,5 +1,5 @@
 -- What running an access once claims.
-use Rattle.std.proofs.Common.{◌≡◌, ℕ, Bool, true, false, List, [], ◌∷◌, ◌++◌, refl, ap, sym, ◌∙◌, arith, Some, None, Option, inl, inr}
+use Rattle.std.proofs.Common.{◌≡◌, ℕ, Bool, true, false, List, [], ◌∷◌, ◌++◌, length, refl, ap, sym, ◌∙◌, arith, Some, None, Option, inl, inr}
 use Rattle.std.proofs.lemmas.Bool.Decides.{eqb_tells}
 use Rattle.std.specs.Prelude.{◌≢◌, ◌⊎◌}
 use Rattle.vm_base.specs.declared.ids.FrameNo.{FrameNo}
@@ -12,7 +12,7 @@ use Rattle.vm_model.specs.declared.message.Channel.TheVariants.{Up}
 use Rattle.vm_model.specs.declared.message.Message.TheVariants as message
 use Rattle.vm_legal.specs.Licences.{access_number}
 use Rattle.vm_legal.specs.Stretches.{EachOf}
-use Rattle.vm_frames.specs.Frames.{claimed, count_claims}
+use Rattle.vm_frames.specs.Frames.{FrameTable, count_claims, free}
 use Rattle.vm_waits.specs.Waits.{PutsEntry, WaitTable, entry, is_frame, others, with_on}
 use Rattle.vm_waits.specs.declared.waiting.On.{On}
 use Rattle.vm_waits.specs.declared.waiting.On.TheVariants as on
@@ -43,9 +43,15 @@ record EndsBy (rows : List Waiting) (task : TaskId) (may : Bool) (before after :
   claims : ClaimsOne rows task more
   none : may ≡ false → EachOf ClaimsNone more
 
-hits_claimed : (task : TaskId) (what : Want) (key : PageKey) (frame : FrameNo) (at : ℕ) (k new : Parts) (before after : List Event) → Hits task what key frame at k new before after → claimed new.frames ≡ claimed k.frames
-hits_claimed task (want.Load address n) key frame at k new before after hits = ap (λ (z : Parts). claimed z.frames) hits.2.is
-hits_claimed task (want.Store address n value) key frame at k new before after hits = ap (λ (z : Parts). claimed z.frames) hits.2.is ∙ ap count_claims hits.1.claims
+same_free : (old new : FrameTable) → new.claims ≡ old.claims → new.wired ≡ old.wired → free new ≡ free old
+same_free old new claims wired = let count = ap length claims in let held = ap count_claims claims in omega arith
+
+hits_free : (task : TaskId) (what : Want) (key : PageKey) (frame : FrameNo) (at : ℕ) (k new : Parts) (before after : List Event) → Hits task what key frame at k new before after → free new.frames ≡ free k.frames
+hits_free task (want.Load address n) key frame at k new before after hits = ap (λ (z : Parts). free z.frames) hits.2.is
+hits_free task (want.Store address n value) key frame at k new before after hits =
+    let touched : free new.frames ≡ free hits.0.frames = ap (λ (z : Parts). free z.frames) hits.2.is in
+    let wrote : free hits.0.frames ≡ free k.frames = same_free k.frames hits.0.frames hits.1.claims hits.1.wired in
+    touched ∙ wrote
 
 at_once : (rows : List Waiting) (task : TaskId) (what : Want) (may : Bool) (key : PageKey) (frame : FrameNo) (at : ℕ) (k new : Parts) (before after : List Event) → Hits task what key frame at k new before after → EndsBy rows task may before after
 at_once rows task (want.Load address n) may key frame at k new before after hits =
@@ -62,14 +68,17 @@ after_zeros rows task (want.Store address n value) may key frame at k mid new be
     let end = event.Stored task key.object key.page at n value in
     record { more = end ∷ zeroed key k ∷ []; told = hits.3; claims = ForZeros end k.host key refl refl; none = λ bad. absurd (bar bad) }
 
-ended_by : (rows : List Waiting) (task : TaskId) (what : Want) (may : Bool) (key : PageKey) (at : ℕ) (k new : Parts) (before after : List Event) → Ended task what key at k new before after → (may ≡ false → claimed new.frames ≡ claimed k.frames) → EndsBy rows task may before after
+ended_by : (rows : List Waiting) (task : TaskId) (what : Want) (may : Bool) (key : PageKey) (at : ℕ) (k new : Parts) (before after : List Event) → Ended task what key at k new before after → (may ≡ false → free new.frames ≡ free k.frames) → EndsBy rows task may before after
 ended_by rows task what may key at k new before after (AtOnce frame here hits) kept = at_once rows task what may key frame at k new before after hits
 ended_by rows task what may key at k new before after (AfterZeros frame mid none brought hits) kept =
-    let same = hits_claimed task what key frame at mid new (zeroed key k ∷ before) after hits in
+    let same = hits_free task what key frame at mid new (zeroed key k ∷ before) after hits in
     let more = brought.claims in
+    let wired = brought.wired in
+    let count = brought.count in
+    let room = brought.room in
     after_zeros rows task what may key frame at k mid new before after hits (λ bar. (let even = kept bar in omega arith))
 
-pub once_done : (w : Waiting) (may : Bool) (k new : Parts) (before after : List Event) (waits2 : WaitTable) → Faulted w.task w.want may step.Done k new before after → (may ≡ false → claimed new.frames ≡ claimed k.frames)
+pub once_done : (w : Waiting) (may : Bool) (k new : Parts) (before after : List Event) (waits2 : WaitTable) → Faulted w.task w.want may step.Done k new before after → (may ≡ false → free new.frames ≡ free k.frames)
     → PutsEntry w.task.0 None new.waits.rows waits2.rows → waits2.queue ≡ others w.task.0 new.waits.queue → RunsOnce w may false k.waits waits2 before after
 once_done w may k new before after waits2 f kept put queue =
     let same = waits_kept w may step.Done k new before after f in
@@ -117,7 +126,7 @@ once_answer : (w : Waiting) (may : Bool) (key : PageKey) (k new : Parts) (before
 once_answer w may key k new before after waits2 f put queue = waited w may k new before after waits2 (on.Page key) (step.WaitAnswer key) f f.faults.2.told put queue
 
 -- it asks for its page
-once_asks : (w : Waiting) (may : Bool) (key : PageKey) (k new : Parts) (before after : List Event) (waits2 : WaitTable) → Faulted w.task w.want may (step.Ask key) k new before after → (may ≡ false → claimed new.frames ≡ claimed k.frames)
+once_asks : (w : Waiting) (may : Bool) (key : PageKey) (k new : Parts) (before after : List Event) (waits2 : WaitTable) → Faulted w.task w.want may (step.Ask key) k new before after → (may ≡ false → free new.frames ≡ free k.frames)
     → PutsEntry w.task.0 (Some (with_on w (on.Page key))) new.waits.rows waits2.rows → waits2.queue ≡ others w.task.0 new.waits.queue → RunsOnce w may false k.waits waits2 before after
 once_asks w may key k new before after waits2 f kept put queue =
     let same = waits_kept w may (step.Ask key) k new before after f in
@@ -128,13 +137,13 @@ once_asks w may key k new before after waits2 f kept put queue =
       more = event.Sent (Up k.host f.key.object) (message.Request asked.control f.key.page (access_number (access_in w.want) 0)) ∷ [];
       told = asked.told;
       claims = ForAsked k.host f.key asked.control (access_number (access_in w.want) 0) (with_on w (on.Page key)) refl row mine;
-      none = λ bar. (let even = kept bar in let more = asked.claims in absurd (omega arith));
+      none = λ bar. (let even = kept bar in let more = asked.claims in let wired = asked.wired in let count = asked.count in let room = asked.room in absurd (omega arith));
       nothing = λ bad. absurd (let clash : false ≡ true = bad in cc);
       rest = puts_rest w.task (Some (with_on w (on.Page key))) k new waits2 same put;
       queue = queue ∙ ap (λ z. others w.task.0 z.queue) same;
     }
 
-pub once_page : (w : Waiting) (may : Bool) (answer : FaultStep) (key : PageKey) (k new : Parts) (before after : List Event) (waits2 : WaitTable) → Faulted w.task w.want may answer k new before after → (may ≡ false → claimed new.frames ≡ claimed k.frames)
+pub once_page : (w : Waiting) (may : Bool) (answer : FaultStep) (key : PageKey) (k new : Parts) (before after : List Event) (waits2 : WaitTable) → Faulted w.task w.want may answer k new before after → (may ≡ false → free new.frames ≡ free k.frames)
     → (answer ≡ step.Ask key) ⊎ (answer ≡ step.WaitAnswer key) → PutsEntry w.task.0 (Some (with_on w (on.Page key))) new.waits.rows waits2.rows → waits2.queue ≡ others w.task.0 new.waits.queue → RunsOnce w may false k.waits waits2 before after
 once_page w may answer key k new before after waits2 f kept (inl is) put queue = once_asks w may key k new before after waits2 (rw is at f) kept put queue
 once_page w may answer key k new before after waits2 f kept (inr is) put queue = once_answer w may key k new before after waits2 (rw is at f) put queue

@@ -35,7 +35,7 @@ ClaimsInTurn rows [] events = EachOf ClaimsNone events
 ClaimsInTurn rows (task ∷ left) events =
     (late own early : List Event) × (events ≡ late ++ (own ++ early)) × EachOf ClaimsNone late × ClaimsOne rows task own × ClaimsInTurn rows left early
 
--- some joined the back of the queue, and nobody left; where somebody had queued before, no frame was claimed; and who joined an empty queue found no frame free, nor is one free since
+-- some joined the back of the queue, and nobody left; where somebody had queued before, no frame was claimed; and where somebody joined an empty queue, no frame is free behind these events
 pub record Joins (header : Header) (past : List Event) (old new : List TaskId) (before after : List Event) : Type 0 where
   pub joined : List TaskId
   pub queue : new ≡ old ++ joined

@@ -3,7 +3,7 @@ ghost use Rattle.std.specs.Prelude.{◌≡◌, ◌+◌, ◌∷◌, ◌<◌, ◌�
 ghost use Rattle.vm_base.specs.Entries.{entry_at};
 ghost use Rattle.vm_base.specs.Pages.{IsAccessSize, IsPageSize, little_endian, little_endian_bytes, with_bytes};
 ghost use Rattle.vm_base.specs.declared.entry.Entry.{Entry as Row};
-ghost use Rattle.vm_frames.specs.Frames.{claimed, free, is_claimed, page_in};
+ghost use Rattle.vm_frames.specs.Frames.{free, is_claimed, page_in};
 ghost use Rattle.vm_legal.specs.Licences.{access_number};
 ghost use Rattle.vm_maps.specs.Judge.{place_at};
 ghost use Rattle.vm_maps.specs.Maps.{rows_in};
@@ -77,7 +77,6 @@ impl Parts {
     ) -> Result<FaultStep, NoMemory>
         requires { CanFault self.old task.0 want }
         ensures faulted { IfOk result (λ step. Faulted task want may_claim step self.old self.new log.old.items log.new.items) }
-        ensures claims { OnOk result (may_claim ≡ false → claimed self.new.frames ≡ claimed self.old.frames) }
         ensures still { OnOk result (may_claim ≡ false → free self.new.frames ≡ free self.old.frames) }
     {
         let place = self.find(task, address_of(want), need_of(want));
@@ -112,7 +111,6 @@ impl Parts {
         requires inside { at + want_size want ≤ self.old.size }
         requires sized { IsSizedWant want }
         ensures faults { IfOk result (λ step. Faults task want may_claim key step self.old self.new log.old.items log.new.items) }
-        ensures claims { OnOk result (may_claim ≡ false → claimed self.new.frames ≡ claimed self.old.frames) }
         ensures still { OnOk result (may_claim ≡ false → free self.new.frames ≡ free self.old.frames) }
     {
         let Some(known) = self.objects.find(key.object) else {

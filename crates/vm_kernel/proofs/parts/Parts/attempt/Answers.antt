@@ -95,7 +95,7 @@ pub returns-clause-plays : goal.returns-clause-plays
 returns-clause-plays g c = fault_plays g.given.header g.given.past c.args.waiting.task c.args.waiting.want c.args.may_claim c.in_ok-fault.field-0 c.args.self.now c.fault.new.self c.args.log.now.items c.fault.new.log.items c.in_ok-fault.ensures.faulted
 
 pub returns-in-Done-clause-once : goal.returns-in-Done-clause-once
-returns-in-Done-clause-once g c = once_done c.args.waiting c.args.may_claim c.args.self.now c.fault.new.self c.args.log.now.items c.fault.new.log.items c.remove.new.self (rw c.in-Done.is at c.in_ok-fault.ensures.faulted) c.in_ok-fault.ensures.claims c.remove.ensures.entry c.remove.ensures.queue
+returns-in-Done-clause-once g c = once_done c.args.waiting c.args.may_claim c.args.self.now c.fault.new.self c.args.log.now.items c.fault.new.log.items c.remove.new.self (rw c.in-Done.is at c.in_ok-fault.ensures.faulted) c.in_ok-fault.ensures.still c.remove.ensures.entry c.remove.ensures.queue
 
 pub returns-then-ne-clause-once : goal.returns-then-ne-clause-once
 returns-then-ne-clause-once g c =
@@ -116,7 +116,7 @@ returns-clause-once g c =
     let row = its_row w c.args.may_claim c.in_ok-fault.field-0 _ _ _ _ (λ was. PutsEntry w.task.0 (Some (with_on was c.match-branch-2.on)) c.fault.new.self.waits.rows c.set_on.new.self.rows) c.requires.1 c.in_ok-fault.ensures.faulted c.set_on.ensures.entry in
     let turns = λ (reason : On) (is : c.match-branch-2.on ≡ reason). subst (λ (z : On). PutsEntry w.task.0 (Some (with_on w z)) c.fault.new.self.waits.rows c.set_on.new.self.rows) is row in
     let page = λ (key : PageKey) (comes : (c.in_ok-fault.field-0 ≡ step.Ask key) ⊎ (c.in_ok-fault.field-0 ≡ step.WaitAnswer key)) (is : c.match-branch-2.on ≡ on.Page key).
-    once_page w c.args.may_claim c.in_ok-fault.field-0 key c.args.self.now c.fault.new.self c.args.log.now.items c.fault.new.log.items c.set_on.new.self c.in_ok-fault.ensures.faulted c.in_ok-fault.ensures.claims comes (turns (on.Page key) is) c.set_on.ensures.queue in
+    once_page w c.args.may_claim c.in_ok-fault.field-0 key c.args.self.now c.fault.new.self c.args.log.now.items c.fault.new.log.items c.set_on.new.self c.in_ok-fault.ensures.faulted c.in_ok-fault.ensures.still comes (turns (on.Page key) is) c.set_on.ensures.queue in
     elim c.match-branch-2.branch [
       | in-WaitReady at ↦
           once_ready w c.args.may_claim at.in-WaitReady.object c.args.self.now c.fault.new.self c.args.log.now.items c.fault.new.log.items c.set_on.new.self (rw at.in-WaitReady.is at c.in_ok-fault.ensures.faulted) (turns (on.Ready at.in-WaitReady.object) at.on-is) c.set_on.ensures.queue
