@@ -1,5 +1,5 @@
-//! The pagers and their slots, the server's directory and the page world, each public call once: they are proved to be called as they
-//! may be, and run. They stand in a crate of their own, since a crate with tests is proved twice.
+//! Calls of the pagers and their slots, the server's directory and the page world: they are proved to be made as they may be, and run.
+//! They stand in a crate of their own, since a crate with tests is proved twice.
 #![tactic(auto)]
 
 #[cfg(test)]

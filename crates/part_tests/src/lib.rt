@@ -1,5 +1,5 @@
-//! The parts of a host and of its outside, each public call once: they are proved to be called as they may be, and run. They stand in a
-//! crate of their own, since a crate with tests is proved twice.
+//! Calls of the parts of a host and of its outside: they are proved to be made as they may be, and run. They stand in a crate of their
+//! own, since a crate with tests is proved twice.
 #![tactic(auto)]
 
 #[cfg(test)]

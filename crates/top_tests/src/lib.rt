@@ -1,5 +1,5 @@
-//! The kernel, the system, the texts and the top call, each public call once: they are proved to be called as they may be, and run.
-//! They stand in a crate of their own, since a crate with tests is proved twice.
+//! Calls of the kernel, the system, the texts and the top call: they are proved to be made as they may be, and run. They stand in a crate
+//! of their own, since a crate with tests is proved twice.
 #![tactic(auto)]
 
 #[cfg(test)]
