@@ -4,12 +4,12 @@ use Rattle.std.proofs.lemmas.Bool.{false≢true}
 use Rattle.std.proofs.lemmas.Option.{none-some, same_Some}
 use Rattle.std.specs.Prelude.{MatchOption}
 use Rattle.pg_slots.proofs.Marks.{MayHave, length_marks, marked_inside, marks_dropped, marks_lost, marks_put}
-use Rattle.pg_slots.proofs.Places.{itself}
 use Rattle.pg_slots.specs.Kept.{AllMarked, AreKept, AreMarked, DropsRows, FreesSlots, IsUnmarked, PutsRow, slot_among}
 use Rattle.pg_slots.specs.Slots.{GoesTo, HasNoSlot, IsLowestFree, SlotTable, slot_of}
 use Rattle.pg_slots.specs.declared.slot_row.Held.{Held}
 use Rattle.pg_slots.specs.declared.slot_row.Held.TheVariants.{Lost}
 use Rattle.pg_slots.specs.declared.slot_row.SlotRow.{SlotRow}
+use Rattle.vm_base.proofs.Keys.{itself}
 use Rattle.vm_base.specs.declared.ids.PageKey.{PageKey}
 
 abbrev pub shown : ℕ → ℕ → List SlotRow → List Bool → SlotTable

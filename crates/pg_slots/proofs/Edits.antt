@@ -1,32 +1,18 @@
 -- What an edit leaves of the rows.
 use Rattle.std.proofs.Common.{ℕ, zero, suc, ◌≡◌, ◌<◌, ◌==◌, Bool, true, false, List, [], ◌∷◌, length, get_or, not, set, Option, Some, None, refl, sym, ◌∙◌, ap, subst, ⊎_elim, arith}
-use Rattle.std.proofs.lemmas.Bool.{cases_Bool, false≢true}
+use Rattle.std.proofs.lemmas.Bool.{cases_Bool}
 use Rattle.std.proofs.lemmas.Bool.Decides.{nat_tests}
 use Rattle.std.proofs.lemmas.Option.{none-some}
 use Rattle.std.specs.List.{filter, insert}
 use Rattle.std.specs.Prelude.{if◌then◌else◌}
 use Rattle.vm_base.specs.declared.ids.PageKey.{PageKey}
-use Rattle.pg_slots.proofs.Places.{Ahead, Behind, Same, apart, cases_key, later, low_bound, page_read}
-use Rattle.pg_slots.specs.Kept.{ByKey, IsFrom, rank}
-use Rattle.pg_slots.specs.Slots.{held_among, is_page}
+use Rattle.pg_slots.proofs.Places.{low_bound}
+use Rattle.pg_slots.specs.Kept.{ByKey, rank}
+use Rattle.pg_slots.specs.Slots.{held_among}
 use Rattle.pg_slots.specs.declared.slot_row.Held.{Held}
 use Rattle.pg_slots.specs.declared.slot_row.SlotRow.{SlotRow}
-
--- two tests that don't both hold can be made in either order
-pub swap_tests : {X : Type 0} (a b : Bool) (u v w : X) → (a ≡ true → b ≡ false) → (if a then u else (if b then v else w)) ≡ (if b then v else (if a then u else w))
-swap_tests true true u v w other = absurd (false≢true (sym (other refl)))
-swap_tests true false u v w other = refl
-swap_tests false true u v w other = refl
-swap_tests false false u v w other = refl
-
--- a page in front of another is not the other
-other_page : (key : PageKey) (other : PageKey) (o p : ℕ) → is_page key other.object.0 other.page.0 ≡ false → is_page key o p ≡ true → is_page other o p ≡ false
-other_page key other o p differ here =
-    let is = page_read key o p here in
-    cases_key other o p
-    (λ (h : Ahead other o p). h.apart)
-    (λ (h : Same other o p). absurd (false≢true (sym (rw (h.object, h.page) at differ) ∙ here)))
-    (λ (h : Behind other o p). h.apart)
+use Rattle.vm_base.proofs.Keys.{Ahead, Behind, Same, behind_apart, cases_key, later, other_page, page_read, swap_tests}
+use Rattle.vm_base.specs.Keys.{IsFrom, is_page}
 
 weaker : (object page : ℕ) (key : PageKey) (rows : List SlotRow) → IsFrom object page key → ByKey key.object.0 (suc key.page.0) rows → ByKey object page rows
 weaker object page key [] from by_key = tt
@@ -95,12 +81,6 @@ held_filtered object o p (x ∷ xs) =
     (λ (no : (x.key.object.0 == object) ≡ false).
     rw (no, rest) (swap_tests (is_page x.key o p) (object == o) (Some x.held) None (held_among o p xs) (λ here. page_apart x.key object o p no here)))
     (cases_Bool (x.key.object.0 == object))
-
--- a page from behind another on is not the other
-behind_apart : (key other : PageKey) (o p : ℕ) → IsFrom key.object.0 (suc key.page.0) other → is_page key o p ≡ true → is_page other o p ≡ false
-behind_apart key other o p from here =
-    let is = page_read key o p here in
-    apart other key.object.0 (suc key.page.0) o p from (record { above = omega (arith, is.object); inside = λ le. omega (arith, is.page) })
 
 pub by_key_set : (object page i : ℕ) (new : SlotRow) (rows : List SlotRow) (d : SlotRow) → ByKey object page rows → i < length rows → (get_or rows i d).key ≡ new.key → ByKey object page (set rows i new)
 by_key_set object page i new [] d by_key within same = absurd (omega arith)

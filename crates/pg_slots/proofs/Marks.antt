@@ -3,12 +3,14 @@ use Rattle.std.proofs.Common.{ℕ, zero, suc, ◌≡◌, ◌≢◌, ◌<◌, ◌
 use Rattle.std.proofs.lemmas.Bool.{cases_Bool, cases_eq, false≢true}
 use Rattle.std.proofs.lemmas.Bool.Decides.{nat_tests}
 use Rattle.std.proofs.lemmas.Option.{none-some, same_Some}
-use Rattle.pg_slots.proofs.Places.{itself, none_among, page_read}
+use Rattle.pg_slots.proofs.Places.{none_among}
 use Rattle.pg_slots.specs.Kept.{AreMarked, ByKey, DropsRows, FreesSlots, HasRow, PutsRow, freed, freed_row, is_marked, slot_among, unmarked}
-use Rattle.pg_slots.specs.Slots.{is_page, slot_of}
+use Rattle.pg_slots.specs.Slots.{slot_of}
 use Rattle.pg_slots.specs.declared.slot_row.Held.{Held}
 use Rattle.pg_slots.specs.declared.slot_row.Held.TheVariants.{Lost}
 use Rattle.pg_slots.specs.declared.slot_row.SlotRow.{SlotRow}
+use Rattle.vm_base.proofs.Keys.{itself, page_read}
+use Rattle.vm_base.specs.Keys.{is_page}
 use Rattle.vm_base.specs.declared.ids.PageKey.{PageKey}
 
 -- what a mark that is set leaves

@@ -5,12 +5,14 @@ use Rattle.std.proofs.lemmas.Option.{get_or_from_slice_get, slice_get_within}
 use Rattle.std.specs.List.{filter, insert}
 use Rattle.std.specs.Prelude.{slice_get}
 use Rattle.pg_slots.proofs.Edits.{by_key_filtered, by_key_inserted, by_key_set, held_filtered, held_inserted, held_set, is_apart}
-use Rattle.pg_slots.proofs.Places.{held_found, held_if, page_read}
+use Rattle.pg_slots.proofs.Places.{held_found, held_if}
 use Rattle.pg_slots.proofs.Marks.{frees}
 use Rattle.pg_slots.specs.Kept.{ByKey, DropsRows, FreesSlots, PutsRow, RowTable, freed, is_page_at, rank}
-use Rattle.pg_slots.specs.Slots.{held_among, is_page}
+use Rattle.pg_slots.specs.Slots.{held_among}
 use Rattle.pg_slots.specs.declared.slot_row.Held.{Held}
 use Rattle.pg_slots.specs.declared.slot_row.SlotRow.{SlotRow}
+use Rattle.vm_base.proofs.Keys.{key_is, page_read}
+use Rattle.vm_base.specs.Keys.{is_page}
 use Rattle.vm_base.specs.declared.ids.PageKey.{PageKey}
 
 abbrev pub seen : List SlotRow → ℕ → RowTable
@@ -33,12 +35,6 @@ placed rows found spare table key i view kept same place = record {
 pub record At (rows : List SlotRow) (key : PageKey) (i : ℕ) (was : Held) : Type 0 where
   pub within : i < length rows
   pub is : (d : SlotRow) → get_or rows i d ≡ record { key = key; held = was }
-
-abbrev pub page_key : ℕ → ℕ → PageKey
-page_key object page = record { object = record { 0 = object }; page = record { 0 = page } }
-
-key_is : (key : PageKey) (o p : ℕ) → key.object.0 ≡ o → key.page.0 ≡ p → page_key o p ≡ key
-key_is key o p one two = rw (← one, ← two) refl
 
 page_is : (x : SlotRow) (key : PageKey) → is_page x.key key.object.0 key.page.0 ≡ true → x ≡ record { key = key; held = x.held }
 page_is x key here =

@@ -39,18 +39,22 @@ pub record Agrees (slots : SlotTable) (content : Content) : Type 0 where
 
 -- where the host's area is told, it has these bytes at a slot
 abbrev pub HasAt : (List ℕ → Told) → SlotTable → ℕ → List ℕ → Type 0
-HasAt told slots s bytes = (was : Option (List ℕ)) → told (area_name slots.host) ≡ Some was → read_at (unwrap_or was []) (s * slots.size) slots.size ≡ bytes
+HasAt told slots s bytes =
+    (was : Option (List ℕ)) → told (area_name slots.host) ≡ Some was
+    → read_at (unwrap_or was []) (s * slots.size) slots.size ≡ bytes
 
 -- slots and backing fit a content: they agree, and each kept page has its bytes at its slot
 pub record Fits (told : List ℕ → Told) (slots : SlotTable) (content : Content) : Type 0 where
   pub agrees : Agrees slots content
-  pub bytes : (o p s : ℕ) (bytes : List ℕ) → held_at slots o p ≡ Some (held.Kept s) → content o p ≡ Some (Kept bytes) → HasAt told slots s bytes
+  pub bytes : (o p s : ℕ) (bytes : List ℕ) → held_at slots o p ≡ Some (held.Kept s) → content o p ≡ Some (Kept bytes)
+      → HasAt told slots s bytes
 
 -- the host's area is told
 abbrev pub IsTold : (List ℕ → Told) → SlotTable → Type 0
 IsTold told slots = IsSome (told (area_name slots.host))
 
--- each content that slots and backing fit before a call they fit after it, as the call changes it; where the area is not told, they agree
+-- each content that slots and backing fit before a call they fit after it, as the call changes it; where the area
+-- is not told, they agree
 pub record Carries (before after : List ℕ → Told) (old new : SlotTable) (change : Content → Content) : Type 0 where
   pub agrees : (content : Content) → Agrees old content → Agrees new (change content)
   pub fits : (content : Content) → IsTold before old → Fits before old content → Fits after new (change content)
@@ -75,8 +79,10 @@ without object content = λ o p. if object == o then None else content o p
 
 -- what a put leaves in the areas: its page's bytes at its slot, or after a fault anything there, and all else as before
 abbrev pub PutTold : Result Put NoMemory → (List ℕ → Told) → (List ℕ → Told) → SlotTable → Option ℕ → List ℕ → Type 0
-PutTold (Ok put.Kept) before after slots slot bytes = (s : ℕ) → slot ≡ Some s → WriteTold before after (area_name slots.host) (s * slots.size) bytes (Ok tt)
-PutTold (Ok put.Failed) before after slots slot bytes = (s : ℕ) → slot ≡ Some s → WriteTold before after (area_name slots.host) (s * slots.size) bytes (Err stop.Failed)
+PutTold (Ok put.Kept) before after slots slot bytes =
+    (s : ℕ) → slot ≡ Some s → WriteTold before after (area_name slots.host) (s * slots.size) bytes (Ok tt)
+PutTold (Ok put.Failed) before after slots slot bytes =
+    (s : ℕ) → slot ≡ Some s → WriteTold before after (area_name slots.host) (s * slots.size) bytes (Err stop.Failed)
 PutTold (Ok put.NoSlot) before after slots slot bytes = SameAreas before after
 PutTold (Err e) before after slots slot bytes = SameAreas before after
 

@@ -1,23 +1,15 @@
 -- How the slots are kept: the pages that were put by rising key, and a mark for each slot that one of them has.
-use Rattle.std.specs.Prelude.{ℕ, suc, ◌≡◌, ◌≤◌, ◌<◌, ◌==◌, ◌&&◌, ◌||◌, Bool, true, false, List, [], ◌∷◌, Option, Some, None, if◌then◌else◌, get_or, length, nat_lt, set}
-use Rattle.pg_slots.specs.Slots.{held_among, is_page, slot_of}
+use Rattle.std.specs.Prelude.{ℕ, suc, ◌≡◌, ◌≤◌, ◌<◌, ◌==◌, ◌&&◌, Bool, true, false, List, [], ◌∷◌, Option, Some, None, if◌then◌else◌, get_or, length, set}
+use Rattle.pg_slots.specs.Slots.{held_among, slot_of}
 use Rattle.pg_slots.specs.declared.slot_row.Held.{Held}
 use Rattle.pg_slots.specs.declared.slot_row.SlotRow.{SlotRow}
-use Rattle.vm_base.specs.declared.ids.PageKey.{PageKey}
+use Rattle.vm_base.specs.Limits.{most_hosts, most_slots}
+use Rattle.vm_base.specs.Keys.{IsFrom, is_before, is_page}
 
 -- the rows, and how many more there is room for
 pub record RowTable : Type 0 where
   pub rows : List SlotRow
   pub spare : ℕ
-
--- a page comes in front of another
-abbrev pub is_before : PageKey → ℕ → ℕ → Bool
-is_before key object page = nat_lt key.object.0 object || (key.object.0 == object && nat_lt key.page.0 page)
-
--- a page is another or comes behind it
-pub record IsFrom (object page : ℕ) (key : PageKey) : Type 0 where
-  pub above : object ≤ key.object.0
-  pub inside : key.object.0 ≤ object → page ≤ key.page.0
 
 -- by rising object and page, from one on
 abbrev pub ByKey : ℕ → ℕ → List SlotRow → Type 0
@@ -75,8 +67,8 @@ pub record AreMarked (rows : List SlotRow) (taken : List Bool) : Type 0 where
   pub apart : (o p q r s : ℕ) → slot_among o p rows ≡ Some s → slot_among q r rows ≡ Some s → (o ≡ q) × (p ≡ r)
 
 pub record AreKept (host : ℕ) (rows : List SlotRow) (taken : List Bool) : Type 0 where
-  pub host_low : host < 8
-  pub few : length taken ≤ 65536
+  pub host_low : host < most_hosts
+  pub few : length taken ≤ most_slots
   pub marks : AreMarked rows taken
 
 -- an object's rows gave up the marks of their slots; all others are as they were
@@ -84,7 +76,8 @@ pub record FreesSlots (object : ℕ) (rows : List SlotRow) (old new : List Bool)
   pub count : length new ≡ length old
   pub left : (s : ℕ) → is_marked new s ≡ true → is_marked old s ≡ true
   pub freed : (p s : ℕ) → is_marked new s ≡ true → slot_among object p rows ≡ Some s → ⊥
-  pub kept : (s : ℕ) → is_marked old s ≡ true → ((p : ℕ) → slot_among object p rows ≡ Some s → ⊥) → is_marked new s ≡ true
+  pub kept : (s : ℕ) → is_marked old s ≡ true → ((p : ℕ) → slot_among object p rows ≡ Some s → ⊥)
+      → is_marked new s ≡ true
 
 -- the lowest slot without a mark
 pub record IsUnmarked (taken : List Bool) (s : ℕ) : Type 0 where

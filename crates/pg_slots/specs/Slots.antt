@@ -1,21 +1,19 @@
 -- The paging slots of a host, as contracts see them.
-use Rattle.std.specs.Prelude.{ℕ, ◌≡◌, ◌<◌, ◌==◌, ◌&&◌, Bool, List, [], ◌∷◌, Option, Some, None, MatchOption, if◌then◌else◌}
+use Rattle.std.specs.Prelude.{ℕ, ◌≡◌, ◌<◌, ◌==◌, ◌&&◌, List, [], ◌∷◌, Option, Some, None, MatchOption, if◌then◌else◌}
 use Rattle.pg_slots.specs.declared.answers.Put.{Put}
 use Rattle.pg_slots.specs.declared.answers.Put.TheVariants as put
 use Rattle.pg_slots.specs.declared.slot_row.Held.{Held}
 use Rattle.pg_slots.specs.declared.slot_row.Held.TheVariants.{Kept, Torn, Lost}
 use Rattle.pg_slots.specs.declared.slot_row.SlotRow.{SlotRow}
-use Rattle.vm_base.specs.declared.ids.PageKey.{PageKey}
+use Rattle.vm_base.specs.Keys.{is_page}
 
--- the number of the host, the bytes of a page, the number of slots, and the pages that were put with what is held of each
+-- the number of the host, the bytes of a page, the number of slots, and the pages that were put with what is held
+-- of each
 pub record SlotTable : Type 0 where
   pub host : ℕ
   pub size : ℕ
   pub count : ℕ
   pub rows : List SlotRow
-
-abbrev pub is_page : PageKey → ℕ → ℕ → Bool
-is_page key object page = key.object.0 == object && key.page.0 == page
 
 abbrev pub held_among : ℕ → ℕ → List SlotRow → Option Held
 held_among object page [] = None

@@ -8,7 +8,7 @@ use std::alloc::Global;
 use std::marker::Model;
 use vm_base::{NoMemory, ObjectId, PageKey};
 
-// What is held of each page that was put. Only `reserve` takes memory.
+/// What is held of each page that was put. Only `reserve` takes memory.
 #[derive(Drop)]
 pub struct Rows {
     // By rising object, and by rising page of an object.
@@ -27,7 +27,7 @@ impl Model for Rows {
 }
 
 impl Rows {
-    // No page was put.
+    /// No page was put.
     pub fn new(alloc: Global) -> Rows
         ensures { result ≡ record { rows = []; spare = 0 } }
     {
@@ -36,7 +36,7 @@ impl Rows {
         }
     }
 
-    // Makes room for a further page.
+    /// Makes room for a further page.
     pub fn reserve(&mut self) -> Result<(), NoMemory>
         ensures rows { self.new.rows ≡ self.old.rows }
         ensures room { OnOk result (0 < self.new.spare) }
@@ -45,7 +45,7 @@ impl Rows {
         Ok(())
     }
 
-    // What is held of a page.
+    /// What is held of a page.
     pub fn held(&self, key: PageKey) -> Option<Held>
         ensures { result ≡ held_among key.object.0 key.page.0 self.now.rows }
     {
@@ -56,7 +56,7 @@ impl Rows {
         Some(self.rows[i].held)
     }
 
-    // The slot that a page has.
+    /// The slot that a page has.
     pub fn slot(&self, key: PageKey) -> Option<u32>
         ensures { result ≡ slot_of (held_among key.object.0 key.page.0 self.now.rows) }
     {
@@ -66,7 +66,7 @@ impl Rows {
         }
     }
 
-    // Puts in or changes the row of a page.
+    /// Puts in or changes the row of a page.
     pub fn put(&mut self, key: PageKey, held: Held)
         requires { 0 < self.old.spare }
         ensures { PutsRow key.object.0 key.page.0 held self.old.rows self.new.rows }
@@ -80,14 +80,14 @@ impl Rows {
         let _ = self.rows.insert(i, row);
     }
 
-    // Takes the marks from the slots of an object's pages.
+    /// Takes the marks from the slots of an object's pages.
     pub fn free(&self, object: ObjectId, taken: &mut [bool])
         ensures { FreesSlots object.0 self.now.rows taken.old taken.new }
     {
         free_rows(&self.rows, object, taken);
     }
 
-    // Takes out the rows of an object.
+    /// Takes out the rows of an object.
     pub fn drop_object(&mut self, object: ObjectId)
         ensures { DropsRows object.0 self.old.rows self.new.rows }
     {

@@ -1,7 +1,8 @@
 // A page with what is held of it, and the search in a list of them.
 ghost use Rattle.std.specs.Prelude.{◌≡◌, ◌≤◌, ◌<◌, Some, length, slice_get};
-ghost use Rattle.pg_slots.specs.Kept.{ByKey, freed, freed_row, is_before, is_page_at, rank};
+ghost use Rattle.pg_slots.specs.Kept.{ByKey, freed, freed_row, is_page_at, rank};
 ghost use Rattle.pg_slots.specs.Slots.{slot_of};
+ghost use Rattle.vm_base.specs.Keys.{is_before};
 
 use vm_base::{ObjectId, PageKey};
 
@@ -23,7 +24,7 @@ pub struct SlotRow {
     pub held: Held,
 }
 
-// The slot that a page has.
+/// The slot that a page has.
 pub fn slot_in(held: Held) -> Option<u32>
     ensures { result ≡ slot_of (Some held) }
 {
@@ -40,7 +41,7 @@ fn comes_before(key: PageKey, other: PageKey) -> bool
     key.object.0 < other.object.0 || (key.object.0 == other.object.0 && key.page.0 < other.page.0)
 }
 
-// The number of pages in front of one, in a list by rising key.
+/// The number of pages in front of one, in a list by rising key.
 pub fn find(rows: &[SlotRow], key: PageKey) -> usize
     requires { ByKey 0 0 rows.now }
     ensures value { result ≡ rank key.object.0 key.page.0 rows.now }
@@ -49,7 +50,7 @@ pub fn find(rows: &[SlotRow], key: PageKey) -> usize
     rows.partition_point(|row| comes_before(row.key, key))
 }
 
-// Whether a page stands at an index.
+/// Whether a page stands at an index.
 pub fn stands_at(rows: &[SlotRow], i: usize, key: PageKey) -> bool
     ensures { result ≡ is_page_at key.object.0 key.page.0 (slice_get rows.now i) }
 {
@@ -71,7 +72,7 @@ fn free_row(row: SlotRow, object: ObjectId, taken: &mut [bool])
     }
 }
 
-// Takes the marks from the slots of an object's rows.
+/// Takes the marks from the slots of an object's rows.
 pub fn free_rows(rows: &[SlotRow], object: ObjectId, taken: &mut [bool])
     ensures { taken.new ≡ freed object.0 rows.now taken.old }
 {

@@ -3,6 +3,7 @@ ghost use Rattle.std.specs.Prelude.{ℕ, ◌≡◌, ◌*◌, ◌<◌, ◌≤◌,
 ghost use Rattle.pg_slots.specs.Contents.{Agrees, Answers, AnswersHeld, Carries, Content, Fits, GetHasCause, GivesStored, IsTold, IsWhole, PutHasCause, PutTold, after_put, area_name, same_content, without};
 ghost use Rattle.pg_slots.specs.Kept.{AllMarked, IsUnmarked, PutsRow};
 ghost use Rattle.pg_slots.specs.Slots.{DropsHeld, GoesTo, HasNoSlot, KeepsShape, Leaves, held_at, slot_at};
+ghost use Rattle.vm_base.specs.Limits.{most_hosts, most_slots};
 ghost use Rattle.vm_outside.specs.Areas.{SameAreas, Told};
 
 use crate::rows::Rows;
@@ -44,8 +45,8 @@ impl Model for Slots {
 impl Slots {
     /// So many slots, all free; it fails for want of memory alone.
     pub fn new(alloc: Global, host: HostId, count: u32, size: PageSize) -> Result<Slots, NoMemory>
-        requires host { host.0 < 8 }
-        requires few { count ≤ 65536 }
+        requires host { host.0 < most_hosts }
+        requires few { count ≤ most_slots }
         ensures value { IfOk result (λ slots. slots ≡ record { host = host.0; size = size; count = count; rows = [] }) }
         ensures fits { IfOk result (λ slots. (told : List ℕ → Told) → Fits told slots (λ o p. None)) }
     {
@@ -114,7 +115,8 @@ impl Slots {
     /// and calls it at most once; it answers `Failed` exactly where that call failed.
     pub fn get<P: Backing>(&self, key: PageKey, paging: &mut P) -> Result<Got, NoMemory>
         ensures held { IfOk result (λ got. AnswersHeld got (held_at self.now key.object.0 key.page.0)) }
-        ensures answers { IfOk result (λ got. (content : Content) → Agrees self.now content → Answers got (content key.object.0 key.page.0)) }
+        ensures answers { IfOk result (λ got. (content : Content) → Agrees self.now content
+            → Answers got (content key.object.0 key.page.0)) }
         ensures whole { IfOk result (IsWhole self.now.size) }
         ensures bytes { IfOk result (λ got. (content : Content) → IsTold (P.area paging.old) self.now
             → Fits (P.area paging.old) self.now content → GivesStored got (content key.object.0 key.page.0)) }
@@ -149,7 +151,8 @@ impl Slots {
     /// memory.
     pub fn drop_object(&mut self, object: ObjectId)
         ensures held { DropsHeld object.0 self.old self.new }
-        ensures fits { (told : List ℕ → Told) (content : Content) → Fits told self.old content → Fits told self.new (without object.0 content) }
+        ensures fits { (told : List ℕ → Told) (content : Content) → Fits told self.old content
+            → Fits told self.new (without object.0 content) }
     {
         self.rows.free(object, &mut self.taken);
         self.rows.drop_object(object);
@@ -168,7 +171,7 @@ impl Slots {
 
 // The name of a host's area.
 fn area_of(host: HostId) -> &'static str
-    requires { host.0 < 8 }
+    requires { host.0 < most_hosts }
     ensures { result.now ≡ area_name host.0 }
 {
     match host.0 {
@@ -192,7 +195,7 @@ fn place(slot: u32, size: PageSize) -> u64
 
 // The lowest slot without a mark.
 fn lowest_free(taken: &[bool]) -> Option<u32>
-    requires { length taken.now ≤ 65536 }
+    requires { length taken.now ≤ most_slots }
     ensures { MatchOption result (AllMarked taken.now) (IsUnmarked taken.now) }
 {
     'all: for (i, mark) in taken.iter().enumerate() {

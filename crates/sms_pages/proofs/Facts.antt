@@ -10,6 +10,7 @@ use Rattle.vm_model.specs.Side.{Side, side, move}
 use Rattle.vm_model.specs.Server.{Wanting, trimmed_line}
 use Rattle.vm_model.specs.Server.{NoUpgrade}
 use Rattle.sms_pages.specs.Stands.{counted}
+use Rattle.vm_model.proofs.Others.{others_holds}
 
 own_effect : (k : ℕ) (e : Effect) → effect_on k (record { host = k; effect = e }) ≡ e
 own_effect k e = grind (arith, nat_tests)
@@ -22,9 +23,6 @@ own_side k e past = ap (move (side k past)) (own_effect k e)
 
 pub other_side : (h k : ℕ) (e : Effect) (past : List Act) → k ≢ h → side h (record { host = k; effect = e } ∷ past) ≡ move (side h past) (to_others e)
 other_side h k e past apart = ap (move (side h past)) (other_effect h k e apart)
-
-others_holds : (e : Effect) (s : Side) → (move s (to_others e)).holds ≡ s.holds
-others_holds e s = grind arith
 
 others_awaits : (e : Effect) (s : Side) → (move s (to_others e)).awaits ≡ s.awaits
 others_awaits e s = grind arith

@@ -233,6 +233,9 @@ pub after_return : (size h : ℕ) (dirty keep : Bool) (bytes : List ℕ) (d : Di
 after_return size h dirty true bytes d past s lt = after_same size h (TakenUp (Returning dirty true bytes)) d.holds d.awaits d.bytes bytes d.line past s refl refl refl refl
 after_return size h dirty false bytes d past s lt = after_lowered size h 0 (TakenUp (Returning dirty false bytes)) d.holds d.awaits d.awaits d.bytes bytes d.line past s lt (omega arith) refl (awaits_kept h (TakenUp (Returning dirty false bytes)) d.awaits past refl s.same_awaits) s.eight_await refl refl
 
+awaits_now : (t : Side) (control a : ℕ) → t.awaits ≡ a → (0 < a → t.awaited_control ≡ control) → (if t.awaited_control == control then 0 else t.awaits) ≡ 0
+awaits_now t control a same mine = grind (arith, nat_tests)
+
 -- a completion, and the end of a control: where the host is awaited, of the control for which it is
 pub after_completed : (size h control count : ℕ) (d : Directory) (past : List Act) → StandsFor size d past → h < 8 → (0 < slice_index d.awaits h → (side h past).awaited_control ≡ control)
     → StandsFor size (finished h d) (record { host = h; effect = TakenUp (Doing control count) } ∷ past)
@@ -248,17 +251,12 @@ after_completed size h control count d past s lt mine =
       holds_now : (t : Side) (control a b : ℕ) → t.awaits ≡ a → t.holds ≡ b → b ≤ 2 → (0 < a → t.awaited_control ≡ control) → (if t.awaited_control == control then after_done t.awaits t.holds else t.holds) ≡ left_by a b
       holds_now t control a b same held le mine = grind (arith, nat_tests)
 
-      awaits_now : (t : Side) (control a : ℕ) → t.awaits ≡ a → (0 < a → t.awaited_control ≡ control) → (if t.awaited_control == control then 0 else t.awaits) ≡ 0
-      awaits_now t control a same mine = grind (arith, nat_tests)
-
 pub after_end : (size h control : ℕ) (d : Directory) (past : List Act) → StandsFor size d past → h < 8 → (0 < slice_index d.awaits h → (side h past).awaited_control ≡ control)
     → StandsFor size (ended h d) (record { host = h; effect = TakenUp (Ending control) } ∷ past)
 after_end size h control d past s lt mine =
     after_lowered size h 0 (TakenUp (Ending control)) d.holds d.awaits (slice_set d.awaits h 0) d.bytes d.bytes d.line past s lt (omega arith) refl
     (awaits_set h (TakenUp (Ending control)) 0 d.awaits past (omega (arith, s.eight_await)) (awaits_now (side h past) control (slice_index d.awaits h) (s.same_awaits h) mine) s.same_awaits)
-    (length-set d.awaits h 0 ∙ s.eight_await) refl s.same_bytes where
-      awaits_now : (t : Side) (control a : ℕ) → t.awaits ≡ a → (0 < a → t.awaited_control ≡ control) → (if t.awaited_control == control then 0 else t.awaits) ≡ 0
-      awaits_now t control a same mine = grind (arith, nat_tests)
+    (length-set d.awaits h 0 ∙ s.eight_await) refl s.same_bytes
 
 -- a new directory, before any event
 pub begins : (size : ℕ) (d : Directory) → IsNew size d → StandsFor size d []

@@ -1,5 +1,6 @@
 -- What holds of a directory's state.
 use Rattle.std.specs.Prelude.{ℕ, ◌≡◌, ◌+◌, ◌≤◌, Bool, true, false, List, [], ◌∷◌, length, nat_lt, nat_le, ◌&&◌, if◌then◌else◌, slice_index, slice_set}
+use Rattle.vm_base.specs.Limits.{most_hosts}
 use Rattle.vm_model.specs.Server.{Wanting}
 use Rattle.sms_pages.specs.declared.desk.Desk.{Desk}
 use Rattle.sms_pages.specs.declared.reply.Reply.{Reply}
@@ -28,13 +29,17 @@ replies_with w host holds before replies =
 
 -- what is left to serve, with what was sent, comes to the same as before; or it has come to its end
 abbrev pub Serves : Bool → Desk → List Reply → Desk → List Reply → Type 0
-Serves true old sent new replies = served replies new.holds new.awaits new.bytes new.line.items ≡ served sent old.holds old.awaits old.bytes old.line.items
-Serves false old sent new replies = record { holds = new.holds; awaits = new.awaits; line = new.line.items; replies = replies } ≡ served sent old.holds old.awaits old.bytes old.line.items
+Serves true old sent new replies =
+    served replies new.holds new.awaits new.bytes new.line.items
+    ≡ served sent old.holds old.awaits old.bytes old.line.items
+Serves false old sent new replies =
+    record { holds = new.holds; awaits = new.awaits; line = new.line.items; replies = replies }
+    ≡ served sent old.holds old.awaits old.bytes old.line.items
 
 -- a page for each that waits, and room for the replies to them and eight more
 pub record HasRoom (d : Desk) (room : ℕ) : Type 0 where
   pub pages : length d.line.items ≤ length d.spare.items
-  pub replies : length d.line.items + 8 ≤ room
+  pub replies : length d.line.items + most_hosts ≤ room
 
 -- the memory that a call takes is at hand: a place in the line, a page for each that then waits, and room for replies
 abbrev pub is_prepared : ℕ → ℕ → ℕ → ℕ → Bool

@@ -1,5 +1,6 @@
 -- A page's directory, and the rules by which it answers.
 use Rattle.std.specs.Prelude.{ℕ, zero, suc, ◌≡◌, ◌+◌, ◌==◌, ◌&&◌, ◌||◌, Bool, true, false, not, if◌then◌else◌, nat_lt, List, [], ◌∷◌, ◌++◌, length, replicate, slice_index, slice_set}
+use Rattle.vm_base.specs.Limits.{most_hosts}
 use Rattle.std.specs.List.{list_all}
 use Rattle.vm_base.specs.declared.ids.Access.{Access}
 use Rattle.vm_base.specs.declared.ids.Access.TheVariants.{Load, Store}
@@ -60,7 +61,8 @@ ended host d = record d { holds = slice_set d.holds host 0; awaits = slice_set d
 
 -- another holder, not awaited, is recalled: to read only one that can write
 abbrev pub is_recalled : Wanting → ℕ → ℕ → ℕ → Bool
-is_recalled w host holds awaits = not (host == w.host) && (awaits == 0 && (if wants_write w then nat_lt 0 holds else holds == 2))
+is_recalled w host holds awaits =
+    not (host == w.host) && (awaits == 0 && (if wants_write w then nat_lt 0 holds else holds == 2))
 
 abbrev pub recall_kind : Wanting → ℕ
 recall_kind w = if wants_write w then 2 else 1
@@ -93,7 +95,8 @@ granted w = if wants_write w then 2 else 1
 -- a host below n is recalled
 abbrev pub any_recalled : Wanting → List ℕ → List ℕ → ℕ → Bool
 any_recalled w holds awaits zero = false
-any_recalled w holds awaits (suc n) = any_recalled w holds awaits n || is_recalled w n (slice_index holds n) (slice_index awaits n)
+any_recalled w holds awaits (suc n) =
+    any_recalled w holds awaits n || is_recalled w n (slice_index holds n) (slice_index awaits n)
 
 -- an upgrade whose host no longer holds Read leaves without a word
 abbrev pub leaves : Wanting → List ℕ → Bool
@@ -103,7 +106,7 @@ leaves w holds = w.upgrade && not (slice_index holds w.host == 1)
 abbrev pub turn : Wanting → List ℕ → List ℕ → Turn
 turn w holds awaits =
     if leaves w holds then Leaves
-    else if any_recalled w holds awaits 8 then Recalls
+    else if any_recalled w holds awaits most_hosts then Recalls
     else if list_all (λ kind. kind == 0) awaits then Grants
     else Waits
 
@@ -119,7 +122,7 @@ abbrev pub served : List Reply → List ℕ → List ℕ → List ℕ → List W
 served sent holds awaits bytes [] = record { holds = holds; awaits = awaits; line = []; replies = sent }
 served sent holds awaits bytes (w ∷ ws) = elim (turn w holds awaits) [
   | Leaves ↦ served sent holds awaits bytes ws
-  | Recalls ↦ record { holds = holds; awaits = recalled w holds awaits 8; line = w ∷ ws; replies = recalls w holds awaits 8 ++ sent }
+  | Recalls ↦ record { holds = holds; awaits = recalled w holds awaits most_hosts; line = w ∷ ws; replies = recalls w holds awaits most_hosts ++ sent }
   | Waits ↦ record { holds = holds; awaits = awaits; line = w ∷ ws; replies = sent }
   | Grants ↦ served (grant w bytes ∷ sent) (slice_set holds w.host (granted w)) awaits bytes ws
 ]
@@ -142,7 +145,7 @@ most_replies d = length d.line + 9
 
 -- of a page of so many zeros, which nobody holds or wants
 pub record IsNew (size : ℕ) (d : Directory) : Type 0 where
-  pub holds : d.holds ≡ replicate 8 0
-  pub awaits : d.awaits ≡ replicate 8 0
+  pub holds : d.holds ≡ replicate most_hosts 0
+  pub awaits : d.awaits ≡ replicate most_hosts 0
   pub line : d.line ≡ []
   pub bytes : d.bytes ≡ replicate size 0

@@ -1,5 +1,6 @@
 -- A page's directory beside the page's history: what it notes is what the history says.
 use Rattle.std.specs.Prelude.{ℕ, ◌≡◌, ◌≢◌, ◌≤◌, ◌<◌, ◌+◌, ◌==◌, Bool, true, false, if◌then◌else◌, List, [], ◌∷◌, ◌++◌, length, slice_index}
+use Rattle.vm_base.specs.Limits.{most_hosts}
 use Rattle.vm_base.specs.declared.ids.Lock.{Lock}
 use Rattle.vm_model.specs.Words.{Act, Supplying, Locking, SentDown, TakenUp, UpWord}
 use Rattle.vm_model.specs.Side.{side}
@@ -21,15 +22,15 @@ counted holds (w ∷ ws) = if counts holds w then w ∷ counted holds ws else co
 -- each is of one of eight hosts; a host is in it once with an upgrade and once with a request, the upgrade in front
 abbrev pub InTurn : List Wanting → Type 0
 InTurn [] = Unit {0}
-InTurn (w ∷ ws) = (w.host < 8) × NoUpgrade w.host ws × (w.upgrade ≡ false → NoRequest w.host ws) × InTurn ws
+InTurn (w ∷ ws) = (w.host < most_hosts) × NoUpgrade w.host ws × (w.upgrade ≡ false → NoRequest w.host ws) × InTurn ws
 
 pub record Stands (size : ℕ) (holds awaits : List ℕ) (bytes : List ℕ) (wants : List Wanting) (past : List Act) : Type 0 where
   pub same_holds : (h : ℕ) → (side h past).holds ≡ slice_index holds h
   pub same_awaits : (h : ℕ) → (side h past).awaits ≡ slice_index awaits h
   pub same_line : line past ≡ counted holds wants
   pub same_bytes : kept size past ≡ bytes
-  pub eight_hold : length holds ≡ 8
-  pub eight_await : length awaits ≡ 8
+  pub eight_hold : length holds ≡ most_hosts
+  pub eight_await : length awaits ≡ most_hosts
   pub bounded : (h : ℕ) → slice_index holds h ≤ 2
   pub in_turn : InTurn wants
   -- a host whose request waits holds nothing, and one that can write has no upgrade waiting
@@ -41,7 +42,8 @@ lock_number l = (if l.read then 1 else 0) + (if l.write then 2 else 0)
 
 -- the sending of a reply, to the control that the server knows of the host
 abbrev pub reply_act : (ℕ → ℕ) → Reply → Act
-reply_act heard (Supply host lock bytes) = record { host = host.0; effect = SentDown (heard host.0) (Supplying (lock_number lock) false bytes) }
+reply_act heard (Supply host lock bytes) =
+    record { host = host.0; effect = SentDown (heard host.0) (Supplying (lock_number lock) false bytes) }
 reply_act heard (Flush host) = record { host = host.0; effect = SentDown (heard host.0) (Locking 1 1 true 8 true) }
 reply_act heard (CleanLock host) = record { host = host.0; effect = SentDown (heard host.0) (Locking 1 1 false 2 true) }
 reply_act heard (Unlock host) = record { host = host.0; effect = SentDown (heard host.0) (Locking 1 0 false 0 false) }
@@ -62,7 +64,8 @@ pub record Follows (size : ℕ) (heard : ℕ → ℕ) (bytes : List ℕ) (s : Ou
 abbrev pub StandsFor : ℕ → Directory → List Act → Type 0
 StandsFor size d past = Stands size d.holds d.awaits d.bytes d.line past
 
--- each reply has its cause, the directory stands for the past with them, and where somebody still waits a host is awaited
+-- each reply has its cause, the directory stands for the past with them, and where somebody still waits a host is
+-- awaited
 pub record IsAnswered (size : ℕ) (heard : ℕ → ℕ) (after : Directory) (replies : List Reply) (past : List Act) : Type 0 where
   pub licensed : Licensed size (reply_acts heard replies ++ past)
   pub stands : StandsFor size after (reply_acts heard replies ++ past)

@@ -1,5 +1,6 @@
 // The state of a directory, and how its line is served.
 ghost use Rattle.std.specs.List.{list_all};
+ghost use Rattle.vm_base.specs.Limits.{most_hosts};
 ghost use Rattle.std.specs.Prelude.{◌≡◌, ◌==◌, ◌+◌, ◌-◌, ◌<◌, ◌≤◌, ◌∷◌, [], ◌++◌, List, ℕ, length, slice_index, slice_get, slice_set, Some, true, false, not, IsOk, OnOk, IfOk, Ok};
 ghost use Rattle.vm_base.specs.Listing.{Listed};
 ghost use Rattle.sms_pages.specs.Directory.{is_recalled, recall, recall_kind, recalls, recalled, grant, granted, served, turn, any_recalled};
@@ -8,13 +9,17 @@ ghost use Rattle.sms_pages.specs.Desk.{AllLong, IsElsewhereSame, awaits_with, re
 use crate::holding::{Holding, Recall, Turn, Wish};
 use crate::{Replies, Reply};
 use std::collections::VecDeque;
+use vm_base::limits::MOST_HOSTS;
 use vm_base::{HostId, Listing, Lock, NoMemory, PageBytes};
+
+/// The hosts of a page.
+pub const HOSTS: usize = MOST_HOSTS as usize;
 
 /// What a directory notes, and pages for the supplies to come.
 #[derive(Drop)]
 pub struct Desk {
-    pub holds: [Holding; 8],
-    pub awaits: [Recall; 8],
+    pub holds: [Holding; HOSTS],
+    pub awaits: [Recall; HOSTS],
     pub line: VecDeque<Wish>,
     pub bytes: PageBytes,
     pub spare: Listing<PageBytes>,
@@ -37,7 +42,7 @@ pub fn make_pages(
     Ok(())
 }
 
-// Makes a page a copy of another of the same length.
+/// Makes a page a copy of another of the same length.
 #[tactic(auto, using(crate::proofs::Pages::filled))]
 pub fn overwrite(page: &mut PageBytes, with: &PageBytes)
     requires { length page.old ≡ length with.now }
@@ -49,8 +54,9 @@ pub fn overwrite(page: &mut PageBytes, with: &PageBytes)
 impl Desk {
     // Whether the host is recalled for the one in front.
     fn is_recalled(&self, front: &Wish, host: u32) -> bool
-        requires { host < 8 }
-        ensures { result ≡ is_recalled front.now host (slice_index self.now.holds host) (slice_index self.now.awaits host) }
+        requires { host < most_hosts }
+        ensures { result
+            ≡ is_recalled front.now host (slice_index self.now.holds host) (slice_index self.now.awaits host) }
     {
         if host == front.host().0 || self.awaits[host as usize] != Recall::NONE {
             return false;
@@ -69,9 +75,11 @@ impl Desk {
         host: u32,
         replies: &mut Replies,
     ) -> Result<(), NoMemory>
-        requires { host < 8 }
-        ensures awaits { OnOk result (self.new.awaits ≡ awaits_with front.now host self.old.holds self.old.awaits self.old.awaits) }
-        ensures sent { OnOk result (replies.new.items ≡ replies_with front.now host self.old.holds self.old.awaits replies.old.items) }
+        requires { host < most_hosts }
+        ensures awaits { OnOk result (self.new.awaits
+            ≡ awaits_with front.now host self.old.holds self.old.awaits self.old.awaits) }
+        ensures sent { OnOk result (replies.new.items
+            ≡ replies_with front.now host self.old.holds self.old.awaits replies.old.items) }
         ensures rest { IsElsewhereSame self.old self.new }
         ensures succeeds { 0 < replies.old.room → IsOk result }
         ensures room { replies.old.room ≤ replies.new.room + 1 }
@@ -86,13 +94,14 @@ impl Desk {
     // Recalls the page for the one in front, by rising host.
     #[tactic(auto, using(crate::proofs::Recalls::awaits_more, crate::proofs::Recalls::replies_more))]
     fn recall(&mut self, front: &Wish, replies: &mut Replies) -> Result<(), NoMemory>
-        ensures awaits { OnOk result (self.new.awaits ≡ recalled front.now self.old.holds self.old.awaits 8) }
-        ensures sent { OnOk result (replies.new.items ≡ recalls front.now self.old.holds self.old.awaits 8 ++ replies.old.items) }
+        ensures awaits { OnOk result (self.new.awaits ≡ recalled front.now self.old.holds self.old.awaits most_hosts) }
+        ensures sent { OnOk result (replies.new.items
+            ≡ recalls front.now self.old.holds self.old.awaits most_hosts ++ replies.old.items) }
         ensures rest { IsElsewhereSame self.old self.new }
-        ensures succeeds { 8 ≤ replies.old.room → IsOk result }
-        ensures room { replies.old.room ≤ replies.new.room + 8 }
+        ensures succeeds { most_hosts ≤ replies.old.room → IsOk result }
+        ensures room { replies.old.room ≤ replies.new.room + most_hosts }
     {
-        for host in 0..8u32 {
+        for host in 0..MOST_HOSTS {
             self.recall_host(front, host, replies)?;
         }
         Ok(())
@@ -154,10 +163,10 @@ impl Desk {
     // Whether the one in front wants any host's page recalled.
     #[tactic(auto, using(crate::proofs::Recalls::any_more))]
     fn is_any_recalled(&self, front: &Wish) -> bool
-        ensures { result ≡ any_recalled front.now self.now.holds self.now.awaits 8 }
+        ensures { result ≡ any_recalled front.now self.now.holds self.now.awaits most_hosts }
     {
         let mut any = false;
-        for host in 0..8u32 {
+        for host in 0..MOST_HOSTS {
             any = any || self.is_recalled(front, host);
         }
         any
@@ -188,8 +197,10 @@ impl Desk {
         ensures exact { IfOk result (λ goes_on. Serves goes_on self.old replies.old.items self.new replies.new.items) }
         ensures bytes { self.new.bytes ≡ self.old.bytes }
         ensures long { AllLong (length self.new.bytes) self.new.spare.items }
-        ensures shorter { IfOk result (λ goes_on. goes_on ≡ true → length self.new.line.items < length self.old.line.items) }
-        ensures room { IfOk result (λ goes_on. goes_on ≡ true → HasRoom self.old replies.old.room → HasRoom self.new replies.new.room) }
+        ensures shorter { IfOk result (λ goes_on. goes_on ≡ true
+            → length self.new.line.items < length self.old.line.items) }
+        ensures room { IfOk result (λ goes_on. goes_on ≡ true → HasRoom self.old replies.old.room
+            → HasRoom self.new replies.new.room) }
         ensures succeeds { HasRoom self.old replies.old.room → IsOk result }
     {
         match self.turn(front) {

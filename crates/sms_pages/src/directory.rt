@@ -1,10 +1,11 @@
 // The directory of one page.
 ghost use Rattle.std.specs.Prelude.{◌≡◌, ◌+◌, ◌<◌, ◌≤◌, [], replicate, length, true, false, IsOk, OnOk, OnErr, IfOk};
+ghost use Rattle.vm_base.specs.Limits.{most_hosts};
 ghost use Rattle.sms_pages.specs.Desk.{AllLong, Serves, HasRoom};
 ghost use Rattle.sms_pages.specs.Directory.{access_number, requested, unlocked, saved, finished, left_by, ended, IsServed, IsSame, IsNew, most_replies};
 
 use crate::Replies;
-use crate::desk::{Desk, make_pages, overwrite};
+use crate::desk::{Desk, HOSTS, make_pages, overwrite};
 use crate::holding::{Holding, Recall, Wish};
 use std::alloc::Global;
 use std::collections::VecDeque;
@@ -45,8 +46,8 @@ impl PageDirectory {
         ensures { IfOk result (λ directory. IsNew size directory) }
     {
         let desk = Desk {
-            holds: [Holding::NOTHING; 8],
-            awaits: [Recall::NONE; 8],
+            holds: [Holding::NOTHING; HOSTS],
+            awaits: [Recall::NONE; HOSTS],
             line: VecDeque::new(alloc),
             bytes: PageBytes::zero(alloc, size)?,
             spare: Listing::new(alloc),
@@ -80,7 +81,7 @@ impl PageDirectory {
     /// A data request of the host was taken: it holds nothing now, and joins the line. It fails for
     /// want of memory alone.
     pub fn request(&mut self, host: HostId, access: Access) -> Result<Replies, NoMemory>
-        requires { host.0 < 8 }
+        requires { host.0 < most_hosts }
         ensures exact { IfOk result (λ replies. IsServed (requested host.0 (access_number access) self.old) self.new replies.items) }
         ensures few { IfOk result (λ replies. length replies.items ≤ most_replies self.old) }
         ensures err { OnErr result (IsSame self.old self.new) }
@@ -95,7 +96,7 @@ impl PageDirectory {
     /// A data unlock of the host was taken: if it holds Read and isn't awaited it joins the line.
     /// It fails for want of memory alone.
     pub fn unlock(&mut self, host: HostId) -> Result<Replies, NoMemory>
-        requires { host.0 < 8 }
+        requires { host.0 < most_hosts }
         ensures exact { IfOk result (λ replies. IsServed (unlocked host.0 self.old) self.new replies.items) }
         ensures few { IfOk result (λ replies. length replies.items ≤ most_replies self.old) }
         ensures err { OnErr result (IsSame self.old self.new) }
@@ -118,7 +119,7 @@ impl PageDirectory {
         keep: bool,
         bytes: &PageBytes,
     ) -> Result<Replies, NoMemory>
-        requires host { host.0 < 8 }
+        requires host { host.0 < most_hosts }
         requires size { length bytes.now ≡ length self.old.bytes }
         ensures exact { IfOk result (λ replies. IsServed (saved host.0 keep bytes.now self.old) self.new replies.items) }
         ensures few { IfOk result (λ replies. length replies.items ≤ most_replies self.old) }
@@ -137,7 +138,7 @@ impl PageDirectory {
     /// nothing after a flush and no more than Read after a clean lock. It fails for want of memory
     /// alone.
     pub fn completed(&mut self, host: HostId) -> Result<Replies, NoMemory>
-        requires { host.0 < 8 }
+        requires { host.0 < most_hosts }
         ensures exact { IfOk result (λ replies. IsServed (finished host.0 self.old) self.new replies.items) }
         ensures few { IfOk result (λ replies. length replies.items ≤ most_replies self.old) }
         ensures err { OnErr result (IsSame self.old self.new) }
@@ -153,7 +154,7 @@ impl PageDirectory {
     /// A terminate of the host's control was taken: it holds nothing and is awaited no more. It fails
     /// for want of memory alone.
     pub fn gone(&mut self, host: HostId) -> Result<Replies, NoMemory>
-        requires { host.0 < 8 }
+        requires { host.0 < most_hosts }
         ensures exact { IfOk result (λ replies. IsServed (ended host.0 self.old) self.new replies.items) }
         ensures few { IfOk result (λ replies. length replies.items ≤ most_replies self.old) }
         ensures err { OnErr result (IsSame self.old self.new) }
@@ -190,7 +191,7 @@ fn answer(desk: &mut Desk, ready: &mut Replies, alloc: Global) -> Result<Replies
     requires room { HasRoom desk.old ready.old.room }
     ensures ok { IsOk result }
     ensures exact { IfOk result (λ replies. Serves false desk.old [] desk.new replies.items) }
-    ensures few { IfOk result (λ replies. length replies.items ≤ length desk.old.line.items + 8) }
+    ensures few { IfOk result (λ replies. length replies.items ≤ length desk.old.line.items + most_hosts) }
     ensures bytes { desk.new.bytes ≡ desk.old.bytes }
     ensures long { AllLong (length desk.new.bytes) desk.new.spare.items }
     ensures ready { ready.new.items ≡ [] }

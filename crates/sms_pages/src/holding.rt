@@ -1,5 +1,6 @@
 // What the directory notes of each host, and of each that wants the page.
 ghost use Rattle.std.specs.Prelude.{◌≡◌, ◌<◌, true, false};
+ghost use Rattle.vm_base.specs.Limits.{most_hosts};
 ghost use Rattle.vm_model.specs.Server.{wants_write};
 ghost use Rattle.sms_pages.specs.Directory.{access_number};
 
@@ -21,10 +22,13 @@ impl Model for Holding {
 }
 
 impl Holding {
+    /// No access of the page is granted to it.
     pub const NOTHING: Holding = Holding(0);
 
+    /// It may read the page; several hosts may at a time.
     pub const READ: Holding = Holding(1);
 
+    /// It may read and write the page, as one host alone may at a time.
     pub const WRITE: Holding = Holding(2);
 }
 
@@ -43,10 +47,13 @@ impl Model for Recall {
 }
 
 impl Recall {
+    /// None: the host is not awaited.
     pub const NONE: Recall = Recall(0);
 
+    /// A lock that prohibits writing, after which the host holds no more than Read.
     pub const CLEAN: Recall = Recall(1);
 
+    /// A lock that flushes, after which the host holds nothing.
     pub const FLUSH: Recall = Recall(2);
 }
 
@@ -60,13 +67,14 @@ pub struct Wish {
 
 impl Model for Wish {
     ghost use Rattle.std.specs.Prelude.{◌<◌};
+    ghost use Rattle.vm_base.specs.Limits.{most_hosts};
     ghost use Rattle.vm_model.specs.Server.{Wanting};
 
     ghost Value = { Wanting };
 
     ghost view = { λ w. record { host = w.host.0; upgrade = w.upgrade; access = w.access } };
 
-    ghost invariant = { λ w. w.host.0 < 8 };
+    ghost invariant = { λ w. w.host.0 < most_hosts };
 
     ghost inverse = { λ v. record { host = record { 0 = v.host }; upgrade = v.upgrade; access = v.access } };
 }
@@ -74,7 +82,7 @@ impl Model for Wish {
 impl Wish {
     /// A request of the host.
     pub fn request(host: HostId, access: Access) -> Wish
-        requires { host.0 < 8 }
+        requires { host.0 < most_hosts }
         ensures { result ≡ record { host = host.0; upgrade = false; access = access_number access } }
     {
         let access = match access {
@@ -90,7 +98,7 @@ impl Wish {
 
     /// An upgrade of the host.
     pub fn upgrade(host: HostId) -> Wish
-        requires { host.0 < 8 }
+        requires { host.0 < most_hosts }
         ensures { result ≡ record { host = host.0; upgrade = true; access = 3 } }
     {
         Wish {
@@ -103,7 +111,7 @@ impl Wish {
     /// The host that wants the page.
     pub fn host(&self) -> HostId
         ensures same { result.0 ≡ self.now.host }
-        ensures below { result.0 < 8 }
+        ensures below { result.0 < most_hosts }
     {
         self.host
     }

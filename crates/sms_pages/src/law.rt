@@ -1,5 +1,6 @@
 // What the directory's answers are to the history of its page.
 ghost use Rattle.std.specs.Prelude.{ℕ, List, [], ◌∷◌, ◌≡◌, ◌<◌, Bool};
+ghost use Rattle.vm_base.specs.Limits.{most_hosts};
 ghost use Rattle.vm_model.specs.Words.{Act, Asking, Unlocking, Returning, Doing, Ending};
 ghost use Rattle.vm_model.specs.Side.{side};
 ghost use Rattle.vm_model.specs.PageLicences.{Licensed};
@@ -17,10 +18,20 @@ ghost use Rattle.sms_pages.specs.Stands.{StandsFor, Hears, IsAnswered, taken};
 #[tactic(auto, using(crate::proofs::Taken::begins))]
 pub fn directory_law()
     ensures begins { (size : ℕ) (d : Directory) → IsNew size d → StandsFor size d [] }
-    ensures request { (size h control access : ℕ) (d : Directory) (past : List Act) → StandsFor size d past → h < 8 → NoRequest h (line past) → StandsFor size (requested h access d) (taken h (Asking control access) ∷ past) }
-    ensures unlock { (size h access : ℕ) (d : Directory) (past : List Act) → StandsFor size d past → h < 8 → NoUpgrade h (line past) → StandsFor size (unlocked h d) (taken h (Unlocking access) ∷ past) }
-    ensures returned { (size h : ℕ) (dirty keep : Bool) (bytes : List ℕ) (d : Directory) (past : List Act) → StandsFor size d past → h < 8 → StandsFor size (saved h keep bytes d) (taken h (Returning dirty keep bytes) ∷ past) }
-    ensures completed { (size h control count : ℕ) (d : Directory) (past : List Act) → StandsFor size d past → h < 8 → (0 < (side h past).awaits → (side h past).awaited_control ≡ control) → StandsFor size (finished h d) (taken h (Doing control count) ∷ past) }
-    ensures gone { (size h control : ℕ) (d : Directory) (past : List Act) → StandsFor size d past → h < 8 → (0 < (side h past).awaits → (side h past).awaited_control ≡ control) → StandsFor size (ended h d) (taken h (Ending control) ∷ past) }
-    ensures served { (size : ℕ) (heard : ℕ → ℕ) (changed after : Directory) (replies : List Reply) (past : List Act) → Licensed size past → StandsFor size changed past → Hears heard past → IsServed changed after replies → IsAnswered size heard after replies past }
+    ensures request { (size h control access : ℕ) (d : Directory) (past : List Act) → StandsFor size d past → h < most_hosts
+        → NoRequest h (line past) → StandsFor size (requested h access d) (taken h (Asking control access) ∷ past) }
+    ensures unlock { (size h access : ℕ) (d : Directory) (past : List Act) → StandsFor size d past → h < most_hosts
+        → NoUpgrade h (line past) → StandsFor size (unlocked h d) (taken h (Unlocking access) ∷ past) }
+    ensures returned { (size h : ℕ) (dirty keep : Bool) (bytes : List ℕ) (d : Directory) (past : List Act)
+        → StandsFor size d past → h < most_hosts
+        → StandsFor size (saved h keep bytes d) (taken h (Returning dirty keep bytes) ∷ past) }
+    ensures completed { (size h control count : ℕ) (d : Directory) (past : List Act) → StandsFor size d past → h < most_hosts
+        → (0 < (side h past).awaits → (side h past).awaited_control ≡ control)
+        → StandsFor size (finished h d) (taken h (Doing control count) ∷ past) }
+    ensures gone { (size h control : ℕ) (d : Directory) (past : List Act) → StandsFor size d past → h < most_hosts
+        → (0 < (side h past).awaits → (side h past).awaited_control ≡ control)
+        → StandsFor size (ended h d) (taken h (Ending control) ∷ past) }
+    ensures served { (size : ℕ) (heard : ℕ → ℕ) (changed after : Directory) (replies : List Reply) (past : List Act)
+        → Licensed size past → StandsFor size changed past → Hears heard past → IsServed changed after replies
+        → IsAnswered size heard after replies past }
 {}

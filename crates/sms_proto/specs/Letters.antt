@@ -62,7 +62,8 @@ abbrev pub done_event : HostId → ℕ → Event
 done_event host control = Sent (Up host (record { 0 = 0 })) (message.Completed control the_page 1)
 
 abbrev pub return_event : HostId → ℕ → Bool → List ℕ → Event
-return_event host control keep bytes = Sent (Up host (record { 0 = 0 })) (message.Return control the_page true keep bytes)
+return_event host control keep bytes =
+    Sent (Up host (record { 0 = 0 })) (message.Return control the_page true keep bytes)
 
 abbrev pub drop_event : HostId → Event
 drop_event host = Dropped host (record { 0 = 0 }) the_page

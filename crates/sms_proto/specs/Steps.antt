@@ -17,7 +17,8 @@ use Rattle.sms_proto.specs.Adds.{Adds, HostDoes, ServerDoes}
 
 -- how host h gives its page up: a page with nothing unsaved is dropped, another is returned
 abbrev pub put_away_event : ℕ → ℕ → Bool → List ℕ → Event
-put_away_event h control true bytes = event.Sent (Up (record { 0 = h }) (record { 0 = 0 })) (message.Return control (record { 0 = 0 }) true false bytes)
+put_away_event h control true bytes =
+    event.Sent (Up (record { 0 = h }) (record { 0 = 0 })) (message.Return control (record { 0 = 0 }) true false bytes)
 put_away_event h control false bytes = event.Dropped (record { 0 = h }) (record { 0 = 0 }) (record { 0 = 0 })
 
 -- the task of host h begins a load, or a store of a value, of the page's first eight bytes
@@ -57,8 +58,10 @@ abbrev pub Takes : ℕ → WorldStep → List Event → List Event → Type 0
 Takes size (step.Load host) old new = Goes (HostDoes host.0) (when_idle (waiters host.0 (world_part size old)) (Some (begun_event host.0 false 0)) None) old new
 Takes size (step.Store host value) old new = Goes (HostDoes host.0) (when_idle (waiters host.0 (world_part size old)) (Some (begun_event host.0 true value)) None) old new
 Takes size (step.Evict host) old new = new ≡ when_idle (waiters host.0 (world_part size old)) (gives_up host.0 (side host.0 (world_part size old)) ++ old) old
-Takes size (step.Leave host) old new = new ≡ left host.0 (side host.0 (world_part size old)) (waiters host.0 (world_part size old)) old
-Takes size (step.TakeUp host) old new = Goes ServerDoes (taken_head (Up host (record { 0 = 0 })) (up_queue host.0 0 old)) old new
+Takes size (step.Leave host) old new =
+    new ≡ left host.0 (side host.0 (world_part size old)) (waiters host.0 (world_part size old)) old
+Takes size (step.TakeUp host) old new =
+    Goes ServerDoes (taken_head (Up host (record { 0 = 0 })) (up_queue host.0 0 old)) old new
 Takes size (step.TakeDown host) old new =
     Goes (HostDoes host.0) (down_head host (side host.0 (world_part size old)).live (side host.0 (world_part size old)).control (down_queue host.0 0 (side host.0 (world_part size old)).control old)) old new
 

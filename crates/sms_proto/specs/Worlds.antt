@@ -1,5 +1,6 @@
 -- The world beside its history: each host's kernel and the directory are what the history says.
 use Rattle.std.specs.Prelude.{ℕ, ◌+◌, not, ◌≡◌, ◌≢◌, ◌≤◌, List, Option, Some, None, [], length, slice_get}
+use Rattle.vm_base.specs.Limits.{most_hosts}
 use Rattle.vm_model.specs.declared.event.Event.{Event}
 use Rattle.vm_model.specs.Side.{side, nobody}
 use Rattle.vm_model.specs.Waiters.{waiters}
@@ -56,7 +57,7 @@ pub record WorldStands (size : ℕ) (kernels : List Kernel) (d : Directory) (his
   pub served : Served (world_part size history)
   pub noted : StandsFor size d (world_part size history)
   pub each : (g : ℕ) → StandsAt size g history (slice_get kernels g)
-  pub few : length kernels ≤ 8
+  pub few : length kernels ≤ most_hosts
   pub long : length d.bytes ≡ size
 
 -- the server's answers
@@ -95,7 +96,7 @@ pub record Answering (size : ℕ) (kernels : List Kernel) (d : Directory) (repli
   pub answered : IsAnswered size (heard_in kernels) d replies (world_part size history)
   pub steps : StepsDone (world_part size history)
   pub each : (g : ℕ) → StandsAt size g history (slice_get kernels g)
-  pub few : length kernels ≤ 8
+  pub few : length kernels ≤ most_hosts
   pub long : length d.bytes ≡ size
 
 -- each host has room for so many more orders

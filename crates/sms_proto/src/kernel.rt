@@ -19,8 +19,10 @@ use std::marker::Model;
 use vm_base::{Access, HostId, NoMemory, ObjectId, PageBytes, PageNo, PageSize, TaskId};
 use vm_model::{Channel, Event, Events, Message};
 
+/// The number of the object of which the page is.
 pub const OBJECT: ObjectId = ObjectId(0);
 
+/// The number of the page in its object.
 pub const PAGE: PageNo = PageNo(0);
 
 /// What a host may do with the page.
@@ -38,10 +40,13 @@ impl Model for Right {
 }
 
 impl Right {
+    /// The page is not here.
     pub const AWAY: Right = Right(0);
 
+    /// The page is here, with a lock that prohibits writing.
     pub const READ: Right = Right(1);
 
+    /// The page is here, with no lock.
     pub const WRITE: Right = Right(2);
 
     /// What a supply gives that prohibits nothing, or prohibits writing.
@@ -62,7 +67,8 @@ impl Right {
     }
 }
 
-/// An access that waits: a load, or a store of a value.
+/// An access that waits, of the eight bytes at the page's front: a load, or a store of `value`, which
+/// means nothing for a load.
 #[derive(Clone, Copy, Debug, PartialEq, Eq)]
 pub struct Want {
     pub store: bool,
@@ -87,17 +93,28 @@ impl Want {
 #[derive(Drop)]
 pub struct Kernel {
     pub host: HostId,
+    /// The page size in bytes.
     pub size: PageSize,
+    /// The number of the latest control, 0 where there was none.
     pub control: u32,
+    /// Whether the latest control is still in use.
     pub live: bool,
     pub right: Right,
+    /// They mean something only while the page is here, as `dirty` does.
     pub bytes: PageBytes,
+    /// The page was stored to, and not returned since.
     pub dirty: bool,
+    /// A data request is outstanding.
     pub asked: bool,
+    /// A data unlock is outstanding.
     pub unlocking: bool,
+    /// The access of the host's task that waits.
     pub want: Option<Want>,
+    /// What is on its way to the server, the oldest first.
     pub up: VecDeque<Letter>,
+    /// What is on its way to the live control, the oldest first.
     pub down: VecDeque<Order>,
+    /// The control of the last request that the server took, 0 where it took none.
     pub heard: u32,
 }
 
@@ -126,7 +143,7 @@ impl Kernel {
         })
     }
 
-    // The event of sending a message to the server.
+    /// The event of sending a message to the server.
     pub fn sent(&self, message: Message) -> Event
         ensures { result ≡ Sent (Up self.now.host (record { 0 = 0 })) message }
     {
@@ -139,7 +156,7 @@ impl Kernel {
         }
     }
 
-    // Drops the page, which has nothing unsaved.
+    /// Drops the page, which has nothing unsaved.
     pub fn drop_page(&mut self, events: &mut Events) -> Result<(), NoMemory>
         requires here { 0 < self.old.right }
         requires clean { self.old.dirty ≡ false }
@@ -151,8 +168,10 @@ impl Kernel {
         ensures licensed { OnOk result (Licensed self.new.size (world_part self.new.size events.new.items)) }
         ensures adds { OnOk result (Adds (HostDoes self.old.host.0) events.old.items events.new.items) }
         ensures same { (self.new.host ≡ self.old.host) × (self.new.size ≡ self.old.size) }
-        ensures exact { OnOk result (events.new.items ≡ Dropped self.old.host (record { 0 = 0 }) (record { 0 = 0 }) ∷ events.old.items) }
-        ensures kept { OnOk result ((self.new.right ≡ 0) × (self.new.want ≡ self.old.want) × (self.new.live ≡ self.old.live) × (self.new.asked ≡ self.old.asked)) }
+        ensures exact { OnOk result (events.new.items
+            ≡ Dropped self.old.host (record { 0 = 0 }) (record { 0 = 0 }) ∷ events.old.items) }
+        ensures kept { OnOk result ((self.new.right ≡ 0) × (self.new.want ≡ self.old.want)
+            × (self.new.live ≡ self.old.live) × (self.new.asked ≡ self.old.asked)) }
         ensures room { (n : ℕ) → HasRoom (n + 1) events.old self.old → HasRoom n events.new self.new }
     {
         events.push(self.dropped())?;
@@ -171,8 +190,8 @@ impl Kernel {
         }
     }
 
-    // Returns the page, which has something unsaved. It fails for want of memory alone, and then
-    // nothing has changed.
+    /// Returns the page, which has something unsaved. It fails for want of memory alone, and then
+    /// nothing has changed.
     #[tactic(auto, using(crate::proofs::Queues::map_end, crate::proofs::Queues::each_end))]
     pub fn return_page(&mut self, events: &mut Events) -> Result<(), NoMemory>
         requires here { 0 < self.old.right }
@@ -185,7 +204,8 @@ impl Kernel {
         ensures adds { OnOk result (Adds (HostDoes self.old.host.0) events.old.items events.new.items) }
         ensures same { (self.new.host ≡ self.old.host) × (self.new.size ≡ self.old.size) }
         ensures exact { OnOk result (events.new.items ≡ Sent (Up self.old.host (record { 0 = 0 })) (Return self.old.control (record { 0 = 0 }) true false self.old.bytes) ∷ events.old.items) }
-        ensures kept { OnOk result ((self.new.right ≡ 0) × (self.new.want ≡ self.old.want) × (self.new.live ≡ self.old.live) × (self.new.asked ≡ self.old.asked)) }
+        ensures kept { OnOk result ((self.new.right ≡ 0) × (self.new.want ≡ self.old.want)
+            × (self.new.live ≡ self.old.live) × (self.new.asked ≡ self.old.asked)) }
         ensures err { OnErr result (Fits events.new.items self.new × (events.new.items ≡ events.old.items)) }
         ensures room { (n : ℕ) → HasRoom (n + 1) events.old self.old → HasRoom n events.new self.new }
     {
@@ -213,8 +233,10 @@ impl Kernel {
         ensures licensed { OnOk result (Licensed self.new.size (world_part self.new.size events.new.items)) }
         ensures adds { OnOk result (Adds (HostDoes self.old.host.0) events.old.items events.new.items) }
         ensures same { (self.new.host ≡ self.old.host) × (self.new.size ≡ self.old.size) }
-        ensures exact { OnOk result (events.new.items ≡ put_away_event self.old.host.0 self.old.control self.old.dirty self.old.bytes ∷ events.old.items) }
-        ensures kept { OnOk result ((self.new.right ≡ 0) × (self.new.want ≡ self.old.want) × (self.new.live ≡ self.old.live) × (self.new.asked ≡ self.old.asked)) }
+        ensures exact { OnOk result (events.new.items
+            ≡ put_away_event self.old.host.0 self.old.control self.old.dirty self.old.bytes ∷ events.old.items) }
+        ensures kept { OnOk result ((self.new.right ≡ 0) × (self.new.want ≡ self.old.want)
+            × (self.new.live ≡ self.old.live) × (self.new.asked ≡ self.old.asked)) }
         ensures err { OnErr result (Fits events.new.items self.new × (events.new.items ≡ events.old.items)) }
         ensures room { (n : ℕ) → HasRoom (n + 1) events.old self.old → HasRoom n events.new self.new }
     {
@@ -239,7 +261,8 @@ impl Kernel {
         ensures licensed { OnOk result (Licensed self.new.size (world_part self.new.size events.new.items)) }
         ensures adds { OnOk result (Adds (HostDoes self.old.host.0) events.old.items events.new.items) }
         ensures same { (self.new.host ≡ self.old.host) × (self.new.size ≡ self.old.size) }
-        ensures exact { OnOk result (events.new.items ≡ Sent (Up self.old.host (record { 0 = 0 })) (Terminate self.old.control) ∷ events.old.items) }
+        ensures exact { OnOk result (events.new.items
+            ≡ Sent (Up self.old.host (record { 0 = 0 })) (Terminate self.old.control) ∷ events.old.items) }
         ensures want { self.new.want ≡ self.old.want }
     {
         let letter = Letter::Terminate {
@@ -420,7 +443,8 @@ impl Kernel {
         ensures fits { OnOk result (Fits events.new.items self.new) }
         ensures licensed { OnOk result (Licensed self.new.size (world_part self.new.size events.new.items)) }
         ensures same { (self.new.host ≡ self.old.host) × (self.new.size ≡ self.old.size) }
-        ensures exact { OnOk result (events.new.items ≡ begun_event self.old.host.0 want.store want.value ∷ events.old.items) }
+        ensures exact { OnOk result (events.new.items
+            ≡ begun_event self.old.host.0 want.store want.value ∷ events.old.items) }
         ensures begun { OnOk result ((self.new.live ≡ true) × (self.new.want ≡ Some want)) }
         ensures room { HasRoom 1 events.new self.new }
     {
@@ -447,7 +471,8 @@ impl Kernel {
         ensures fits { OnOk result (Fits events.new.items self.new) }
         ensures licensed { OnOk result (Licensed self.new.size (world_part self.new.size events.new.items)) }
         ensures same { (self.new.host ≡ self.old.host) × (self.new.size ≡ self.old.size) }
-        ensures exact { OnOk result (events.new.items ≡ begun_event self.old.host.0 want.store want.value ∷ events.old.items) }
+        ensures exact { OnOk result (events.new.items
+            ≡ begun_event self.old.host.0 want.store want.value ∷ events.old.items) }
         ensures begun { OnOk result ((self.new.live ≡ true) × (self.new.want ≡ Some want)) }
         ensures room { HasRoom 1 events.new self.new }
     {

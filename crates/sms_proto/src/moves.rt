@@ -16,7 +16,11 @@ impl Kernel {
     fn prepare(&mut self, events: &mut Events) -> Result<(), NoMemory>
         requires fits { Fits events.old.items self.old }
         ensures fits { Fits events.new.items self.new }
-        ensures same { (self.new.host ≡ self.old.host) × (self.new.size ≡ self.old.size) × (self.new.live ≡ self.old.live) × (self.new.want ≡ self.old.want) × (self.new.right ≡ self.old.right) × (self.new.asked ≡ self.old.asked) × (self.new.unlocking ≡ self.old.unlocking) × (self.new.dirty ≡ self.old.dirty) × (self.new.bytes ≡ self.old.bytes) × (self.new.control ≡ self.old.control) × (self.new.down.items ≡ self.old.down.items) }
+        ensures same { (self.new.host ≡ self.old.host) × (self.new.size ≡ self.old.size)
+            × (self.new.live ≡ self.old.live) × (self.new.want ≡ self.old.want) × (self.new.right ≡ self.old.right)
+            × (self.new.asked ≡ self.old.asked) × (self.new.unlocking ≡ self.old.unlocking)
+            × (self.new.dirty ≡ self.old.dirty) × (self.new.bytes ≡ self.old.bytes)
+            × (self.new.control ≡ self.old.control) × (self.new.down.items ≡ self.old.down.items) }
         ensures events { events.new.items ≡ events.old.items }
         ensures room { OnOk result (HasRoom 4 events.new self.new) }
     {
@@ -36,7 +40,8 @@ impl Kernel {
         ensures fits { Fits events.new.items self.new }
         ensures licensed { Licensed self.new.size (world_part self.new.size events.new.items) }
         ensures same { (self.new.host ≡ self.old.host) × (self.new.size ≡ self.old.size) }
-        ensures exact { OnOk result (events.new.items ≡ begun_event self.old.host.0 want.store want.value ∷ events.old.items) }
+        ensures exact { OnOk result (events.new.items
+            ≡ begun_event self.old.host.0 want.store want.value ∷ events.old.items) }
         ensures begun { OnOk result (self.new.live ≡ true) }
         ensures room { OnOk result (HasRoom 1 events.new self.new) }
         ensures err { OnErr result ((events.new.items ≡ events.old.items) × (self.new.want ≡ None)) }
@@ -107,7 +112,8 @@ impl Kernel {
         ensures fits { Fits events.new.items self.new }
         ensures licensed { Licensed self.new.size (world_part self.new.size events.new.items) }
         ensures exact { OnOk result (events.new.items ≡ given_up self.old ++ events.old.items) }
-        ensures kept { OnOk result ((self.new.right ≡ 0) × (self.new.want ≡ self.old.want) × (self.new.live ≡ self.old.live) × (self.new.asked ≡ self.old.asked)) }
+        ensures kept { OnOk result ((self.new.right ≡ 0) × (self.new.want ≡ self.old.want)
+            × (self.new.live ≡ self.old.live) × (self.new.asked ≡ self.old.asked)) }
         ensures same { (self.new.host ≡ self.old.host) × (self.new.size ≡ self.old.size) }
         ensures room { OnOk result (HasRoom 1 events.new self.new) }
         ensures err { OnErr result (events.new.items ≡ events.old.items) }

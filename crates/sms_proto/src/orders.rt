@@ -34,7 +34,8 @@ impl Kernel {
 
     // The event of saying that a lock is done.
     fn done(&self) -> Event
-        ensures { result ≡ Sent (Up self.now.host (record { 0 = 0 })) (Completed self.now.control (record { 0 = 0 }) 1) }
+        ensures { result
+            ≡ Sent (Up self.now.host (record { 0 = 0 })) (Completed self.now.control (record { 0 = 0 }) 1) }
     {
         self.sent(Message::Completed {
             control: self.control,
@@ -62,7 +63,8 @@ impl Kernel {
         ensures fits { OnOk result (Fits events.new.items self.new) }
         ensures licensed { OnOk result (Licensed self.new.size (world_part self.new.size events.new.items)) }
         ensures adds { OnOk result (Adds (HostDoes self.old.host.0) (order_taken self.old.host self.old.control (order.Supply writes bytes) ∷ events.old.items) events.new.items) }
-        ensures same { (self.new.host ≡ self.old.host) × (self.new.size ≡ self.old.size) × (self.new.live ≡ self.old.live) }
+        ensures same { (self.new.host ≡ self.old.host) × (self.new.size ≡ self.old.size)
+            × (self.new.live ≡ self.old.live) }
         ensures room { OnOk result (HasRoom 1 events.new self.new) }
     {
         events.push(self.taken(message))?;
@@ -90,7 +92,8 @@ impl Kernel {
         ensures fits { OnOk result (Fits events.new.items self.new) }
         ensures licensed { OnOk result (Licensed self.new.size (world_part self.new.size events.new.items)) }
         ensures adds { OnOk result (Adds (HostDoes self.old.host.0) (order_taken self.old.host self.old.control order.Unlock ∷ events.old.items) events.new.items) }
-        ensures same { (self.new.host ≡ self.old.host) × (self.new.size ≡ self.old.size) × (self.new.live ≡ self.old.live) }
+        ensures same { (self.new.host ≡ self.old.host) × (self.new.size ≡ self.old.size)
+            × (self.new.live ≡ self.old.live) }
         ensures room { OnOk result (HasRoom 1 events.new self.new) }
     {
         events.push(self.taken(lock(0, false, 0, false)))?;
@@ -113,7 +116,8 @@ impl Kernel {
         ensures fits { OnOk result (Fits events.new.items self.new) }
         ensures licensed { OnOk result (Licensed self.new.size (world_part self.new.size events.new.items)) }
         ensures adds { OnOk result (Adds (HostDoes self.old.host.0) (order_taken self.old.host self.old.control order.Flush ∷ events.old.items) events.new.items) }
-        ensures same { (self.new.host ≡ self.old.host) × (self.new.size ≡ self.old.size) × (self.new.live ≡ self.old.live) }
+        ensures same { (self.new.host ≡ self.old.host) × (self.new.size ≡ self.old.size)
+            × (self.new.live ≡ self.old.live) }
         ensures room { OnOk result (HasRoom 1 events.new self.new) }
     {
         events.push(self.taken(lock(1, true, 8, true)))?;
@@ -140,7 +144,8 @@ impl Kernel {
         ensures fits { OnOk result (Fits events.new.items self.new) }
         ensures licensed { OnOk result (Licensed self.new.size (world_part self.new.size events.new.items)) }
         ensures adds { OnOk result (Adds (HostDoes self.old.host.0) (order_taken self.old.host self.old.control order.Flush ∷ events.old.items) events.new.items) }
-        ensures same { (self.new.host ≡ self.old.host) × (self.new.size ≡ self.old.size) × (self.new.live ≡ self.old.live) }
+        ensures same { (self.new.host ≡ self.old.host) × (self.new.size ≡ self.old.size)
+            × (self.new.live ≡ self.old.live) }
         ensures room { OnOk result (HasRoom 1 events.new self.new) }
     {
         events.push(self.taken(lock(1, true, 8, true)))?;
@@ -169,7 +174,8 @@ impl Kernel {
         ensures fits { OnOk result (Fits events.new.items self.new) }
         ensures licensed { OnOk result (Licensed self.new.size (world_part self.new.size events.new.items)) }
         ensures adds { OnOk result (Adds (HostDoes self.old.host.0) (order_taken self.old.host self.old.control order.Flush ∷ events.old.items) events.new.items) }
-        ensures same { (self.new.host ≡ self.old.host) × (self.new.size ≡ self.old.size) × (self.new.live ≡ self.old.live) }
+        ensures same { (self.new.host ≡ self.old.host) × (self.new.size ≡ self.old.size)
+            × (self.new.live ≡ self.old.live) }
         ensures room { OnOk result (HasRoom 1 events.new self.new) }
         ensures err { OnErr result (Fits events.new.items self.new × (events.new.items ≡ events.old.items)) }
     {
@@ -206,7 +212,8 @@ impl Kernel {
         ensures fits { OnOk result (Fits events.new.items self.new) }
         ensures licensed { OnOk result (Licensed self.new.size (world_part self.new.size events.new.items)) }
         ensures adds { OnOk result (Adds (HostDoes self.old.host.0) (order_taken self.old.host self.old.control order.Clean ∷ events.old.items) events.new.items) }
-        ensures same { (self.new.host ≡ self.old.host) × (self.new.size ≡ self.old.size) × (self.new.live ≡ self.old.live) }
+        ensures same { (self.new.host ≡ self.old.host) × (self.new.size ≡ self.old.size)
+            × (self.new.live ≡ self.old.live) }
         ensures room { OnOk result (HasRoom 1 events.new self.new) }
     {
         events.push(self.taken(lock(1, false, 2, true)))?;
@@ -234,7 +241,8 @@ impl Kernel {
         ensures fits { OnOk result (Fits events.new.items self.new) }
         ensures licensed { OnOk result (Licensed self.new.size (world_part self.new.size events.new.items)) }
         ensures adds { OnOk result (Adds (HostDoes self.old.host.0) (order_taken self.old.host self.old.control order.Clean ∷ events.old.items) events.new.items) }
-        ensures same { (self.new.host ≡ self.old.host) × (self.new.size ≡ self.old.size) × (self.new.live ≡ self.old.live) }
+        ensures same { (self.new.host ≡ self.old.host) × (self.new.size ≡ self.old.size)
+            × (self.new.live ≡ self.old.live) }
         ensures room { OnOk result (HasRoom 1 events.new self.new) }
         ensures err { OnErr result (Fits events.new.items self.new × (events.new.items ≡ events.old.items)) }
     {
@@ -268,7 +276,8 @@ impl Kernel {
         ensures fits { OnOk result (Fits events.new.items self.new) }
         ensures licensed { OnOk result (Licensed self.new.size (world_part self.new.size events.new.items)) }
         ensures adds { OnOk result (Adds (HostDoes self.old.host.0) (order_taken self.old.host self.old.control order.Flush ∷ events.old.items) events.new.items) }
-        ensures same { (self.new.host ≡ self.old.host) × (self.new.size ≡ self.old.size) × (self.new.live ≡ self.old.live) }
+        ensures same { (self.new.host ≡ self.old.host) × (self.new.size ≡ self.old.size)
+            × (self.new.live ≡ self.old.live) }
         ensures room { OnOk result (HasRoom 1 events.new self.new) }
         ensures err { OnErr result (Fits events.new.items self.new × (events.new.items ≡ events.old.items)) }
     {
@@ -292,7 +301,8 @@ impl Kernel {
         ensures fits { OnOk result (Fits events.new.items self.new) }
         ensures licensed { OnOk result (Licensed self.new.size (world_part self.new.size events.new.items)) }
         ensures adds { OnOk result (Adds (HostDoes self.old.host.0) (order_taken self.old.host self.old.control order.Clean ∷ events.old.items) events.new.items) }
-        ensures same { (self.new.host ≡ self.old.host) × (self.new.size ≡ self.old.size) × (self.new.live ≡ self.old.live) }
+        ensures same { (self.new.host ≡ self.old.host) × (self.new.size ≡ self.old.size)
+            × (self.new.live ≡ self.old.live) }
         ensures room { OnOk result (HasRoom 1 events.new self.new) }
         ensures err { OnErr result (Fits events.new.items self.new × (events.new.items ≡ events.old.items)) }
     {
@@ -303,7 +313,7 @@ impl Kernel {
         }
     }
 
-    // Takes the oldest message from the server, if there is one.
+    /// Takes the oldest message from the server, if there is one.
     pub fn take_order(&mut self, events: &mut Events) -> Result<(), NoMemory>
         requires live { self.old.live ≡ true }
         requires room { HasRoom 4 events.old self.old }
@@ -312,7 +322,8 @@ impl Kernel {
         ensures fits { Fits events.new.items self.new }
         ensures licensed { Licensed self.new.size (world_part self.new.size events.new.items) }
         ensures goes { OnOk result (Goes (HostDoes self.old.host.0) (taken_first self.old.host self.old.control (first self.old.down.items)) events.old.items events.new.items) }
-        ensures same { (self.new.host ≡ self.old.host) × (self.new.size ≡ self.old.size) × (self.new.live ≡ self.old.live) }
+        ensures same { (self.new.host ≡ self.old.host) × (self.new.size ≡ self.old.size)
+            × (self.new.live ≡ self.old.live) }
         ensures room { OnOk result (HasRoom 1 events.new self.new) }
         ensures err { OnErr result (events.new.items ≡ events.old.items) }
     {

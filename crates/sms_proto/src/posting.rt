@@ -23,11 +23,15 @@ impl Kernel {
     ) -> Result<(), NoMemory>
         requires room { 0 < events.old.room }
         ensures ok { IsOk result }
-        ensures fits { (letter : Letter) → Fits events.old.items self.old → first self.old.up.items ≡ Some letter → message ≡ letter_message letter → heard ≡ heard_by self.old.heard letter → OnOk result (Fits events.new.items self.new) }
-        ensures exact { OnOk result (events.new.items ≡ Taken (Up self.old.host (record { 0 = 0 })) message ∷ events.old.items) }
+        ensures fits { (letter : Letter) → Fits events.old.items self.old → first self.old.up.items ≡ Some letter
+            → message ≡ letter_message letter → heard ≡ heard_by self.old.heard letter
+            → OnOk result (Fits events.new.items self.new) }
+        ensures exact { OnOk result (events.new.items
+            ≡ Taken (Up self.old.host (record { 0 = 0 })) message ∷ events.old.items) }
         ensures page { SamePage self.old self.new }
         ensures heard { OnOk result (self.new.heard ≡ heard) }
-        ensures posts { (deque_len self.new.down ≡ deque_len self.old.down) × (deque_capacity self.new.down ≡ deque_capacity self.old.down) }
+        ensures posts { (deque_len self.new.down ≡ deque_len self.old.down)
+            × (deque_capacity self.new.down ≡ deque_capacity self.old.down) }
         ensures room { events.old.room ≤ events.new.room + 1 }
     {
         events.push(Event::Taken {
@@ -57,10 +61,12 @@ impl Kernel {
         requires fits { Fits events.old.items self.old }
         ensures ok { IsOk result }
         ensures fits { OnOk result (Fits events.new.items self.new) }
-        ensures exact { OnOk result (events.new.items ≡ order_sent self.old.host self.old.heard order ∷ events.old.items) }
+        ensures exact { OnOk result (events.new.items
+            ≡ order_sent self.old.host self.old.heard order ∷ events.old.items) }
         ensures page { SamePage self.old self.new }
         ensures heard { self.new.heard ≡ self.old.heard }
-        ensures posts { (deque_capacity self.new.down ≡ deque_capacity self.old.down) × (deque_len self.new.down ≤ deque_len self.old.down + 1) }
+        ensures posts { (deque_capacity self.new.down ≡ deque_capacity self.old.down)
+            × (deque_len self.new.down ≤ deque_len self.old.down + 1) }
         ensures room { events.old.room ≤ events.new.room + 1 }
     {
         events.push(Event::Sent {

@@ -1,5 +1,6 @@
 // The server takes a letter, and answers.
 ghost use Rattle.std.specs.Prelude.{◌≡◌, ◌≢◌, ◌≤◌, ◌<◌, ◌+◌, ◌∷◌, [], ◌++◌, OnOk, OnErr, IfOk, IsOk, Some, None, List, ℕ, length, slice_get, true, false};
+ghost use Rattle.vm_base.specs.Limits.{most_hosts};
 ghost use Rattle.std.specs.VecDeque.{deque_len, deque_capacity};
 ghost use Rattle.vm_model.specs.declared.event.Event.{Event};
 ghost use Rattle.sms_pages.specs.Desk.{AllLong};
@@ -51,7 +52,9 @@ impl Kernel {
 
 // Makes room for so many orders to each host.
 fn make_places(kernels: &mut Vec<Kernel>, count: u32) -> Result<(), NoMemory>
-    ensures each { (size : ℕ) (history : List Event) → ((g : ℕ) → StandsAt size g history (slice_get kernels.old.items g)) → (g : ℕ) → StandsAt size g history (slice_get kernels.new.items g) }
+    ensures each { (size : ℕ) (history : List Event)
+        → ((g : ℕ) → StandsAt size g history (slice_get kernels.old.items g)) → (g : ℕ)
+        → StandsAt size g history (slice_get kernels.new.items g) }
     ensures same { length kernels.new.items ≡ length kernels.old.items }
     ensures places { OnOk result (HasPlaces count kernels.new.items) }
 {
@@ -63,7 +66,7 @@ fn make_places(kernels: &mut Vec<Kernel>, count: u32) -> Result<(), NoMemory>
 
 // What the directory notes of a letter, and how it answers.
 fn note(directory: &mut PageDirectory, host: HostId, letter: &Letter) -> Result<Replies, NoMemory>
-    requires host { host.0 < 8 }
+    requires host { host.0 < most_hosts }
     requires size { IsLong (length directory.old.bytes) letter.now }
     requires prepared { directory.old.prepared ≡ true }
     ensures ok { IsOk result }
@@ -173,7 +176,8 @@ impl Stage {
         ensures events { length rest.now.items ≤ self.new.events.room }
         ensures places { OnOk result (HasPlaces (length rest.now.items) self.new.kernels.items) }
         ensures adds { OnOk result (Adds ServerDoes self.old.events.items self.new.events.items) }
-        ensures same { (self.new.size ≡ self.old.size) × (length self.new.kernels.items ≡ length self.old.kernels.items) }
+        ensures same { (self.new.size ≡ self.old.size)
+            × (length self.new.kernels.items ≡ length self.old.kernels.items) }
     {
         let host = host_of(&reply);
         let order = order_of(reply);
@@ -193,7 +197,8 @@ impl Stage {
         ensures stands { OnOk result (WorldStands self.new.size self.new.kernels.items self.new.directory self.new.events.items) }
         ensures spare { AllLong self.new.size self.new.spare.items }
         ensures adds { OnOk result (Adds ServerDoes self.old.events.items self.new.events.items) }
-        ensures same { (self.new.size ≡ self.old.size) × (length self.new.kernels.items ≡ length self.old.kernels.items) }
+        ensures same { (self.new.size ≡ self.old.size)
+            × (length self.new.kernels.items ≡ length self.old.kernels.items) }
     {
         let mut replies = replies;
         'each: while let Some(reply) = replies.take_first() {
@@ -208,7 +213,9 @@ impl Stage {
         requires spare { AllLong self.old.size self.old.spare.items }
         ensures stands { WorldStands self.new.size self.new.kernels.items self.new.directory self.new.events.items }
         ensures spare { AllLong self.new.size self.new.spare.items }
-        ensures same { (self.new.size ≡ self.old.size) × (length self.new.kernels.items ≡ length self.old.kernels.items) × (self.new.events.items ≡ self.old.events.items) }
+        ensures same { (self.new.size ≡ self.old.size)
+            × (length self.new.kernels.items ≡ length self.old.kernels.items)
+            × (self.new.events.items ≡ self.old.events.items) }
         ensures prepared { OnOk result (self.new.directory.prepared ≡ true) }
         ensures events { OnOk result (most_replies self.new.directory + 1 ≤ self.new.events.room) }
         ensures pages { OnOk result (most_replies self.new.directory ≤ length self.new.spare.items) }
@@ -236,7 +243,9 @@ impl Stage {
         ensures few { IfOk result (λ replies. length replies.items ≤ most_replies self.old.directory) }
         ensures events { IfOk result (λ replies. length replies.items ≤ self.new.events.room) }
         ensures places { IfOk result (λ replies. HasPlaces (length replies.items) self.new.kernels.items) }
-        ensures same { (self.new.size ≡ self.old.size) × (length self.new.kernels.items ≡ length self.old.kernels.items) × (self.new.spare.items ≡ self.old.spare.items) }
+        ensures same { (self.new.size ≡ self.old.size)
+            × (length self.new.kernels.items ≡ length self.old.kernels.items)
+            × (self.new.spare.items ≡ self.old.spare.items) }
         ensures taken { OnOk result (IsTaken (taken_head (Up host (record { 0 = 0 })) (up_queue host.0 0 self.old.events.items)) self.old.events.items self.new.events.items) }
         ensures err { OnErr result (WorldStands self.new.size self.new.kernels.items self.new.directory self.new.events.items × (self.new.events.items ≡ self.old.events.items)) }
     {
@@ -257,7 +266,8 @@ impl Stage {
         requires stands { WorldStands self.old.size self.old.kernels.items self.old.directory self.old.events.items }
         requires spare { AllLong self.old.size self.old.spare.items }
         ensures stands { WorldStands self.new.size self.new.kernels.items self.new.directory self.new.events.items }
-        ensures same { (self.new.size ≡ self.old.size) × (length self.new.kernels.items ≡ length self.old.kernels.items) }
+        ensures same { (self.new.size ≡ self.old.size)
+            × (length self.new.kernels.items ≡ length self.old.kernels.items) }
         ensures spare { AllLong self.new.size self.new.spare.items }
         ensures takes { OnOk result (Takes self.old.size (step.TakeUp host) self.old.events.items self.new.events.items) }
         ensures err { OnErr result (self.new.events.items ≡ self.old.events.items) }

@@ -30,7 +30,8 @@ impl Stage {
         requires stands { WorldStands self.old.size self.old.kernels.items self.old.directory self.old.events.items }
         requires spare { AllLong self.old.size self.old.spare.items }
         ensures stands { WorldStands self.new.size self.new.kernels.items self.new.directory self.new.events.items }
-        ensures same { (self.new.size ≡ self.old.size) × (length self.new.kernels.items ≡ length self.old.kernels.items) }
+        ensures same { (self.new.size ≡ self.old.size)
+            × (length self.new.kernels.items ≡ length self.old.kernels.items) }
         ensures spare { AllLong self.new.size self.new.spare.items }
         ensures takes { OnOk result (Takes self.old.size (step.Load host) self.old.events.items self.new.events.items) }
         ensures err { OnErr result (self.new.events.items ≡ self.old.events.items) }
@@ -48,7 +49,8 @@ impl Stage {
         requires stands { WorldStands self.old.size self.old.kernels.items self.old.directory self.old.events.items }
         requires spare { AllLong self.old.size self.old.spare.items }
         ensures stands { WorldStands self.new.size self.new.kernels.items self.new.directory self.new.events.items }
-        ensures same { (self.new.size ≡ self.old.size) × (length self.new.kernels.items ≡ length self.old.kernels.items) }
+        ensures same { (self.new.size ≡ self.old.size)
+            × (length self.new.kernels.items ≡ length self.old.kernels.items) }
         ensures spare { AllLong self.new.size self.new.spare.items }
         ensures takes { OnOk result (Takes self.old.size (step.Store host value) self.old.events.items self.new.events.items) }
         ensures err { OnErr result (self.new.events.items ≡ self.old.events.items) }
@@ -63,7 +65,8 @@ impl Stage {
         requires stands { WorldStands self.old.size self.old.kernels.items self.old.directory self.old.events.items }
         requires spare { AllLong self.old.size self.old.spare.items }
         ensures stands { WorldStands self.new.size self.new.kernels.items self.new.directory self.new.events.items }
-        ensures same { (self.new.size ≡ self.old.size) × (length self.new.kernels.items ≡ length self.old.kernels.items) }
+        ensures same { (self.new.size ≡ self.old.size)
+            × (length self.new.kernels.items ≡ length self.old.kernels.items) }
         ensures spare { AllLong self.new.size self.new.spare.items }
         ensures takes { OnOk result (Takes self.old.size (step.Evict host) self.old.events.items self.new.events.items) }
         ensures err { OnErr result (self.new.events.items ≡ self.old.events.items) }
@@ -77,7 +80,8 @@ impl Stage {
         requires stands { WorldStands self.old.size self.old.kernels.items self.old.directory self.old.events.items }
         requires spare { AllLong self.old.size self.old.spare.items }
         ensures stands { WorldStands self.new.size self.new.kernels.items self.new.directory self.new.events.items }
-        ensures same { (self.new.size ≡ self.old.size) × (length self.new.kernels.items ≡ length self.old.kernels.items) }
+        ensures same { (self.new.size ≡ self.old.size)
+            × (length self.new.kernels.items ≡ length self.old.kernels.items) }
         ensures spare { AllLong self.new.size self.new.spare.items }
         ensures takes { OnOk result (Takes self.old.size (step.Leave host) self.old.events.items self.new.events.items) }
         ensures err { OnErr result (self.new.events.items ≡ self.old.events.items) }
@@ -91,7 +95,8 @@ impl Stage {
         requires stands { WorldStands self.old.size self.old.kernels.items self.old.directory self.old.events.items }
         requires spare { AllLong self.old.size self.old.spare.items }
         ensures stands { WorldStands self.new.size self.new.kernels.items self.new.directory self.new.events.items }
-        ensures same { (self.new.size ≡ self.old.size) × (length self.new.kernels.items ≡ length self.old.kernels.items) }
+        ensures same { (self.new.size ≡ self.old.size)
+            × (length self.new.kernels.items ≡ length self.old.kernels.items) }
         ensures spare { AllLong self.new.size self.new.spare.items }
         ensures takes { OnOk result (Takes self.old.size (step.TakeDown host) self.old.events.items self.new.events.items) }
         ensures err { OnErr result (self.new.events.items ≡ self.old.events.items) }

@@ -1,5 +1,6 @@
 // The page world.
 ghost use Rattle.std.specs.Prelude.{◌≡◌, ◌≤◌, ◌<◌, [], List, ℕ, take, length, slice_get, OnOk, OnErr, IfOk};
+ghost use Rattle.vm_base.specs.Limits.{most_hosts};
 ghost use Rattle.sms_proto.specs.Steps.{Runs, Takes};
 ghost use Rattle.sms_proto.specs.Worlds.{StandsAt};
 ghost use Rattle.sms_proto.specs.World.{AllWithin, IsPageWorld, step_host};
@@ -39,7 +40,7 @@ impl World {
     /// A world of hosts that have nothing of a page of zeros; it fails for want of memory alone.
     pub fn new(alloc: Global, hosts: u32, size: PageSize) -> Result<World, NoMemory>
         requires some { 1 ≤ hosts }
-        requires few { hosts ≤ 8 }
+        requires few { hosts ≤ most_hosts }
         ensures size { IfOk result (λ world. world.size ≡ size) }
         ensures hosts { IfOk result (λ world. world.hosts ≡ hosts) }
         ensures none { IfOk result (λ world. world.events ≡ []) }
@@ -79,7 +80,8 @@ impl World {
         requires { AllWithin self.old.hosts steps.now }
         ensures same { (self.new.size ≡ self.old.size) × (self.new.hosts ≡ self.old.hosts) }
         ensures runs { OnOk result (Runs self.old.size steps.now self.old.events self.new.events) }
-        ensures err { OnErr result ((n : ℕ) × (n ≤ length steps.now) × Runs self.old.size (take n steps.now) self.old.events self.new.events) }
+        ensures err { OnErr result ((n : ℕ) × (n ≤ length steps.now)
+            × Runs self.old.size (take n steps.now) self.old.events self.new.events) }
     {
         for step in steps {
             self.step(step)?;
@@ -104,7 +106,8 @@ impl World {
         requires { AllWithin self.old.hosts steps.now }
         ensures same { (self.new.size ≡ self.old.size) × (self.new.hosts ≡ self.old.hosts) }
         ensures runs { OnOk result (Runs self.old.size steps.now self.old.events self.new.events) }
-        ensures err { OnErr result ((n : ℕ) × (n ≤ length steps.now) × Runs self.old.size (take n steps.now) self.old.events self.new.events) }
+        ensures err { OnErr result ((n : ℕ) × (n ≤ length steps.now)
+            × Runs self.old.size (take n steps.now) self.old.events self.new.events) }
         ensures holds { IsPageWorld self.new.size self.new.hosts self.new.events }
     {
         let result = self.take_steps(steps);

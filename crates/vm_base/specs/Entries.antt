@@ -20,7 +20,8 @@ by_address entries = reverse entries.items
 
 -- a range of whole pages, not empty, with all its addresses below 2^32; the first number is the page size
 abbrev pub is_range : ℕ → ℕ → ℕ → Bool
-is_range size address bytes = address % size == 0 && (bytes % size == 0 && (nat_lt 0 bytes && nat_le (address + bytes) (2 ^ 32)))
+is_range size address bytes =
+    address % size == 0 && (bytes % size == 0 && (nat_lt 0 bytes && nat_le (address + bytes) (2 ^ 32)))
 
 -- the entries with one more, by rising address
 abbrev pub entered : Entry → List Entry → List Entry
@@ -30,7 +31,8 @@ entered new (row ∷ rows) = if nat_lt new.address row.address then new ∷ row 
 -- the entry that holds an address
 abbrev pub entry_at : ℕ → List Entry → Option Entry
 entry_at address [] = None
-entry_at address (row ∷ rows) = if nat_le row.address address && nat_lt address (row.address + row.bytes) then Some row else entry_at address rows
+entry_at address (row ∷ rows) =
+    if nat_le row.address address && nat_lt address (row.address + row.bytes) then Some row else entry_at address rows
 
 -- the page of its region that an entry has at an address
 abbrev pub page_at : ℕ → ℕ → Entry → ℕ
@@ -45,7 +47,8 @@ pub record Mapping : Type 0 where
 
 -- what an entry maps an address to
 abbrev pub mapping : ℕ → ℕ → Entry → Mapping
-mapping size address row = record { region = row.region; page = page_at size address row; prot = row.prot; inherit = row.inherit }
+mapping size address row =
+    record { region = row.region; page = page_at size address row; prot = row.prot; inherit = row.inherit }
 
 -- what the entries map an address to, where they map it
 abbrev pub mapping_at : ℕ → ℕ → List Entry → Option Mapping
@@ -63,18 +66,21 @@ is_within start bytes address = nat_le start address && nat_lt address (start + 
 -- an entry has an address of the range, which is not empty
 abbrev pub meets_range : ℕ → ℕ → List Entry → Bool
 meets_range address bytes [] = false
-meets_range address bytes (row ∷ rows) = (nat_lt row.address (address + bytes) && nat_lt address (row.address + row.bytes)) || meets_range address bytes rows
+meets_range address bytes (row ∷ rows) =
+    (nat_lt row.address (address + bytes) && nat_lt address (row.address + row.bytes)) || meets_range address bytes rows
 
 -- each of so many pages from an address on is in some entry
 abbrev pub are_mapped : ℕ → ℕ → ℕ → List Entry → Bool
 are_mapped size address zero rows = true
-are_mapped size address (suc pages) rows = is_some (entry_at address rows) && are_mapped size (address + size) pages rows
+are_mapped size address (suc pages) rows =
+    is_some (entry_at address rows) && are_mapped size (address + size) pages rows
 
 -- each page of the range is in some entry
 abbrev pub is_mapped : ℕ → ℕ → ℕ → List Entry → Bool
 is_mapped size address bytes rows = are_mapped size address (bytes / size) rows
 
--- the part of an entry from an address on and below another, where there is one: the offset rises by the pages cut off in front
+-- the part of an entry from an address on and below another, where there is one: the offset rises by the pages cut
+-- off in front
 abbrev pub cut : ℕ → ℕ → ℕ → Entry → List Entry
 cut size from to row =
     let start = max from row.address in

@@ -5,7 +5,8 @@ use Rattle.std.proofs.Common.{arith, inl, inr, ◌∙◌, ap}
 
 -- a power of two from 16 to 4,096
 abbrev pub IsPageSize : ℕ → Type 0
-IsPageSize n = (n ≡ 16) ⊎ ((n ≡ 32) ⊎ ((n ≡ 64) ⊎ ((n ≡ 128) ⊎ ((n ≡ 256) ⊎ ((n ≡ 512) ⊎ ((n ≡ 1024) ⊎ ((n ≡ 2048) ⊎ (n ≡ 4096))))))))
+IsPageSize n = (n ≡ 16) ⊎ ((n ≡ 32) ⊎ ((n ≡ 64) ⊎ ((n ≡ 128) ⊎ ((n ≡ 256)
+    ⊎ ((n ≡ 512) ⊎ ((n ≡ 1024) ⊎ ((n ≡ 2048) ⊎ (n ≡ 4096))))))))
 
 -- the size of an access
 abbrev pub IsAccessSize : ℕ → Type 0

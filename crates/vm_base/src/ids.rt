@@ -4,7 +4,7 @@
 #[derive(Clone, Copy, Debug, PartialEq, Eq, PartialOrd, Ord, Hash)]
 pub struct HostId(pub u32);
 
-/// A task, by the number that the script gives it.
+/// A task, by the number that the script gives it, which may be given again when the task has ended.
 #[derive(Clone, Copy, Debug, PartialEq, Eq, PartialOrd, Ord, Hash)]
 pub struct TaskId(pub u32);
 
@@ -35,28 +35,30 @@ pub struct PageKey {
     pub page: PageNo,
 }
 
-/// What an access does to a page.
+/// What an access does to a page. A slow copy loads each page of its source.
 #[derive(Clone, Copy, Debug, PartialEq, Eq)]
 pub enum Access {
     Load,
     Store,
 }
 
-/// What an entry allows.
+/// What an entry allows: the `vm_prot_t` of the Mach 3 kernel interfaces, without execution. A load
+/// needs `read`, a store `write`.
 #[derive(Clone, Copy, Debug, PartialEq, Eq)]
 pub struct Prot {
     pub read: bool,
     pub write: bool,
 }
 
-/// The accesses that are prohibited.
+/// The accesses that a page's pager prohibits on a host: the `lock_value` of the Mach 3 kernel
+/// interfaces, without execution. A load is prohibited by `read`, a store by either.
 #[derive(Clone, Copy, Debug, PartialEq, Eq)]
 pub struct Lock {
     pub read: bool,
     pub write: bool,
 }
 
-/// What a forked task gets of an entry.
+/// What a forked task gets of an entry: the `vm_inherit_t` of the Mach 3 kernel interfaces.
 #[derive(Clone, Copy, Debug, PartialEq, Eq)]
 pub enum Inherit {
     /// An entry on the same region.
@@ -67,7 +69,7 @@ pub enum Inherit {
     Never,
 }
 
-/// Who keeps an object's pages.
+/// Who keeps an object's pages: its pager.
 #[derive(Clone, Copy, Debug, PartialEq, Eq)]
 pub enum ObjectKind {
     /// The default pager.

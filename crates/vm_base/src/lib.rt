@@ -6,6 +6,7 @@ mod code;
 mod entry;
 mod failure;
 mod ids;
+pub mod limits;
 mod listing;
 mod pages;
 

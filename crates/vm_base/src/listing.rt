@@ -104,7 +104,8 @@ impl<T> Listing<T> {
 
     /// Takes the oldest item out.
     pub fn take_first(&mut self) -> Option<T>
-        ensures taken { MatchOption result ((self.old.items ≡ []) × (self.new.items ≡ [])) (λ item. self.old.items ≡ self.new.items ++ item ∷ []) }
+        ensures taken { MatchOption result ((self.old.items ≡ [])
+            × (self.new.items ≡ [])) (λ item. self.old.items ≡ self.new.items ++ item ∷ []) }
         ensures room { self.old.room ≤ self.new.room }
     {
         self.items.pop_front()

@@ -68,7 +68,7 @@ impl PageBytes {
         Ok(PageBytes { bytes })
     }
 
-    /// The little-endian number in `n` bytes from `at` on.
+    /// The number in the `n` bytes from `at` on, of which there are 1, 2, 4 or 8, the lowest first.
     pub fn get(&self, at: u32, n: u32) -> u64
         requires size { IsAccessSize n }
         requires inside { at + n ≤ length self.now }
@@ -78,7 +78,7 @@ impl PageBytes {
         read_number(&self.bytes[start..start + n as usize])
     }
 
-    /// Puts the little-endian number into `n` bytes from `at` on.
+    /// Puts a number into the `n` bytes from `at` on, of which there are 1, 2, 4 or 8, the lowest first.
     pub fn put(&mut self, at: u32, n: u32, value: u64)
         requires size { IsAccessSize n }
         requires inside { at + n ≤ length self.old }

@@ -1,2 +1,2 @@
-mod Spares
+pub mod Spares
 mod Tables

@@ -1,15 +1,11 @@
 -- What a claim and a release leave of the frames.
-use Rattle.std.proofs.Common.{ℕ, ◌≡◌, ◌<◌, ◌≤◌, ◌^◌, Bool, true, false, List, [], ◌∷◌, ◌++◌, get_or, set, replicate, reverse, Result, refl, arith}
+use Rattle.std.proofs.Common.{ℕ, ◌≡◌, ◌<◌, ◌≤◌, ◌^◌, Bool, true, false, List, [], ◌∷◌, ◌++◌, get_or, set, replicate, reverse, refl, arith}
 use Rattle.std.proofs.lemmas.Bool.Decides.{nat_tests}
 use Rattle.std.proofs.lemmas.List.{get_or-set_same, length-replicate, length-set, reverse-append}
-use Rattle.std.specs.Prelude.{IsOk, is_ok, if◌then◌else◌}
 use Rattle.vm_base.specs.declared.ids.FrameNo.{FrameNo}
 use Rattle.vm_frames.specs.Frames.{Claims, FrameTable, Releases, claimed, free, is_claimed}
 use Rattle.vm_frames.specs.Kept.{AreKept, frames_from, seen}
 use Rattle.vm_frames.proofs.Spares.{all_spare, claim_there, count_all, count_claimed, count_none, count_released, mark_set, mark_there, not_spare, spare_kept, unclaimed}
-
-pub pushed : {A E : Type 0} (result : Result A E) (new more same : List FrameNo) → new ≡ (if is_ok result then more else same) → IsOk result → new ≡ more
-pushed result new more same is ok = rw ok at is
 
 pub reverse_push : (old new : List FrameNo) (f : FrameNo) → new ≡ old ++ f ∷ [] → reverse new ≡ f ∷ reverse old
 reverse_push old new f is = rw is (reverse-append old (f ∷ []))

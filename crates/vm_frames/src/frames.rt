@@ -12,7 +12,8 @@ use vm_base::{FrameNo, NoMemory, PageBytes, PageSize};
 /// how many are wired.
 ///
 /// A claimed frame is nobody else's until it is released. Wired frames are held back from claims;
-/// they are a number alone. A claim doesn't touch the bytes. No call but `new` takes memory.
+/// they are a number alone (this profile). A claim doesn't touch the bytes. No call but `new` takes
+/// memory.
 #[derive(Drop)]
 pub struct Frames {
     pages: Vec<PageBytes>,
@@ -39,7 +40,8 @@ impl Frames {
 
     /// So many frames of zeros, none claimed and none wired; it fails for want of memory alone.
     pub fn new(alloc: Global, n: u32, size: PageSize) -> Result<Frames, NoMemory>
-        ensures { IfOk result (λ frames. frames ≡ record { pages = replicate n (replicate size 0); claims = replicate n false; wired = 0 }) }
+        ensures { IfOk result (λ frames. frames
+            ≡ record { pages = replicate n (replicate size 0); claims = replicate n false; wired = 0 }) }
     {
         let pages = zero_pages(alloc, n, size)?;
         let claims = vec![in alloc; false; n as usize]?;

@@ -1,7 +1,7 @@
 mod Allowed
 mod Counts
 mod Covered
-mod Entering
+pub mod Entering
 mod Found
 mod Kept
 mod Mappings

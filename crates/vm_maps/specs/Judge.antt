@@ -42,11 +42,13 @@ judged size change rows =
 
 -- the place where an entry has an address
 abbrev pub place_at : ℕ → ℕ → Entry → Place
-place_at size address row = record { region = row.region; page = record { 0 = page_at size address row }; at = address % size }
+place_at size address row =
+    record { region = row.region; page = record { 0 = page_at size address row }; at = address % size }
 
 abbrev pub looked_up_in : ℕ → ℕ → Access → Option Entry → Result Place Code
 looked_up_in size address need None = Err code.InvalidAddress
-looked_up_in size address need (Some row) = if allows need row.prot then Ok (place_at size address row) else Err code.ProtectionFailure
+looked_up_in size address need (Some row) =
+    if allows need row.prot then Ok (place_at size address row) else Err code.ProtectionFailure
 
 -- where an access of an address leads, or why it is refused
 abbrev pub looked_up : ℕ → ℕ → Access → List Entry → Result Place Code

@@ -29,7 +29,9 @@ mapping_in task at maps = mapping_at maps.size at (rows_in task maps)
 
 -- addresses in the range of a change are mapped to what this makes of it, and all others as they were
 abbrev pub Remaps : (ℕ → Option Mapping → Option Mapping) → Mapped → Mapped → ℕ → MapChange → Type 0
-Remaps becomes old new task change = (at : ℕ) → mapping_in task at new ≡ (if is_within change.address change.bytes at then becomes at (mapping_in task at old) else mapping_in task at old)
+Remaps becomes old new task change =
+    (at : ℕ) → mapping_in task at new
+    ≡ (if is_within change.address change.bytes at then becomes at (mapping_in task at old) else mapping_in task at old)
 
 -- the parts of a task's entries in the range of a change
 abbrev pub parts_for : Mapped → ℕ → MapChange → List Entry

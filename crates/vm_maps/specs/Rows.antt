@@ -32,7 +32,8 @@ becomes change row = becomes_by change.kind change row
 -- how many entries have addresses on both sides of a boundary
 abbrev pub cuts_at : ℕ → List Entry → ℕ
 cuts_at address [] = 0
-cuts_at address (row ∷ rows) = (if nat_lt row.address address && nat_lt address (row.address + row.bytes) then 1 else 0) + cuts_at address rows
+cuts_at address (row ∷ rows) =
+    (if nat_lt row.address address && nat_lt address (row.address + row.bytes) then 1 else 0) + cuts_at address rows
 
 -- what a change leaves of one entry
 abbrev pub rewritten_one : ℕ → MapChange → Entry → List Entry

@@ -1,16 +1,16 @@
 // What is to be done to a task's entries.
 use vm_base::{Entry, Inherit, Prot};
 
-/// The call that a change is for.
+/// The call of the Mach 3 kernel interfaces that a change is for.
 #[derive(Clone, Copy, Debug, PartialEq, Eq)]
 pub enum MapKind {
-    /// A new entry.
+    /// `vm_allocate` or `vm_map`: a new entry.
     Enter,
-    /// What lies in the range is unmapped.
+    /// `vm_deallocate`: what lies in the range is unmapped.
     Remove,
-    /// What lies in the range gets a protection.
+    /// `vm_protect`: what lies in the range gets a protection.
     Protect,
-    /// What lies in the range gets an inheritance.
+    /// `vm_inherit`: what lies in the range gets an inheritance.
     Inherit,
 }
 

@@ -8,14 +8,10 @@ ghost use Rattle.vm_maps.specs.Judge.{judged, looked_up, place_at};
 
 use crate::search::{count_cuts, count_passed, entry_at, is_covered, meets_range};
 use crate::{MapChange, MapKind, Place};
+use vm_base::limits::{ADDRESS_END, MOST_ENTRIES};
 use vm_base::{Access, Code, Entries, Entry, PageNo, PageSize};
 
-// The most entries that a task may have.
-pub const MOST_ENTRIES: u32 = 256;
-// Every address is below this.
-pub const ADDRESS_END: u64 = 0x1_0000_0000;
-
-// The first test that the change meets.
+/// The first test that the change meets.
 pub fn judge_change(size: PageSize, entries: &Entries, change: &MapChange) -> Option<Code>
     requires { AreEntries size (by_address entries.now) }
     ensures { result ≡ judged size change.now (by_address entries.now) }
@@ -43,7 +39,7 @@ pub fn judge_change(size: PageSize, entries: &Entries, change: &MapChange) -> Op
     }
 }
 
-// Where an access of an address leads, or why it is refused.
+/// Where an access of an address leads, or why it is refused.
 pub fn look_up(size: PageSize, entries: &Entries, address: u64, need: Access) -> Result<Place, Code>
     requires { AreEntries size (by_address entries.now) }
     ensures { result ≡ looked_up size address need (by_address entries.now) }

@@ -7,12 +7,13 @@ ghost use Rattle.vm_maps.specs.Maps.{ChangesOnly, IsNewEntry, Remaps, entries_in
 ghost use Rattle.vm_maps.specs.Rows.{becomes, changed_by};
 ghost use Rattle.vm_maps.specs.declared.change.MapKind.TheVariants as kind;
 
-use crate::judge::{MOST_ENTRIES, judge_change, look_up};
+use crate::judge::{judge_change, look_up};
 use crate::rewrite::{put_entry, rewrite};
 use crate::task_map::{TaskMap, find};
 use crate::{MapChange, Place};
 use std::alloc::Global;
 use std::marker::Model;
+use vm_base::limits::MOST_ENTRIES;
 use vm_base::{Access, Code, Entries, NoMemory, PageSize, TaskId};
 
 /// The address maps of tasks: what `vm_allocate`, `vm_map`, `vm_deallocate`, `vm_protect` and
@@ -78,7 +79,7 @@ impl Maps {
         Ok(())
     }
 
-    /// Ends the map of a task, and gives its entries.
+    /// Ends the map of a task, and gives its entries by rising address.
     pub fn end_task(&mut self, task: TaskId) -> Entries
         requires { IsSome (entries_in task.0 self.old) }
         ensures entries { entries_in task.0 self.old ≡ Some (by_address result) }
@@ -97,7 +98,7 @@ impl Maps {
         i < self.tables.len() && self.tables[i].task.0 == task.0
     }
 
-    /// The entries of a task.
+    /// The entries of a task, by rising address.
     pub fn entries(&self, task: TaskId) -> &Entries
         requires { IsSome (entries_in task.0 self.now) }
         ensures value { entries_in task.0 self.now ≡ Some (by_address result.now) }

@@ -4,13 +4,13 @@ ghost use Rattle.std.specs.List.{flat_map};
 ghost use Rattle.vm_base.specs.Entries.{AreEntries, InOrder, by_address, cut, entered, meets_range, most_entries, parts_in, rewritten};
 ghost use Rattle.vm_maps.specs.Rows.{becomes, rewritten_one};
 
-use crate::judge::{ADDRESS_END, MOST_ENTRIES};
 use crate::search::count_passed;
 use crate::{MapChange, MapKind};
 use std::alloc::Global;
+use vm_base::limits::{ADDRESS_END, MOST_ENTRIES};
 use vm_base::{Entries, Entry, NoMemory, PageSize};
 
-// Puts an entry in its place, where a table has room for the most entries.
+/// Puts an entry in its place, where a table has room for the most entries.
 pub fn put_entry(entries: &mut Entries, entry: Entry) -> Result<(), NoMemory>
     requires order { InOrder 0 (2 ^ 32) (by_address entries.old) }
     requires some { 0 < entry.bytes }
@@ -25,15 +25,15 @@ pub fn put_entry(entries: &mut Entries, entry: Entry) -> Result<(), NoMemory>
     entries.insert(at, entry)
 }
 
-// What a change makes of a task's entries: those that the task has then, and the parts in the
-// range as they were.
+/// What a change makes of a task's entries: those that the task has then, and the parts in the
+/// range as they were.
 #[derive(Drop)]
 pub struct Rewritten {
     pub kept: Entries,
     pub taken: Entries,
 }
 
-// Cuts the entries at the ends of the range, and changes what lies in it.
+/// Cuts the entries at the ends of the range, and changes what lies in it.
 pub fn rewrite(
     alloc: Global,
     size: PageSize,

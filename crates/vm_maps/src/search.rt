@@ -5,7 +5,7 @@ ghost use Rattle.vm_maps.specs.Rows.{cuts_at, passed, reaches};
 
 use vm_base::{Entries, Entry};
 
-// The number of entries that end at or in front of an address, which are the first ones.
+/// The number of entries that end at or in front of an address, which are the first ones.
 pub fn count_passed(entries: &Entries, address: u64) -> u32
     requires { InOrder 0 (2 ^ 32) (by_address entries.now) }
     ensures value { result ≡ passed address (by_address entries.now) }
@@ -39,7 +39,7 @@ fn first_behind(entries: &Entries, address: u64) -> Option<Entry>
     }
 }
 
-// The entry that holds an address.
+/// The entry that holds an address.
 #[tactic(auto, using(crate::proofs::Found::found))]
 pub fn entry_at(entries: &Entries, address: u64) -> Option<Entry>
     requires { InOrder 0 (2 ^ 32) (by_address entries.now) }
@@ -51,7 +51,7 @@ pub fn entry_at(entries: &Entries, address: u64) -> Option<Entry>
     }
 }
 
-// Whether an entry has an address of the range.
+/// Whether an entry has an address of the range.
 #[tactic(auto, using(crate::proofs::Found::found))]
 pub fn meets_range(entries: &Entries, address: u64, bytes: u64) -> bool
     requires order { InOrder 0 (2 ^ 32) (by_address entries.now) }
@@ -65,7 +65,7 @@ pub fn meets_range(entries: &Entries, address: u64, bytes: u64) -> bool
     }
 }
 
-// How many entries have addresses on both sides of a boundary: one or none.
+/// How many entries have addresses on both sides of a boundary: one or none.
 #[tactic(auto, using(crate::proofs::Found::found))]
 pub fn count_cuts(entries: &Entries, address: u64) -> u32
     requires { InOrder 0 (2 ^ 32) (by_address entries.now) }
@@ -78,7 +78,7 @@ pub fn count_cuts(entries: &Entries, address: u64) -> u32
     }
 }
 
-// Whether the entries leave no gap from an address up to another.
+/// Whether the entries leave no gap from an address up to another.
 pub fn is_covered(entries: &Entries, from: u64, to: u64) -> bool
     requires { InOrder 0 (2 ^ 32) (by_address entries.now) }
     ensures { let rows = by_address entries.now in

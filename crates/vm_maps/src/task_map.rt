@@ -4,14 +4,14 @@ ghost use Rattle.vm_maps.specs.Tables.{ByTask, rank};
 
 use vm_base::{Entries, TaskId};
 
-// A task and its entries.
+/// A task and its entries.
 #[derive(Drop)]
 pub struct TaskMap {
     pub task: TaskId,
     pub entries: Entries,
 }
 
-// The number of tasks in front of one, in a list by rising task.
+/// The number of tasks in front of one, in a list by rising task.
 pub fn find(tables: &[TaskMap], task: TaskId) -> usize
     requires { ByTask 0 tables.now }
     ensures value { result ≡ rank task.0 tables.now }

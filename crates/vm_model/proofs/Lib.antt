@@ -1,2 +1,4 @@
 mod Ascii
+pub mod Others
+pub mod Ports
 mod Summaries

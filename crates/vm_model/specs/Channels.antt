@@ -43,7 +43,33 @@ down_queue h o k past = queue (down_port h o k) past
 -- what is taken on a channel up is the oldest
 abbrev pub TakesFirst : Event → List Event → Type 0
 TakesFirst (event.Taken (Up host object) m) past = first (up_queue host.0 object.0 past) ≡ Some m
-TakesFirst e past = Unit {0}
+TakesFirst (event.Taken (Down host object control) m) past = Unit {0}
+TakesFirst (event.Line line) past = Unit {0}
+TakesFirst (event.Refused code) past = Unit {0}
+TakesFirst (event.TaskMade task host) past = Unit {0}
+TakesFirst (event.TaskEnded task) past = Unit {0}
+TakesFirst (event.RegionMade region object pages) past = Unit {0}
+TakesFirst (event.RegionCopied region source offset pages) past = Unit {0}
+TakesFirst (event.Entered task address bytes region offset prot inherit) past = Unit {0}
+TakesFirst (event.Removed task address bytes) past = Unit {0}
+TakesFirst (event.Protected task address bytes prot) past = Unit {0}
+TakesFirst (event.Inherited task address bytes inherit) past = Unit {0}
+TakesFirst (event.BegunLoad task address bytes) past = Unit {0}
+TakesFirst (event.BegunStore task address bytes value) past = Unit {0}
+TakesFirst (event.BegunCopy task address bytes to) past = Unit {0}
+TakesFirst (event.Loaded task object page value) past = Unit {0}
+TakesFirst (event.Stored task object page at bytes value) past = Unit {0}
+TakesFirst (event.CopiedPage task page object object_page target) past = Unit {0}
+TakesFirst (event.CopyEnded task) past = Unit {0}
+TakesFirst (event.Failed task object page) past = Unit {0}
+TakesFirst (event.Sent channel m) past = Unit {0}
+TakesFirst (event.Dropped host object page) past = Unit {0}
+TakesFirst (event.Zeroed host object page) past = Unit {0}
+TakesFirst (event.Raised host lower lower_page upper upper_page) past = Unit {0}
+TakesFirst (event.Shadowed region new old) past = Unit {0}
+TakesFirst (event.DeviceFailed who way object page) past = Unit {0}
+TakesFirst (event.NoSlot object page) past = Unit {0}
+TakesFirst (event.Wired host count) past = Unit {0}
 
 abbrev pub UpInOrder : List Event → Type 0
 UpInOrder [] = Unit {0}
@@ -58,13 +84,52 @@ abbrev pub up_words : ℕ → List Message → List UpWord
 up_words p [] = []
 up_words p (m ∷ q) = with_word (up_word p m) (up_words p q)
 
--- what is taken on a channel down is the oldest, nothing is sent to a control before it begins, and a control has a new number
+-- what is taken on a channel down is the oldest, nothing is sent to a control before it begins, and a control has a
+-- new number
 abbrev pub DownFirst : Event → List Event → Type 0
 DownFirst (event.Taken (Down host object control) m) past = first (down_queue host.0 object.0 control past) ≡ Some m
 DownFirst (event.Sent (Down host object control) m) past = control ≤ last_control host.0 object.0 past
 DownFirst (event.Sent (Up host object) (message.Init control size)) past = last_control host.0 object.0 past < control
 DownFirst (event.Sent (Up host object) (message.Create control size)) past = last_control host.0 object.0 past < control
-DownFirst e past = Unit {0}
+DownFirst (event.Sent (Up host object) (message.Request control page access)) past = Unit {0}
+DownFirst (event.Sent (Up host object) (message.Unlock control page access)) past = Unit {0}
+DownFirst (event.Sent (Up host object) (message.Return control page dirty keep bytes)) past = Unit {0}
+DownFirst (event.Sent (Up host object) (message.Completed control page count)) past = Unit {0}
+DownFirst (event.Sent (Up host object) (message.Terminate control)) past = Unit {0}
+DownFirst (event.Sent (Up host object) (message.Ready cache strategy)) past = Unit {0}
+DownFirst (event.Sent (Up host object) (message.Supply page lock precious bytes)) past = Unit {0}
+DownFirst (event.Sent (Up host object) (message.Unavailable page)) past = Unit {0}
+DownFirst (event.Sent (Up host object) (message.Error page reason)) past = Unit {0}
+DownFirst (event.Sent (Up host object) (message.Lock page count returns flush lock reply)) past = Unit {0}
+DownFirst (event.Sent (Up host object) (message.Attributes cache strategy reply)) past = Unit {0}
+DownFirst (event.Sent (Up host object) (message.Destroy reason)) past = Unit {0}
+DownFirst (event.Sent (Up host object) (message.Changed control cache strategy)) past = Unit {0}
+DownFirst (event.Taken (Up host object) m) past = Unit {0}
+DownFirst (event.Line line) past = Unit {0}
+DownFirst (event.Refused code) past = Unit {0}
+DownFirst (event.TaskMade task host) past = Unit {0}
+DownFirst (event.TaskEnded task) past = Unit {0}
+DownFirst (event.RegionMade region object pages) past = Unit {0}
+DownFirst (event.RegionCopied region source offset pages) past = Unit {0}
+DownFirst (event.Entered task address bytes region offset prot inherit) past = Unit {0}
+DownFirst (event.Removed task address bytes) past = Unit {0}
+DownFirst (event.Protected task address bytes prot) past = Unit {0}
+DownFirst (event.Inherited task address bytes inherit) past = Unit {0}
+DownFirst (event.BegunLoad task address bytes) past = Unit {0}
+DownFirst (event.BegunStore task address bytes value) past = Unit {0}
+DownFirst (event.BegunCopy task address bytes to) past = Unit {0}
+DownFirst (event.Loaded task object page value) past = Unit {0}
+DownFirst (event.Stored task object page at bytes value) past = Unit {0}
+DownFirst (event.CopiedPage task page object object_page target) past = Unit {0}
+DownFirst (event.CopyEnded task) past = Unit {0}
+DownFirst (event.Failed task object page) past = Unit {0}
+DownFirst (event.Dropped host object page) past = Unit {0}
+DownFirst (event.Zeroed host object page) past = Unit {0}
+DownFirst (event.Raised host lower lower_page upper upper_page) past = Unit {0}
+DownFirst (event.Shadowed region new old) past = Unit {0}
+DownFirst (event.DeviceFailed who way object page) past = Unit {0}
+DownFirst (event.NoSlot object page) past = Unit {0}
+DownFirst (event.Wired host count) past = Unit {0}
 
 abbrev pub DownInOrder : List Event → Type 0
 DownInOrder [] = Unit {0}

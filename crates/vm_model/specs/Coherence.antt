@@ -1,7 +1,7 @@
 -- What holds of a shared page: one writer, the same bytes everywhere, and nobody waits in vain.
 use Rattle.std.specs.Prelude.{◌≡◌, ◌≢◌, ◌⊎◌, ◌+◌, ℕ, ◌<◌, List, [], ◌∷◌, Bool, true, false, Option, Some, None, slice_range}
 use Rattle.vm_base.specs.Pages.{little_endian}
-use Rattle.vm_model.specs.Words.{UpWord, Returning, DownWord, Supplying, Effect, TakenUp, TakesDown, Loads, StepBegins, Act}
+use Rattle.vm_model.specs.Words.{UpWord, Asking, Unlocking, Returning, Doing, Ending, OtherUp, DownWord, Supplying, Locking, Lacking, Failing, Readying, OtherDown, Effect, Opens, SendsUp, TakenUp, SentDown, TakesDown, Puts, Drops, Begins, Loads, Stores, Fails, BeginsCopy, Copies, EndsCopy, StepBegins, Nothing, Act}
 use Rattle.vm_model.specs.Side.{Side, side, can_read, can_write}
 use Rattle.vm_model.specs.Waiters.{Waiter, waiters, waiter_of}
 use Rattle.vm_model.specs.Server.{line, current}
@@ -20,11 +20,19 @@ OneWriter past = (g h : ℕ) → g ≢ h → can_write (side h past) ≡ true �
 
 abbrev pub SaysUp : List ℕ → UpWord → Type 0
 SaysUp page (Returning dirty keep bytes) = bytes ≡ page
-SaysUp page w = Unit {0}
+SaysUp page (Asking control access) = Unit {0}
+SaysUp page (Unlocking access) = Unit {0}
+SaysUp page (Doing control count) = Unit {0}
+SaysUp page (Ending control) = Unit {0}
+SaysUp page OtherUp = Unit {0}
 
 abbrev pub SaysDown : List ℕ → DownWord → Type 0
 SaysDown page (Supplying lock precious bytes) = bytes ≡ page
-SaysDown page w = Unit {0}
+SaysDown page (Locking count returns flush lock reply) = Unit {0}
+SaysDown page Lacking = Unit {0}
+SaysDown page Failing = Unit {0}
+SaysDown page Readying = Unit {0}
+SaysDown page OtherDown = Unit {0}
 
 abbrev pub CarryUp : List ℕ → List UpWord → Type 0
 CarryUp page [] = Unit {0}
@@ -50,7 +58,21 @@ Reads page value (Some w) = value ≡ little_endian (slice_range page w.at (w.at
 
 abbrev pub LoadReads : ℕ → ℕ → Effect → List Act → Type 0
 LoadReads size h (Loads task value) past = Reads (current size past) value (waiter_of task (waiters h past))
-LoadReads size h e past = Unit {0}
+LoadReads size h (Opens control ready) past = Unit {0}
+LoadReads size h (SendsUp control word) past = Unit {0}
+LoadReads size h (TakenUp word) past = Unit {0}
+LoadReads size h (SentDown control word) past = Unit {0}
+LoadReads size h (TakesDown control word) past = Unit {0}
+LoadReads size h (Puts bytes dirty) past = Unit {0}
+LoadReads size h Drops past = Unit {0}
+LoadReads size h (Begins task store at bytes value) past = Unit {0}
+LoadReads size h (Stores task at bytes value) past = Unit {0}
+LoadReads size h (Fails task) past = Unit {0}
+LoadReads size h (BeginsCopy task times) past = Unit {0}
+LoadReads size h (Copies task) past = Unit {0}
+LoadReads size h (EndsCopy task) past = Unit {0}
+LoadReads size h StepBegins past = Unit {0}
+LoadReads size h Nothing past = Unit {0}
 
 -- each load answers what the stores in front of it left
 abbrev pub EachLoadReads : ℕ → List Act → Type 0

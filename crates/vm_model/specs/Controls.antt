@@ -7,8 +7,10 @@ use Rattle.vm_model.specs.declared.event.Event.TheVariants as event
 
 -- the control that host h began last for object o
 abbrev pub control_after : ℕ → ℕ → Event → ℕ → ℕ
-control_after h o (event.Sent (Up host object) (message.Init control size)) last = if host.0 == h && object.0 == o then control else last
-control_after h o (event.Sent (Up host object) (message.Create control size)) last = if host.0 == h && object.0 == o then control else last
+control_after h o (event.Sent (Up host object) (message.Init control size)) last =
+    if host.0 == h && object.0 == o then control else last
+control_after h o (event.Sent (Up host object) (message.Create control size)) last =
+    if host.0 == h && object.0 == o then control else last
 control_after h o e last = last
 
 abbrev pub last_control : ℕ → ℕ → List Event → ℕ
@@ -26,9 +28,12 @@ without_control control None = None
 without_control control (Some number) = if number == control then None else Some number
 
 abbrev pub live_after : ℕ → ℕ → Event → Option ℕ → Option ℕ
-live_after h o (event.Sent (Up host object) (message.Init control size)) live = if host.0 == h && object.0 == o then Some control else live
-live_after h o (event.Sent (Up host object) (message.Create control size)) live = if host.0 == h && object.0 == o then Some control else live
-live_after h o (event.Sent (Up host object) (message.Terminate control)) live = if host.0 == h && object.0 == o then without_control control live else live
+live_after h o (event.Sent (Up host object) (message.Init control size)) live =
+    if host.0 == h && object.0 == o then Some control else live
+live_after h o (event.Sent (Up host object) (message.Create control size)) live =
+    if host.0 == h && object.0 == o then Some control else live
+live_after h o (event.Sent (Up host object) (message.Terminate control)) live =
+    if host.0 == h && object.0 == o then without_control control live else live
 live_after h o e live = live
 
 -- the control of object o that lives on host h: from its init or create until its terminate is sent

@@ -5,7 +5,7 @@ use Rattle.vm_model.specs.declared.message.Channel.TheVariants.{Up, Down}
 use Rattle.vm_model.specs.declared.message.Message.{Message}
 use Rattle.vm_model.specs.declared.message.Message.TheVariants as message
 use Rattle.vm_model.specs.declared.event.Event.{Event}
-use Rattle.vm_model.specs.declared.event.Event.TheVariants.{Zeroed, Raised, CopiedPage, Stored, Dropped, Sent, Taken}
+use Rattle.vm_model.specs.declared.event.Event.TheVariants.{Line, Refused, TaskMade, TaskEnded, RegionMade, RegionCopied, Entered, Removed, Protected, Inherited, BegunLoad, BegunStore, BegunCopy, Loaded, Stored, CopiedPage, CopyEnded, Failed, Sent, Taken, Dropped, Zeroed, Raised, Shadowed, DeviceFailed, NoSlot, Wired}
 use Rattle.vm_model.specs.declared.script.Header.{Header}
 use Rattle.vm_model.specs.Controls.{is_control, live_control}
 use Rattle.vm_model.specs.Named.{named}
@@ -18,7 +18,8 @@ pub record Place : Type 0 where
   pub page : ℕ
 
 pub record Local : Type 0 where
-  -- the page on the host: whether it is here, its bytes, its lock (1 prohibits reading, 2 writing, 3 both), whether it was changed, and whether its pager wants it back even clean
+  -- the page on the host: whether it is here, its bytes, its lock (1 prohibits reading, 2 writing, 3 both), whether
+  -- it was changed, and whether its pager wants it back even clean
   pub here : Bool
   pub bytes : List ℕ
   pub lock : ℕ
@@ -72,36 +73,83 @@ abbrev pub sent_effect : ℕ → Option ℕ → Message → Effect
 sent_effect page live (message.Init control size) = Begins
 sent_effect page live (message.Create control size) = Begins
 sent_effect page live (message.Terminate control) = if is_control control live then Ends else Elsewhere
-sent_effect page live (message.Request control at access) = if at.0 == page && is_control control live then Asks else Elsewhere
+sent_effect page live (message.Request control at access) =
+    if at.0 == page && is_control control live then Asks else Elsewhere
 sent_effect page live (message.Unlock control at access) = if at.0 == page then Unlocks else Elsewhere
 sent_effect page live (message.Return control at dirty keep bytes) = if at.0 == page then Returns keep else Elsewhere
-sent_effect page live other = Elsewhere
+sent_effect page live (message.Completed control at count) = Elsewhere
+sent_effect page live (message.Ready cache strategy) = Elsewhere
+sent_effect page live (message.Supply at lock precious bytes) = Elsewhere
+sent_effect page live (message.Unavailable at) = Elsewhere
+sent_effect page live (message.Error at reason) = Elsewhere
+sent_effect page live (message.Lock at count returns flush lock reply) = Elsewhere
+sent_effect page live (message.Attributes cache strategy reply) = Elsewhere
+sent_effect page live (message.Destroy reason) = Elsewhere
+sent_effect page live (message.Changed control cache strategy) = Elsewhere
 
 -- what the live control takes is to a page
 abbrev pub taken_effect : ℕ → Message → Effect
-taken_effect page (message.Supply at lock precious bytes) = if at.0 == page then TakesPage lock precious bytes else Elsewhere
+taken_effect page (message.Supply at lock precious bytes) =
+    if at.0 == page then TakesPage lock precious bytes else Elsewhere
 taken_effect page (message.Unavailable at) = if at.0 == page then TakesNothing else Elsewhere
 taken_effect page (message.Error at reason) = if at.0 == page then TakesError else Elsewhere
-taken_effect page (message.Lock at count returns flush lock reply) = if in_range page at.0 count then TakesLock lock flush else Elsewhere
-taken_effect page other = Elsewhere
+taken_effect page (message.Lock at count returns flush lock reply) =
+    if in_range page at.0 count then TakesLock lock flush else Elsewhere
+taken_effect page (message.Init control size) = Elsewhere
+taken_effect page (message.Create control size) = Elsewhere
+taken_effect page (message.Request control at access) = Elsewhere
+taken_effect page (message.Unlock control at access) = Elsewhere
+taken_effect page (message.Return control at dirty keep bytes) = Elsewhere
+taken_effect page (message.Completed control at count) = Elsewhere
+taken_effect page (message.Terminate control) = Elsewhere
+taken_effect page (message.Ready cache strategy) = Elsewhere
+taken_effect page (message.Attributes cache strategy reply) = Elsewhere
+taken_effect page (message.Destroy reason) = Elsewhere
+taken_effect page (message.Changed control cache strategy) = Elsewhere
 
 -- What an event is to the place on the host. What the host has of the other places comes in as a function.
 abbrev pub effect : ℕ → Place → (Place → Local) → Event → List Event → Effect
-effect host place others (Zeroed at object page) past = if at.0 == host && is_place place object.0 page.0 then Zeroes else Elsewhere
+effect host place others (Zeroed at object page) past =
+    if at.0 == host && is_place place object.0 page.0 then Zeroes else Elsewhere
 effect host place others (Raised at lower lower_page upper upper_page) past =
     if at.0 == host && is_place place upper.0 upper_page.0 then Raises (others (record { object = lower.0; page = lower_page.0 })).bytes else Elsewhere
 effect host place others (CopiedPage task page object object_page target) past =
     if is_on host (host_of task.0 past) && is_place place target.0 page.0 then Raises (others (record { object = object.0; page = object_page.0 })).bytes else Elsewhere
 effect host place others (Stored task object page at size value) past =
     if is_on host (host_of task.0 past) && is_place place object.0 page.0 then Stores at (little_endian_bytes size value) else Elsewhere
-effect host place others (Dropped at object page) past = if at.0 == host && is_place place object.0 page.0 then Drops else Elsewhere
-effect host place others (Sent (Up at object) m) past = if at.0 == host && object.0 == place.object then sent_effect place.page (live_control host place.object past) m else Elsewhere
+effect host place others (Dropped at object page) past =
+    if at.0 == host && is_place place object.0 page.0 then Drops else Elsewhere
+effect host place others (Sent (Up at object) m) past =
+    if at.0 == host && object.0 == place.object then sent_effect place.page (live_control host place.object past) m
+    else Elsewhere
 effect host place others (Taken (Down at object control) m) past =
     if at.0 == host && (object.0 == place.object && is_control control (live_control host place.object past)) then taken_effect place.page m else Elsewhere
-effect host place others event past = Elsewhere
+effect host place others (Sent (Down at object control) m) past = Elsewhere
+effect host place others (Taken (Up at object) m) past = Elsewhere
+effect host place others (Line line) past = Elsewhere
+effect host place others (Refused code) past = Elsewhere
+effect host place others (TaskMade task at) past = Elsewhere
+effect host place others (TaskEnded task) past = Elsewhere
+effect host place others (RegionMade region object pages) past = Elsewhere
+effect host place others (RegionCopied region source offset pages) past = Elsewhere
+effect host place others (Entered task address bytes region offset prot inherit) past = Elsewhere
+effect host place others (Removed task address bytes) past = Elsewhere
+effect host place others (Protected task address bytes prot) past = Elsewhere
+effect host place others (Inherited task address bytes inherit) past = Elsewhere
+effect host place others (BegunLoad task address size) past = Elsewhere
+effect host place others (BegunStore task address size value) past = Elsewhere
+effect host place others (BegunCopy task address bytes to) past = Elsewhere
+effect host place others (Loaded task object page value) past = Elsewhere
+effect host place others (CopyEnded task) past = Elsewhere
+effect host place others (Failed task object page) past = Elsewhere
+effect host place others (Shadowed region new old) past = Elsewhere
+effect host place others (DeviceFailed who way object page) past = Elsewhere
+effect host place others (NoSlot object page) past = Elsewhere
+effect host place others (Wired at count) past = Elsewhere
 
 abbrev pub came : List ℕ → ℕ → Bool → Bool → Local → Local
-came bytes lock dirty precious was = record was { here = true; bytes = bytes; lock = lock; dirty = dirty; precious = precious; unlocking = false }
+came bytes lock dirty precious was =
+    record was { here = true; bytes = bytes; lock = lock; dirty = dirty; precious = precious; unlocking = false }
 
 abbrev pub gone : Local → Local
 gone was = record was { here = false; bytes = []; lock = 0; dirty = false; precious = false; unlocking = false }
@@ -116,10 +164,12 @@ moved size (Returns true) was = record was { dirty = false; precious = false; ab
 moved size (Returns false) was = record (gone was) { absent = false }
 moved size Asks was = record was { asked = true }
 moved size Unlocks was = record was { unlocking = was.here }
-moved size (TakesPage lock precious bytes) was = if was.asked then record (came bytes lock false precious was) { asked = false } else was
+moved size (TakesPage lock precious bytes) was =
+    if was.asked then record (came bytes lock false precious was) { asked = false } else was
 moved size TakesNothing was = if was.asked then record was { asked = false; absent = true } else was
 moved size TakesError was = record was { asked = false }
-moved size (TakesLock lock flush) was = if was.here then record was { lock = if flush || lock == 8 then was.lock else lock; unlocking = false } else was
+moved size (TakesLock lock flush) was =
+    if was.here then record was { lock = if flush || lock == 8 then was.lock else lock; unlocking = false } else was
 moved size Begins was = record was { asked = false }
 moved size Ends was = record was { asked = false }
 moved size Elsewhere was = was

@@ -1,4 +1,5 @@
--- Lists of events have the newest first: each event has its past behind it. What holds of each event, and at each moment.
+-- Lists of events have the newest first: each event has its past behind it. What holds of each event, and at each
+-- moment.
 use Rattle.std.specs.Prelude.{List, [], ◌∷◌}
 use Rattle.vm_model.specs.declared.event.Event.{Event}
 use Rattle.vm_model.specs.declared.event.Event.TheVariants.{Line, Taken}

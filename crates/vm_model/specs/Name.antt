@@ -13,7 +13,8 @@ is_name_byte byte = is_lower byte || (is_digit byte || byte == 95)
 
 -- 1 to 32 lower-case letters, digits and underscores, a letter first
 abbrev pub is_name : List ℕ → Bool
-is_name text = nat_lt 0 (length text) && (nat_le (length text) 32 && (is_lower (slice_index text 0) && list_all is_name_byte text))
+is_name text =
+    nat_lt 0 (length text) && (nat_le (length text) 32 && (is_lower (slice_index text 0) && list_all is_name_byte text))
 
 abbrev pub IsName : List ℕ → Type 0
 IsName text = IsTrue (is_name text)

@@ -8,28 +8,35 @@ use Rattle.vm_model.specs.Server.{first, Wanting, wants_write, line, kept}
 
 -- the host
 
--- to read only for a load that waits or a slow copy that is still to read the page, to write only for a store that waits
+-- to read only for a load that waits or a slow copy that is still to read the page, to write only for a store that
+-- waits
 abbrev pub has_reason : ℕ → List Waiter → List ℕ → Bool
 has_reason access ws rs = (access == 1 && (any_load ws || any_reader rs)) || (access == 3 && any_store ws)
 
 -- why a host may send this
 abbrev pub MaySend : List Waiter → List ℕ → Side → UpWord → Type 0
-MaySend ws rs s (Asking asker access) = (s.right ≡ 0) × (s.asked ≡ false) × (s.ready ≡ true) × (asker ≡ s.control) × (has_reason access ws rs ≡ true)
-MaySend ws rs s (Unlocking access) = (s.right ≡ 1) × (s.unlocking ≡ false) × (s.step ≡ 0) × (access ≡ 3) × (any_store ws ≡ true)
-MaySend ws rs s (Returning dirty keep bytes) = (0 < s.right) × (s.dirty ≡ true) × (dirty ≡ true) × (bytes ≡ s.bytes) × (keep ≡ true → s.step ≡ 1)
-MaySend ws rs s (Doing control count) = (s.control ≡ control) × (count ≡ 1) × (0 < s.step) × (s.step ≡ 2 → s.right ≡ 0) × (fresh s ≡ false)
+MaySend ws rs s (Asking asker access) =
+    (s.right ≡ 0) × (s.asked ≡ false) × (s.ready ≡ true) × (asker ≡ s.control) × (has_reason access ws rs ≡ true)
+MaySend ws rs s (Unlocking access) =
+    (s.right ≡ 1) × (s.unlocking ≡ false) × (s.step ≡ 0) × (access ≡ 3) × (any_store ws ≡ true)
+MaySend ws rs s (Returning dirty keep bytes) =
+    (0 < s.right) × (s.dirty ≡ true) × (dirty ≡ true) × (bytes ≡ s.bytes) × (keep ≡ true → s.step ≡ 1)
+MaySend ws rs s (Doing control count) =
+    (s.control ≡ control) × (count ≡ 1) × (0 < s.step) × (s.step ≡ 2 → s.right ≡ 0) × (fresh s ≡ false)
 MaySend ws rs s (Ending control) = (s.control ≡ control) × (s.right ≡ 0) × (s.asked ≡ false)
 MaySend ws rs s OtherUp = Unit {0}
 
 -- a load reads what the host has
 abbrev pub MayLoad : Option Waiter → Side → ℕ → Type 0
 MayLoad None s value = ⊥
-MayLoad (Some w) s value = (w.store ≡ false) × (can_read s ≡ true) × (value ≡ little_endian (slice_range s.bytes w.at (w.at + w.size)))
+MayLoad (Some w) s value =
+    (w.store ≡ false) × (can_read s ≡ true) × (value ≡ little_endian (slice_range s.bytes w.at (w.at + w.size)))
 
 -- a store puts what it began with
 abbrev pub MayStore : Option Waiter → Side → ℕ → ℕ → ℕ → Type 0
 MayStore None s at size value = ⊥
-MayStore (Some w) s at size value = (w.store ≡ true) × (can_write s ≡ true) × (at ≡ w.at) × (size ≡ w.size) × (value ≡ w.value)
+MayStore (Some w) s at size value =
+    (w.store ≡ true) × (can_write s ≡ true) × (at ≡ w.at) × (size ≡ w.size) × (value ≡ w.value)
 
 -- what is taken is the oldest of its channel; no page is put into the host but by a supply, and no access fails
 abbrev pub May : List Waiter → List ℕ → Side → Effect → Type 0

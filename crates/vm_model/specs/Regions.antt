@@ -1,5 +1,5 @@
 -- Regions and objects: their numbers, and what stands on what.
-use Rattle.std.specs.Prelude.{ℕ, ◌+◌, List, [], ◌∷◌, if◌then◌else◌, ◌==◌, Bool, true, false}
+use Rattle.std.specs.Prelude.{ℕ, zero, suc, ◌+◌, List, [], ◌∷◌, if◌then◌else◌, ◌==◌, Bool, true, false}
 use Rattle.vm_model.specs.declared.event.Event.{Event}
 use Rattle.vm_model.specs.declared.event.Event.TheVariants as event
 use Rattle.vm_model.specs.declared.script.Header.{Header}
@@ -58,11 +58,22 @@ shadowed this new was =
 
 abbrev pub region_of : Header → ℕ → List Event → Region
 region_of header region [] = record { mark = false; top = region; shift = 0; pages = declared_pages header region }
-region_of header region (event.RegionMade new object pages ∷ past) = made (region == new.0) object.0 pages (region_of header region past)
+region_of header region (event.RegionMade new object pages ∷ past) =
+    made (region == new.0) object.0 pages (region_of header region past)
 region_of header region (event.RegionCopied new source offset pages ∷ past) =
     copied (region == new.0) (region == source.0) offset pages (region_of header source.0 past) (region_of header region past)
-region_of header region (event.Shadowed changed new old ∷ past) = shadowed (region == changed.0) new.0 (region_of header region past)
+region_of header region (event.Shadowed changed new old ∷ past) =
+    shadowed (region == changed.0) new.0 (region_of header region past)
 region_of header region (e ∷ past) = region_of header region past
+
+-- how many of the first n regions are marked
+abbrev pub marked_below : Header → ℕ → List Event → ℕ
+marked_below header zero past = 0
+marked_below header (suc n) past = if (region_of header n past).mark then marked_below header n past + 1 else marked_below header n past
+
+-- how many regions are marked: a region is so from a symmetric copy until it is shadowed, also when it has ended
+abbrev pub marked_regions : Header → List Event → ℕ
+marked_regions header past = marked_below header (next_region header past) past
 
 -- the backing object of an object, if it has one, and the page of that object that its page 0 is over
 pub record Backing : Type 0 where
@@ -81,5 +92,6 @@ over this region was =
 
 abbrev pub backing_of : Header → ℕ → List Event → Backing
 backing_of header object [] = record { backed = false; under = 0; shift = 0 }
-backing_of header object (event.Shadowed region new old ∷ past) = over (object == new.0) (region_of header region.0 past) (backing_of header object past)
+backing_of header object (event.Shadowed region new old ∷ past) =
+    over (object == new.0) (region_of header region.0 past) (backing_of header object past)
 backing_of header object (e ∷ past) = backing_of header object past

@@ -14,34 +14,45 @@ abbrev pub AllRows : (Entry → Type 0) → List Entry → Type 0
 AllRows P [] = Unit {0}
 AllRows P (row ∷ rows) = P row × AllRows P rows
 
-pub rows_map : (P Q : Entry → Type 0) → ((row : Entry) → P row → Q row) → (rows : List Entry) → AllRows P rows → AllRows Q rows
+pub rows_map : (P Q : Entry → Type 0) → ((row : Entry) → P row → Q row) → (rows : List Entry) → AllRows P rows
+    → AllRows Q rows
 rows_map P Q f [] all = tt
 rows_map P Q f (row ∷ rows) all = (f row all.0, rows_map P Q f rows all.1)
 
-pub rows_append : (P : Entry → Type 0) (rows more : List Entry) → AllRows P rows → AllRows P more → AllRows P (rows ++ more)
+pub rows_append : (P : Entry → Type 0) (rows more : List Entry) → AllRows P rows → AllRows P more
+    → AllRows P (rows ++ more)
 rows_append P [] more all next = next
 rows_append P (row ∷ rows) more all next = (all.0, rows_append P rows more all.1 next)
 
-pub rows_flat : (P : Entry → Type 0) (f : Entry → List Entry) → ((row : Entry) → P row → AllRows P (f row)) → (rows : List Entry) → AllRows P rows → AllRows P (flat_map f rows)
+pub rows_flat : (P : Entry → Type 0) (f : Entry → List Entry) → ((row : Entry) → P row → AllRows P (f row))
+    → (rows : List Entry) → AllRows P rows → AllRows P (flat_map f rows)
 rows_flat P f each [] all = tt
-rows_flat P f each (row ∷ rows) all = rows_append P (f row) (flat_map f rows) (each row all.0) (rows_flat P f each rows all.1)
+rows_flat P f each (row ∷ rows) all =
+    rows_append P (f row) (flat_map f rows) (each row all.0) (rows_flat P f each rows all.1)
 
 -- a part of an entry, from `start` up to `end`
 abbrev pub part : ℕ → Entry → ℕ → ℕ → Entry
-part size row start end = record row { address = start; bytes = end - start; offset = row.offset + (start - row.address) / size }
+part size row start end =
+    record row { address = start; bytes = end - start; offset = row.offset + (start - row.address) / size }
 
 -- parts have what their entry has
 abbrev pub Parts : ℕ → (Entry → Type 0) → Type 0
-Parts size P = (row : Entry) (start end : ℕ) → P row → row.address ≤ start → start < end → end ≤ row.address + row.bytes → P (part size row start end)
+Parts size P =
+    (row : Entry) (start end : ℕ) → P row → row.address ≤ start → start < end → end ≤ row.address + row.bytes
+    → P (part size row start end)
 
-pub rows_cut : (size : ℕ) (P : Entry → Type 0) → Parts size P → (from to : ℕ) (row : Entry) → P row → AllRows P (cut size from to row)
+pub rows_cut : (size : ℕ) (P : Entry → Type 0) → Parts size P → (from to : ℕ) (row : Entry) → P row
+    → AllRows P (cut size from to row)
 rows_cut size P parts from to row is = by_test (nat_lt (max from row.address) (min to (row.address + row.bytes))) refl
   where
-    by_test : (b : Bool) → nat_lt (max from row.address) (min to (row.address + row.bytes)) ≡ b → AllRows P (if b then part size row (max from row.address) (min to (row.address + row.bytes)) ∷ [] else [])
+    by_test : (b : Bool) → nat_lt (max from row.address) (min to (row.address + row.bytes)) ≡ b
+        → AllRows P (if b then part size row (max from row.address) (min to (row.address + row.bytes)) ∷ [] else [])
     by_test true less = (parts row (max from row.address) (min to (row.address + row.bytes)) is (omega arith) (grind (arith, nat_tests)) (omega arith), tt)
     by_test false less = tt
 
-pub rows_rewritten : (size : ℕ) (P : Entry → Type 0) (becomes : Entry → List Entry) → Parts size P → ((row : Entry) → P row → AllRows P (becomes row)) → (address bytes : ℕ) (rows : List Entry) → AllRows P rows → AllRows P (rewritten becomes size address bytes rows)
+pub rows_rewritten : (size : ℕ) (P : Entry → Type 0) (becomes : Entry → List Entry) → Parts size P
+    → ((row : Entry) → P row → AllRows P (becomes row)) → (address bytes : ℕ) (rows : List Entry) → AllRows P rows
+    → AllRows P (rewritten becomes size address bytes rows)
 rows_rewritten size P becomes parts each address bytes [] all = tt
 rows_rewritten size P becomes parts each address bytes (row ∷ rows) all =
     rows_append P (cut size 0 address row) (flat_map becomes (cut size address (address + bytes) row) ++ (cut size (address + bytes) (2 ^ 32) row ++ rewritten becomes size address bytes rows))
@@ -52,11 +63,13 @@ rows_rewritten size P becomes parts each address bytes (row ∷ rows) all =
     (rows_cut size P parts (address + bytes) (2 ^ 32) row all.0)
     (rows_rewritten size P becomes parts each address bytes rows all.1)))
 
-pub rows_entered : (P : Entry → Type 0) (new : Entry) (rows : List Entry) → P new → AllRows P rows → AllRows P (entered new rows)
+pub rows_entered : (P : Entry → Type 0) (new : Entry) (rows : List Entry) → P new → AllRows P rows
+    → AllRows P (entered new rows)
 rows_entered P new [] is all = (is, tt)
 rows_entered P new (row ∷ rows) is all = by_test (rows_entered P new rows is all.1) (nat_lt new.address row.address)
   where
-    by_test : AllRows P (entered new rows) → (b : Bool) → AllRows P (if b then new ∷ row ∷ rows else row ∷ entered new rows)
+    by_test : AllRows P (entered new rows) → (b : Bool)
+        → AllRows P (if b then new ∷ row ∷ rows else row ∷ entered new rows)
     by_test later true = (is, all)
     by_test later false = (all.0, later)
 
@@ -66,11 +79,14 @@ pub record FoundRow (P : Entry → Type 0) (address : ℕ) (row : Entry) : Type 
   pub from : row.address ≤ address
   pub below : address < row.address + row.bytes
 
-pub found_row : (P : Entry → Type 0) (address : ℕ) (rows : List Entry) (entry : Entry) → AllRows P rows → entry_at address rows ≡ Some entry → FoundRow P address entry
+pub found_row : (P : Entry → Type 0) (address : ℕ) (rows : List Entry) (entry : Entry) → AllRows P rows
+    → entry_at address rows ≡ Some entry → FoundRow P address entry
 found_row P address [] entry all found = absurd (cc)
 found_row P address (row ∷ rows) entry all found = by_test (λ e. found_row P address rows entry all.1 e) (nat_le row.address address && nat_lt address (row.address + row.bytes)) refl found
   where
-    by_test : (entry_at address rows ≡ Some entry → FoundRow P address entry) → (b : Bool) → (nat_le row.address address && nat_lt address (row.address + row.bytes)) ≡ b → (if b then Some row else entry_at address rows) ≡ Some entry → FoundRow P address entry
+    by_test : (entry_at address rows ≡ Some entry → FoundRow P address entry) → (b : Bool)
+        → (nat_le row.address address && nat_lt address (row.address + row.bytes)) ≡ b
+        → (if b then Some row else entry_at address rows) ≡ Some entry → FoundRow P address entry
     by_test later true is e =
         let same : row ≡ entry = cc in
         subst (λ (r : Entry). FoundRow P address r) same (record { is = all.0; from = grind (arith, nat_tests); below = grind (arith, nat_tests) })
@@ -109,9 +125,11 @@ page_below size x bytes less whole =
 -- all pages of an entry are pages of its region
 pub record Inside (size pages : ℕ) (row : Entry) : Type 0 where
   pub whole : row.offset + row.bytes / size ≤ pages
-  pub each : (address : ℕ) → row.address ≤ address → address < row.address + row.bytes → page_at size address row < pages
+  pub each : (address : ℕ) → row.address ≤ address → address < row.address + row.bytes
+      → page_at size address row < pages
 
-pub inside_part : (size pages : ℕ) (row : Entry) (start end : ℕ) → Inside size pages row → row.address ≤ start → start < end → end ≤ row.address + row.bytes → Inside size pages (part size row start end)
+pub inside_part : (size pages : ℕ) (row : Entry) (start end : ℕ) → Inside size pages row → row.address ≤ start
+    → start < end → end ≤ row.address + row.bytes → Inside size pages (part size row start end)
 inside_part size pages row start end is low less high =
     record {
       whole = omega (arith, div_sum size (start - row.address) (end - start), div_grows size (start - row.address + (end - start)) row.bytes (omega arith), is.whole);

@@ -25,7 +25,8 @@ without h (w ∷ ws) = if w.host == h then (if w.upgrade then w ∷ without h ws
 -- a request joins; so does an unlock, to write, from a host that holds Read and isn't awaited
 abbrev pub joined : Side → ℕ → Effect → List Wanting → List Wanting
 joined s h (TakenUp (Asking asker access)) ws = ws ++ record { host = h; upgrade = false; access = access } ∷ []
-joined s h (TakenUp (Unlocking access)) ws = if s.holds == 1 && s.awaits == 0 then ws ++ record { host = h; upgrade = true; access = 3 } ∷ [] else ws
+joined s h (TakenUp (Unlocking access)) ws =
+    if s.holds == 1 && s.awaits == 0 then ws ++ record { host = h; upgrade = true; access = 3 } ∷ [] else ws
 joined s h (SentDown control (Supplying lock precious bytes)) ws = without h ws
 joined s h e ws = ws
 
@@ -40,7 +41,8 @@ trimmed_line h holds (w ∷ ws) = if stays h holds w then w ∷ trimmed_line h h
 -- the line of those who want the page, the first in front
 abbrev pub line : List Act → List Wanting
 line [] = []
-line (a ∷ past) = trimmed_line a.host (side a.host (a ∷ past)).holds (joined (side a.host past) a.host a.effect (line past))
+line (a ∷ past) =
+    trimmed_line a.host (side a.host (a ∷ past)).holds (joined (side a.host past) a.host a.effect (line past))
 
 -- none of them is an upgrade of the host
 abbrev pub NoUpgrade : ℕ → List Wanting → Type 0

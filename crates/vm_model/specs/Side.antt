@@ -99,7 +99,8 @@ sent_up s (Returning dirty keep bytes) =
       absent = false;
     }
 sent_up s (Doing control count) = record s { up = s.up ++ Doing control count ∷ []; step = 0 }
-sent_up s (Ending control) = record s { up = s.up ++ Ending control ∷ []; live = false; ready = false; down = []; asked = false; step = 0 }
+sent_up s (Ending control) =
+    record s { up = s.up ++ Ending control ∷ []; live = false; ready = false; down = []; asked = false; step = 0 }
 sent_up s OtherUp = s
 
 -- the server takes
@@ -112,7 +113,11 @@ after_done (suc zero) holds = holds
 after_done (suc (suc n)) holds = 0
 
 abbrev pub done : Side → ℕ → Side
-done s control = record s { awaits = if s.awaited_control == control then 0 else s.awaits; holds = if s.awaited_control == control then after_done s.awaits s.holds else s.holds }
+done s control =
+    record s {
+      awaits = if s.awaited_control == control then 0 else s.awaits;
+      holds = if s.awaited_control == control then after_done s.awaits s.holds else s.holds;
+    }
 
 abbrev pub heard_up : Side → UpWord → Side
 heard_up s (Asking asker access) = record s { holds = 0; pending = s.pending + 1; heard = asker }
@@ -199,7 +204,8 @@ move s (Puts bytes dirty) = put s bytes dirty
 move s Drops = record s { right = 0 }
 move s (Begins task store at size value) = s
 move s (Loads task value) = s
-move s (Stores task at size value) = record s { bytes = with_bytes at (little_endian_bytes size value) s.bytes; dirty = true }
+move s (Stores task at size value) =
+    record s { bytes = with_bytes at (little_endian_bytes size value) s.bytes; dirty = true }
 move s (Fails task) = s
 move s (BeginsCopy task times) = s
 move s (Copies task) = s

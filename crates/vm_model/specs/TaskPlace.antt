@@ -16,7 +16,8 @@ covers task address owner start bytes = owner == task && (nat_le start address &
 -- an address of a task means page p of object o, which is the whole of the region with its number
 abbrev pub means_page : ℕ → ℕ → ℕ → ℕ → ℕ → List Event → Bool
 means_page size o p task address [] = false
-means_page size o p task address (event.TaskMade made host ∷ past) = if made.0 == task then false else means_page size o p task address past
+means_page size o p task address (event.TaskMade made host ∷ past) =
+    if made.0 == task then false else means_page size o p task address past
 means_page size o p task address (event.Entered owner start bytes region offset prot inherit ∷ past) =
     if covers task address owner.0 start bytes
     then region.0 == o && offset + (address - start) / size == p

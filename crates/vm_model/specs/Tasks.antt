@@ -21,9 +21,13 @@ entries_of size task (TaskMade made host ∷ past) = if made.0 == task then [] e
 entries_of size task (TaskEnded gone ∷ past) = if gone.0 == task then [] else entries_of size task past
 entries_of size task (Entered owner address bytes region offset prot inherit ∷ past) =
     if owner.0 == task then entered (record { address = address; bytes = bytes; region = region; offset = offset; prot = prot; inherit = inherit }) (entries_of size task past) else entries_of size task past
-entries_of size task (Removed owner address bytes ∷ past) = if owner.0 == task then removed size address bytes (entries_of size task past) else entries_of size task past
-entries_of size task (Protected owner address bytes prot ∷ past) = if owner.0 == task then protected size address bytes prot (entries_of size task past) else entries_of size task past
-entries_of size task (Inherited owner address bytes inherit ∷ past) = if owner.0 == task then inherited size address bytes inherit (entries_of size task past) else entries_of size task past
+entries_of size task (Removed owner address bytes ∷ past) =
+    if owner.0 == task then removed size address bytes (entries_of size task past) else entries_of size task past
+entries_of size task (Protected owner address bytes prot ∷ past) =
+    if owner.0 == task then protected size address bytes prot (entries_of size task past) else entries_of size task past
+entries_of size task (Inherited owner address bytes inherit ∷ past) =
+    if owner.0 == task then inherited size address bytes inherit (entries_of size task past)
+    else entries_of size task past
 entries_of size task (event ∷ past) = entries_of size task past
 
 -- one of the entries is on the region
@@ -58,7 +62,14 @@ abbrev pub copies_from : ℕ → List Entry → Bool
 copies_from region [] = false
 copies_from region (row ∷ rows) = (is_copied row.inherit && row.region.0 == region) || copies_from region rows
 
+-- how many regions a fork marks that had no mark
+abbrev pub new_marks : (ℕ → Bool) → List Entry → ℕ
+new_marks marked [] = 0
+new_marks marked (row ∷ rows) =
+    if is_copied row.inherit && (not (copies_from row.region.0 rows) && not (marked row.region.0)) then new_marks marked rows + 1 else new_marks marked rows
+
 -- how many regions a fork copies from
 abbrev pub sources : List Entry → ℕ
 sources [] = 0
-sources (row ∷ rows) = if is_copied row.inherit && not (copies_from row.region.0 rows) then sources rows + 1 else sources rows
+sources (row ∷ rows) =
+    if is_copied row.inherit && not (copies_from row.region.0 rows) then sources rows + 1 else sources rows

@@ -16,7 +16,8 @@ without_task task [] = []
 without_task task (w ∷ ws) = if w.task == task then without_task task ws else w ∷ without_task task ws
 
 abbrev pub waiters_after : Effect → List Waiter → List Waiter
-waiters_after (Begins task store at size value) ws = record { task = task; store = store; at = at; size = size; value = value } ∷ ws
+waiters_after (Begins task store at size value) ws =
+    record { task = task; store = store; at = at; size = size; value = value } ∷ ws
 waiters_after (Loads task value) ws = without_task task ws
 waiters_after (Stores task at size value) ws = without_task task ws
 waiters_after (Fails task) ws = without_task task ws

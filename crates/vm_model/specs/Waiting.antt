@@ -15,11 +15,15 @@ abbrev pub waiting : ℕ → List Event → Option Access
 waiting task [] = None
 waiting task (event.TaskMade made host ∷ past) = if made.0 == task then None else waiting task past
 waiting task (event.TaskEnded gone ∷ past) = if gone.0 == task then None else waiting task past
-waiting task (event.BegunLoad owner address bytes ∷ past) = if owner.0 == task then Some (Loading address bytes) else waiting task past
-waiting task (event.BegunStore owner address bytes value ∷ past) = if owner.0 == task then Some (Storing address bytes value) else waiting task past
-waiting task (event.BegunCopy owner address bytes to ∷ past) = if owner.0 == task then Some (Copying address bytes to) else waiting task past
+waiting task (event.BegunLoad owner address bytes ∷ past) =
+    if owner.0 == task then Some (Loading address bytes) else waiting task past
+waiting task (event.BegunStore owner address bytes value ∷ past) =
+    if owner.0 == task then Some (Storing address bytes value) else waiting task past
+waiting task (event.BegunCopy owner address bytes to ∷ past) =
+    if owner.0 == task then Some (Copying address bytes to) else waiting task past
 waiting task (event.Loaded owner object page value ∷ past) = if owner.0 == task then None else waiting task past
-waiting task (event.Stored owner object page at bytes value ∷ past) = if owner.0 == task then None else waiting task past
+waiting task (event.Stored owner object page at bytes value ∷ past) =
+    if owner.0 == task then None else waiting task past
 waiting task (event.CopyEnded owner ∷ past) = if owner.0 == task then None else waiting task past
 waiting task (event.Failed owner object page ∷ past) = if owner.0 == task then None else waiting task past
 waiting task (e ∷ past) = waiting task past
@@ -28,7 +32,8 @@ waiting task (e ∷ past) = waiting task past
 abbrev pub next_page : ℕ → List Event → ℕ
 next_page task [] = 0
 next_page task (event.BegunCopy owner address bytes to ∷ past) = if owner.0 == task then 0 else next_page task past
-next_page task (event.CopiedPage owner page object object_page target ∷ past) = if owner.0 == task then page.0 + 1 else next_page task past
+next_page task (event.CopiedPage owner page object object_page target ∷ past) =
+    if owner.0 == task then page.0 + 1 else next_page task past
 next_page task (e ∷ past) = next_page task past
 
 -- the newest event is the beginning of the task's slow copy
@@ -44,8 +49,10 @@ pub record Target : Type 0 where
 -- that of the task's newest slow copy: it is made right behind the beginning
 abbrev pub copy_target : ℕ → List Event → Option Target
 copy_target task [] = None
-copy_target task (event.BegunCopy owner address bytes to ∷ past) = if owner.0 == task then None else copy_target task past
-copy_target task (event.RegionMade region object pages ∷ past) = if begins_copy task past then Some (record { region = region.0; object = object.0 }) else copy_target task past
+copy_target task (event.BegunCopy owner address bytes to ∷ past) =
+    if owner.0 == task then None else copy_target task past
+copy_target task (event.RegionMade region object pages ∷ past) =
+    if begins_copy task past then Some (record { region = region.0; object = object.0 }) else copy_target task past
 copy_target task (e ∷ past) = copy_target task past
 
 -- the region is the target of a slow copy

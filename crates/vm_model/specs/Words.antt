@@ -79,7 +79,8 @@ control_of m = 0
 
 abbrev pub down_word : ℕ → Message → DownWord
 down_word p (message.Supply page lock precious bytes) = if page.0 == p then Supplying lock precious bytes else OtherDown
-down_word p (message.Lock page count returns flush lock reply) = if in_range p page.0 count then Locking count returns flush lock reply else OtherDown
+down_word p (message.Lock page count returns flush lock reply) =
+    if in_range p page.0 count then Locking count returns flush lock reply else OtherDown
 down_word p (message.Unavailable page) = if page.0 == p then Lacking else OtherDown
 down_word p (message.Error page reason) = if page.0 == p then Failing else OtherDown
 down_word p (message.Ready cache strategy) = Readying
@@ -98,18 +99,24 @@ act_if b host effect = record { host = host; effect = if b then effect else Noth
 -- how many of the `count` pages of a range are the place, where `means` says it of each address
 abbrev pub times_meant : ℕ → (ℕ → Bool) → ℕ → ℕ → ℕ
 times_meant size means address zero = 0
-times_meant size means address (suc count) = (if means address then 1 else 0) + times_meant size means (address + size) count
+times_meant size means address (suc count) =
+    (if means address then 1 else 0) + times_meant size means (address + size) count
 
 -- What an event is to page p of object o. The rest of the history comes in as functions: the host of
 -- a task, whether an address of a task means the place, and the bytes that a host has of a place.
 abbrev pub act_of : ℕ → ℕ → ℕ → (ℕ → ℕ) → (ℕ → ℕ → Bool) → (ℕ → ℕ → ℕ → List ℕ) → Event → Act
 act_of size o p host_of means held (event.Sent (Up host object) m) = act_if (object.0 == o) host.0 (sent_effect p m)
-act_of size o p host_of means held (event.Sent (Down host object control) m) = act_if (object.0 == o) host.0 (SentDown control (down_word p m))
-act_of size o p host_of means held (event.Taken (Up host object) m) = record { host = host.0; effect = if object.0 == o then TakenUp (up_word p m) else StepBegins }
-act_of size o p host_of means held (event.Taken (Down host object control) m) = record { host = host.0; effect = if object.0 == o then TakesDown control (down_word p m) else StepBegins }
+act_of size o p host_of means held (event.Sent (Down host object control) m) =
+    act_if (object.0 == o) host.0 (SentDown control (down_word p m))
+act_of size o p host_of means held (event.Taken (Up host object) m) =
+    record { host = host.0; effect = if object.0 == o then TakenUp (up_word p m) else StepBegins }
+act_of size o p host_of means held (event.Taken (Down host object control) m) =
+    record { host = host.0; effect = if object.0 == o then TakesDown control (down_word p m) else StepBegins }
 act_of size o p host_of means held (event.Dropped host object page) = act_if (object.0 == o && page.0 == p) host.0 Drops
-act_of size o p host_of means held (event.Zeroed host object page) = act_if (object.0 == o && page.0 == p) host.0 (Puts (replicate size 0) false)
-act_of size o p host_of means held (event.Raised host lower lower_page upper upper_page) = act_if (upper.0 == o && upper_page.0 == p) host.0 (Puts (held host.0 lower.0 lower_page.0) true)
+act_of size o p host_of means held (event.Zeroed host object page) =
+    act_if (object.0 == o && page.0 == p) host.0 (Puts (replicate size 0) false)
+act_of size o p host_of means held (event.Raised host lower lower_page upper upper_page) =
+    act_if (upper.0 == o && upper_page.0 == p) host.0 (Puts (held host.0 lower.0 lower_page.0) true)
 act_of size o p host_of means held (event.BegunCopy task address bytes to) = record { host = host_of task.0; effect = BeginsCopy task.0 (times_meant size (means task.0) address (bytes / size)) }
 act_of size o p host_of means held (event.CopiedPage task page object object_page target) =
     record {
@@ -117,11 +124,16 @@ act_of size o p host_of means held (event.CopiedPage task page object object_pag
       effect = if target.0 == o && page.0 == p then Puts (held (host_of task.0) object.0 object_page.0) true else (if object.0 == o && object_page.0 == p then Copies task.0 else Nothing);
     }
 act_of size o p host_of means held (event.CopyEnded task) = record { host = host_of task.0; effect = EndsCopy task.0 }
-act_of size o p host_of means held (event.BegunLoad task address bytes) = act_if (means task.0 address) (host_of task.0) (Begins task.0 false (address % size) bytes 0)
-act_of size o p host_of means held (event.BegunStore task address bytes value) = act_if (means task.0 address) (host_of task.0) (Begins task.0 true (address % size) bytes value)
-act_of size o p host_of means held (event.Loaded task object page value) = act_if (object.0 == o && page.0 == p) (host_of task.0) (Loads task.0 value)
-act_of size o p host_of means held (event.Stored task object page at bytes value) = act_if (object.0 == o && page.0 == p) (host_of task.0) (Stores task.0 at bytes value)
-act_of size o p host_of means held (event.Failed task object page) = record { host = host_of task.0; effect = if object.0 == o && page.0 == p then Fails task.0 else EndsCopy task.0 }
+act_of size o p host_of means held (event.BegunLoad task address bytes) =
+    act_if (means task.0 address) (host_of task.0) (Begins task.0 false (address % size) bytes 0)
+act_of size o p host_of means held (event.BegunStore task address bytes value) =
+    act_if (means task.0 address) (host_of task.0) (Begins task.0 true (address % size) bytes value)
+act_of size o p host_of means held (event.Loaded task object page value) =
+    act_if (object.0 == o && page.0 == p) (host_of task.0) (Loads task.0 value)
+act_of size o p host_of means held (event.Stored task object page at bytes value) =
+    act_if (object.0 == o && page.0 == p) (host_of task.0) (Stores task.0 at bytes value)
+act_of size o p host_of means held (event.Failed task object page) =
+    record { host = host_of task.0; effect = if object.0 == o && page.0 == p then Fails task.0 else EndsCopy task.0 }
 act_of size o p host_of means held (event.Line line) = record { host = 0; effect = StepBegins }
 act_of size o p host_of means held e = record { host = 0; effect = Nothing }
 

@@ -2,7 +2,8 @@
 use crate::{Channel, Message};
 use vm_base::{HostId, Inherit, ObjectId, PageNo, Prot, TaskId};
 
-/// A command. Addresses and `bytes` are in bytes, `offset`, `page` and counts of pages in pages.
+/// A command of a script. Addresses and `bytes` are in bytes, `offset`, `page` and counts of pages in
+/// pages. A command that can't be done is refused with a `Code`, and changes nothing.
 #[derive(Drop)]
 pub enum Command {
     /// A new task on a host, with no entries.
@@ -19,13 +20,13 @@ pub enum Command {
     Exit {
         task: TaskId,
     },
-    /// Zeroed temporary memory.
+    /// vm_allocate: zeroed temporary memory.
     Allocate {
         task: TaskId,
         address: u64,
         bytes: u64,
     },
-    /// A declared object, from its page `offset` on.
+    /// vm_map: a declared object, from its page `offset` on.
     Map {
         task: TaskId,
         address: u64,
@@ -33,20 +34,20 @@ pub enum Command {
         object: ObjectId,
         offset: u32,
     },
-    /// What lies in the range is unmapped.
+    /// vm_deallocate: what lies in the range is unmapped.
     Deallocate {
         task: TaskId,
         address: u64,
         bytes: u64,
     },
-    /// The range gets a protection.
+    /// vm_protect: the range gets a protection.
     Protect {
         task: TaskId,
         address: u64,
         bytes: u64,
         prot: Prot,
     },
-    /// The range gets an inheritance.
+    /// vm_inherit: the range gets an inheritance.
     Inherit {
         task: TaskId,
         address: u64,
@@ -104,11 +105,11 @@ pub enum Command {
         host: HostId,
         count: u32,
     },
-    /// Makes a coming call of the files fail.
+    /// Makes the `count`-th coming call of the files fail.
     FailFiles {
         count: u32,
     },
-    /// Makes a coming call of the paging area fail.
+    /// Makes the `count`-th coming call of the paging area fail.
     FailPaging {
         count: u32,
     },

@@ -1,6 +1,6 @@
 // Copies of messages.
 ghost use Rattle.std.specs.Prelude.{◌≡◌, ◌+◌, ◌<◌, length, true, false};
-ghost use Rattle.vm_model.specs.Copies.{has_page, HasPageOf};
+ghost use Rattle.vm_model.specs.Copies.{has_page, HasPageOf, is_of_pages, is_from_pager};
 
 use crate::Message;
 use vm_base::{Buffers, PageBytes};
@@ -17,8 +17,73 @@ impl Message {
         ensures kept { has_page self.now ≡ false → buffers.new ≡ buffers.old }
     {
         match *self {
+            Message::Return {
+                control,
+                page,
+                dirty,
+                keep,
+                ref hex,
+            } => Message::Return {
+                control,
+                page,
+                dirty,
+                keep,
+                hex: copy_page(hex, buffers),
+            },
+            Message::Supply {
+                page,
+                lock,
+                precious,
+                ref hex,
+            } => Message::Supply {
+                page,
+                lock,
+                precious,
+                hex: copy_page(hex, buffers),
+            },
+            _ => self.copy_of_object(),
+        }
+    }
+
+    // What is said of the whole object; else it is of pages.
+    fn copy_of_object(&self) -> Message
+        requires { has_page self.now ≡ false }
+        ensures { result ≡ self.now }
+    {
+        match *self {
             Message::Init { control, size } => Message::Init { control, size },
             Message::Create { control, size } => Message::Create { control, size },
+            Message::Terminate { control } => Message::Terminate { control },
+            Message::Ready { cache, strategy } => Message::Ready { cache, strategy },
+            Message::Attributes {
+                cache,
+                strategy,
+                reply,
+            } => Message::Attributes {
+                cache,
+                strategy,
+                reply,
+            },
+            Message::Changed {
+                control,
+                cache,
+                strategy,
+            } => Message::Changed {
+                control,
+                cache,
+                strategy,
+            },
+            Message::Destroy { reason } => Message::Destroy { reason },
+            _ => self.copy_of_pages(),
+        }
+    }
+
+    // What a kernel says of pages; else the pager says it.
+    fn copy_of_pages(&self) -> Message
+        requires { is_of_pages self.now ≡ true }
+        ensures { result ≡ self.now }
+    {
+        match *self {
             Message::Request {
                 control,
                 page,
@@ -37,19 +102,6 @@ impl Message {
                 page,
                 access,
             },
-            Message::Return {
-                control,
-                page,
-                dirty,
-                keep,
-                ref hex,
-            } => Message::Return {
-                control,
-                page,
-                dirty,
-                keep,
-                hex: copy_page(hex, buffers),
-            },
             Message::Completed {
                 control,
                 page,
@@ -59,19 +111,15 @@ impl Message {
                 page,
                 count,
             },
-            Message::Terminate { control } => Message::Terminate { control },
-            Message::Ready { cache, strategy } => Message::Ready { cache, strategy },
-            Message::Supply {
-                page,
-                lock,
-                precious,
-                ref hex,
-            } => Message::Supply {
-                page,
-                lock,
-                precious,
-                hex: copy_page(hex, buffers),
-            },
+            _ => self.copy_from_pager(),
+        }
+    }
+
+    fn copy_from_pager(&self) -> Message
+        requires { is_from_pager self.now ≡ true }
+        ensures { result ≡ self.now }
+    {
+        match *self {
             Message::Unavailable { page } => Message::Unavailable { page },
             Message::Error { page, reason } => Message::Error { page, reason },
             Message::Lock {
@@ -89,25 +137,7 @@ impl Message {
                 lock,
                 reply,
             },
-            Message::Attributes {
-                cache,
-                strategy,
-                reply,
-            } => Message::Attributes {
-                cache,
-                strategy,
-                reply,
-            },
-            Message::Destroy { reason } => Message::Destroy { reason },
-            Message::Changed {
-                control,
-                cache,
-                strategy,
-            } => Message::Changed {
-                control,
-                cache,
-                strategy,
-            },
+            _ => unreachable!(),
         }
     }
 }

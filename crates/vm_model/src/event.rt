@@ -16,7 +16,8 @@ pub enum Way {
     Write,
 }
 
-/// One event of a run. Addresses and `bytes` are in bytes, `offset`, `page` and `pages` in pages.
+/// One event of a run. Addresses and `bytes` are in bytes, `offset`, `page` and `pages` in pages, and
+/// `size` is 1, 2, 4 or 8 bytes. Which events there are is this profile's.
 #[derive(Drop)]
 pub enum Event {
     /// The command of a line of the script begins.
@@ -127,7 +128,7 @@ pub enum Event {
     CopyEnded {
         task: TaskId,
     },
-    /// A task's access ends with KERN_MEMORY_ERROR.
+    /// A task's access ends with KERN_MEMORY_ERROR, since its page can't be had.
     Failed {
         task: TaskId,
         object: ObjectId,

@@ -5,6 +5,7 @@ mod command;
 mod copies;
 mod event;
 mod fault;
+pub mod limits;
 mod message;
 mod name;
 mod script;

@@ -7,10 +7,12 @@ use vm_base::{HostId, ObjectId, PageBytes, PageNo};
 /// `control` is the number of the control port, which counts the incarnations of an object on a
 /// host. `access` is 1 to read and 3 to write. `lock` names the prohibited accesses: 1 reading, 2
 /// writing, 3 both; in `Lock` 8 leaves the lock as it is. `returns` is 0 for nothing, 1 for dirty
-/// pages, 2 for dirty or precious ones.
+/// pages, 2 for dirty or precious ones. `hex` has the bytes of the page, all of them. `cache` is
+/// may_cache, and `strategy` the copy strategy: 0 none, 1 call, 2 delay, 3 temporary. `reason` is a
+/// code; the pagers of this program give 10, KERN_MEMORY_ERROR. The numbers are this profile's.
 #[derive(Drop)]
 pub enum Message {
-    /// memory_object_init, to the pager; `size` is the page size in bytes.
+    /// memory_object_init, to the pager, with a new control; `size` is the page size in bytes.
     Init {
         control: u32,
         size: u32,
@@ -20,19 +22,19 @@ pub enum Message {
         control: u32,
         size: u32,
     },
-    /// memory_object_data_request, to the pager.
+    /// memory_object_data_request, to the pager; `access` is the access that is wanted.
     Request {
         control: u32,
         page: PageNo,
         access: u32,
     },
-    /// memory_object_data_unlock, to the pager.
+    /// memory_object_data_unlock, to the pager; `access` is as in `Request`.
     Unlock {
         control: u32,
         page: PageNo,
         access: u32,
     },
-    /// memory_object_data_return, to the pager; `keep` is kernel_copy.
+    /// memory_object_data_return, to the pager; `keep` is kernel_copy, that the page stays.
     Return {
         control: u32,
         page: PageNo,
@@ -40,7 +42,7 @@ pub enum Message {
         keep: bool,
         hex: PageBytes,
     },
-    /// memory_object_lock_completed, to the pager.
+    /// memory_object_lock_completed, to the pager, of `count` pages from `page` on.
     Completed {
         control: u32,
         page: PageNo,
@@ -55,7 +57,7 @@ pub enum Message {
         cache: bool,
         strategy: u32,
     },
-    /// memory_object_data_supply, to the kernel.
+    /// memory_object_data_supply, to the kernel; `precious` asks for the page back unchanged too.
     Supply {
         page: PageNo,
         lock: u32,
@@ -71,7 +73,8 @@ pub enum Message {
         page: PageNo,
         reason: u32,
     },
-    /// memory_object_lock_request, to the kernel.
+    /// memory_object_lock_request, to the kernel, of `count` pages from `page` on; `reply` asks for
+    /// lock_completed.
     Lock {
         page: PageNo,
         count: u32,

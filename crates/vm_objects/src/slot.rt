@@ -5,7 +5,7 @@ ghost use Rattle.vm_objects.specs.Slots.{ById, rank};
 use crate::ObjectRow;
 use vm_base::ObjectId;
 
-// An object's row, and the place of its first mark.
+/// An object's row, and the place of its first mark.
 #[derive(Clone, Copy)]
 pub struct Slot {
     pub id: ObjectId,
@@ -13,7 +13,7 @@ pub struct Slot {
     pub start: usize,
 }
 
-// The number of objects in front of one, in a list by rising number.
+/// The number of objects in front of one, in a list by rising number.
 pub fn find(slots: &[Slot], id: ObjectId) -> usize
     requires { ById 0 slots.now }
     ensures value { result ≡ rank id.0 slots.now }

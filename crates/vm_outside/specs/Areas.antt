@@ -34,9 +34,11 @@ pub record LengthTold (old new : List ℕ → Told) (name : List ℕ) (result : 
 -- `read` fills the buffer, with zeros past the end of the area and where there is none
 pub record ReadTold (old new : List ℕ → Told) (name : List ℕ) (at : ℕ) (buf : List ℕ) (result : Result (Unit {0}) Failed) : Type 0 where
   pub same : SameAreas old new
-  pub filled : (was : Option (List ℕ)) → old name ≡ Some was → OnOk result (buf ≡ read_at (unwrap_or was []) at (length buf))
+  pub filled : (was : Option (List ℕ)) → old name ≡ Some was
+      → OnOk result (buf ≡ read_at (unwrap_or was []) at (length buf))
 
--- an area after a write of n bytes that failed: it is no shorter, no longer than the write would leave it, and outside the range as before, with zeros where it grew
+-- an area after a write of n bytes that failed: it is no shorter, no longer than the write would leave it, and
+-- outside the range as before, with zeros where it grew
 pub record Torn (old : List ℕ) (at n : ℕ) (new : List ℕ) : Type 0 where
   pub least : length old ≤ length new
   pub most : length new ≤ max (length old) (at + n)
@@ -46,9 +48,12 @@ pub record Torn (old : List ℕ) (at n : ℕ) (new : List ℕ) : Type 0 where
 abbrev pub AfterFault : Option (List ℕ) → ℕ → ℕ → Option (List ℕ) → Type 0
 AfterFault was at n now = MatchOption now (was ≡ None) (λ bytes. Torn (unwrap_or was []) at n bytes)
 
--- `write` changes one area: it leaves the bytes in it, or after a fault anything within their range, or without memory nothing
+-- `write` changes one area: it leaves the bytes in it, or after a fault anything within their range, or without
+-- memory nothing
 pub record WriteTold (old new : List ℕ → Told) (name : List ℕ) (at : ℕ) (bytes : List ℕ) (result : Result (Unit {0}) WriteStop) : Type 0 where
   pub others : (other : List ℕ) (was : Option (List ℕ)) → other ≢ name → old other ≡ Some was → new other ≡ Some was
-  pub written : (was : Option (List ℕ)) → old name ≡ Some was → OnOk result (new name ≡ Some (Some (write_at (unwrap_or was []) at bytes)))
-  pub failed : (was : Option (List ℕ)) → old name ≡ Some was → IsErrOf result stop.Failed → (now : Option (List ℕ)) × (new name ≡ Some now) × AfterFault was at (length bytes) now
+  pub written : (was : Option (List ℕ)) → old name ≡ Some was
+      → OnOk result (new name ≡ Some (Some (write_at (unwrap_or was []) at bytes)))
+  pub failed : (was : Option (List ℕ)) → old name ≡ Some was → IsErrOf result stop.Failed
+      → (now : Option (List ℕ)) × (new name ≡ Some now) × AfterFault was at (length bytes) now
   pub same : IsErrOf result stop.NoMemory → SameAreas old new

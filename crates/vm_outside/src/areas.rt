@@ -17,6 +17,7 @@ pub(crate) struct Areas {
 impl Areas {
     ghost use Rattle.vm_outside.specs.Memory.{area_in};
 
+    /// No area is there yet; it takes no memory.
     pub(crate) fn new(alloc: Global) -> Areas
         ensures { (name : List ℕ) → area_in result name ≡ None }
     {
@@ -79,7 +80,8 @@ impl Areas {
 
     /// Writes to an area, and makes or lengthens it.
     pub(crate) fn write(&mut self, name: &str, at: u64, bytes: &[u8]) -> Result<(), NoMemory>
-        ensures ok { OnOk result (area_in self.new name.now ≡ Some (write_at (unwrap_or (area_in self.old name.now) []) at bytes.now)) }
+        ensures ok { OnOk result (area_in self.new name.now
+            ≡ Some (write_at (unwrap_or (area_in self.old name.now) []) at bytes.now)) }
         ensures others { (other : List ℕ) → other ≢ name.now → area_in self.new other ≡ area_in self.old other }
         ensures err { OnErr result ((other : List ℕ) → area_in self.new other ≡ area_in self.old other) }
     {

@@ -29,6 +29,7 @@ impl<B: Backing> Model for Armed<B> {
 }
 
 impl<B: Backing> Armed<B> {
+    /// A backing that passes each call on, as long as none is armed to fail.
     pub fn new(inner: B) -> Armed<B>
         ensures { result ≡ record { inner = inner; left = 0; reached = 0 } }
     {
@@ -105,7 +106,8 @@ impl<B: Backing> Backing for Armed<B> {
     fn length(&mut self, name: &str) -> Result<Option<u64>, Failed>
         ensures told { LengthTold (B.area self.old.inner) (B.area self.new.inner) name.now result }
         ensures cause { HasCause (sum_count (B.faults self.old.inner) self.old.reached) (sum_count (B.faults self.new.inner) self.new.reached) result }
-        ensures later { B.later self.old.inner self.new.inner × ArmedLater self.old.left self.old.reached self.new.left self.new.reached }
+        ensures later { B.later self.old.inner self.new.inner
+            × ArmedLater self.old.left self.old.reached self.new.left self.new.reached }
 
         ensures fails { self.old.left ≡ 1 → IsErr result }
         ensures strikes { self.old.left ≡ 1 → Strikes self.old self.new }
@@ -123,7 +125,8 @@ impl<B: Backing> Backing for Armed<B> {
     fn read(&mut self, name: &str, at: u64, buf: &mut [u8]) -> Result<(), Failed>
         ensures told { ReadTold (B.area self.old.inner) (B.area self.new.inner) name.now at buf.new result }
         ensures cause { HasCause (sum_count (B.faults self.old.inner) self.old.reached) (sum_count (B.faults self.new.inner) self.new.reached) result }
-        ensures later { B.later self.old.inner self.new.inner × ArmedLater self.old.left self.old.reached self.new.left self.new.reached }
+        ensures later { B.later self.old.inner self.new.inner
+            × ArmedLater self.old.left self.old.reached self.new.left self.new.reached }
 
         ensures fails { self.old.left ≡ 1 → IsErr result }
         ensures strikes { self.old.left ≡ 1 → Strikes self.old self.new }
@@ -142,7 +145,8 @@ impl<B: Backing> Backing for Armed<B> {
     fn write(&mut self, name: &str, at: u64, bytes: &[u8]) -> Result<(), WriteStop>
         ensures told { WriteTold (B.area self.old.inner) (B.area self.new.inner) name.now at bytes.now result }
         ensures cause { WriteHasCause (sum_count (B.faults self.old.inner) self.old.reached) (sum_count (B.faults self.new.inner) self.new.reached) result }
-        ensures later { B.later self.old.inner self.new.inner × ArmedLater self.old.left self.old.reached self.new.left self.new.reached }
+        ensures later { B.later self.old.inner self.new.inner
+            × ArmedLater self.old.left self.old.reached self.new.left self.new.reached }
         ensures unmoved { IsErrOf result WriteStop.NoMemory → self.new.left ≡ self.old.left }
 
         ensures fails { self.old.left ≡ 1 → IsErrOf result WriteStop.Failed }

@@ -24,6 +24,7 @@ impl Model for SureSink {
 }
 
 impl SureSink {
+    /// Nothing is written yet; it takes no memory.
     pub fn new(alloc: Global) -> SureSink
         ensures { result ≡ [] }
     {

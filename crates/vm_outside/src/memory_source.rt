@@ -42,6 +42,7 @@ impl Model for SureSource {
 }
 
 impl SureSource {
+    /// All the bytes are left to be read.
     pub fn new(bytes: Vec<u8>) -> SureSource
         ensures { result ≡ bytes.items }
     {

@@ -3,7 +3,8 @@ use Rattle.std.specs.Prelude.{ℕ, ◌<◌, ◌≡◌, ◌≢◌, ◌-◌, ◌^�
 use Rattle.vm_base.specs.declared.ids.ChannelId.{ChannelId}
 use Rattle.vm_ports.specs.declared.letter.Letter.{Letter}
 
--- how many channels there are, numbered from 0 on; the undelivered letters, the oldest first; how many can be sent without memory
+-- how many channels there are, numbered from 0 on; the undelivered letters, the oldest first; how many can be sent
+-- without memory
 pub record PortTable (M : Type 0) : Type 0 where
   pub channels : ℕ
   pub letters : List (Letter M)

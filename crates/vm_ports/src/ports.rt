@@ -84,7 +84,8 @@ impl<M> Ports<M> {
     /// Sends a message; where it fails, for want of memory alone, the message comes back.
     pub fn send(&mut self, ch: ChannelId, message: M) -> Result<(), SendBack<M>>
         requires { ch.0 < self.old.channels }
-        ensures ok { OnOk result (self.new.letters ≡ self.old.letters ++ (record { channel = ch; message = message }) ∷ []) }
+        ensures ok { OnOk result (self.new.letters
+            ≡ self.old.letters ++ (record { channel = ch; message = message }) ∷ []) }
         ensures queue { OnOk result (queue ch.0 self.new.letters ≡ queue ch.0 self.old.letters ++ message ∷ []) }
         ensures others { KeepsOthers ch.0 self.old.letters self.new.letters }
         ensures channels { self.new.channels ≡ self.old.channels }

@@ -1,4 +1,4 @@
 mod Apart
 pub mod Balance
 mod Moves
-mod Queued
+pub mod Queued

@@ -1,9 +1,7 @@
 -- What an edit of the lists leaves.
-use Rattle.std.proofs.Common.{ℕ, ◌≡◌, ◌+◌, ◌<◌, ◌≤◌, Bool, true, false, List, [], ◌∷◌, ◌++◌, drop, length, map, set, take, Result, sym, ◌∙◌, ap, subst, arith}
+use Rattle.std.proofs.Common.{ℕ, ◌≡◌, ◌+◌, ◌<◌, ◌≤◌, Bool, true, false, List, [], ◌∷◌, ◌++◌, drop, length, map, set, take, sym, ◌∙◌, ap, subst, arith}
 use Rattle.std.proofs.lemmas.Bool.Decides.{nat_tests}
 use Rattle.std.proofs.lemmas.List.{append_assoc, get_or-set_same, length-append, length-set, map-append, map_push}
-use Rattle.std.specs.Prelude.{is_ok, if◌then◌else◌}
-use Rattle.std.specs.Result.{IsOk}
 use Rattle.std.specs.VecDeque.{deque_capacity}
 use Rattle.vm_base.specs.declared.ids.FrameNo.{FrameNo}
 use Rattle.vm_queues.specs.declared.lists.Lists.{Lists}
@@ -11,9 +9,6 @@ use Rattle.vm_queues.specs.Kept.{AreApart, AreKept, all_frames, page_of, pages, 
 use Rattle.vm_queues.specs.Queues.{added, cleared, fresh, has_page, is_queued, is_skipped, moved, one_spared, removed, touched}
 use Rattle.vm_queues.proofs.Apart.{apart_fits, apart_push, apart_without, has_pages, inside, pages_apart, pages_marked, pages_without, skipped_append, stands, without_append}
 use Rattle.vm_queues.proofs.Balance.{same_queues}
-
-pub pushed : {A E : Type 0} (result : Result A E) (new more same : List FrameNo) → new ≡ (if is_ok result then more else same) → IsOk result → new ≡ more
-pushed result new more same is ok = rw ok at is
 
 pub all_fit : (lists : Lists) → AreKept lists → length lists.inactive.items + length lists.active.items ≤ length lists.marks.items
 all_fit lists kept = omega (arith, apart_fits _ _ kept.apart, length-append lists.inactive.items lists.active.items)

@@ -45,7 +45,8 @@ removed f queues = record queues { active = without f queues.active; inactive = 
 
 -- the first active pages go to the inactive back, their marks cleared
 abbrev pub moved : ℕ → Queues → Queues
-moved n queues = record queues { active = drop n queues.active; inactive = queues.inactive ++ map cleared (take n queues.active) }
+moved n queues =
+    record queues { active = drop n queues.active; inactive = queues.inactive ++ map cleared (take n queues.active) }
 
 -- how many pages the inactive list lacks to a third of all, rounded up
 abbrev pub shortage : Queues → ℕ
@@ -67,13 +68,15 @@ abbrev pub from_unreferenced : List Page → List Page
 from_unreferenced [] = []
 from_unreferenced (page ∷ pages) = if page.referenced then from_unreferenced pages else page ∷ pages
 
--- the referenced pages at the inactive front go to the active back, their marks cleared, and the lists are balanced again
+-- the referenced pages at the inactive front go to the active back, their marks cleared, and the lists are balanced
+-- again
 abbrev pub spared : Queues → Queues
 spared queues = balanced (record queues { active = queues.active ++ map cleared (referenced_front queues.inactive); inactive = from_unreferenced queues.inactive })
 
 -- the inactive front goes to the active back, its mark cleared
 abbrev pub one_spared : Queues → Queues
-one_spared queues = record queues { active = queues.active ++ map cleared (take 1 queues.inactive); inactive = drop 1 queues.inactive }
+one_spared queues =
+    record queues { active = queues.active ++ map cleared (take 1 queues.inactive); inactive = drop 1 queues.inactive }
 
 abbrev pub is_skipped : List FrameNo → ℕ → Bool
 is_skipped [] f = false
@@ -81,7 +84,8 @@ is_skipped (other ∷ others) f = (other.0 == f) || is_skipped others f
 
 abbrev pub first_unskipped : List FrameNo → List Page → Option FrameNo
 first_unskipped skip [] = None
-first_unskipped skip (page ∷ pages) = if is_skipped skip page.frame then first_unskipped skip pages else Some (record { 0 = page.frame })
+first_unskipped skip (page ∷ pages) =
+    if is_skipped skip page.frame then first_unskipped skip pages else Some (record { 0 = page.frame })
 
 -- the first page that is not skipped, inactive ones first
 abbrev pub chosen : List FrameNo → Queues → Option FrameNo

@@ -8,6 +8,7 @@ use std::alloc::Global;
 use std::collections::VecDeque;
 use vm_base::{FrameNo, NoMemory};
 
+/// The two lists of frames, each with its front first, and the marks of reference.
 #[derive(Drop)]
 pub struct Lists {
     pub active: VecDeque<FrameNo>,
@@ -16,6 +17,7 @@ pub struct Lists {
     pub marks: Vec<bool>,
 }
 
+/// Lists with room for so many frames, so that no later call takes memory; it fails for want of it.
 pub fn empty(alloc: Global, frames: u32) -> Result<Lists, NoMemory>
     ensures kept { IfOk result (λ lists. AreKept lists) }
     ensures seen { IfOk result (λ lists. seen lists ≡ record { active = []; inactive = []; frames = frames }) }
@@ -56,6 +58,8 @@ fn spare_front(lists: &mut Lists)
     }
 }
 
+/// Moves active fronts to the inactive back, their marks cleared, as long as three times the
+/// inactive frames are fewer than all (this profile).
 pub fn balance(lists: &mut Lists)
     requires { AreKept lists.old }
     ensures kept { AreKept lists.new }
@@ -78,7 +82,7 @@ fn is_front_referenced(lists: &Lists) -> bool
     }
 }
 
-// Moves referenced inactive fronts to the active back, and balances again behind each.
+/// Moves referenced inactive fronts to the active back, and balances again behind each.
 pub fn spare(lists: &mut Lists)
     requires kept { AreKept lists.old }
     requires balanced { needs_none (seen lists.old) }
@@ -98,7 +102,7 @@ fn take_off(frames: &mut VecDeque<FrameNo>, f: FrameNo)
     frames.retain(|frame| frame.0 != f.0);
 }
 
-// Takes a frame off both lists.
+/// Takes a frame off both lists.
 pub fn drop_frame(lists: &mut Lists, f: FrameNo)
     requires { AreKept lists.old }
     ensures kept { AreKept lists.new }
@@ -132,7 +136,7 @@ fn first_unskipped(frames: &VecDeque<FrameNo>, skip: &[FrameNo]) -> Option<Frame
     None
 }
 
-// The first frame that isn't skipped, inactive ones first.
+/// The first frame that isn't skipped, inactive ones first.
 pub fn choose(lists: &Lists, skip: &[FrameNo]) -> Option<FrameNo>
     ensures { result ≡ chosen skip.now (seen lists.now) }
 {

@@ -9,6 +9,7 @@ use vm_base::{FrameNo, NoMemory};
 
 /// The active and the inactive pages of a host, each by its frame, and which of them are marked as
 /// referenced. The inactive list is kept at a third of all pages, and a victim comes from its front.
+/// The balance and the choice of a victim are this profile's.
 ///
 /// No call but `new` takes memory.
 #[derive(Drop)]

@@ -1,30 +1,16 @@
 -- What an edit at a page's place leaves of the rows.
-use Rattle.std.proofs.Common.{ℕ, zero, suc, ◌≡◌, ◌<◌, Bool, true, false, List, [], ◌∷◌, length, get_or, set, Some, None, refl, sym, ◌∙◌, ap, subst, ⊎_elim, arith}
-use Rattle.std.proofs.lemmas.Bool.{cases_Bool, false≢true}
+use Rattle.std.proofs.Common.{ℕ, zero, suc, ◌≡◌, ◌<◌, true, false, List, [], ◌∷◌, length, get_or, set, Some, None, refl, sym, ap, subst, ⊎_elim, arith}
+use Rattle.std.proofs.lemmas.Bool.{cases_Bool}
 use Rattle.std.proofs.lemmas.Option.{none-some}
 use Rattle.std.specs.List.{insert, remove}
 use Rattle.std.specs.Prelude.{if◌then◌else◌}
+use Rattle.vm_base.proofs.Keys.{Ahead, Behind, Same, behind_apart, cases_key, later, other_page, page_read, swap_tests}
+use Rattle.vm_base.specs.Keys.{IsFrom, is_page}
 use Rattle.vm_base.specs.declared.ids.PageKey.{PageKey}
-use Rattle.vm_resident.proofs.Places.{Ahead, Behind, Same, apart, cases_key, later, low_bound, none_among, page_read}
-use Rattle.vm_resident.specs.Kept.{ByKey, IsFrom, rank}
-use Rattle.vm_resident.specs.Resident.{is_page, row_among}
+use Rattle.vm_resident.proofs.Places.{low_bound, none_among}
+use Rattle.vm_resident.specs.Kept.{ByKey, rank}
+use Rattle.vm_resident.specs.Resident.{row_among}
 use Rattle.vm_resident.specs.declared.resident_page.ResidentPage.{ResidentPage}
-
--- two tests that don't both hold can be made in either order
-pub swap_tests : {X : Type 0} (a b : Bool) (u v w : X) → (a ≡ true → b ≡ false) → (if a then u else (if b then v else w)) ≡ (if b then v else (if a then u else w))
-swap_tests true true u v w other = absurd (false≢true (sym (other refl)))
-swap_tests true false u v w other = refl
-swap_tests false true u v w other = refl
-swap_tests false false u v w other = refl
-
--- a page in front of another is not the other
-other_page : (key : PageKey) (other : PageKey) (o p : ℕ) → is_page key other.object.0 other.page.0 ≡ false → is_page key o p ≡ true → is_page other o p ≡ false
-other_page key other o p differ here =
-    let is = page_read key o p here in
-    cases_key other o p
-    (λ (h : Ahead other o p). h.apart)
-    (λ (h : Same other o p). absurd (false≢true (sym (rw (h.object, h.page) at differ) ∙ here)))
-    (λ (h : Behind other o p). h.apart)
 
 weaker : (object page : ℕ) (key : PageKey) (pages : List ResidentPage) → IsFrom object page key → ByKey key.object.0 (suc key.page.0) pages → ByKey object page pages
 weaker object page key [] from by_key = tt
@@ -57,12 +43,6 @@ by_key_removed object page zero [] by_key = tt
 by_key_removed object page (suc i) [] by_key = tt
 by_key_removed object page zero (x ∷ xs) by_key = weaker object page x.key xs by_key.0 by_key.1
 by_key_removed object page (suc i) (x ∷ xs) by_key = (by_key.0, by_key_removed x.key.object.0 (suc x.key.page.0) i xs by_key.1)
-
--- a page from behind another on is not the other
-behind_apart : (key other : PageKey) (o p : ℕ) → IsFrom key.object.0 (suc key.page.0) other → is_page key o p ≡ true → is_page other o p ≡ false
-behind_apart key other o p from here =
-    let is = page_read key o p here in
-    apart other key.object.0 (suc key.page.0) o p from (record { above = omega (arith, is.object); inside = λ le. omega (arith, is.page) })
 
 first_removed : (o p : ℕ) (x : ResidentPage) (xs : List ResidentPage) → ByKey x.key.object.0 (suc x.key.page.0) xs
     → row_among o p xs ≡ (if is_page x.key o p then None else (if is_page x.key o p then Some x.row else row_among o p xs))

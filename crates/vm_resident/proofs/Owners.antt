@@ -5,11 +5,12 @@ use Rattle.std.proofs.lemmas.Bool.Decides.{nat_tests}
 use Rattle.std.proofs.lemmas.Option.{none-some, same_Some}
 use Rattle.std.specs.List.{insert, remove}
 use Rattle.std.specs.Prelude.{if◌then◌else◌}
+use Rattle.vm_base.proofs.Keys.{itself, page_read, swap_tests}
+use Rattle.vm_base.specs.Keys.{is_page}
 use Rattle.vm_base.specs.declared.ids.PageKey.{PageKey}
-use Rattle.vm_resident.proofs.Edits.{swap_tests}
-use Rattle.vm_resident.proofs.Places.{itself, none_among, page_read}
+use Rattle.vm_resident.proofs.Places.{none_among}
 use Rattle.vm_resident.specs.Kept.{ByKey}
-use Rattle.vm_resident.specs.Resident.{is_page, owner_among, row_among}
+use Rattle.vm_resident.specs.Resident.{owner_among, row_among}
 use Rattle.vm_resident.specs.declared.page_row.PageRow.{PageRow}
 use Rattle.vm_resident.specs.declared.resident_page.ResidentPage.{ResidentPage}
 

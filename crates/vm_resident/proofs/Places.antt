@@ -1,87 +1,16 @@
 -- Pages by rising key: where one stands, and which are not there.
-use Rattle.std.proofs.Common.{ℕ, zero, suc, ◌≡◌, ◌<◌, ◌≤◌, ◌==◌, true, false, List, [], ◌∷◌, length, get_or, Option, Some, None, refl, sym, ◌∙◌, ap, subst, ⊎_elim, arith}
-use Rattle.std.proofs.lemmas.Bool.{cases_order, false≢true}
+use Rattle.std.proofs.Common.{ℕ, zero, suc, ◌≡◌, ◌<◌, ◌≤◌, ◌==◌, true, false, List, [], ◌∷◌, length, get_or, Option, Some, None, refl, ◌∙◌, ap, subst, arith}
 use Rattle.std.proofs.lemmas.Bool.Decides.{nat_tests}
 use Rattle.std.proofs.lemmas.Option.{none-some, same_Some}
 use Rattle.std.specs.List.Sorted.{IsPartitionedBy}
 use Rattle.std.specs.Prelude.{slice_get, if◌then◌else◌}
+use Rattle.vm_base.specs.Keys.{IsFrom, is_before, is_page}
+use Rattle.vm_base.proofs.Keys.{Ahead, Behind, IsAhead, Same, apart, before_is, before_read, cases_key, from_ahead, higher_object, higher_page, later, same_page}
 use Rattle.vm_base.specs.declared.ids.PageKey.{PageKey}
-use Rattle.vm_resident.specs.Kept.{ByKey, IsFrom, is_before, is_of, rank}
-use Rattle.vm_resident.specs.Resident.{is_page, row_among}
+use Rattle.vm_resident.specs.Kept.{ByKey, is_of, rank}
+use Rattle.vm_resident.specs.Resident.{row_among}
 use Rattle.vm_resident.specs.declared.page_row.PageRow.{PageRow}
 use Rattle.vm_resident.specs.declared.resident_page.ResidentPage.{ResidentPage}
-
--- a page comes in front of another
-pub record IsAhead (object page o p : ℕ) : Type 0 where
-  pub above : o ≤ object
-  pub inside : object ≤ o → p < page
-
--- how a page stands to another: in front of it, the same, or behind it
-pub record Ahead (key : PageKey) (o p : ℕ) : Type 0 where
-  pub before : is_before key o p ≡ true
-  pub apart : is_page key o p ≡ false
-  pub place : IsAhead o p key.object.0 key.page.0
-
-pub record Same (key : PageKey) (o p : ℕ) : Type 0 where
-  pub before : is_before key o p ≡ false
-  pub here : is_page key o p ≡ true
-  pub object : key.object.0 ≡ o
-  pub page : key.page.0 ≡ p
-
-pub record Behind (key : PageKey) (o p : ℕ) : Type 0 where
-  pub before : is_before key o p ≡ false
-  pub apart : is_page key o p ≡ false
-  pub place : IsFrom o (suc p) key
-
-lower_object : (key : PageKey) (o p : ℕ) → key.object.0 < o → Ahead key o p
-lower_object key o p less = record {
-  before = grind (arith, nat_tests);
-  apart = grind (arith, nat_tests);
-  place = record { above = omega arith; inside = λ le. absurd (omega arith) };
-}
-
-lower_page : (key : PageKey) (o p : ℕ) → key.object.0 ≡ o → key.page.0 < p → Ahead key o p
-lower_page key o p same less = record {
-  before = grind (arith, nat_tests);
-  apart = grind (arith, nat_tests);
-  place = record { above = omega arith; inside = λ le. less };
-}
-
-same_page : (key : PageKey) (o p : ℕ) → key.object.0 ≡ o → key.page.0 ≡ p → Same key o p
-same_page key o p one two = record {
-  before = grind (arith, nat_tests);
-  here = grind (arith, nat_tests);
-  object = one;
-  page = two;
-}
-
-higher_page : (key : PageKey) (o p : ℕ) → key.object.0 ≡ o → p < key.page.0 → Behind key o p
-higher_page key o p same less = record {
-  before = grind (arith, nat_tests);
-  apart = grind (arith, nat_tests);
-  place = record { above = omega arith; inside = λ le. omega arith };
-}
-
-higher_object : (key : PageKey) (o p : ℕ) → o < key.object.0 → Behind key o p
-higher_object key o p less = record {
-  before = grind (arith, nat_tests);
-  apart = grind (arith, nat_tests);
-  place = record { above = omega arith; inside = λ le. absurd (omega arith) };
-}
-
-pub cases_key : {P : Type 0} (key : PageKey) (o p : ℕ) → (Ahead key o p → P) → (Same key o p → P) → (Behind key o p → P) → P
-cases_key {P} key o p ahead same behind =
-    let inside : key.object.0 ≡ o → P
-    = λ e. ⊎_elim (λ (f : key.page.0 ≡ p). same (same_page key o p e f)) (⊎_elim (λ (l : key.page.0 < p). ahead (lower_page key o p e l)) (λ (l : p < key.page.0). behind (higher_page key o p e l))) (cases_order key.page.0 p) in
-    ⊎_elim inside (⊎_elim (λ l. ahead (lower_object key o p l)) (λ l. behind (higher_object key o p l))) (cases_order key.object.0 o)
-
--- what lies behind is not the page
-pub apart : (key : PageKey) (object page o p : ℕ) → IsFrom object page key → IsAhead object page o p → is_page key o p ≡ false
-apart key object page o p from ahead =
-    cases_key key o p
-    (λ (h : Ahead key o p). h.apart)
-    (λ (h : Same key o p). let l : object ≤ o = omega (arith, from.above, h.object) in let m = ahead.inside l in let n = from.inside (omega (arith, ahead.above, h.object)) in absurd (omega (arith, h.page)))
-    (λ (h : Behind key o p). h.apart)
 
 pub none_among : (object page o p : ℕ) (pages : List ResidentPage) → ByKey object page pages → IsAhead object page o p → row_among o p pages ≡ None
 none_among object page o p [] by_key ahead = refl
@@ -98,13 +27,6 @@ abbrev pub row_if : ℕ → ℕ → Option ResidentPage → Option PageRow
 row_if o p None = None
 row_if o p (Some x) = if is_page x.key o p then Some x.row else None
 
--- what stands behind a page doesn't hold it
-from_ahead : (key : PageKey) (o p : ℕ) → IsFrom o (suc p) key → IsAhead key.object.0 (suc key.page.0) o p
-from_ahead key o p from = record {
-  above = from.above;
-  inside = λ le. let m = from.inside le in omega arith;
-}
-
 pub row_found : (object page o p : ℕ) (pages : List ResidentPage) → ByKey object page pages → row_among o p pages ≡ row_if o p (slice_get pages (rank o p pages))
 row_found object page o p [] by_key = refl
 row_found object page o p (x ∷ xs) by_key =
@@ -112,37 +34,6 @@ row_found object page o p (x ∷ xs) by_key =
     (λ (h : Ahead x.key o p). rw (h.apart, h.before) (row_found x.key.object.0 (suc x.key.page.0) o p xs by_key.1))
     (λ (h : Same x.key o p). rw (h.here, h.before) (rw h.here refl))
     (λ (h : Behind x.key o p). let none = none_among x.key.object.0 (suc x.key.page.0) o p xs by_key.1 (from_ahead x.key o p h.place) in rw (h.apart, h.before, none) (rw h.apart refl))
-
-before_read : (key : PageKey) (o p : ℕ) → is_before key o p ≡ true → Ahead key o p
-before_read key o p is =
-    cases_key key o p
-    (λ (h : Ahead key o p). h)
-    (λ (h : Same key o p). absurd (false≢true (sym h.before ∙ is)))
-    (λ (h : Behind key o p). absurd (false≢true (sym h.before ∙ is)))
-
-pub page_read : (key : PageKey) (o p : ℕ) → is_page key o p ≡ true → Same key o p
-page_read key o p is =
-    cases_key key o p
-    (λ (h : Ahead key o p). absurd (false≢true (sym h.apart ∙ is)))
-    (λ (h : Same key o p). h)
-    (λ (h : Behind key o p). absurd (false≢true (sym h.apart ∙ is)))
-
-pub itself : (key : PageKey) → is_page key key.object.0 key.page.0 ≡ true
-itself key = let h = same_page key key.object.0 key.page.0 refl refl in h.here
-
-before_is : (key : PageKey) (o p : ℕ) → IsAhead o p key.object.0 key.page.0 → is_before key o p ≡ true
-before_is key o p ahead =
-    cases_key key o p
-    (λ (h : Ahead key o p). h.before)
-    (λ (h : Same key o p). let m = ahead.inside (omega (arith, h.object)) in absurd (omega (arith, h.page)))
-    (λ (h : Behind key o p). let m = ahead.inside h.place.above in let n = h.place.inside ahead.above in absurd (omega arith))
-
--- a page further on is from there too
-pub later : (object page : ℕ) (key other : PageKey) → IsFrom object page key → IsFrom key.object.0 (suc key.page.0) other → IsFrom object page other
-later object page key other from behind = record {
-  above = omega (arith, from.above, behind.above);
-  inside = λ le. let m = from.inside (omega (arith, behind.above)) in let n = behind.inside (omega (arith, from.above)) in omega arith;
-}
 
 pub low_bound : (object page j : ℕ) (pages : List ResidentPage) (d : ResidentPage) → ByKey object page pages → j < length pages → IsFrom object page (get_or pages j d).key
 low_bound object page j [] d by_key within = absurd (omega arith)

@@ -5,12 +5,14 @@ use Rattle.std.proofs.lemmas.Bool.Decides.{nat_tests}
 use Rattle.std.proofs.lemmas.Option.{get_or_from_slice_get, none-some, same_Some, slice_get_within}
 use Rattle.std.specs.List.{insert, remove}
 use Rattle.std.specs.Prelude.{IsSomeAnd, MatchOption, slice_get}
+use Rattle.vm_base.proofs.Keys.{itself, key_is, page_read}
+use Rattle.vm_base.specs.Keys.{is_page}
 use Rattle.vm_base.specs.declared.ids.PageKey.{PageKey}
 use Rattle.vm_resident.proofs.Edits.{by_key_inserted, by_key_removed, by_key_set, row_inserted, row_removed, row_set}
 use Rattle.vm_resident.proofs.Owners.{owner_has, owner_inserted, owner_left, owner_none, owner_set}
-use Rattle.vm_resident.proofs.Places.{FoundNext, itself, next_none, next_some, page_read, row_found, row_if}
+use Rattle.vm_resident.proofs.Places.{FoundNext, next_none, next_some, row_found, row_if}
 use Rattle.vm_resident.specs.Kept.{ByKey, is_of, is_page_at, rank}
-use Rattle.vm_resident.specs.Resident.{IsNextPage, IsOwned, NoRowHas, NoRowsFrom, PutsOwner, PutsRow, ResidentTable, is_page, owner_among, owner_of, page_key, row_among, row_at}
+use Rattle.vm_resident.specs.Resident.{IsNextPage, IsOwned, NoRowHas, NoRowsFrom, PutsOwner, PutsRow, ResidentTable, owner_among, owner_of, page_key, row_among, row_at}
 use Rattle.vm_resident.specs.declared.page_row.PageRow.{PageRow}
 use Rattle.vm_resident.specs.declared.resident_page.ResidentPage.{ResidentPage}
 
@@ -34,9 +36,6 @@ placed pages found spare table key i view kept same place = record {
 pub record At (pages : List ResidentPage) (key : PageKey) (i : ℕ) (was : PageRow) : Type 0 where
   pub within : i < length pages
   pub is : (d : ResidentPage) → get_or pages i d ≡ record { key = key; row = was }
-
-key_is : (key : PageKey) (o p : ℕ) → key.object.0 ≡ o → key.page.0 ≡ p → page_key o p ≡ key
-key_is key o p one two = rw (← one, ← two) refl
 
 page_is : (x : ResidentPage) (key : PageKey) → is_page x.key key.object.0 key.page.0 ≡ true → x ≡ record { key = key; row = x.row }
 page_is x key here =

@@ -1,22 +1,13 @@
 -- How the pages are kept: by rising object, and by rising page of an object.
-use Rattle.std.specs.Prelude.{ℕ, suc, ◌≤◌, ◌==◌, ◌&&◌, ◌||◌, Bool, false, List, [], ◌∷◌, Option, Some, None, if◌then◌else◌, nat_lt}
-use Rattle.vm_base.specs.declared.ids.PageKey.{PageKey}
-use Rattle.vm_resident.specs.Resident.{is_page}
+use Rattle.std.specs.Prelude.{ℕ, suc, ◌==◌, Bool, false, List, [], ◌∷◌, Option, Some, None, if◌then◌else◌}
+use Rattle.vm_base.specs.Keys.{IsFrom, is_before, is_page}
 use Rattle.vm_resident.specs.declared.resident_page.ResidentPage.{ResidentPage}
-
--- a page comes in front of another
-abbrev pub is_before : PageKey → ℕ → ℕ → Bool
-is_before key object page = nat_lt key.object.0 object || (key.object.0 == object && nat_lt key.page.0 page)
-
--- a page is another or comes behind it
-pub record IsFrom (object page : ℕ) (key : PageKey) : Type 0 where
-  pub above : object ≤ key.object.0
-  pub inside : key.object.0 ≤ object → page ≤ key.page.0
 
 -- by rising object and page, from one on
 abbrev pub ByKey : ℕ → ℕ → List ResidentPage → Type 0
 ByKey object page [] = Unit {0}
-ByKey object page (other ∷ others) = IsFrom object page other.key × ByKey other.key.object.0 (suc other.key.page.0) others
+ByKey object page (other ∷ others) =
+    IsFrom object page other.key × ByKey other.key.object.0 (suc other.key.page.0) others
 
 -- how many pages come in front of one
 abbrev pub rank : ℕ → ℕ → List ResidentPage → ℕ

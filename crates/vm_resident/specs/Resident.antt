@@ -1,5 +1,7 @@
 -- The resident pages of a host, as contracts see them.
-use Rattle.std.specs.Prelude.{ℕ, ◌≡◌, ◌≢◌, ◌≤◌, ◌<◌, ◌==◌, ◌&&◌, Bool, List, [], ◌∷◌, Option, Some, None, IsSome, if◌then◌else◌}
+use Rattle.std.specs.Prelude.{ℕ, ◌≡◌, ◌≢◌, ◌≤◌, ◌<◌, ◌==◌, ◌&&◌, List, [], ◌∷◌, Option, Some, None, IsSome, if◌then◌else◌}
+use Rattle.vm_base.specs.Keys.{is_page}
+pub use Rattle.vm_base.specs.Keys.{page_key}
 use Rattle.vm_base.specs.declared.ids.PageKey.{PageKey}
 use Rattle.vm_resident.specs.declared.page_row.PageRow.{PageRow}
 use Rattle.vm_resident.specs.declared.resident_page.ResidentPage.{ResidentPage}
@@ -9,15 +11,10 @@ pub record ResidentTable : Type 0 where
   pub rows : List ResidentPage
   pub spare : ℕ
 
-abbrev pub page_key : ℕ → ℕ → PageKey
-page_key object page = record { object = record { 0 = object }; page = record { 0 = page } }
-
-abbrev pub is_page : PageKey → ℕ → ℕ → Bool
-is_page key object page = key.object.0 == object && key.page.0 == page
-
 abbrev pub row_among : ℕ → ℕ → List ResidentPage → Option PageRow
 row_among object page [] = None
-row_among object page (other ∷ others) = if is_page other.key object page then Some other.row else row_among object page others
+row_among object page (other ∷ others) =
+    if is_page other.key object page then Some other.row else row_among object page others
 
 -- the row of a page, where it is resident
 abbrev pub row_at : ResidentTable → ℕ → ℕ → Option PageRow

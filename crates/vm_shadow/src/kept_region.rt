@@ -5,14 +5,14 @@ ghost use Rattle.vm_shadow.specs.Kept.{ByRegion, rank};
 use crate::RegionRow;
 use vm_base::RegionId;
 
-// A region, and what is known of it.
+/// A region, and what is known of it.
 #[derive(Clone, Copy)]
 pub struct KeptRegion {
     pub region: RegionId,
     pub row: RegionRow,
 }
 
-// The number of regions in front of one, in a list by rising number.
+/// The number of regions in front of one, in a list by rising number.
 pub fn find(kept: &[KeptRegion], region: RegionId) -> usize
     requires { ByRegion 0 kept.now }
     ensures value { result ≡ rank region.0 kept.now }

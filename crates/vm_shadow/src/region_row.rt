@@ -2,7 +2,9 @@
 
 use vm_base::ObjectId;
 
-/// A region: so many pages of an object, from one of its pages on.
+/// A region: so many pages of an object, from one of its pages on. Its mark holds for each entry that
+/// leads to it: a region is what a sharing map of one range is in Mach. Shadow chains follow Young's
+/// thesis (1989).
 #[derive(Clone, Copy, Debug, PartialEq, Eq)]
 pub struct RegionRow {
     /// The object on top of the region's shadow chain.

@@ -2,6 +2,7 @@
 use Rattle.std.specs.Prelude.{ℕ, ◌≡◌, ◌-◌, ◌^◌, ◌%◌, ◌==◌, ◌||◌, Bool, true, false, nat_le, nat_lt, List, [], ◌∷◌, length, replicate, reverse, slice_set, codes, Option, Some, None, is_some, Result, Ok, Err, if◌then◌else◌}
 use Rattle.std.specs.Option.{unwrap_or}
 use Rattle.std.specs.Str.{bytes_eq}
+use Rattle.vm_base.specs.Limits.{address_end, last_page, least_frames, most_frames, most_hosts, most_objects, most_pages, most_slots, most_tasks}
 use Rattle.vm_base.specs.declared.ids.HostId.{HostId}
 use Rattle.vm_base.specs.declared.ids.Inherit.{Inherit}
 use Rattle.vm_base.specs.declared.ids.Inherit.TheVariants as inherits
@@ -20,6 +21,7 @@ use Rattle.vm_model.specs.declared.message.Channel.TheVariants as channels
 use Rattle.vm_model.specs.declared.message.Message.TheVariants as messages
 use Rattle.vm_model.specs.declared.script.Declared.{Declared}
 use Rattle.vm_model.specs.declared.script.Header.{Header}
+use Rattle.vm_model.specs.Limits.{most_calls, most_takings}
 use Rattle.vm_model.specs.Name.{is_name}
 use Rattle.vm_text.specs.declared.meaning.CommandWord.{CommandWord}
 use Rattle.vm_text.specs.declared.meaning.CommandWord.TheVariants as says
@@ -37,13 +39,24 @@ pub record Heading : Type 0 where
   pub frames : List ℕ
   pub objects : List Declared
 
+-- the bytes of a page, where no line gives them
+abbrev pub usual_size : ℕ
+usual_size = 4096
+
+-- the slots of a host, where no line gives them
+abbrev pub usual_slots : ℕ
+usual_slots = 1024
+
 abbrev pub size_of : Heading → ℕ
-size_of heading = unwrap_or heading.size 4096
+size_of heading = unwrap_or heading.size usual_size
+
+abbrev pub slots_of : Heading → ℕ
+slots_of heading = unwrap_or heading.slots usual_slots
 
 -- what the header lines have said, as a script has it
 pub record IsHeader (heading : Heading) (header : Header) : Type 0 where
   pub size : header.size ≡ size_of heading
-  pub slots : header.slots ≡ unwrap_or heading.slots 1024
+  pub slots : header.slots ≡ slots_of heading
   pub frames : header.frames.items ≡ reverse heading.frames
   pub objects : header.objects.items ≡ heading.objects
 
@@ -51,7 +64,7 @@ pub record IsHeader (heading : Heading) (header : Header) : Type 0 where
 
 abbrev pub task_of : List ℕ → Result TaskId ScriptFault
 task_of word = do
-  task ← number_below 1024 word
+  task ← number_below most_tasks word
   Ok (record { 0 = task })
 
 abbrev pub host_of : Heading → List ℕ → Result HostId ScriptFault
@@ -67,7 +80,8 @@ page_number most word = do
 -- the number of the object that has this name
 abbrev pub declared_at : List ℕ → List Declared → Option ℕ
 declared_at name [] = None
-declared_at name (object ∷ objects) = if bytes_eq object.name name then Some (length objects) else declared_at name objects
+declared_at name (object ∷ objects) =
+    if bytes_eq object.name name then Some (length objects) else declared_at name objects
 
 abbrev pub object_of : Heading → List ℕ → Result ObjectId ScriptFault
 object_of heading word = elim (declared_at word heading.objects) [
@@ -78,7 +92,7 @@ object_of heading word = elim (declared_at word heading.objects) [
 -- a name that may be declared next
 abbrev pub new_name : Heading → List ℕ → Result (List ℕ) ScriptFault
 new_name heading word =
-    if is_name word then (if is_some (declared_at word heading.objects) || nat_le 8192 (length heading.objects) then Err OutOfRange else Ok word)
+    if is_name word then (if is_some (declared_at word heading.objects) || nat_le most_objects (length heading.objects) then Err OutOfRange else Ok word)
     else Err UnknownWord
 
 -- a number of this list
@@ -112,8 +126,8 @@ inherit_of word = do
 abbrev pub range_of : List ℕ → List ℕ → List ℕ → Result (TaskId × ℕ × ℕ) ScriptFault
 range_of task address bytes = do
   owner ← task_of task
-  start ← number_below (2 ^ 32) address
-  size ← number_in 0 (2 ^ 32) bytes
+  start ← number_below address_end address
+  size ← number_in 0 address_end bytes
   Ok (owner, start, size)
 
 abbrev pub one_part : List (List ℕ) → Result (List ℕ) ScriptFault
@@ -133,7 +147,7 @@ abbrev pub up_of : Heading → List ℕ → Result Channel ScriptFault
 up_of heading word = do
   p ← two_parts (pieces is_dot word)
   host ← host_of heading p.0
-  object ← number_below 8192 p.1
+  object ← number_below most_objects p.1
   Ok (channels.Up host (record { 0 = object }))
 
 -- H.O.K
@@ -141,14 +155,15 @@ abbrev pub down_of : Heading → List ℕ → Result Channel ScriptFault
 down_of heading word = do
   p ← three_parts (pieces is_dot word)
   host ← host_of heading p.0
-  object ← number_below 8192 p.1
+  object ← number_below most_objects p.1
   control ← number_below (2 ^ 32) p.2
   Ok (channels.Down host (record { 0 = object }) control)
 
 -- uH.O or dH.O.K
 abbrev pub channel_of : Heading → List ℕ → Result Channel ScriptFault
 channel_of heading [] = Err UnknownWord
-channel_of heading (letter ∷ word) = if letter == 117 then up_of heading word else (if letter == 100 then down_of heading word else Err UnknownWord)
+channel_of heading (letter ∷ word) =
+    if letter == 117 then up_of heading word else (if letter == 100 then down_of heading word else Err UnknownWord)
 
 -- ---- header lines
 
@@ -160,15 +175,15 @@ header_words =
 abbrev pub hosts_line : Heading → List (List ℕ) → Result Heading ScriptFault
 hosts_line heading line = do
   w ← two_words line
-  hosts ← number_in 1 8 w.0
-  frames ← number_in 2 4096 w.1
+  hosts ← number_in 1 most_hosts w.0
+  frames ← number_in least_frames most_frames w.1
   Ok (record heading { frames = replicate hosts frames })
 
 abbrev pub frames_line : Heading → List (List ℕ) → Result Heading ScriptFault
 frames_line heading line = do
   w ← two_words line
   host ← host_of heading w.0
-  frames ← number_in 2 4096 w.1
+  frames ← number_in least_frames most_frames w.1
   Ok (record heading { frames = slice_set heading.frames host.0 frames })
 
 abbrev pub page_line : Heading → List (List ℕ) → Result Heading ScriptFault
@@ -180,14 +195,14 @@ page_line heading line = do
 abbrev pub slots_line : Heading → List (List ℕ) → Result Heading ScriptFault
 slots_line heading line = do
   w ← one_word line
-  slots ← number_in 0 65536 w
+  slots ← number_in 0 most_slots w
   Ok (record heading { slots = Some slots })
 
 abbrev pub object_line : ObjectKind → Heading → List (List ℕ) → Result Heading ScriptFault
 object_line kind heading line = do
   w ← two_words line
   name ← new_name heading w.0
-  pages ← number_in 1 4096 w.1
+  pages ← number_in 1 most_pages w.1
   Ok (record heading { objects = record { name = name; kind = kind; pages = pages } ∷ heading.objects })
 
 -- what stands once stands already
@@ -200,7 +215,8 @@ again heading _ = false
 -- a header line behind no command
 abbrev pub header_form : Heading → HeaderWord → List (List ℕ) → Result Heading ScriptFault
 header_form heading heads.Hosts line = hosts_line heading line
-header_form heading heads.Frames line = if nat_lt 0 (length heading.frames) then frames_line heading line else Err NoHosts
+header_form heading heads.Frames line =
+    if nat_lt 0 (length heading.frames) then frames_line heading line else Err NoHosts
 header_form heading heads.Page line = page_line heading line
 header_form heading heads.Slots line = slots_line heading line
 header_form heading heads.File line = object_line kinds.File heading line
@@ -253,7 +269,7 @@ map_line heading line = do
   w ← five_words line
   range ← range_of w.0 w.1 w.2
   object ← object_of heading w.3
-  offset ← number_in 0 4096 w.4
+  offset ← number_in 0 most_pages w.4
   Ok (commands.Map range.0 range.1 range.2 object offset)
 
 abbrev pub deallocate_line : List (List ℕ) → Result Command ScriptFault
@@ -280,7 +296,7 @@ abbrev pub load_line : List (List ℕ) → Result Command ScriptFault
 load_line line = do
   w ← three_words line
   task ← task_of w.0
-  address ← number_below (2 ^ 32) w.1
+  address ← number_below address_end w.1
   size ← access_size w.2
   Ok (commands.Load task address size)
 
@@ -288,7 +304,7 @@ abbrev pub store_line : List (List ℕ) → Result Command ScriptFault
 store_line line = do
   w ← four_words line
   task ← task_of w.0
-  address ← number_below (2 ^ 32) w.1
+  address ← number_below address_end w.1
   size ← access_size w.2
   value ← number_in 0 (256 ^ size - 1) w.3
   Ok (commands.Store task address size value)
@@ -298,7 +314,7 @@ copy_line line = do
   w ← five_words line
   range ← range_of w.0 w.1 w.2
   target ← task_of w.3
-  to ← number_below (2 ^ 32) w.4
+  to ← number_below address_end w.4
   Ok (commands.Copy range.0 range.1 range.2 target to)
 
 abbrev pub take_line : Heading → List (List ℕ) → Result Command ScriptFault
@@ -310,14 +326,14 @@ take_line heading line = do
 abbrev pub settle_line : List (List ℕ) → Result Command ScriptFault
 settle_line line = do
   w ← one_word line
-  count ← number_in 0 1000000 w
+  count ← number_in 0 most_takings w
   Ok (commands.Settle count)
 
 abbrev pub host_count : Heading → List (List ℕ) → Result (HostId × ℕ) ScriptFault
 host_count heading line = do
   w ← two_words line
   host ← host_of heading w.0
-  count ← number_in 0 4096 w.1
+  count ← number_in 0 most_frames w.1
   Ok (host, count)
 
 abbrev pub pageout_line : Heading → List (List ℕ) → Result Command ScriptFault
@@ -339,20 +355,22 @@ abbrev pub clean_line : Heading → List (List ℕ) → Result Command ScriptFau
 clean_line heading line = do
   w ← four_words line
   object ← object_of heading w.0
-  page ← page_number 4096 w.1
-  count ← number_in 0 4096 w.2
+  page ← page_number most_pages w.1
+  count ← number_in 0 most_pages w.2
   flush ← flag_of w.3
   Ok (commands.Clean object page count flush)
 
 -- `files` or `paging`
 abbrev pub is_files : List ℕ → Result Bool ScriptFault
-is_files word = if bytes_eq word (codes "files") then Ok true else (if bytes_eq word (codes "paging") then Ok false else Err UnknownWord)
+is_files word =
+    if bytes_eq word (codes "files") then Ok true
+    else (if bytes_eq word (codes "paging") then Ok false else Err UnknownWord)
 
 abbrev pub fail_line : List (List ℕ) → Result Command ScriptFault
 fail_line line = do
   w ← two_words line
   files ← is_files w.0
-  count ← number_in 1 1000000 w.1
+  count ← number_in 1 most_calls w.1
   Ok (if files then commands.FailFiles count else commands.FailPaging count)
 
 -- ---- messages that a script says
@@ -381,7 +399,7 @@ abbrev pub supply_said : Heading → List ℕ → List ℕ → List (List ℕ) �
 supply_said heading host name line = do
   w ← four_words line
   to ← receiver_of heading host name
-  page ← page_number 4095 w.0
+  page ← page_number last_page w.0
   lock ← number_in 0 3 w.1
   precious ← flag_of w.2
   bytes ← page_of (size_of heading) w.3
@@ -391,14 +409,14 @@ abbrev pub unavailable_said : Heading → List ℕ → List ℕ → List (List �
 unavailable_said heading host name line = do
   w ← one_word line
   to ← receiver_of heading host name
-  page ← page_number 4095 w
+  page ← page_number last_page w
   Ok (commands.Say to.0 to.1 (messages.Unavailable page))
 
 abbrev pub error_said : Heading → List ℕ → List ℕ → List (List ℕ) → Result Command ScriptFault
 error_said heading host name line = do
   w ← two_words line
   to ← receiver_of heading host name
-  page ← page_number 4095 w.0
+  page ← page_number last_page w.0
   reason ← number_below (2 ^ 32) w.1
   Ok (commands.Say to.0 to.1 (messages.Error page reason))
 
@@ -406,8 +424,8 @@ abbrev pub lock_said : Heading → List ℕ → List ℕ → List (List ℕ) →
 lock_said heading host name line = do
   w ← six_words line
   to ← receiver_of heading host name
-  page ← page_number 4095 w.0
-  count ← number_in 0 4096 w.1
+  page ← page_number last_page w.0
+  count ← number_in 0 most_pages w.1
   returns ← number_in 0 2 w.2
   flush ← flag_of w.3
   lock ← lock_of w.4

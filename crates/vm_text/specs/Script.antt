@@ -1,6 +1,6 @@
 -- A whole script: its lines one after the other, and the first fault with its line.
 use Rattle.std.specs.Prelude.{ℕ, ◌+◌, ◌-◌, ◌≡◌, ◌||◌, nat_lt, List, [], ◌∷◌, length, reverse, Some, None, Result, Ok, Err, if◌then◌else◌}
-use Rattle.std.specs.Option.{unwrap_or}
+use Rattle.vm_model.specs.Limits.{most_script_bytes, most_script_lines}
 use Rattle.vm_model.specs.declared.command.Numbered.{Numbered}
 use Rattle.vm_model.specs.declared.fault.ScriptFault.{ScriptFault}
 use Rattle.vm_model.specs.declared.fault.ScriptFault.TheVariants.{TooLong, UnknownWord, HeaderLate, NoHosts}
@@ -12,7 +12,7 @@ use Rattle.vm_text.specs.declared.error.LineStop.{LineStop}
 use Rattle.vm_text.specs.declared.error.LineStop.TheVariants as stops
 use Rattle.vm_text.specs.declared.meaning.HeaderWord.{HeaderWord}
 use Rattle.vm_text.specs.declared.meaning.CommandWord.{CommandWord}
-use Rattle.vm_text.specs.Forms.{Heading, size_of, header_words, again, header_form, command_words, command_form}
+use Rattle.vm_text.specs.Forms.{Heading, size_of, slots_of, header_words, again, header_form, command_words, command_form}
 use Rattle.vm_text.specs.Words.{◌>>=◌, lines_of, words_of, is_comment, word_in}
 
 -- what the lines have said so far, the newest command first
@@ -59,7 +59,7 @@ pub record Whole : Type 0 where
 abbrev pub whole_of : Reading → ℕ → Whole
 whole_of reading lines = record {
   size = size_of reading.heading;
-  slots = unwrap_or reading.heading.slots 1024;
+  slots = slots_of reading.heading;
   frames = reading.heading.frames;
   objects = reading.heading.objects;
   commands = reading.commands;
@@ -68,9 +68,10 @@ whole_of reading lines = record {
 
 -- the lines from the one of this number on
 abbrev pub lines_read : ℕ → Reading → List (List ℕ) → Result Whole (ℕ × ScriptFault)
-lines_read number reading [] = if nat_lt 0 (length reading.heading.frames) then Ok (whole_of reading (number - 1)) else Err (number, NoHosts)
+lines_read number reading [] =
+    if nat_lt 0 (length reading.heading.frames) then Ok (whole_of reading (number - 1)) else Err (number, NoHosts)
 lines_read number reading (line ∷ lines) =
-    if nat_lt 20000 number then Err (number, TooLong)
+    if nat_lt most_script_lines number then Err (number, TooLong)
     else elim (line_read number reading (words_of line)) [
       | Ok more ↦ lines_read (number + 1) more lines
       | Err fault ↦ Err (number, fault)
@@ -78,7 +79,8 @@ lines_read number reading (line ∷ lines) =
 
 -- the script that bytes spell, or their first fault with its line
 abbrev pub script_of : List ℕ → Result Whole (ℕ × ScriptFault)
-script_of bytes = if nat_lt 1048576 (length bytes) then Err (0, TooLong) else lines_read 1 nothing_read (lines_of bytes)
+script_of bytes =
+    if nat_lt most_script_bytes (length bytes) then Err (0, TooLong) else lines_read 1 nothing_read (lines_of bytes)
 
 -- a script, seen as one that was read
 abbrev pub seen : Script → Whole

@@ -1,5 +1,6 @@
 -- The first header line that the grammar has, and for which nothing is built.
 use Rattle.std.specs.Prelude.{ℕ, ◌+◌, ◌≡◌, nat_lt, Bool, true, false, List, [], ◌∷◌, length, Option, Some, None, Ok, Err, if◌then◌else◌}
+use Rattle.vm_model.specs.Limits.{most_script_bytes}
 use Rattle.vm_model.specs.declared.script.Header.{Header}
 use Rattle.vm_text.specs.declared.meaning.HeaderWord.{HeaderWord}
 use Rattle.vm_text.specs.declared.meaning.HeaderWord.TheVariants as heads
@@ -30,7 +31,7 @@ unbuilt_from number (line ∷ lines) = if is_unbuilt (words_of line) then Some n
 
 -- the first one of a script that is short enough to be read
 abbrev pub unbuilt_of : List ℕ → Option ℕ
-unbuilt_of bytes = if nat_lt 1048576 (length bytes) then None else unbuilt_from 1 (lines_of bytes)
+unbuilt_of bytes = if nat_lt most_script_bytes (length bytes) then None else unbuilt_from 1 (lines_of bytes)
 
 -- one host, and no declared object
 pub record IsBuilt (header : Header) : Type 0 where

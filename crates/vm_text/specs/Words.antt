@@ -101,7 +101,9 @@ six_words _ = Err WrongCount
 -- the digits behind a number that stands already, below 2 ^ 64 with them
 abbrev pub digits_behind : ℕ → List ℕ → Result ℕ ScriptFault
 digits_behind front [] = Ok front
-digits_behind front (digit ∷ digits) = if is_digit digit && nat_lt (front * 10 + (digit - 48)) (2 ^ 64) then digits_behind (front * 10 + (digit - 48)) digits else Err BadNumber
+digits_behind front (digit ∷ digits) =
+    if is_digit digit && nat_lt (front * 10 + (digit - 48)) (2 ^ 64)
+    then digits_behind (front * 10 + (digit - 48)) digits else Err BadNumber
 
 abbrev pub number_of : List ℕ → Result ℕ ScriptFault
 number_of [] = Err BadNumber

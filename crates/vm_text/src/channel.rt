@@ -7,6 +7,7 @@ use crate::heading::Heading;
 use crate::numbers::{count_below, number_below};
 use crate::words::cut;
 use vm_base::ObjectId;
+use vm_base::limits::MOST_OBJECTS;
 use vm_model::{Channel, ScriptFault};
 
 fn one_part(word: &[u8]) -> Result<&[u8], ScriptFault>
@@ -50,7 +51,7 @@ fn up_of(heading: &Heading, word: &[u8]) -> Result<Channel, ScriptFault>
 {
     let (host, object) = two_parts(word)?;
     let host = heading.host_of(host)?;
-    let object = count_below(object, 8192)?;
+    let object = count_below(object, MOST_OBJECTS)?;
     Ok(Channel::Up {
         host,
         object: ObjectId(object),
@@ -62,7 +63,7 @@ fn down_of(heading: &Heading, word: &[u8]) -> Result<Channel, ScriptFault>
 {
     let (host, object, control) = three_parts(word)?;
     let host = heading.host_of(host)?;
-    let object = count_below(object, 8192)?;
+    let object = count_below(object, MOST_OBJECTS)?;
     let control = number_below(control, 0x1_0000_0000)?;
     Ok(Channel::Down {
         host,

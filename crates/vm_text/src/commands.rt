@@ -14,6 +14,8 @@ use crate::terms::{access_size, inherit_of, page_number, prot_of, range_of, task
 use crate::words::{five_words, four_words, one_word, three_words, two_words};
 use std::alloc::Global;
 use vm_base::HostId;
+use vm_base::limits::{MOST_FRAMES, MOST_PAGES};
+use vm_model::limits::{MOST_CALLS, MOST_TAKINGS};
 use vm_model::{Command, ScriptFault};
 
 const ADDRESSES: u64 = 0x1_0000_0000;
@@ -62,7 +64,7 @@ fn map_line(heading: &Heading, line: &[u8]) -> Result<Command, ScriptFault>
     let (task, address, bytes, object, offset) = five_words(line)?;
     let (task, address, bytes) = range_of(task, address, bytes)?;
     let object = heading.object_of(object)?;
-    let offset = count_in(offset, 0, 4096)?;
+    let offset = count_in(offset, 0, MOST_PAGES)?;
     Ok(Command::Map {
         task,
         address,
@@ -170,7 +172,7 @@ fn settle_line(line: &[u8]) -> Result<Command, ScriptFault>
     ensures { result ≡ settle_line (words_of line.now) }
 {
     let count = one_word(line)?;
-    let count = count_in(count, 0, 1_000_000)?;
+    let count = count_in(count, 0, MOST_TAKINGS)?;
     Ok(Command::Settle { count })
 }
 
@@ -180,7 +182,7 @@ fn host_count(heading: &Heading, line: &[u8]) -> Result<(HostId, u32), ScriptFau
 {
     let (host, count) = two_words(line)?;
     let host = heading.host_of(host)?;
-    let count = count_in(count, 0, 4096)?;
+    let count = count_in(count, 0, MOST_FRAMES)?;
     Ok((host, count))
 }
 
@@ -210,8 +212,8 @@ fn clean_line(heading: &Heading, line: &[u8]) -> Result<Command, ScriptFault>
 {
     let (object, page, count, flush) = four_words(line)?;
     let object = heading.object_of(object)?;
-    let page = page_number(page, 4096)?;
-    let count = count_in(count, 0, 4096)?;
+    let page = page_number(page, MOST_PAGES)?;
+    let count = count_in(count, 0, MOST_PAGES)?;
     let flush = flag_of(flush)?;
     Ok(Command::Clean {
         object,
@@ -239,7 +241,7 @@ fn fail_line(line: &[u8]) -> Result<Command, ScriptFault>
 {
     let (backing, count) = two_words(line)?;
     let files = is_files(backing)?;
-    let count = count_in(count, 1, 1_000_000)?;
+    let count = count_in(count, 1, MOST_CALLS)?;
     if files {
         Ok(Command::FailFiles { count })
     } else {
@@ -247,7 +249,7 @@ fn fail_line(line: &[u8]) -> Result<Command, ScriptFault>
     }
 }
 
-/// Reads the rest of a command line.
+/// Reads the rest of a command line, behind its first word; the fault is the first one of the line.
 pub fn command_form(
     alloc: Global,
     heading: &Heading,

@@ -1,8 +1,9 @@
 // The line of an event.
 #![tactic(auto, unfolding(vm_model::specs::Text::line_of))]
 
-ghost use Rattle.std.specs.Prelude.{◌≡◌, ◌++◌, codes, IfOk};
+ghost use Rattle.std.specs.Prelude.{◌≡◌, ◌++◌, codes, true, IfOk};
 ghost use Rattle.vm_model.specs.Text.{line_of, channel_text as text_of_channel, message_text as text_of_message, device_text, way_text, newline};
+ghost use Rattle.vm_text.specs.Kinds.{is_of_region, is_of_entry, begins_access, is_of_access, is_of_page};
 
 use crate::Line;
 use crate::fields::{inherit_number, numbers_line, numbers_text, prot_number};
@@ -21,6 +22,43 @@ pub fn write_event(alloc: Global, event: &Event) -> Result<Line, NoMemory>
         Event::Refused { code } => refused(alloc, *code),
         Event::TaskMade { task, host } => task_made(alloc, *task, *host),
         Event::TaskEnded { task } => task_ended(alloc, *task),
+        Event::Sent { channel, message } => sent(alloc, *channel, message),
+        Event::Taken { channel, message } => taken(alloc, *channel, message),
+        Event::DeviceFailed {
+            who,
+            way,
+            object,
+            page,
+        } => device_failed(alloc, *who, *way, *object, *page),
+        Event::NoSlot { object, page } => no_slot(alloc, *object, *page),
+        Event::Wired { host, count } => wired(alloc, *host, *count),
+        Event::RegionMade { .. } | Event::RegionCopied { .. } | Event::Shadowed { .. } =>
+            region_event(alloc, event),
+        Event::Entered { .. }
+        | Event::Removed { .. }
+        | Event::Protected { .. }
+        | Event::Inherited { .. } => entry_event(alloc, event),
+        Event::BegunLoad { .. } | Event::BegunStore { .. } | Event::BegunCopy { .. } => begun_event(
+            alloc, event,
+        ),
+        Event::Loaded { .. }
+        | Event::Stored { .. }
+        | Event::CopiedPage { .. }
+        | Event::CopyEnded { .. }
+        | Event::Failed { .. } => access_event(alloc, event),
+        Event::Dropped { .. } | Event::Zeroed { .. } | Event::Raised { .. } => page_event(
+            alloc, event,
+        ),
+    }
+}
+
+// What happens to regions.
+#[tactic(auto)]
+fn region_event(alloc: Global, event: &Event) -> Result<Line, NoMemory>
+    requires { is_of_region event.now ≡ true }
+    ensures { IfOk result (λ line. line ≡ line_of event.now) }
+{
+    match event {
         Event::RegionMade {
             region,
             object,
@@ -32,6 +70,18 @@ pub fn write_event(alloc: Global, event: &Event) -> Result<Line, NoMemory>
             offset,
             pages,
         } => region_copied(alloc, *region, *source, *offset, *pages),
+        Event::Shadowed { region, new, old } => shadowed(alloc, *region, *new, *old),
+        _ => unreachable!(),
+    }
+}
+
+// What happens to the entries of a task.
+#[tactic(auto)]
+fn entry_event(alloc: Global, event: &Event) -> Result<Line, NoMemory>
+    requires { is_of_entry event.now ≡ true }
+    ensures { IfOk result (λ line. line ≡ line_of event.now) }
+{
+    match event {
         Event::Entered {
             task,
             address,
@@ -60,6 +110,17 @@ pub fn write_event(alloc: Global, event: &Event) -> Result<Line, NoMemory>
             bytes,
             inherit,
         } => inherited(alloc, *task, *address, *bytes, *inherit),
+        _ => unreachable!(),
+    }
+}
+
+// An access of a task begins.
+#[tactic(auto)]
+fn begun_event(alloc: Global, event: &Event) -> Result<Line, NoMemory>
+    requires { begins_access event.now ≡ true }
+    ensures { IfOk result (λ line. line ≡ line_of event.now) }
+{
+    match event {
         Event::BegunLoad {
             task,
             address,
@@ -77,6 +138,17 @@ pub fn write_event(alloc: Global, event: &Event) -> Result<Line, NoMemory>
             bytes,
             to,
         } => begun_copy(alloc, *task, *address, *bytes, *to),
+        _ => unreachable!(),
+    }
+}
+
+// An access gets on, or ends.
+#[tactic(auto)]
+fn access_event(alloc: Global, event: &Event) -> Result<Line, NoMemory>
+    requires { is_of_access event.now ≡ true }
+    ensures { IfOk result (λ line. line ≡ line_of event.now) }
+{
+    match event {
         Event::Loaded {
             task,
             object,
@@ -100,8 +172,17 @@ pub fn write_event(alloc: Global, event: &Event) -> Result<Line, NoMemory>
         } => copied_page(alloc, *task, *page, *object, *object_page, *target),
         Event::CopyEnded { task } => copy_ended(alloc, *task),
         Event::Failed { task, object, page } => failed(alloc, *task, *object, *page),
-        Event::Sent { channel, message } => sent(alloc, *channel, message),
-        Event::Taken { channel, message } => taken(alloc, *channel, message),
+        _ => unreachable!(),
+    }
+}
+
+// What happens to the pages of a host.
+#[tactic(auto)]
+fn page_event(alloc: Global, event: &Event) -> Result<Line, NoMemory>
+    requires { is_of_page event.now ≡ true }
+    ensures { IfOk result (λ line. line ≡ line_of event.now) }
+{
+    match event {
         Event::Dropped { host, object, page } => dropped(alloc, *host, *object, *page),
         Event::Zeroed { host, object, page } => zeroed(alloc, *host, *object, *page),
         Event::Raised {
@@ -111,15 +192,7 @@ pub fn write_event(alloc: Global, event: &Event) -> Result<Line, NoMemory>
             upper,
             upper_page,
         } => raised(alloc, *host, *lower, *lower_page, *upper, *upper_page),
-        Event::Shadowed { region, new, old } => shadowed(alloc, *region, *new, *old),
-        Event::DeviceFailed {
-            who,
-            way,
-            object,
-            page,
-        } => device_failed(alloc, *who, *way, *object, *page),
-        Event::NoSlot { object, page } => no_slot(alloc, *object, *page),
-        Event::Wired { host, count } => wired(alloc, *host, *count),
+        _ => unreachable!(),
     }
 }
 

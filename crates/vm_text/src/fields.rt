@@ -32,6 +32,7 @@ impl Line {
         &self.bytes
     }
 
+    /// An empty line, which takes no memory. Each call that puts something fails for want of memory alone.
     pub(crate) fn new(alloc: Global) -> Line
         ensures { result ≡ [] }
     {
@@ -47,6 +48,7 @@ impl Line {
         Ok(())
     }
 
+    /// The word as it is, without a space in front.
     pub(crate) fn put_word(&mut self, word: &[u8]) -> Result<(), NoMemory>
         ensures { OnOk result (self.new ≡ self.old ++ word.now) }
     {
@@ -54,6 +56,7 @@ impl Line {
         Ok(())
     }
 
+    /// The digits of a number in base ten, without a space in front.
     pub(crate) fn put_number(&mut self, number: u64) -> Result<(), NoMemory>
         ensures { OnOk result (self.new ≡ self.old ++ decimal number) }
     {
@@ -63,6 +66,7 @@ impl Line {
         Ok(())
     }
 
+    /// A space, and the number in base ten.
     pub(crate) fn put_field(&mut self, number: u64) -> Result<(), NoMemory>
         ensures { OnOk result (self.new ≡ self.old ++ field number) }
     {
@@ -73,6 +77,7 @@ impl Line {
         Ok(())
     }
 
+    /// Each number as a field, the first in front.
     #[tactic(auto, using(crate::proofs::Spelling::with_fields_more))]
     pub(crate) fn put_fields(&mut self, numbers: &[u64]) -> Result<(), NoMemory>
         ensures { OnOk result (self.new ≡ with_fields self.old numbers.now) }
@@ -100,7 +105,7 @@ impl Line {
         Ok(())
     }
 
-    // The lowest bytes of a number, the lowest first.
+    /// The lowest bytes of a number, the lowest first.
     #[tactic(auto, using(crate::proofs::Spelling::spelled_more))]
     pub(crate) fn put_little_endian(&mut self, size: u32, number: u64) -> Result<(), NoMemory>
         ensures { OnOk result (self.new ≡ self.old ++ flat_map hex_of (little_endian_bytes size number)) }
@@ -113,6 +118,8 @@ impl Line {
         Ok(())
     }
 
+    /// A space, and the bytes of a page, each in two hexadecimal digits, without the zeros at its end; a
+    /// dash where all bytes are zeros.
     pub(crate) fn put_page(&mut self, bytes: &[u8]) -> Result<(), NoMemory>
         ensures { OnOk result (self.new ≡ self.old ++ page_field bytes.now) }
     {
@@ -124,6 +131,7 @@ impl Line {
         self.put_hex(&bytes[..end])
     }
 
+    /// The line end, one line feed.
     pub(crate) fn end(&mut self) -> Result<(), NoMemory>
         ensures { OnOk result (self.new ≡ self.old ++ newline) }
     {
@@ -131,7 +139,7 @@ impl Line {
     }
 }
 
-// A word, and a field for each number.
+/// A word, and a field for each number.
 pub(crate) fn numbers_text(alloc: Global, word: &[u8], numbers: &[u64]) -> Result<Line, NoMemory>
     ensures { IfOk result (λ text. text ≡ with_fields word.now numbers.now) }
 {
@@ -141,6 +149,7 @@ pub(crate) fn numbers_text(alloc: Global, word: &[u8], numbers: &[u64]) -> Resul
     Ok(text)
 }
 
+/// The same with the line end behind it.
 pub(crate) fn numbers_line(alloc: Global, word: &[u8], numbers: &[u64]) -> Result<Line, NoMemory>
     ensures { IfOk result (λ line. line ≡ with_fields word.now numbers.now ++ newline) }
 {
@@ -149,12 +158,14 @@ pub(crate) fn numbers_line(alloc: Global, word: &[u8], numbers: &[u64]) -> Resul
     Ok(line)
 }
 
+/// 1 for yes, 0 for no.
 pub(crate) fn flag(set: bool) -> u64
     ensures { result ≡ flag_of set }
 {
     u64::from(set)
 }
 
+/// 1 to read and 2 to write, added.
 pub(crate) fn prot_number(prot: Prot) -> u64
     ensures { result ≡ prot_of prot }
 {
@@ -162,6 +173,7 @@ pub(crate) fn prot_number(prot: Prot) -> u64
     flag(prot.read) + write
 }
 
+/// 0 shares, 1 copies, 2 gives nothing.
 pub(crate) fn inherit_number(inherit: Inherit) -> u64
     ensures { result ≡ inherit_of inherit }
 {

@@ -12,10 +12,16 @@ use crate::terms::page_size;
 use crate::words::{one_word, two_words};
 use std::alloc::Global;
 use std::marker::Model;
+use vm_base::limits::{
+    LEAST_FRAMES, MOST_FRAMES, MOST_HOSTS, MOST_OBJECTS, MOST_PAGES, MOST_SLOTS,
+};
 use vm_base::{HostId, NoMemory, ObjectId, ObjectKind, PageSize};
 use vm_model::{Counts, Declared, Header, Name, ScriptFault};
 
-const MOST_OBJECTS: u32 = 8192;
+// What a header says that doesn't give the page size, or the slots.
+const USUAL_SIZE: u32 = 4096;
+
+const USUAL_SLOTS: u32 = 1024;
 
 /// What the header lines have said so far.
 #[derive(Drop)]
@@ -28,16 +34,18 @@ pub struct Heading<'a> {
 
 impl<'a> Model for Heading<'a> {
     ghost use Rattle.std.specs.Prelude.{◌≤◌, length};
+    ghost use Rattle.vm_base.specs.Limits.{most_hosts};
     ghost use Rattle.vm_text.specs.Forms.{Heading};
 
     ghost Value = { Heading };
 
     ghost view = { λ h. record { size = h.size; slots = h.slots; frames = h.frames.items; objects = h.names } };
 
-    ghost invariant = { λ h. length h.frames.items ≤ 8 };
+    ghost invariant = { λ h. length h.frames.items ≤ most_hosts };
 }
 
 impl<'a> Heading<'a> {
+    /// No line was read yet.
     pub fn new(alloc: Global) -> Heading<'a>
         ensures { result ≡ record { size = None; slots = None; frames = []; objects = [] } }
     {
@@ -49,7 +57,7 @@ impl<'a> Heading<'a> {
         }
     }
 
-    /// A host, by its number.
+    /// A host, by its number; `OutOfRange` where there are fewer hosts.
     pub fn host_of(&self, word: &[u8]) -> Result<HostId, ScriptFault>
         ensures { result ≡ host_of self.now word.now }
     {
@@ -73,7 +81,7 @@ impl<'a> Heading<'a> {
     {
         match self.size {
             Some(size) => size,
-            None => PageSize::of(4096).unwrap(),
+            None => PageSize::of(USUAL_SIZE).unwrap(),
         }
     }
 
@@ -81,8 +89,8 @@ impl<'a> Heading<'a> {
         ensures { Goes result self.new (hosts_line self.old (words_of line.now)) }
     {
         let (hosts, frames) = two_words(line)?;
-        let hosts = count_in(hosts, 1, 8)?;
-        let frames = count_in(frames, 2, 4096)?;
+        let hosts = count_in(hosts, 1, MOST_HOSTS)?;
+        let frames = count_in(frames, LEAST_FRAMES, MOST_FRAMES)?;
         self.frames = vec![in alloc; frames; hosts as usize]?;
         Ok(())
     }
@@ -92,7 +100,7 @@ impl<'a> Heading<'a> {
     {
         let (host, frames) = two_words(line)?;
         let host = self.host_of(host)?;
-        let frames = count_in(frames, 2, 4096)?;
+        let frames = count_in(frames, LEAST_FRAMES, MOST_FRAMES)?;
         self.frames[host.0 as usize] = frames;
         Ok(())
     }
@@ -110,7 +118,7 @@ impl<'a> Heading<'a> {
         ensures { Goes result self.new (slots_line self.old (words_of line.now)) }
     {
         let slots = one_word(line)?;
-        let slots = count_in(slots, 0, 65_536)?;
+        let slots = count_in(slots, 0, MOST_SLOTS)?;
         self.slots = Some(slots);
         Ok(())
     }
@@ -133,7 +141,7 @@ impl<'a> Heading<'a> {
     {
         let (text, pages) = two_words(line)?;
         let name = self.new_name(text)?;
-        let pages = count_in(pages, 1, 4096)?;
+        let pages = count_in(pages, 1, MOST_PAGES)?;
         self.names.declare(text, Declared { name, kind, pages })?;
         Ok(())
     }
@@ -187,7 +195,7 @@ impl<'a> Heading<'a> {
         ensures { IfOk result (IsHeader self.entry) }
     {
         let size = self.size();
-        let slots = self.slots.unwrap_or(1024);
+        let slots = self.slots.unwrap_or(USUAL_SLOTS);
         let frames = counts_of(alloc, &self.frames)?;
         let objects = self.names.into_objects();
         Ok(Header {

@@ -5,10 +5,11 @@ ghost use Rattle.vm_text.specs.Words.{is_hex, hex_value, are_pairs, pair_bytes, 
 
 use crate::error::LineStop;
 use std::alloc::Global;
+use vm_base::limits::MOST_PAGE_BYTES;
 use vm_base::{PageBytes, PageSize};
 use vm_model::ScriptFault;
 
-const MOST_BYTES: usize = 4096;
+const MOST_BYTES: usize = MOST_PAGE_BYTES as usize;
 
 fn is_hex(byte: u8) -> bool
     ensures { result ≡ is_hex byte }

@@ -1,7 +1,8 @@
 // Channels and messages as words of a line.
 #![tactic(auto, unfolding(vm_model::specs::Text::message_text))]
 
-ghost use Rattle.std.specs.Prelude.{◌≡◌, IfOk};
+ghost use Rattle.std.specs.Prelude.{◌≡◌, true, IfOk};
+ghost use Rattle.vm_model.specs.Copies.{is_of_pages};
 ghost use Rattle.vm_model.specs.Text.{channel_text as text_of_channel, message_text as text_of_message};
 
 use crate::Line;
@@ -47,16 +48,6 @@ pub(crate) fn message_text(alloc: Global, message: &Message) -> Result<Line, NoM
     match message {
         Message::Init { control, size } => init(alloc, *control, *size),
         Message::Create { control, size } => create(alloc, *control, *size),
-        Message::Request {
-            control,
-            page,
-            access,
-        } => request(alloc, *control, *page, *access),
-        Message::Unlock {
-            control,
-            page,
-            access,
-        } => unlock(alloc, *control, *page, *access),
         Message::Return {
             control,
             page,
@@ -64,11 +55,6 @@ pub(crate) fn message_text(alloc: Global, message: &Message) -> Result<Line, NoM
             keep,
             hex,
         } => page_return(alloc, *control, *page, *dirty, *keep, hex),
-        Message::Completed {
-            control,
-            page,
-            count,
-        } => completed(alloc, *control, *page, *count),
         Message::Terminate { control } => terminate(alloc, *control),
         Message::Ready { cache, strategy } => ready(alloc, *cache, *strategy),
         Message::Supply {
@@ -77,16 +63,6 @@ pub(crate) fn message_text(alloc: Global, message: &Message) -> Result<Line, NoM
             precious,
             hex,
         } => supply(alloc, *page, *lock, *precious, hex),
-        Message::Unavailable { page } => unavailable(alloc, *page),
-        Message::Error { page, reason } => error(alloc, *page, *reason),
-        Message::Lock {
-            page,
-            count,
-            returns,
-            flush,
-            lock,
-            reply,
-        } => lock_request(alloc, *page, *count, *returns, *flush, *lock, *reply),
         Message::Attributes {
             cache,
             strategy,
@@ -98,6 +74,43 @@ pub(crate) fn message_text(alloc: Global, message: &Message) -> Result<Line, NoM
             cache,
             strategy,
         } => changed(alloc, *control, *cache, *strategy),
+        _ => text_of_pages(alloc, message),
+    }
+}
+
+// What is said of pages without their bytes.
+#[tactic(auto)]
+fn text_of_pages(alloc: Global, message: &Message) -> Result<Line, NoMemory>
+    requires { is_of_pages message.now ≡ true }
+    ensures { IfOk result (λ text. text ≡ text_of_message message.now) }
+{
+    match message {
+        Message::Request {
+            control,
+            page,
+            access,
+        } => request(alloc, *control, *page, *access),
+        Message::Unlock {
+            control,
+            page,
+            access,
+        } => unlock(alloc, *control, *page, *access),
+        Message::Completed {
+            control,
+            page,
+            count,
+        } => completed(alloc, *control, *page, *count),
+        Message::Unavailable { page } => unavailable(alloc, *page),
+        Message::Error { page, reason } => error(alloc, *page, *reason),
+        Message::Lock {
+            page,
+            count,
+            returns,
+            flush,
+            lock,
+            reply,
+        } => lock_request(alloc, *page, *count, *returns, *flush, *lock, *reply),
+        _ => unreachable!(),
     }
 }
 

@@ -31,6 +31,7 @@ impl<'a> Model for Names<'a> {
 }
 
 impl<'a> Names<'a> {
+    /// Nothing is declared yet.
     pub fn new(alloc: Global) -> Names<'a>
         ensures { result ≡ [] }
     {

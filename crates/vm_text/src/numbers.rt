@@ -19,7 +19,8 @@ fn digit_behind(front: u64, digit: u8) -> Result<u64, ScriptFault>
     }
 }
 
-/// The number that the digits of a word spell.
+/// The number that the digits of a word spell in base ten; `BadNumber` where the word is empty, has
+/// another byte than a digit, or spells a number that needs more than 64 bits.
 pub fn number_of(word: &[u8]) -> Result<u64, ScriptFault>
     ensures { result ≡ number_of word.now }
 {
@@ -33,7 +34,8 @@ pub fn number_of(word: &[u8]) -> Result<u64, ScriptFault>
     Ok(number)
 }
 
-/// A number from the least to the most.
+/// A number from `least` to `most`; `OutOfRange` where it is another one, and `BadNumber` where the
+/// word spells none.
 pub fn number_in(word: &[u8], least: u64, most: u64) -> Result<u64, ScriptFault>
     ensures exact { result ≡ number_in least most word.now }
     ensures range { IfOk result (λ number. (least ≤ number) × (number ≤ most)) }
@@ -45,7 +47,7 @@ pub fn number_in(word: &[u8], least: u64, most: u64) -> Result<u64, ScriptFault>
     Ok(number)
 }
 
-/// A number from the least to the most, where these have 32 bits.
+/// As `number_in`, where `least` and `most` have 32 bits.
 pub fn count_in(word: &[u8], least: u32, most: u32) -> Result<u32, ScriptFault>
     ensures exact { result ≡ number_in least most word.now }
     ensures range { IfOk result (λ number. (least ≤ number) × (number ≤ most)) }
@@ -54,7 +56,7 @@ pub fn count_in(word: &[u8], least: u32, most: u32) -> Result<u32, ScriptFault>
     Ok(number as u32)
 }
 
-/// A number below the limit.
+/// A number below `limit`; `OutOfRange` where it isn't, and `BadNumber` where the word spells none.
 pub fn number_below(word: &[u8], limit: u64) -> Result<u64, ScriptFault>
     ensures exact { result ≡ number_below limit word.now }
     ensures range { IfOk result (λ number. number < limit) }
@@ -66,7 +68,7 @@ pub fn number_below(word: &[u8], limit: u64) -> Result<u64, ScriptFault>
     Ok(number)
 }
 
-/// A number below the limit, where this has 32 bits.
+/// As `number_below`, where `limit` has 32 bits.
 pub fn count_below(word: &[u8], limit: u32) -> Result<u32, ScriptFault>
     ensures exact { result ≡ number_below limit word.now }
     ensures range { IfOk result (λ number. number < limit) }
@@ -75,7 +77,7 @@ pub fn count_below(word: &[u8], limit: u32) -> Result<u32, ScriptFault>
     Ok(number as u32)
 }
 
-/// 0 for no, 1 for yes.
+/// 0 for no, 1 for yes; `OutOfRange` for another number.
 pub fn flag_of(word: &[u8]) -> Result<bool, ScriptFault>
     ensures { result ≡ flag_of word.now }
 {

@@ -13,12 +13,8 @@ use crate::meaning::{CommandWord, HeaderWord};
 use crate::words::{line_at, word_at};
 use std::alloc::Global;
 use std::marker::Model;
+use vm_model::limits::{MOST_SCRIPT_BYTES, MOST_SCRIPT_LINES};
 use vm_model::{Commands, Numbered, Script, ScriptFault};
-
-/// The most bytes of a script.
-pub const MOST_BYTES: usize = 1_048_576;
-
-const MOST_LINES: u32 = 20_000;
 
 // What the lines have said so far.
 #[derive(Drop)]
@@ -148,7 +144,7 @@ pub fn read_script(alloc: Global, bytes: &[u8]) -> Result<Script, ScriptError>
     ensures exact { IsRead result (script_of bytes.now) }
     ensures ranges { IfOk result KeepsRanges }
 {
-    if bytes.len() > MOST_BYTES {
+    if bytes.len() > MOST_SCRIPT_BYTES {
         return Err(ScriptError::Bad {
             line: 0,
             kind: ScriptFault::TooLong,
@@ -158,7 +154,7 @@ pub fn read_script(alloc: Global, bytes: &[u8]) -> Result<Script, ScriptError>
     let mut number = 1u32;
     let mut rest = bytes;
     while let Some((line, more)) = line_at(rest) {
-        if number > MOST_LINES {
+        if number > MOST_SCRIPT_LINES {
             return Err(ScriptError::Bad {
                 line: number,
                 kind: ScriptFault::TooLong,

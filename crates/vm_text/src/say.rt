@@ -13,10 +13,11 @@ use crate::numbers::{count_in, flag_of, number_below};
 use crate::terms::{lock_of, page_number};
 use crate::words::{four_words, one_word, six_words, two_words, word_at};
 use std::alloc::Global;
+use vm_base::limits::MOST_PAGES;
 use vm_base::{HostId, ObjectId};
 use vm_model::{Command, Message, ScriptFault};
 
-const MOST_PAGE: u32 = 4095;
+const LAST_PAGE: u32 = MOST_PAGES - 1;
 
 // The host and the object that a message goes to.
 fn receiver_of(
@@ -62,7 +63,7 @@ fn supply_said(
 {
     let (page, lock, precious, hex) = four_words(line)?;
     let (host, object) = receiver_of(heading, host, name)?;
-    let page = page_number(page, MOST_PAGE)?;
+    let page = page_number(page, LAST_PAGE)?;
     let lock = count_in(lock, 0, 3)?;
     let precious = flag_of(precious)?;
     let hex = page_of(alloc, heading.size(), hex)?;
@@ -89,7 +90,7 @@ fn unavailable_said(
 {
     let page = one_word(line)?;
     let (host, object) = receiver_of(heading, host, name)?;
-    let page = page_number(page, MOST_PAGE)?;
+    let page = page_number(page, LAST_PAGE)?;
     let message = Message::Unavailable { page };
     Ok(Command::Say {
         host,
@@ -108,7 +109,7 @@ fn error_said(
 {
     let (page, reason) = two_words(line)?;
     let (host, object) = receiver_of(heading, host, name)?;
-    let page = page_number(page, MOST_PAGE)?;
+    let page = page_number(page, LAST_PAGE)?;
     let reason = number_below(reason, 0x1_0000_0000)?;
     let message = Message::Error {
         page,
@@ -131,8 +132,8 @@ fn lock_said(
 {
     let (page, count, returns, flush, lock, reply) = six_words(line)?;
     let (host, object) = receiver_of(heading, host, name)?;
-    let page = page_number(page, MOST_PAGE)?;
-    let count = count_in(count, 0, 4096)?;
+    let page = page_number(page, LAST_PAGE)?;
+    let count = count_in(count, 0, MOST_PAGES)?;
     let returns = count_in(returns, 0, 2)?;
     let flush = flag_of(flush)?;
     let lock = lock_of(lock)?;

@@ -5,17 +5,19 @@ ghost use Rattle.vm_text.specs.Forms.{task_of, page_number, page_size, access_si
 ghost use Rattle.vm_text.specs.Words.{number_in};
 
 use crate::numbers::{count_below, count_in, number_below, number_in, number_of};
+use vm_base::limits::{MOST_PAGE_BYTES, MOST_TASKS};
 use vm_base::{Inherit, PageNo, PageSize, Prot, TaskId};
 use vm_model::ScriptFault;
 
+/// A task, by its number, which is below 1,024.
 pub fn task_of(word: &[u8]) -> Result<TaskId, ScriptFault>
     ensures { result ≡ task_of word.now }
 {
-    let task = count_below(word, 1024)?;
+    let task = count_below(word, MOST_TASKS)?;
     Ok(TaskId(task))
 }
 
-/// A page, up to the most.
+/// A page, by its number, which is `most` at most.
 pub fn page_number(word: &[u8], most: u32) -> Result<PageNo, ScriptFault>
     ensures { result ≡ page_number most word.now }
 {
@@ -23,12 +25,12 @@ pub fn page_number(word: &[u8], most: u32) -> Result<PageNo, ScriptFault>
     Ok(PageNo(page))
 }
 
-/// The number of bytes of a page.
+/// The number of bytes of a page; `OutOfRange` where it is no power of two from 16 to 4,096.
 pub fn page_size(word: &[u8]) -> Result<PageSize, ScriptFault>
     ensures { result ≡ page_size word.now }
 {
     let number = number_of(word)?;
-    if number > 4096 {
+    if number > u64::from(MOST_PAGE_BYTES) {
         return Err(ScriptFault::OutOfRange);
     }
     match PageSize::of(number as u32) {
@@ -37,7 +39,7 @@ pub fn page_size(word: &[u8]) -> Result<PageSize, ScriptFault>
     }
 }
 
-/// The number of bytes of an access.
+/// The number of bytes of an access; `OutOfRange` where it isn't 1, 2, 4 or 8.
 pub fn access_size(word: &[u8]) -> Result<u32, ScriptFault>
     ensures exact { result ≡ access_size word.now }
     ensures size { IfOk result IsAccessSize }
@@ -51,7 +53,7 @@ pub fn access_size(word: &[u8]) -> Result<u32, ScriptFault>
     }
 }
 
-/// A number that so many bytes can spell.
+/// A number that `size` bytes can spell.
 pub fn value_of(word: &[u8], size: u32) -> Result<u64, ScriptFault>
     requires { IsAccessSize size }
     ensures { result ≡ number_in 0 (256 ^ size - 1) word.now }
@@ -64,7 +66,8 @@ pub fn value_of(word: &[u8], size: u32) -> Result<u64, ScriptFault>
     }
 }
 
-/// The lock of a lock_request, where 8 leaves the lock as it is.
+/// The lock of a lock_request: the sum of 1, which prohibits reading, and 2, which prohibits writing,
+/// or 8, which leaves the lock as it is.
 pub fn lock_of(word: &[u8]) -> Result<u32, ScriptFault>
     ensures { result ≡ lock_of word.now }
 {

@@ -8,8 +8,8 @@ ghost use Rattle.vm_text.specs.Words.{words_of};
 use crate::lookup::header_word;
 use crate::meaning::HeaderWord;
 use crate::numbers::number_of;
-use crate::reader::MOST_BYTES;
 use crate::words::{line_at, word_at};
+use vm_model::limits::MOST_SCRIPT_BYTES;
 
 fn are_many(line: &[u8]) -> bool
     ensures { result ≡ are_many (words_of line.now) }
@@ -45,7 +45,7 @@ pub fn unbuilt_header(bytes: &[u8]) -> Option<u32>
     // A script that is read has one host and no object then.
     ensures built { result ≡ None → (script : Script) → script_of bytes.now ≡ Ok (seen script) → IsBuilt script.header }
 {
-    if bytes.len() > MOST_BYTES {
+    if bytes.len() > MOST_SCRIPT_BYTES {
         return None;
     }
     let mut number = 1u32;

@@ -40,7 +40,9 @@ fn without_spaces(line: &[u8]) -> &[u8]
 
 /// The bytes in front of the first mark, and those behind it, if it is there.
 pub fn cut(bytes: &[u8], mark: u8) -> (&[u8], Option<&[u8]>)
-    ensures pieces { MatchOption result.1 (pieces (λ byte. byte == mark) bytes.now ≡ result.0.now ∷ []) (λ rest. pieces (λ byte. byte == mark) bytes.now ≡ result.0.now ∷ pieces (λ byte. byte == mark) rest.now) }
+    ensures pieces { MatchOption result.1 (pieces (λ byte. byte == mark) bytes.now
+        ≡ result.0.now ∷ []) (λ rest. pieces (λ byte. byte == mark) bytes.now
+        ≡ result.0.now ∷ pieces (λ byte. byte == mark) rest.now) }
     ensures shorter { MatchOption result.1 (result.0.now ≡ bytes.now) (λ rest. length rest.now < length bytes.now) }
 {
     match place_of(bytes, mark) {
@@ -51,7 +53,9 @@ pub fn cut(bytes: &[u8], mark: u8) -> (&[u8], Option<&[u8]>)
 
 /// The first line, and the bytes of the lines behind it.
 pub fn line_at(bytes: &[u8]) -> Option<(&[u8], &[u8])>
-    ensures { MatchOption result (lines_of bytes.now ≡ []) (λ found. (lines_of bytes.now ≡ found.0.now ∷ lines_of found.1.now) × (length found.1.now < length bytes.now)) }
+    ensures { MatchOption result (lines_of bytes.now
+        ≡ []) (λ found. (lines_of bytes.now ≡ found.0.now ∷ lines_of found.1.now)
+        × (length found.1.now < length bytes.now)) }
 {
     if bytes.is_empty() {
         return None;
@@ -65,7 +69,8 @@ pub fn line_at(bytes: &[u8]) -> Option<(&[u8], &[u8])>
 
 /// The first word, and the bytes behind it.
 pub fn word_at(line: &[u8]) -> Option<(&[u8], &[u8])>
-    ensures { MatchOption result (words_of line.now ≡ []) (λ found. words_of line.now ≡ found.0.now ∷ words_of found.1.now) }
+    ensures { MatchOption result (words_of line.now ≡ []) (λ found. words_of line.now
+        ≡ found.0.now ∷ words_of found.1.now) }
 {
     let text = without_spaces(line);
     if text.is_empty() {

@@ -1,5 +1,5 @@
 pub mod Entries
-mod Lines
+pub mod Lines
 mod Places
 mod Rows
-mod Tables
+pub mod Tables

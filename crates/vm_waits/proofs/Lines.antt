@@ -45,7 +45,7 @@ once_others t (x ∷ xs) once =
     rw no (rw (listed_others t xs x.0, apart) once.0, once_others t xs once.1))
     (cases_Bool (x.0 == t))
 
-same_others : (t : ℕ) (queue : List TaskId) → is_listed t queue ≡ false → others t queue ≡ queue
+pub same_others : (t : ℕ) (queue : List TaskId) → is_listed t queue ≡ false → others t queue ≡ queue
 same_others t [] absent = refl
 same_others t (x ∷ xs) absent =
     let no : (x.0 == t) ≡ false = grind (arith, nat_tests) in

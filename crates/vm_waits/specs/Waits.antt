@@ -6,7 +6,8 @@ use Rattle.vm_waits.specs.declared.waiting.On.{On}
 use Rattle.vm_waits.specs.declared.waiting.On.TheVariants as on
 use Rattle.vm_waits.specs.declared.waiting.Waiting.{Waiting}
 
--- the waiting accesses, the oldest first; the tasks that wait for a frame, the first of the queue first; how many further accesses begin without memory
+-- the waiting accesses, the oldest first; the tasks that wait for a frame, the first of the queue first; how many
+-- further accesses begin without memory
 pub record WaitTable : Type 0 where
   pub rows : List Waiting
   pub queue : List TaskId

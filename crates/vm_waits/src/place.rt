@@ -4,13 +4,14 @@ ghost use Rattle.vm_waits.specs.Kept.{ByTask, closed, found, rank};
 
 use vm_base::TaskId;
 
+/// A task, and the index of its row.
 #[derive(Clone, Copy)]
 pub struct Place {
     pub task: TaskId,
     pub at: usize,
 }
 
-// The number of places of lower tasks, in a list by rising task.
+/// The number of places of lower tasks, in a list by rising task.
 pub fn find(places: &[Place], task: TaskId) -> usize
     requires { ByTask 0 places.now }
     ensures value { result ≡ rank task.0 places.now }
@@ -19,7 +20,7 @@ pub fn find(places: &[Place], task: TaskId) -> usize
     places.partition_point(|place| place.task.0 < task.0)
 }
 
-// Where a task's row stands; None where it has none.
+/// Where a task's row stands; None where it has none.
 pub fn place_of(places: &[Place], task: TaskId) -> Option<usize>
     requires { ByTask 0 places.now }
     ensures { result ≡ found task.0 places.now }
@@ -35,7 +36,7 @@ pub fn place_of(places: &[Place], task: TaskId) -> Option<usize>
     }
 }
 
-// Where the row of a task stands that has one.
+/// Where the row of a task stands that has one.
 pub fn known_place(places: &[Place], task: TaskId) -> usize
     requires sorted { ByTask 0 places.now }
     requires there { IsSome (found task.0 places.now) }
@@ -59,7 +60,7 @@ fn moved_up(place: Place, gap: usize) -> Place
     }
 }
 
-// Moves up the places behind a row that was taken out.
+/// Moves up the places behind a row that was taken out.
 pub fn close_gap(places: &mut Vec<Place>, gap: usize)
     ensures items { places.new.items ≡ map (closed gap) places.old.items }
     ensures capacity { vec_capacity places.new ≡ vec_capacity places.old }

@@ -6,6 +6,7 @@ ghost use Rattle.vm_waits.specs.Waits.{is_again, oldest, others, woken, woken_pa
 use crate::{On, Waiting};
 use vm_base::{ObjectId, PageKey, TaskId};
 
+/// Whether an access is to be run again.
 pub fn is_on_again(on: On) -> bool
     ensures { result ≡ is_again on }
 {
@@ -15,6 +16,7 @@ pub fn is_on_again(on: On) -> bool
     }
 }
 
+/// Whether an access waits for the page.
 pub fn is_on_page(on: On, key: PageKey) -> bool
     ensures { result ≡ woken_page key on }
 {
@@ -24,6 +26,7 @@ pub fn is_on_page(on: On, key: PageKey) -> bool
     }
 }
 
+/// Whether an access waits for the pager of the object.
 pub fn is_on_ready(on: On, object: ObjectId) -> bool
     ensures { result ≡ woken_ready object.0 on }
 {
@@ -33,7 +36,7 @@ pub fn is_on_ready(on: On, object: ObjectId) -> bool
     }
 }
 
-// The oldest row that is to be run again.
+/// The oldest row that is to be run again.
 pub fn oldest_again(rows: &[Waiting]) -> Option<Waiting>
     ensures { result ≡ oldest is_again rows.now }
 {
@@ -45,7 +48,7 @@ pub fn oldest_again(rows: &[Waiting]) -> Option<Waiting>
     None
 }
 
-// The oldest row that waits for a page.
+/// The oldest row that waits for a page.
 pub fn oldest_on(rows: &[Waiting], key: PageKey) -> Option<Waiting>
     ensures { result ≡ oldest (woken_page key) rows.now }
 {
@@ -71,6 +74,7 @@ fn after_page(row: Waiting, key: PageKey) -> Waiting
     }
 }
 
+/// Rows that wait for the page are to be run again; each stays in its place.
 pub fn wake_for_page(rows: &mut Vec<Waiting>, key: PageKey)
     ensures items { rows.new.items ≡ map (woken (woken_page key)) rows.old.items }
     ensures capacity { vec_capacity rows.new ≡ vec_capacity rows.old }
@@ -94,6 +98,7 @@ fn after_ready(row: Waiting, object: ObjectId) -> Waiting
     }
 }
 
+/// Rows that wait for the pager of the object are to be run again; each stays in its place.
 pub fn wake_for_ready(rows: &mut Vec<Waiting>, object: ObjectId)
     ensures items { rows.new.items ≡ map (woken (woken_ready object.0)) rows.old.items }
     ensures capacity { vec_capacity rows.new ≡ vec_capacity rows.old }
@@ -103,7 +108,7 @@ pub fn wake_for_ready(rows: &mut Vec<Waiting>, object: ObjectId)
     }
 }
 
-// Takes a task out of the queue, if it stands there.
+/// Takes a task out of the queue, if it stands there.
 pub fn take_off(queue: &mut Vec<TaskId>, task: TaskId)
     ensures tasks { queue.new.items ≡ others task.0 queue.old.items }
     ensures capacity { vec_capacity queue.new ≡ vec_capacity queue.old }

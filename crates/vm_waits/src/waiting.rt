@@ -1,7 +1,8 @@
 // A waiting access.
 use vm_base::{ObjectId, PageKey, TaskId};
 
-/// What an access is to do at an address, with so many bytes.
+/// What an access is to do with the `size` bytes from an address on: 1, 2, 4 or 8 bytes, the lowest
+/// byte of a value first.
 #[derive(Clone, Copy, Debug, PartialEq, Eq)]
 pub enum Want {
     Load { address: u64, size: u32 },

@@ -1,8 +1,8 @@
 use Rattle.std.proofs.Common.{rules}
 use Rattle.std.proofs.lemmas.List.Sorted.{IsPartitionPoint-from_clause}
 use Rattle.pg_slots.proofs.Places.{partitioned, rank_is}
+use Rattle.vm_base.specs.Keys.{is_before}
 use Rattle.pg_slots.proofs.slot_row.find.Goals as goal
-use Rattle.pg_slots.specs.Kept.{is_before}
 
 pub returns-clause-value : goal.returns-clause-value
 returns-clause-value c =

@@ -1,10 +1,11 @@
 use Rattle.std.proofs.Common.{◌++◌, false, length, refl, subst, arith}
 use Rattle.std.proofs.lemmas.List.{length-set}
 use Rattle.std.specs.Vec.{with_item}
+use Rattle.vm_base.proofs.Results.{pushed}
 use Rattle.vm_queues.specs.declared.lists.Lists.{Lists}
 use Rattle.vm_queues.specs.Kept.{AreApart}
 use Rattle.vm_queues.proofs.Apart.{stands}
-use Rattle.vm_queues.proofs.Moves.{Ages, aged_apart, aged_seen, all_fit, kept_so, pushed}
+use Rattle.vm_queues.proofs.Moves.{Ages, aged_apart, aged_seen, all_fit, kept_so}
 use Rattle.vm_queues.proofs.lists.age.Goals as goal
 
 pub index_mut-requires : goal.index_mut-requires

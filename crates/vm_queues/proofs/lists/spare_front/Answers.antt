@@ -1,9 +1,10 @@
 use Rattle.std.proofs.Common.{◌++◌, false, length, refl, subst, arith}
 use Rattle.std.proofs.lemmas.List.{length-set}
 use Rattle.std.specs.Vec.{with_item}
+use Rattle.vm_base.proofs.Results.{pushed}
 use Rattle.vm_queues.specs.declared.lists.Lists.{Lists}
 use Rattle.vm_queues.specs.Kept.{AreApart}
-use Rattle.vm_queues.proofs.Moves.{Spares, all_fit, kept_so, pushed, spared_apart, spared_seen}
+use Rattle.vm_queues.proofs.Moves.{Spares, all_fit, kept_so, spared_apart, spared_seen}
 use Rattle.vm_queues.proofs.lists.spare_front.Goals as goal
 
 pub index_mut-requires : goal.index_mut-requires

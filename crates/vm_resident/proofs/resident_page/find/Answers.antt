@@ -1,8 +1,8 @@
 use Rattle.std.proofs.Common.{rules}
 use Rattle.std.proofs.lemmas.List.Sorted.{IsPartitionPoint-from_clause}
+use Rattle.vm_base.specs.Keys.{is_before}
 use Rattle.vm_resident.proofs.Places.{partitioned, rank_is}
 use Rattle.vm_resident.proofs.resident_page.find.Goals as goal
-use Rattle.vm_resident.specs.Kept.{is_before}
 
 pub returns-clause-value : goal.returns-clause-value
 returns-clause-value c =

@@ -1,7 +1,8 @@
 use Rattle.std.proofs.Common.{◌≡◌, true, false, get_or, reverse, arith}
 use Rattle.std.proofs.lemmas.List.{length-reverse}
+use Rattle.vm_base.proofs.Results.{pushed}
 use Rattle.vm_frames.proofs.Spares.{count_released}
-use Rattle.vm_frames.proofs.Tables.{pushed, release_kept, releases, reverse_push, roomier}
+use Rattle.vm_frames.proofs.Tables.{release_kept, releases, reverse_push, roomier}
 use Rattle.vm_frames.proofs.frames.Frames.release.Goals as goal
 
 pub invariant_of-self : goal.invariant_of-self

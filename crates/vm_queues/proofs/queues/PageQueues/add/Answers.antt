@@ -1,10 +1,11 @@
 use Rattle.std.proofs.Common.{◌≡◌, ◌∙◌, ◌<◌, false, length, refl, sym, ap, arith}
 use Rattle.std.proofs.lemmas.List.{length-set}
 use Rattle.std.specs.Vec.{with_item}
+use Rattle.vm_base.proofs.Results.{pushed}
 use Rattle.vm_queues.specs.Kept.{all_frames, seen}
 use Rattle.vm_queues.specs.Queues.{Queues, added, is_queued, is_skipped}
 use Rattle.vm_queues.specs.declared.lists.Lists.{Lists}
-use Rattle.vm_queues.proofs.Moves.{Adds, added_apart, added_seen, kept_so, pushed, queued_is, room_for_one}
+use Rattle.vm_queues.proofs.Moves.{Adds, added_apart, added_seen, kept_so, queued_is, room_for_one}
 use Rattle.vm_queues.proofs.Queued.{queued_added}
 use Rattle.vm_queues.proofs.queues.PageQueues.add.Goals as goal
 
