@@ -17,18 +17,16 @@ use Rattle.vm_model.specs.declared.message.Message.{Message}
 use Rattle.vm_model.specs.declared.message.Message.TheVariants as message
 use Rattle.vm_model.specs.declared.script.Header.{Header}
 use Rattle.vm_model.specs.Named.{named}
-use Rattle.vm_legal.specs.Licences.{AllLicensed, pager_has, tells}
-use Rattle.vm_legal.specs.Outside.{Outside, is_file, start_page}
+use Rattle.vm_legal.proofs.Served.{later_paged, paged_sends}
+use Rattle.vm_legal.specs.Licences.{AllLicensed, MaySendDown, PagerSends, pager_has, tells}
+use Rattle.vm_legal.specs.Outside.{Outside, is_file, kind_of, start_page}
 use Rattle.vm_legal.specs.Pagers.{is_lost, last_return, newer, slot_at as slot_of_page, slot_of}
 use Rattle.pg_default.specs.Answers.{Answered, Requested, SuppliesStored, became, device_failed, error, sent_to, supply, told_of}
 use Rattle.pg_default.specs.Stands.{IsHeldOf, Serves, Stands, content_of, is_ended, stored_of, taking}
 use Rattle.pg_default.proofs.Rows.{itself}
 use Rattle.pg_default.proofs.Facts.{own_slots, same_taken}
 use Rattle.pg_default.proofs.Standing.{goes_to, no_free}
-
--- no file is temporary
-pub no_file : (header : Header) (o : ℕ) → named header ≤ o → is_file header o ≡ false
-no_file header o temporary = let high : nat_lt o (named header) ≡ false = grind (arith, nat_tests) in rw high refl
+use Rattle.vm_legal.proofs.Files.{not_file}
 
 none_is : (was : Option (List ℕ)) (lost : Bool) → IsHeldOf None was lost → (was ≡ None) × (lost ≡ false)
 none_is None false h = (refl, refl)
@@ -73,25 +71,37 @@ record Finds (header : Header) (host : ℕ) (past : List Event) (object : Object
 abbrev Caused : Header → Outside → Command → ℕ → List Event → ObjectId → List Event → List Event → Type 0
 Caused header outside doing host past object first events = (outside.paging ≡ true → SuppliesStored object events (content_of header host past)) → AllLicensed header outside doing events first
 
+-- the default pager answers for temporary objects
+sends : (header : Header) (outside : Outside) (doing : Command) (host : ℕ) (object : ObjectId) (control : ℕ) (m : Message) (past : List Event) → named header ≤ object.0
+    → MaySendDown header outside doing host object.0 control m past → PagerSends (kind_of header object.0) header outside doing host object.0 control m past
+sends header outside doing host object control m past temporary may = paged_sends header outside doing host object.0 control m past (later_paged header object.0 temporary) may
+
 unavailable : (header : Header) (outside : Outside) (doing : Command) (host : ℕ) (past : List Event) (object : ObjectId) (control : ℕ) (page : PageNo) (access : ℕ) → Finds header host past object page None
     → AllLicensed header outside doing (sent_to host object control (message.Unavailable page) ∷ []) (taking host object (message.Request control page access) past)
 unavailable header outside doing host past object control page access f =
     let is = none_is _ _ f.returned in
     let last = (same_taken header host object.0 (message.Request control page access) past tt).last object.0 page.0 in (
       (
-        λ paged. (
+        sends header outside doing host object control (message.Unavailable page) (taking host object (message.Request control page access) past) f.temporary (
           record { access = access; taken = refl; unanswered = refl },
           record { kept = is.1; read = refl },
-          (λ other. last ∙ is.0, λ tells file. absurd (false≢true (sym (no_file header object.0 f.temporary) ∙ file))),
+          (λ other. last ∙ is.0, λ tells file. absurd (false≢true (sym (not_file header object.0 f.temporary) ∙ file))),
         ),
         tt,
       ),
       tt,
     )
 
-lost_error : (header : Header) (outside : Outside) (doing : Command) (host : ℕ) (past : List Event) (object : ObjectId) (control : ℕ) (page : PageNo) (access : ℕ) → is_lost object.0 page.0 past ≡ true
+lost_error : (header : Header) (outside : Outside) (doing : Command) (host : ℕ) (past : List Event) (object : ObjectId) (control : ℕ) (page : PageNo) (access : ℕ) → named header ≤ object.0 → is_lost object.0 page.0 past ≡ true
     → AllLicensed header outside doing (sent_to host object control (error page) ∷ []) (taking host object (message.Request control page access) past)
-lost_error header outside doing host past object control page access lost = ((λ paged. (record { access = access; taken = refl; unanswered = refl }, refl, inl lost), tt), tt)
+lost_error header outside doing host past object control page access temporary lost = (
+  (
+    sends header outside doing host object control (error page) (taking host object (message.Request control page access) past) temporary
+        (record { access = access; taken = refl; unanswered = refl }, refl, inl lost),
+    tt,
+  ),
+  tt,
+)
 
 supplies : (header : Header) (outside : Outside) (doing : Command) (host : ℕ) (past : List Event) (object : ObjectId) (control : ℕ) (page : PageNo) (access s : ℕ) (bytes : List ℕ) → Finds header host past object page (Some (held.Kept s))
     → (outside.paging ≡ true → content_of header host past object.0 page.0 ≡ Some (Kept bytes))
@@ -100,7 +110,7 @@ supplies header outside doing host past object control page access s bytes f sto
     let is = kept_is s _ _ f.returned in
     let last = (same_taken header host object.0 (message.Request control page access) past tt).last object.0 page.0 ∙ is.1 in (
       (
-        λ paged. (
+        sends header outside doing host object control (supply page bytes) (taking host object (message.Request control page access) past) f.temporary (
           record { access = access; taken = refl; unanswered = refl },
           record { kept = is.2; read = refl },
           refl,
@@ -114,7 +124,7 @@ supplies header outside doing host past object control page access s bytes f sto
     )
   where
     paging : tells header outside object.0 ≡ true → outside.paging ≡ true
-    paging is = rw (no_file header object.0 f.temporary) at is
+    paging is = rw (not_file header object.0 f.temporary) at is
 
     same : (was : List ℕ) → last_return host object.0 page.0 past ≡ Some was → is_lost object.0 page.0 past ≡ false → content_of header host past object.0 page.0 ≡ Some (Kept bytes) → was ≡ bytes
     same was last kept is =
@@ -133,7 +143,11 @@ unread : (header : Header) (outside : Outside) (doing : Command) (host : ℕ) (p
     → AllLicensed header outside doing (sent_to host object control (error page) ∷ device_failed Read object page ∷ []) (taking host object (message.Request control page access) past)
 unread header outside doing host past object control page access s f =
     let rows = (same_taken header host object.0 (message.Request control page access) past tt).rows in (
-      (λ paged. (record { access = access; taken = refl; unanswered = refl }, refl, inr (own_test object.0 page.0 _)), tt),
+      (
+        sends header outside doing host object control (error page) (device_failed Read object page ∷ taking host object (message.Request control page access) past) f.temporary
+            (record { access = access; taken = refl; unanswered = refl }, refl, inr (own_test object.0 page.0 _)),
+        tt,
+      ),
       (((f.temporary, (host, record { control = control; access = access; is = refl }, (s, ap (slot_of object.0 page.0) rows ∙ sym f.slot))), tt), tt),
     )
 
@@ -141,8 +155,8 @@ requested : (header : Header) (outside : Outside) (doing : Command) (host size :
     → Finds header host past object page has → Requested size host object control page has events
     → Caused header outside doing host past object (taking host object (message.Request control page access) past) events
 requested header outside doing host size past object control page access None events f is = subst (Caused header outside doing host past object _) (sym is) (λ stored. unavailable header outside doing host past object control page access f)
-requested header outside doing host size past object control page access (Some held.Lost) events f is = subst (Caused header outside doing host past object _) (sym is) (λ stored. lost_error header outside doing host past object control page access (lost_is _ _ f.returned))
-requested header outside doing host size past object control page access (Some (held.Torn s)) events f is = subst (Caused header outside doing host past object _) (sym is) (λ stored. lost_error header outside doing host past object control page access (torn_is s _ _ f.returned))
+requested header outside doing host size past object control page access (Some held.Lost) events f is = subst (Caused header outside doing host past object _) (sym is) (λ stored. lost_error header outside doing host past object control page access f.temporary (lost_is _ _ f.returned))
+requested header outside doing host size past object control page access (Some (held.Torn s)) events f is = subst (Caused header outside doing host past object _) (sym is) (λ stored. lost_error header outside doing host past object control page access f.temporary (torn_is s _ _ f.returned))
 requested header outside doing host size past object control page access (Some (held.Kept s)) events f (inl is) = subst (Caused header outside doing host past object _) (sym is.2) (λ stored. supplies header outside doing host past object control page access s is.0 f stored)
 requested header outside doing host size past object control page access (Some (held.Kept s)) events f (inr is) = subst (Caused header outside doing host past object _) (sym is) (λ stored. unread header outside doing host past object control page access s f)
 
@@ -179,13 +193,15 @@ returned header outside doing host past object control page dirty keep bytes old
 )
 
 -- a pager is ready once
-ready_init : (header : Header) (outside : Outside) (doing : Command) (host : ℕ) (past : List Event) (object : ObjectId) (control size : ℕ)
+ready_init : (header : Header) (outside : Outside) (doing : Command) (host : ℕ) (past : List Event) (object : ObjectId) (control size : ℕ) → named header ≤ object.0
     → AllLicensed header outside doing (sent_to host object control (message.Ready false 0) ∷ []) (taking host object (message.Init control size) past)
-ready_init header outside doing host past object control size = ((λ paged. (size, refl, refl, inr (refl, refl)), tt), tt)
+ready_init header outside doing host past object control size temporary =
+    ((sends header outside doing host object control (message.Ready false 0) (taking host object (message.Init control size) past) temporary (size, refl, refl, inr (refl, refl)), tt), tt)
 
-ready_create : (header : Header) (outside : Outside) (doing : Command) (host : ℕ) (past : List Event) (object : ObjectId) (control size : ℕ)
+ready_create : (header : Header) (outside : Outside) (doing : Command) (host : ℕ) (past : List Event) (object : ObjectId) (control size : ℕ) → named header ≤ object.0
     → AllLicensed header outside doing (sent_to host object control (message.Ready false 3) ∷ []) (taking host object (message.Create control size) past)
-ready_create header outside doing host past object control size = ((λ paged. (size, refl, refl, inl (refl, refl)), tt), tt)
+ready_create header outside doing host past object control size temporary =
+    ((sends header outside doing host object control (message.Ready false 3) (taking host object (message.Create control size) past) temporary (size, refl, refl, inl (refl, refl)), tt), tt)
 
 pub causes : (header : Header) (outside : Outside) (doing : Command) (host : ℕ) (past : List Event) (object : ObjectId) (m : Message) (old new : SlotTable) (events : List Event)
     → Serves header host past object m old new events → (outside.paging ≡ true → SuppliesStored object events (content_of header host past)) → AllLicensed header outside doing events (taking host object m past)
@@ -198,8 +214,8 @@ causes header outside doing host past object m old new events serves stored = by
     nothing first is = subst (λ (es : List Event). AllLicensed header outside doing es first) (sym is) tt
 
     by : (m : Message) → Answered m object old new events → AllLicensed header outside doing events (taking host object m past)
-    by (message.Init control size) a = subst (λ (es : List Event). AllLicensed header outside doing es (taking host object (message.Init control size) past)) (sym (at control _ a.1)) (ready_init header outside doing host past object control size)
-    by (message.Create control size) a = subst (λ (es : List Event). AllLicensed header outside doing es (taking host object (message.Create control size) past)) (sym (at control _ a.1)) (ready_create header outside doing host past object control size)
+    by (message.Init control size) a = subst (λ (es : List Event). AllLicensed header outside doing es (taking host object (message.Init control size) past)) (sym (at control _ a.1)) (ready_init header outside doing host past object control size serves.temporary)
+    by (message.Create control size) a = subst (λ (es : List Event). AllLicensed header outside doing es (taking host object (message.Create control size) past)) (sym (at control _ a.1)) (ready_create header outside doing host past object control size serves.temporary)
     by (message.Request control page access) a =
         requested header outside doing host old.size past object control page access (held_at old object.0 page.0) events
         (record { temporary = serves.temporary; unended = serves.unended; returned = serves.stands.returned object.0 page.0 serves.temporary serves.unended serves.own; slot = serves.stands.slot object.0 page.0 })

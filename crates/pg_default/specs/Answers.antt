@@ -55,18 +55,23 @@ error page = message.Error page 10
 
 -- the bytes of a page are supplied
 abbrev pub Supplied : ℕ → ℕ → ObjectId → ℕ → PageNo → List Event → Type 0
-Supplied size host object control page events = (bytes : List ℕ) × (length bytes ≡ size) × (events ≡ sent_to host object control (supply page bytes) ∷ [])
+Supplied size host object control page events =
+    (bytes : List ℕ) × (length bytes ≡ size) × (events ≡ sent_to host object control (supply page bytes) ∷ [])
 
 -- the read of a page failed
 abbrev pub Unread : ℕ → ObjectId → ℕ → PageNo → List Event → Type 0
-Unread host object control page events = events ≡ sent_to host object control (error page) ∷ device_failed Read object page ∷ []
+Unread host object control page events =
+    events ≡ sent_to host object control (error page) ∷ device_failed Read object page ∷ []
 
 -- what a request is answered, by what is held of the page
 abbrev pub Requested : ℕ → ℕ → ObjectId → ℕ → PageNo → Option Held → List Event → Type 0
-Requested size host object control page None events = events ≡ sent_to host object control (message.Unavailable page) ∷ []
+Requested size host object control page None events =
+    events ≡ sent_to host object control (message.Unavailable page) ∷ []
 Requested size host object control page (Some held.Lost) events = events ≡ sent_to host object control (error page) ∷ []
-Requested size host object control page (Some (held.Torn s)) events = events ≡ sent_to host object control (error page) ∷ []
-Requested size host object control page (Some (held.Kept s)) events = Supplied size host object control page events ⊎ Unread host object control page events
+Requested size host object control page (Some (held.Torn s)) events =
+    events ≡ sent_to host object control (error page) ∷ []
+Requested size host object control page (Some (held.Kept s)) events =
+    Supplied size host object control page events ⊎ Unread host object control page events
 
 -- what became of a page that was returned, as the events tell it
 abbrev pub became : List Event → Put
@@ -85,11 +90,15 @@ pub record Returned (object : ObjectId) (page : PageNo) (old new : SlotTable) (e
   pub held : Leaves (became events) object.0 page.0 old new
   pub no_slot : (became events ≡ put.NoSlot) ↔ HasNoSlot old object.0 page.0
 
--- what the pager of a host answers to a message about an object, and what it leaves of its slots; the newest event stands in front
+-- what the pager of a host answers to a message about an object, and what it leaves of its slots; the newest event
+-- stands in front
 abbrev pub Answered : Message → ObjectId → SlotTable → SlotTable → List Event → Type 0
-Answered (message.Init control size) object old new events = (new ≡ old) × (events ≡ sent_to old.host object control (message.Ready false 0) ∷ [])
-Answered (message.Create control size) object old new events = (new ≡ old) × (events ≡ sent_to old.host object control (message.Ready false 3) ∷ [])
-Answered (message.Request control page access) object old new events = (new ≡ old) × Requested old.size old.host object control page (held_at old object.0 page.0) events
+Answered (message.Init control size) object old new events =
+    (new ≡ old) × (events ≡ sent_to old.host object control (message.Ready false 0) ∷ [])
+Answered (message.Create control size) object old new events =
+    (new ≡ old) × (events ≡ sent_to old.host object control (message.Ready false 3) ∷ [])
+Answered (message.Request control page access) object old new events =
+    (new ≡ old) × Requested old.size old.host object control page (held_at old object.0 page.0) events
 Answered (message.Return control page dirty keep bytes) object old new events = Returned object page old new events
 Answered (message.Terminate control) object old new events = DropsHeld object.0 old new × (events ≡ [])
 Answered (message.Unlock control page access) object old new events = (new ≡ old) × (events ≡ [])
@@ -99,17 +108,20 @@ Answered m object old new events = ⊥
 
 -- what was stored of each page after a message was answered
 abbrev pub after_message : Message → ObjectId → Result (Listed Event) NoMemory → Content → Content
-after_message (message.Return control page dirty keep bytes) object (Ok events) = after_put (Ok (became events.items)) object.0 page.0 bytes
+after_message (message.Return control page dirty keep bytes) object (Ok events) =
+    after_put (Ok (became events.items)) object.0 page.0 bytes
 after_message (message.Terminate control) object (Ok events) = without object.0
 after_message m object result = same_content
 
 -- a supply has the bytes that were stored of its page
 abbrev pub SuppliesStored : ObjectId → List Event → Content → Type 0
-SuppliesStored object (event.Sent channel (message.Supply page lock precious bytes) ∷ past) content = content object.0 page.0 ≡ Some (Kept bytes)
+SuppliesStored object (event.Sent channel (message.Supply page lock precious bytes) ∷ past) content =
+    content object.0 page.0 ≡ Some (Kept bytes)
 SuppliesStored object events content = Unit {0}
 
 -- what a message leaves in the areas: a return what its put leaves, and all others what was there
-abbrev pub LeavesAreas : Message → ObjectId → SlotTable → (List ℕ → Told) → (List ℕ → Told) → Result (Listed Event) NoMemory → Type 0
+abbrev pub LeavesAreas : Message → ObjectId → SlotTable → (List ℕ → Told) → (List ℕ → Told)
+    → Result (Listed Event) NoMemory → Type 0
 LeavesAreas (message.Return control page dirty keep bytes) object slots before after (Ok events) =
     PutTold (Ok (became events.items)) before after slots (slot_at slots object.0 page.0) bytes
 LeavesAreas m object slots before after result = SameAreas before after
@@ -120,9 +132,12 @@ NotKept (Some (held.Kept s)) = ⊥
 NotKept has = Unit {0}
 
 -- the backing is called only for a request of a kept page, and for a return that has a slot
-abbrev pub LeavesBacking : {P : Type 0} → Message → ObjectId → SlotTable → P → P → Result (Listed Event) NoMemory → Type 0
-LeavesBacking (message.Request control page access) object slots before after (Ok events) = NotKept (held_at slots object.0 page.0) → after ≡ before
-LeavesBacking (message.Return control page dirty keep bytes) object slots before after (Ok events) = became events.items ≡ put.NoSlot → after ≡ before
+abbrev pub LeavesBacking : {P : Type 0} → Message → ObjectId → SlotTable → P → P → Result (Listed Event) NoMemory
+    → Type 0
+LeavesBacking (message.Request control page access) object slots before after (Ok events) =
+    NotKept (held_at slots object.0 page.0) → after ≡ before
+LeavesBacking (message.Return control page dirty keep bytes) object slots before after (Ok events) =
+    became events.items ≡ put.NoSlot → after ≡ before
 LeavesBacking (message.Return control page dirty keep bytes) object slots before after (Err e) = Unit {0}
 LeavesBacking m object slots before after result = after ≡ before
 
@@ -132,7 +147,8 @@ TellsFault [] = ⊥
 TellsFault (event.DeviceFailed who way object page ∷ past) = Unit {0}
 TellsFault (e ∷ past) = TellsFault past
 
--- a device event stands exactly where the count of faults rose, unless that stands at its last value; want of memory leaves the count
+-- a device event stands exactly where the count of faults rose, unless that stands at its last value; want of
+-- memory leaves the count
 pub record AnswerHasCause (before now : ℕ) (result : Result (Listed Event) NoMemory) : Type 0 where
   pub later : before ≤ now
   pub failed : IfOk result (λ events. TellsFault events.items → Rose before now)

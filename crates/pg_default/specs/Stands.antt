@@ -20,13 +20,15 @@ use Rattle.pg_default.specs.Answers.{Answered}
 -- the pager of the host took the end of the object
 abbrev pub is_ended : ℕ → ℕ → List Event → Bool
 is_ended host o [] = false
-is_ended host o (event.Taken (Up at object) (message.Terminate control) ∷ past) = (at.0 == host && object.0 == o) || is_ended host o past
+is_ended host o (event.Taken (Up at object) (message.Terminate control) ∷ past) =
+    (at.0 == host && object.0 == o) || is_ended host o past
 is_ended host o (e ∷ past) = is_ended host o past
 
 -- the pager of another host took a message about the object
 abbrev pub is_elsewhere : ℕ → ℕ → List Event → Bool
 is_elsewhere host o [] = false
-is_elsewhere host o (event.Taken (Up at object) m ∷ past) = (not (at.0 == host) && object.0 == o) || is_elsewhere host o past
+is_elsewhere host o (event.Taken (Up at object) m ∷ past) =
+    (not (at.0 == host) && object.0 == o) || is_elsewhere host o past
 is_elsewhere host o (e ∷ past) = is_elsewhere host o past
 
 -- what is held of a page, by its last return and whether that was lost
@@ -37,7 +39,8 @@ IsHeldOf (Some (held.Torn s)) (Some bytes) true = Unit {0}
 IsHeldOf (Some held.Lost) (Some bytes) true = Unit {0}
 IsHeldOf has returned lost = ⊥
 
--- The slots of a host's pager stand for a history. Whether a page was lost goes by its object and page alone, so nothing is said of the
+-- The slots of a host's pager stand for a history. Whether a page was lost goes by its object and page alone, so
+-- nothing is said of the
 -- returns of an object that is another host's.
 pub record Stands (header : Header) (host : ℕ) (slots : SlotTable) (past : List Event) : Type 0 where
   pub host_is : slots.host ≡ host
@@ -46,7 +49,8 @@ pub record Stands (header : Header) (host : ℕ) (slots : SlotTable) (past : Lis
   pub slot : (o p : ℕ) → slot_at slots o p ≡ slot_of_page header host o p past
   pub declared : (o p : ℕ) → o < named header → held_at slots o p ≡ None
   pub ended : (o p : ℕ) → is_ended host o past ≡ true → held_at slots o p ≡ None
-  pub returned : (o p : ℕ) → named header ≤ o → is_ended host o past ≡ false → is_elsewhere host o past ≡ false → IsHeldOf (held_at slots o p) (last_return host o p past) (is_lost o p past)
+  pub returned : (o p : ℕ) → named header ≤ o → is_ended host o past ≡ false → is_elsewhere host o past ≡ false
+      → IsHeldOf (held_at slots o p) (last_return host o p past) (is_lost o p past)
 
 abbrev pub stored_of : Option (List ℕ) → Bool → Option Stored
 stored_of None lost = None
@@ -61,7 +65,8 @@ content_of header host past = λ o p. if nat_lt o (named header) || is_ended hos
 abbrev pub taking : ℕ → ObjectId → Message → List Event → List Event
 taking host object m past = event.Taken (up host object.0) m ∷ past
 
--- a pager whose slots stand for a history answers a message about a temporary object of its host, of which it didn't take the end before
+-- a pager whose slots stand for a history answers a message about a temporary object of its host, of which it
+-- didn't take the end before
 pub record Serves (header : Header) (host : ℕ) (past : List Event) (object : ObjectId) (m : Message) (old new : SlotTable) (events : List Event) : Type 0 where
   pub temporary : named header ≤ object.0
   pub unended : is_ended host object.0 past ≡ false
@@ -87,4 +92,5 @@ IsOther header host other past = Unit {0}
 
 -- what other hosts' pagers took messages about was never returned to this one
 abbrev pub IsApart : Header → ℕ → List Event → Type 0
-IsApart header host past = (o p : ℕ) → named header ≤ o → is_elsewhere host o past ≡ true → last_return host o p past ≡ None
+IsApart header host past =
+    (o p : ℕ) → named header ≤ o → is_elsewhere host o past ≡ true → last_return host o p past ≡ None

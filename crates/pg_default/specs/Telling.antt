@@ -13,4 +13,5 @@ abbrev pub given : Got → ℕ → ObjectId → ℕ → PageNo → List Event
 given (got.Page bytes) host object control page = sent_to host object control (supply page bytes) ∷ []
 given got.Never host object control page = sent_to host object control (message.Unavailable page) ∷ []
 given got.Lost host object control page = sent_to host object control (error page) ∷ []
-given got.Failed host object control page = sent_to host object control (error page) ∷ device_failed Read object page ∷ []
+given got.Failed host object control page =
+    sent_to host object control (error page) ∷ device_failed Read object page ∷ []

@@ -25,20 +25,25 @@ ghost use Rattle.vm_outside.specs.Areas.{Told};
 /// what they stand for. Contents stay too, where no object is two hosts'.
 #[tactic(auto, using(crate::proofs::Standing::start))]
 pub fn answers_are_legal()
-    ensures start { (header : Header) (host : ℕ) → Stands header host (record { host = host; size = header.size; count = header.slots; rows = [] }) [] }
+    ensures start { (header : Header) (host : ℕ)
+        → Stands header host (record { host = host; size = header.size; count = header.slots; rows = [] }) [] }
     ensures stands { (header : Header) (host : ℕ) (past : List Event) (object : ObjectId) (m : Message) (old new : SlotTable) (events : List Event)
-        → Serves header host past object m old new events → Stands header host new (events ++ taking host object m past) }
+        → Serves header host past object m old new events
+        → Stands header host new (events ++ taking host object m past) }
 
-    ensures others { (header : Header) (host : ℕ) (slots : SlotTable) (e : Event) (past : List Event) → IsOther header host e past → Stands header host slots past → Stands header host slots (e ∷ past) }
+    ensures others { (header : Header) (host : ℕ) (slots : SlotTable) (e : Event) (past : List Event)
+        → IsOther header host e past → Stands header host slots past → Stands header host slots (e ∷ past) }
 
     // Where the paging area tells, a supply must have the bytes that were stored.
     ensures causes { (header : Header) (outside : Outside) (doing : Command) (host : ℕ) (past : List Event) (object : ObjectId) (m : Message) (old new : SlotTable) (events : List Event)
-        → Serves header host past object m old new events → (outside.paging ≡ true → SuppliesStored object events (content_of header host past))
+        → Serves header host past object m old new events
+        → (outside.paging ≡ true → SuppliesStored object events (content_of header host past))
         → AllLicensed header outside doing events (taking host object m past) }
     ensures paid { (header : Header) (host : ℕ) (past : List Event) (object : ObjectId) (m : Message) (old new : SlotTable) (events : List Event)
         → Serves header host past object m old new events → IsPaid header (events ++ taking host object m past) }
     ensures carries { (header : Header) (host : ℕ) (past : List Event) (object : ObjectId) (m : Message) (old new : SlotTable) (events : Listed Event) (before after : List ℕ → Told)
-        → Serves header host past object m old new events.items → Carries before after old new (after_message m object (Ok events))
+        → Serves header host past object m old new events.items
+        → Carries before after old new (after_message m object (Ok events))
         → CarriesOver before after old new (content_of header host past) (content_of header host (events.items ++ taking host object m past)) }
     ensures others_carry { (header : Header) (host : ℕ) (slots : SlotTable) (e : Event) (past : List Event) (areas : List ℕ → Told) → IsOther header host e past → IsApart header host (e ∷ past)
         → CarriesOver areas areas slots slots (content_of header host past) (content_of header host (e ∷ past)) }

@@ -3,6 +3,7 @@ ghost use Rattle.std.specs.Prelude.{ℕ, ◌≡◌, ◌<◌, ◌≤◌, [], List
 ghost use Rattle.pg_default.specs.Answers.{AnswerHasCause, Answered, EndsInReply, IsToPager, LeavesAreas, LeavesBacking, ReturnsWhole, SuppliesStored, after_message};
 ghost use Rattle.pg_slots.specs.Contents.{Carries, Content, Fits, IsTold};
 ghost use Rattle.pg_slots.specs.Slots.{KeepsShape};
+ghost use Rattle.vm_base.specs.Limits.{most_hosts, most_slots};
 ghost use Rattle.vm_outside.specs.Areas.{Told};
 
 use crate::telling::{sent, tell_got, tell_put};
@@ -40,8 +41,8 @@ impl DefaultPager {
         slots: u32,
         size: PageSize,
     ) -> Result<DefaultPager, NoMemory>
-        requires host { host.0 < 8 }
-        requires few { slots ≤ 65536 }
+        requires host { host.0 < most_hosts }
+        requires few { slots ≤ most_slots }
         ensures value { IfOk result (λ pager. pager ≡ record { host = host.0; size = size; count = slots; rows = [] }) }
         ensures fits { IfOk result (λ pager. (told : List ℕ → Told) → Fits told pager (λ o p. None)) }
     {

@@ -10,7 +10,7 @@ use vm_model::{Channel, Device, Event, Events, Message, Way};
 // The reason of an error: KERN_MEMORY_ERROR.
 const MEMORY_ERROR: u32 = 10;
 
-// A message to a control of the host.
+/// A message to a control of the host.
 pub fn sent(host: HostId, object: ObjectId, control: u32, message: Message) -> Event
     ensures { result ≡ sent_to host.0 object control message }
 {
@@ -56,7 +56,7 @@ fn device_failed(way: Way, object: ObjectId, page: PageNo) -> Event
     }
 }
 
-// Answers a request with what the slots gave.
+/// Answers a request with what the slots gave.
 pub fn tell_got(
     got: Got,
     host: HostId,
@@ -81,7 +81,7 @@ pub fn tell_got(
     events.push(sent(host, object, control, reply))
 }
 
-// Tells what became of a page that was put.
+/// Tells what became of a page that was put.
 pub fn tell_put(
     put: Put,
     object: ObjectId,

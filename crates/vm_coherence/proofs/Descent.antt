@@ -157,20 +157,19 @@ sends_other p last OtherUp s queue d = d
 begins_control : (p last control : ℕ) (s : Side) (queue : ℕ → List Message) → Descends p s last queue → last < control → Descends p (opened s control false) control queue
 begins_control p last control s queue d more = record { same = λ live. ap (down_words p) (sym (d.empty control more)); control = refl; empty = λ k further. d.empty k (omega arith) }
 
+begins_act : (p last h o host object control : ℕ) (s : Side) (queue : ℕ → List Message) → Descends p s last queue → (host ≡ h → object ≡ o → last < control)
+    → Descends p (move s (effect_on h (act_if (object == o) host (Opens control false)))) (if host == h && object == o then control else last) queue
+begins_act p last h o host object control s queue d more = by_cases (host == h) (object == o) refl refl where
+  by_cases : (c b : Bool) → (host == h) ≡ c → (object == o) ≡ b → Descends p (move s (if c then (if b then Opens control false else Nothing) else to_others (if b then Opens control false else Nothing))) (if c && b then control else last) queue
+  by_cases true true mine its = begins_control p last control s queue d (more (grind (arith, nat_tests)) (grind (arith, nat_tests)))
+  by_cases true false mine its = d
+  by_cases false true mine its = d
+  by_cases false false mine its = d
+
 sends_act : (p last h o host object : ℕ) (m : Message) (s : Side) (queue : ℕ → List Message) → Descends p s last queue → (host ≡ h → object ≡ o → (control : ℕ) → sent_effect p m ≡ Opens control false → last < control)
     → Descends p (move s (effect_on h (act_if (object == o) host (sent_effect p m)))) (control_after h o (event.Sent (Up (record { 0 = host }) (record { 0 = object })) m) last) queue
-sends_act p last h o host object (message.Init control size) s queue d more = by_cases (host == h) (object == o) refl refl where
-  by_cases : (c b : Bool) → (host == h) ≡ c → (object == o) ≡ b → Descends p (move s (if c then (if b then Opens control false else Nothing) else to_others (if b then Opens control false else Nothing))) (if c && b then control else last) queue
-  by_cases true true mine its = begins_control p last control s queue d (more (grind (arith, nat_tests)) (grind (arith, nat_tests)) control refl)
-  by_cases true false mine its = d
-  by_cases false true mine its = d
-  by_cases false false mine its = d
-sends_act p last h o host object (message.Create control size) s queue d more = by_cases (host == h) (object == o) refl refl where
-  by_cases : (c b : Bool) → (host == h) ≡ c → (object == o) ≡ b → Descends p (move s (if c then (if b then Opens control false else Nothing) else to_others (if b then Opens control false else Nothing))) (if c && b then control else last) queue
-  by_cases true true mine its = begins_control p last control s queue d (more (grind (arith, nat_tests)) (grind (arith, nat_tests)) control refl)
-  by_cases true false mine its = d
-  by_cases false true mine its = d
-  by_cases false false mine its = d
+sends_act p last h o host object (message.Init control size) s queue d more = begins_act p last h o host object control s queue d (λ mine its. more mine its control refl)
+sends_act p last h o host object (message.Create control size) s queue d more = begins_act p last h o host object control s queue d (λ mine its. more mine its control refl)
 sends_act p last h o host object m s queue d more = by_cases (host == h) (object == o) where
   by_cases : (c b : Bool) → Descends p (move s (if c then (if b then SendsUp (control_of m) (up_word p m) else Nothing) else to_others (if b then SendsUp (control_of m) (up_word p m) else Nothing))) last queue
   by_cases true true = sends_other p last (up_word p m) s queue d
@@ -178,15 +177,15 @@ sends_act p last h o host object m s queue d more = by_cases (host == h) (object
   by_cases false true = d
   by_cases false false = d
 
+at_own : (c : ℕ) (xs ys : List Message) → (if c == c then xs else ys) ≡ xs
+at_own c xs ys = grind (arith, nat_tests)
+
+at_other : (c k : ℕ) (xs ys : List Message) → k ≢ c → (if c == k then xs else ys) ≡ ys
+at_other c k xs ys apart = grind (arith, nat_tests)
+
 sent_act : (p last h o host object c : ℕ) (m : Message) (s : Side) (queue : ℕ → List Message) → Descends p s last queue → (host ≡ h → object ≡ o → c ≤ last)
     → Descends p (move s (effect_on h (act_if (object == o) host (SentDown c (down_word p m))))) last (λ k. if host == h && (object == o && c == k) then queue k ++ m ∷ [] else queue k)
 sent_act p last h o host object c m s queue d le = by_cases (host == h) (object == o) refl refl where
-  at_own : (c : ℕ) (xs ys : List Message) → (if c == c then xs else ys) ≡ xs
-  at_own c xs ys = grind (arith, nat_tests)
-
-  at_other : (c k : ℕ) (xs ys : List Message) → k ≢ c → (if c == k then xs else ys) ≡ ys
-  at_other c k xs ys apart = grind (arith, nat_tests)
-
   by_cases : (a b : Bool) → (host == h) ≡ a → (object == o) ≡ b → Descends p (move s (if a then (if b then SentDown c (down_word p m) else Nothing) else to_others (if b then SentDown c (down_word p m) else Nothing))) last (λ k. if a && (b && c == k) then queue k ++ m ∷ [] else queue k)
   by_cases true true mine its = after_sent p c last m s queue (λ k. if c == k then queue k ++ m ∷ [] else queue k) d (le (grind (arith, nat_tests)) (grind (arith, nat_tests))) (at_own c (queue c ++ m ∷ []) (queue c)) (λ k apart. at_other c k (queue k ++ m ∷ []) (queue k) apart)
   by_cases true false mine its = d
@@ -196,12 +195,6 @@ sent_act p last h o host object c m s queue d le = by_cases (host == h) (object 
 taken_act : (p last h o host object c : ℕ) (m : Message) (s : Side) (queue : ℕ → List Message) → Descends p s last queue → (host ≡ h → object ≡ o → first (queue c) ≡ Some m)
     → Descends p (move s (effect_on h (record { host = host; effect = if object == o then TakesDown c (down_word p m) else StepBegins }))) last (λ k. if host == h && (object == o && c == k) then rest (queue k) else queue k)
 taken_act p last h o host object c m s queue d head = by_cases (host == h) (object == o) refl refl where
-  at_own : (c : ℕ) (xs ys : List Message) → (if c == c then xs else ys) ≡ xs
-  at_own c xs ys = grind (arith, nat_tests)
-
-  at_other : (c k : ℕ) (xs ys : List Message) → k ≢ c → (if c == k then xs else ys) ≡ ys
-  at_other c k xs ys apart = grind (arith, nat_tests)
-
   by_cases : (a b : Bool) → (host == h) ≡ a → (object == o) ≡ b → Descends p (move s (if a then (if b then TakesDown c (down_word p m) else StepBegins) else to_others (if b then TakesDown c (down_word p m) else StepBegins))) last (λ k. if a && (b && c == k) then rest (queue k) else queue k)
   by_cases true true mine its = after_taken p c last m s queue (λ k. if c == k then rest (queue k) else queue k) d (head (grind (arith, nat_tests)) (grind (arith, nat_tests))) (at_own c (rest (queue c)) (queue c)) (λ k apart. at_other c k (rest (queue k)) (queue k) apart)
   by_cases true false mine its = steady p last StepBegins s queue tt d

@@ -13,6 +13,7 @@ use Rattle.vm_model.specs.Coherence.{Throughout, OneWriter}
 use Rattle.vm_coherence.proofs.Queues.{odd, drain, drain_up}
 use Rattle.vm_coherence.proofs.Sound.{MayAnswer, Fair, Sound, keep_asking, keep_unlocking, keep_returning, keep_doing, keep_ending, keep_drops, keep_step, keep_opens, keep_ready, keep_stores, keep_heard_asking, keep_heard_unlocking, keep_heard_returning, keep_heard_doing, keep_heard_ending, keep_supply, keep_upgrade, keep_order, keep_supplied, keep_locked}
 use Rattle.vm_coherence.proofs.Line.{request, upgrade, total, total_end, total_front, trimmed_request, trimmed_upgrade, trimmed_none, without_upgrade, without_other, without_own}
+use Rattle.vm_model.proofs.Others.{others_holds}
 
 -- the server of a shared page sends neither of these
 pub never : (s : Side) (w : DownWord) → Sound s → odd w ≡ 1 → first s.down ≡ Some w → ⊥
@@ -95,24 +96,6 @@ others_rest StepBegins s ok = keep_step s ok
 others_rest Nothing s ok = ok
 
 -- other hosts' acts leave the server's words of a host as they are
-others_holds : (e : Effect) (s : Side) → (move s (to_others e)).holds ≡ s.holds
-others_holds (Opens control ready) s = refl
-others_holds (SendsUp control word) s = refl
-others_holds (TakenUp word) s = refl
-others_holds (SentDown control word) s = refl
-others_holds (TakesDown control word) s = refl
-others_holds (Puts bytes dirty) s = refl
-others_holds Drops s = refl
-others_holds (Begins task store at size value) s = refl
-others_holds (Loads task value) s = refl
-others_holds (Stores task at size value) s = refl
-others_holds (Fails task) s = refl
-others_holds (BeginsCopy task times) s = refl
-others_holds (Copies task) s = refl
-others_holds (EndsCopy task) s = refl
-others_holds StepBegins s = refl
-others_holds Nothing s = refl
-
 others_pending : (e : Effect) (s : Side) → (move s (to_others e)).pending ≡ s.pending
 others_pending (Opens control ready) s = refl
 others_pending (SendsUp control word) s = refl
@@ -165,14 +148,15 @@ pending_if h lock past (Some v) w is row =
       wants_one : (h : ℕ) (v : Wanting) → v.host ≡ h → v.upgrade ≡ false → request h v ≡ 1
       wants_one h v mine plain = grind (arith, nat_tests)
 
+pub upgrades_one : (h : ℕ) (v : Wanting) → v.host ≡ h → v.upgrade ≡ true → upgrade h v ≡ 1
+upgrades_one h v mine up = grind (arith, nat_tests)
+
 holds_if : (h : ℕ) (past : List Act) (o : Option Wanting) → World past → first (line past) ≡ o → UpgradeRow h o → (side h past).holds ≡ 1
 holds_if h past None w is row = absurd row
 holds_if h past (Some v) w is row =
     let some : upgrade h v ≤ total (upgrade h) (line past) = total_front (upgrade h) (line past) v is in
     let one : upgrade h v ≡ 1 = upgrades_one h v row.0 row.1 in
-    w.upgrading h (omega arith) where
-      upgrades_one : (h : ℕ) (v : Wanting) → v.host ≡ h → v.upgrade ≡ true → upgrade h v ≡ 1
-      upgrades_one h v mine up = grind (arith, nat_tests)
+    w.upgrading h (omega arith)
 
 recall_lock : (h : ℕ) (flush : Bool) (lock holds : ℕ) (o : Option Wanting) → RecallRow h flush lock holds o → flush ≡ false → lock ≡ 2
 recall_lock h flush lock holds o row is = grind arith

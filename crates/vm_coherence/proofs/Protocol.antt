@@ -10,7 +10,7 @@ use Rattle.vm_model.specs.PageLicences.{May, UpgradeRow, RecallRow, Cause, Licen
 use Rattle.vm_model.specs.Coherence.{Done, begins_step, StepsDone}
 use Rattle.vm_coherence.proofs.Sound.{Fair, Sound}
 use Rattle.vm_coherence.proofs.Line.{request, upgrade, total, total_front}
-use Rattle.vm_coherence.proofs.Law.{never, World, cause, own_side, other_side, world}
+use Rattle.vm_coherence.proofs.Law.{never, World, cause, own_side, other_side, upgrades_one, world}
 use Rattle.vm_coherence.proofs.Whole.{at_each}
 use Rattle.vm_coherence.proofs.Carried.{gate, after, Carried}
 use Rattle.vm_coherence.proofs.Still.{upgrades, Waits, upgrades_own, upgrades_other, waits}
@@ -31,9 +31,7 @@ upgrade_some h ws None is row = absurd row
 upgrade_some h ws (Some v) is row =
     let some : upgrade h v ≤ total (upgrade h) ws = total_front (upgrade h) ws v is in
     let one : upgrade h v ≡ 1 = upgrades_one h v row.0 row.1 in
-    omega arith where
-      upgrades_one : (h : ℕ) (v : Wanting) → v.host ≡ h → v.upgrade ≡ true → upgrade h v ≡ 1
-      upgrades_one h v mine up = grind (arith, nat_tests)
+    omega arith
 
 told_if : (size h : ℕ) (e : Effect) (past : List Act) → Cause size h e past → Told (side h past) (upgrades h past) e
 told_if size h (SentDown control (Locking count returns flush lock true)) past c = (c.0, recall_holds h flush lock (side h past).holds (first (line past)) c.5)

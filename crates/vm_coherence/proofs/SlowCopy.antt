@@ -1,7 +1,6 @@
 -- A host asks to read for a slow copy that is still to read the page, and not for one that has read it.
-use Rattle.std.proofs.Common.{◌≡◌, ◌∷◌, [], List, arith, true, false, refl}
+use Rattle.std.proofs.Common.{◌≡◌, ◌∷◌, List, arith, true, false, refl}
 use Rattle.std.proofs.lemmas.Bool.Decides.{nat_tests}
-use Rattle.vm_base.specs.declared.ids.Inherit.TheVariants.{Share}
 use Rattle.vm_model.specs.declared.message.Channel.TheVariants.{Up, Down}
 use Rattle.vm_model.specs.declared.message.Message.TheVariants as message
 use Rattle.vm_model.specs.declared.event.Event.{Event}
@@ -10,29 +9,13 @@ use Rattle.vm_model.specs.Words.{Asking, Opens, SendsUp, Drops}
 use Rattle.vm_model.specs.PageLicences.{NobodyAwaited, OthersHold, Cause, Licensed}
 use Rattle.vm_model.specs.PagePart.{page_part}
 use Rattle.vm_coherence.specs.Crossing.{host, task, object, page, zeros}
-use Rattle.vm_coherence.specs.Remapping.{region, both}
-use Rattle.vm_coherence.specs.SlowCopy.{copying, reclaimed, read_again}
-
-abbrev mapped : List Event
-mapped = event.Entered (task 0) 0 32 region 0 both Share ∷ event.Line 5 ∷ event.TaskMade (task 0) (host 0) ∷ event.Line 4 ∷ []
+use Rattle.vm_coherence.specs.SlowCopy.{begun, copying, mapped, reclaimed, read_again}
 
 opens_first : Cause 16 0 (Opens 1 false) (page_part 16 0 0 mapped)
 opens_first = grind (arith, nat_tests)
 
 opens_second : Cause 16 0 (Opens 1 false) (page_part 16 0 1 mapped)
 opens_second = grind (arith, nat_tests)
-
-abbrev begun : List Event
-begun =
-    event.RegionMade (record { 0 = 1 }) (record { 0 = 1 }) 2 ∷
-    event.BegunCopy (task 0) 0 32 64 ∷
-    event.Line 7 ∷
-    event.Taken (Down (host 0) object 1) (message.Ready false 0) ∷
-    event.Sent (Down (host 0) object 1) (message.Ready false 0) ∷
-    event.Taken (Up (host 0) object) (message.Init 1 16) ∷
-    event.Line 6 ∷
-    event.Sent (Up (host 0) object) (message.Init 1 16) ∷
-    mapped
 
 licensed_begun : Licensed 16 (page_part 16 0 0 begun)
 licensed_begun = (tt, (tt, (tt, (tt, (tt, (tt, (tt, (opens_first, (tt, (tt, (tt, (tt, tt))))))))))))

@@ -1,4 +1,5 @@
--- A history in which a slow copy of two pages has read the first and asks for the second, and the first is then reclaimed.
+-- A history in which a slow copy of two pages has read the first and asks for the second, and the first is then
+-- reclaimed.
 use Rattle.std.specs.Prelude.{◌∷◌, [], List, false}
 use Rattle.vm_base.specs.declared.ids.PageNo.{PageNo}
 use Rattle.vm_base.specs.declared.ids.Inherit.TheVariants.{Share}
@@ -12,7 +13,24 @@ use Rattle.vm_coherence.specs.Remapping.{region, both}
 abbrev pub second_page : PageNo
 second_page = record { 0 = 1 }
 
--- the events, the newest first
+-- the newest event first: two pages are mapped
+abbrev pub mapped : List Event
+mapped = event.Entered (task 0) 0 32 region 0 both Share ∷ event.Line 5 ∷ event.TaskMade (task 0) (host 0) ∷ event.Line 4 ∷ []
+
+-- they are to be copied
+abbrev pub begun : List Event
+begun =
+    event.RegionMade (record { 0 = 1 }) (record { 0 = 1 }) 2 ∷
+    event.BegunCopy (task 0) 0 32 64 ∷
+    event.Line 7 ∷
+    event.Taken (Down (host 0) object 1) (message.Ready false 0) ∷
+    event.Sent (Down (host 0) object 1) (message.Ready false 0) ∷
+    event.Taken (Up (host 0) object) (message.Init 1 16) ∷
+    event.Line 6 ∷
+    event.Sent (Up (host 0) object) (message.Init 1 16) ∷
+    mapped
+
+-- the first was copied, and the second is asked for
 abbrev pub copying : List Event
 copying =
     event.Sent (Up (host 0) object) (message.Request 1 second_page 1) ∷
@@ -22,19 +40,7 @@ copying =
     event.Taken (Up (host 0) object) (message.Request 1 page 1) ∷
     event.Line 8 ∷
     event.Sent (Up (host 0) object) (message.Request 1 page 1) ∷
-    event.RegionMade (record { 0 = 1 }) (record { 0 = 1 }) 2 ∷
-    event.BegunCopy (task 0) 0 32 64 ∷
-    event.Line 7 ∷
-    event.Taken (Down (host 0) object 1) (message.Ready false 0) ∷
-    event.Sent (Down (host 0) object 1) (message.Ready false 0) ∷
-    event.Taken (Up (host 0) object) (message.Init 1 16) ∷
-    event.Line 6 ∷
-    event.Sent (Up (host 0) object) (message.Init 1 16) ∷
-    event.Entered (task 0) 0 32 region 0 both Share ∷
-    event.Line 5 ∷
-    event.TaskMade (task 0) (host 0) ∷
-    event.Line 4 ∷
-    []
+    begun
 
 -- the first page is reclaimed
 abbrev pub reclaimed : List Event

@@ -54,7 +54,8 @@ use Rattle.vm_flat.proofs.Numbers.{marked_later, later_alike, later_told, told_p
 use Rattle.vm_flat.proofs.Ports.{sound_of, spot_control}
 use Rattle.vm_flat.proofs.Sound.{Sound}
 use Rattle.vm_flat.proofs.Letters.{up_words, down_words, first_rest, down_of}
-use Rattle.vm_flat.proofs.Holds.{Holds, led, tops, mark_is, region_private, region_later, not_file, plain_spot, walks, sinks, reach}
+use Rattle.vm_flat.proofs.Holds.{Holds, led, tops, mark_is, region_private, region_later, plain_spot, walks, sinks, reach}
+use Rattle.vm_legal.proofs.Files.{not_file}
 
 second : (a b : Bool) → (a && b) ≡ true → b ≡ true
 second true b is = is
@@ -288,15 +289,15 @@ dropped_cause header outside host at object page past h c ours =
     clean : (page_on header host object page past).dirty ≡ false → (D.spot (ground header outside) object page (deeds header outside host past)).dirty ≡ false
     clean is = dirty_is header outside host object page false past is
 
-    spared : (returns : ℕ) (b : Bool) → returns ≡ 2 → L.gives_back returns b ≡ false → b ≡ false
-    spared returns b two is = grind (arith, nat_tests)
+    spared : (returns : ℕ) (b precious : Bool) → returns ≡ 2 → L.gives_back returns b precious ≡ false → b ≡ false
+    spared returns b precious two is = grind (arith, nat_tests)
 
     leaves : S.Leaves header outside host object page (page_on header host object page past).dirty past → ((D.spot (ground header outside) object page (deeds header outside host past)).dirty ≡ false) ⊎ (C.Reach (ground header outside) object (deeds header outside host past) → ⊥)
     leaves (S.Clean is) = inl (clean is)
     leaves (S.Unreached above gone) = inr (λ reached. gone (reach header outside host object past reached))
-    leaves (S.Flushed returns f kept) =
-        let two : returns ≡ 2 = h.locks.taken (record { host = host; object = object; page = f.first; count = f.count; returns = returns; flush = true }) ours.covered f.taken in
-        inl (clean (spared returns (page_on header host object page past).dirty two kept))
+    leaves (S.Flushed returns precious f kept) =
+        let two : returns ≡ 2 = h.locks.taken (record { host = host; object = object; control = f.control; page = f.first; count = f.count; returns = returns; flush = true; lock = f.lock; reply = f.reply }) ours.covered f.taken in
+        inl (clean (spared returns (page_on header host object page past).dirty precious two kept))
 
 may : (header : Header) (outside : Outside) (host o p : ℕ) (past : List Event) (P : Spot → Type 0) → P (spot header outside host o p past) → P (D.spot (ground header outside) o p (deeds header outside host past))
 may header outside host o p past P is = subst P (sym (spot_is header outside host o p past)) is

@@ -170,16 +170,16 @@ caused_3 : EachEvent (HasCause header outside) past_3
 caused_3 = ((settling, (refl, refl)), caused_2)
 
 caused_4 : EachEvent (HasCause header outside) past_4
-caused_4 = ((settling, record { host = 0; lives = refl; whole = refl; inside = omega arith; made = omega arith; used = λ above. refl; file = λ is. refl; unfilled = refl }), caused_3)
+caused_4 = ((settling, record { idle = refl; host = 0; lives = refl; whole = refl; inside = omega arith; made = omega arith; used = λ above. refl; file = λ is. refl; unfilled = refl }), caused_3)
 
 caused_5 : EachEvent (HasCause header outside) past_5
 caused_5 = ((settling, tt), caused_4)
 
 caused_6 : EachEvent (HasCause header outside) past_6
-caused_6 = ((settling, tt), caused_5)
+caused_6 = ((settling, refl), caused_5)
 
 caused_7 : EachEvent (HasCause header outside) past_7
-caused_7 = ((settling, λ ours. inr (record { task = 0; access = Storing 0 1 1; waits = record { waits = refl; at = record { host = 0; entry = parent; lives = refl; found = refl } }; on_host = refl; temporary = omega arith; unmarked = λ store. refl; is_top = record { object = refl; page = refl }; steps = 0; sinks = (record { away = refl; unasked = refl; without = refl }, refl) })), caused_6)
+caused_7 = ((settling, inr (record { task = 0; access = Storing 0 1 1; waits = record { waits = refl; at = record { host = 0; entry = parent; lives = refl; found = refl } }; on_host = refl; temporary = omega arith; unmarked = λ store. refl; is_top = record { object = refl; page = refl }; steps = 0; sinks = (record { away = refl; unasked = refl; without = refl }, refl) })), caused_6)
 
 caused_8 : EachEvent (HasCause header outside) past_8
 caused_8 = ((settling, record { address = 0; waits = record { waits = refl; at = record { host = 0; entry = parent; lives = refl; found = refl } }; is_top = record { object = refl; page = refl }; unmarked = refl; here = refl; place = refl }), caused_7)
@@ -188,10 +188,10 @@ caused_9 : EachEvent (HasCause header outside) past_9
 caused_9 = ((settling, tt), caused_8)
 
 caused_10 : EachEvent (HasCause header outside) past_10
-caused_10 = ((settling, tt), caused_9)
+caused_10 = ((settling, refl), caused_9)
 
 caused_11 : EachEvent (HasCause header outside) past_11
-caused_11 = ((settling, λ ours. inr (record { task = 0; access = Storing 18 2 777; waits = record { waits = refl; at = record { host = 0; entry = parent; lives = refl; found = refl } }; on_host = refl; temporary = omega arith; unmarked = λ store. refl; is_top = record { object = refl; page = refl }; steps = 0; sinks = (record { away = refl; unasked = refl; without = refl }, refl) })), caused_10)
+caused_11 = ((settling, inr (record { task = 0; access = Storing 18 2 777; waits = record { waits = refl; at = record { host = 0; entry = parent; lives = refl; found = refl } }; on_host = refl; temporary = omega arith; unmarked = λ store. refl; is_top = record { object = refl; page = refl }; steps = 0; sinks = (record { away = refl; unasked = refl; without = refl }, refl) })), caused_10)
 
 caused_12 : EachEvent (HasCause header outside) past_12
 caused_12 = ((settling, record { address = 18; waits = record { waits = refl; at = record { host = 0; entry = parent; lives = refl; found = refl } }; is_top = record { object = refl; page = refl }; unmarked = refl; here = refl; place = refl }), caused_11)
@@ -206,13 +206,13 @@ caused_15 : EachEvent (HasCause header outside) past_15
 caused_15 = ((settling, record { next = refl; temporary = omega arith; task = 0; address = 0; at = record { host = 0; entry = parent; lives = refl; found = refl }; source_is = refl; inside = omega arith }), caused_14)
 
 caused_16 : EachEvent (HasCause header outside) past_16
-caused_16 = ((settling, record { host = 0; lives = refl; whole = refl; inside = omega arith; made = omega arith; used = λ above. refl; file = λ is. refl; unfilled = refl }), caused_15)
+caused_16 = ((settling, record { idle = refl; host = 0; lives = refl; whole = refl; inside = omega arith; made = omega arith; used = λ above. refl; file = λ is. refl; unfilled = refl }), caused_15)
 
 caused_17 : EachEvent (HasCause header outside) past_17
 caused_17 = ((settling, tt), caused_16)
 
 caused_18 : EachEvent (HasCause header outside) past_18
-caused_18 = ((settling, tt), caused_17)
+caused_18 = ((settling, refl), caused_17)
 
 caused_19 : EachEvent (HasCause header outside) past_19
 caused_19 = ((settling, record { next = refl; is_top = refl; marked = refl; task = 1; address = 0; bytes = 1; value = 2; waits = record { waits = refl; at = record { host = 0; entry = child; lives = refl; found = refl } }; region_is = refl }), caused_18)
@@ -233,13 +233,13 @@ caused_24 : EachEvent (HasCause header outside) past_24
 caused_24 = ((settling, record { next = refl; temporary = omega arith; task = 1; address = 0; at = record { host = 0; entry = child; lives = refl; found = refl }; source_is = refl; inside = omega arith }), caused_23)
 
 caused_25 : EachEvent (HasCause header outside) past_25
-caused_25 = ((settling, record { host = 0; lives = refl; whole = refl; inside = omega arith; made = omega arith; used = λ above. refl; file = λ is. refl; unfilled = refl }), caused_24)
+caused_25 = ((settling, record { idle = refl; host = 0; lives = refl; whole = refl; inside = omega arith; made = omega arith; used = λ above. refl; file = λ is. refl; unfilled = refl }), caused_24)
 
 caused_26 : EachEvent (HasCause header outside) past_26
 caused_26 = ((settling, tt), caused_25)
 
 caused_27 : EachEvent (HasCause header outside) past_27
-caused_27 = ((settling, tt), caused_26)
+caused_27 = ((settling, refl), caused_26)
 
 caused_28 : EachEvent (HasCause header outside) past_28
 caused_28 = ((settling, record { next = refl; is_top = refl; marked = refl; task = 2; address = 1; bytes = 1; value = 3; waits = record { waits = refl; at = record { host = 0; entry = grandchild; lives = refl; found = refl } }; region_is = refl }), caused_27)
@@ -254,7 +254,7 @@ caused_31 : EachEvent (HasCause header outside) past_31
 caused_31 = ((settling, tt), caused_30)
 
 caused_32 : EachEvent (HasCause header outside) past_32
-caused_32 = ((settling, tt), caused_31)
+caused_32 = ((settling, refl), caused_31)
 
 caused_33 : EachEvent (HasCause header outside) past_33
 caused_33 = ((settling, record { address = 18; bytes = 2; waits = record { waits = refl; at = record { host = 0; entry = grandchild; lives = refl; found = refl } }; comes = record { top = 2; top_page = 1; steps = 2; is_top = record { object = refl; page = refl }; walks = (record { away = refl; unasked = refl; without = refl }, refl, (record { away = refl; unasked = refl; without = refl }, refl, (refl, refl))) }; here = refl }), caused_32)
@@ -263,7 +263,7 @@ caused_34 : EachEvent (HasCause header outside) past_34
 caused_34 = ((settling, tt), caused_33)
 
 caused_35 : EachEvent (HasCause header outside) past_35
-caused_35 = ((settling, tt), caused_34)
+caused_35 = ((settling, refl), caused_34)
 
 caused_36 : EachEvent (HasCause header outside) past_36
 caused_36 = ((settling, record { address = 0; bytes = 2; waits = record { waits = refl; at = record { host = 0; entry = grandchild; lives = refl; found = refl } }; comes = record { top = 2; top_page = 0; steps = 0; is_top = record { object = refl; page = refl }; walks = (refl, refl) }; here = refl }), caused_35)
@@ -272,7 +272,7 @@ caused_37 : EachEvent (HasCause header outside) past_37
 caused_37 = ((settling, tt), caused_36)
 
 caused_38 : EachEvent (HasCause header outside) past_38
-caused_38 = ((settling, tt), caused_37)
+caused_38 = ((settling, refl), caused_37)
 
 caused_39 : EachEvent (HasCause header outside) past_39
 caused_39 = ((settling, record { address = 0; bytes = 2; waits = record { waits = refl; at = record { host = 0; entry = child; lives = refl; found = refl } }; comes = record { top = 1; top_page = 0; steps = 0; is_top = record { object = refl; page = refl }; walks = (refl, refl) }; here = refl }), caused_38)

@@ -211,9 +211,6 @@ shape_shadowed z region new past sh is from ours =
           ]
     ]
 
-    under_small : (v : ℕ) → (link z v past).backed ≡ true → (link z v past).under < objects z past
-    under_small v backed = sh.born v backed
-
     own : (r v : ℕ) → (row z r past).used ≡ true → (row z r (Shadowed region new ∷ past)).mark ≡ false → z.named ≤ (row z r (Shadowed region new ∷ past)).top → Reach z v (Shadowed region new ∷ past) → (link z v (Shadowed region new ∷ past)).backed ≡ true
         → (link z v (Shadowed region new ∷ past)).under ≢ (row z r (Shadowed region new ∷ past)).top
     own r v used mark kind reach backed = elim (ℕ_discrete v new) [
@@ -229,7 +226,7 @@ shape_shadowed z region new past sh is from ours =
           let link_is : link z v (Shadowed region new ∷ past) ≡ link z v past = link_old z v region new past e in
           let was_backed : (link z v past).backed ≡ true = subst (λ (l : Link). l.backed ≡ true) link_is backed in
           elim (ℕ_discrete r region) [
-            | yes f ↦ λ same. omega (arith, sym (ap (λ (l : Link). l.under) link_is) ∙ same, if_yes r region new (row z r past).top f, under_small v was_backed, is)
+            | yes f ↦ λ same. omega (arith, sym (ap (λ (l : Link). l.under) link_is) ∙ same, if_yes r region new (row z r past).top f, sh.born v was_backed, is)
             | no f ↦
                 let row_is : row z r (Shadowed region new ∷ past) ≡ row z r past = shadow_other z r region new past f in
                 elim (reach_shadowed z region new v past sh is from reach) [

@@ -2,7 +2,6 @@
 use Rattle.std.proofs.Common.{ℕ, suc, zero, ◌≡◌, ◌+◌, ◌<◌, ◌≤◌, List, Bool, true, false, refl, sym, ap, subst, ◌∙◌, arith, ⊎_elim, Option, Some, None, if◌then◌else◌}
 use Rattle.std.specs.Prelude.{not, nat_lt, is_some, ◌&&◌, ◌==◌}
 use Rattle.std.proofs.lemmas.Bool.{cases_lt}
-use Rattle.std.proofs.lemmas.Bool.Decides.{nat_tests}
 use Rattle.vm_model.specs.declared.event.Event.{Event}
 use Rattle.vm_model.specs.declared.script.Header.{Header}
 use Rattle.vm_model.specs.Named.{named}
@@ -31,6 +30,7 @@ use Rattle.vm_flat.proofs.Filling.{Filling}
 use Rattle.vm_flat.proofs.Locals.{spot_is_local}
 use Rattle.vm_flat.proofs.Numbers.{NumberedAt, later_alike}
 use Rattle.vm_flat.proofs.Ports.{Worlds, Ups, UpNumbers, AskedBy, Downs, Locks}
+use Rattle.vm_legal.proofs.Files.{not_file}
 
 abbrev pub Flats : Header → Outside → List Event → Type 0
 Flats header outside past = (host r i : ℕ) → D.flat (ground header outside) r i (deeds header outside host past) ≡ flat_page header outside r i past
@@ -87,9 +87,6 @@ region_later header r i o p past n top above = ⊎_elim
     (λ less. absurd (omega (arith, less, above, top.object, n.declared_top r less)))
     (λ le. le)
     (cases_lt r (named header))
-
-pub not_file : (header : Header) (o : ℕ) → named header ≤ o → is_file header o ≡ false
-not_file header o above = grind (arith, nat_tests)
 
 pub plain_spot : (header : Header) (outside : Outside) (host o p : ℕ) (past : List Event) → named header ≤ o → (D.spot (ground header outside) o p (deeds header outside host past)).file ≡ false
 plain_spot header outside host o p past above = file_is (ground header outside) o p (deeds header outside host past) ∙ not_file header o above

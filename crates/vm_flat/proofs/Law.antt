@@ -151,17 +151,19 @@ opened_home header outside at object g o h past w is c apart =
     let off : in_use header outside h c.at.entry.region.0 past ≡ false = row.is.alone h (λ e. apart (e ∙ c.on_host ∙ host_is)) in
     subst (λ (k : ℕ). in_use header outside h k past ≡ false) (c.region ∙ sym object_is) off
 
+begun_home : (b : Bool) (was : ℕ) (used : Bool) → (if b then 1 else was) ≡ 1 → (b ≡ true → used ≡ false) → (was ≡ 1 → used ≡ false) → used ≡ false
+begun_home true was used live now before = now refl
+begun_home false was used live now before = before live
+
 homes_sent : (header : Header) (outside : Outside) (at : HostId) (object : ObjectId) (m : Message) (past : List Event) → Holds header outside past → (is_private header outside object.0 ≡ true → S.MaySendUp header outside at.0 object.0 m past) → Homes header outside (event.Sent (Up at object) m ∷ past)
-homes_sent header outside at object (message.Init number size) past w c g o less ours live h apart = by (at.0 == g && object.0 == o) refl live
-  where
-    by : (b : Bool) → (at.0 == g && object.0 == o) ≡ b → (if b then 1 else control header g o past) ≡ 1 → in_use header outside h o past ≡ false
-    by true is e = opened_home header outside at.0 object.0 g o h past w is (c (private_there header outside at.0 object.0 g o is ours)) apart
-    by false is e = w.homes g o less ours e h apart
-homes_sent header outside at object (message.Create number size) past w c g o less ours live h apart = by (at.0 == g && object.0 == o) refl live
-  where
-    by : (b : Bool) → (at.0 == g && object.0 == o) ≡ b → (if b then 1 else control header g o past) ≡ 1 → in_use header outside h o past ≡ false
-    by true is e = let above = (c (private_there header outside at.0 object.0 g o is ours)).1 in let same : o ≡ object.0 = grind (arith, nat_tests) in absurd (omega (arith, above, same, less))
-    by false is e = w.homes g o less ours e h apart
+homes_sent header outside at object (message.Init number size) past w c g o less ours live h apart =
+    begun_home (at.0 == g && object.0 == o) (control header g o past) (in_use header outside h o past) live
+    (λ is. opened_home header outside at.0 object.0 g o h past w is (c (private_there header outside at.0 object.0 g o is ours)) apart)
+    (λ e. w.homes g o less ours e h apart)
+homes_sent header outside at object (message.Create number size) past w c g o less ours live h apart =
+    begun_home (at.0 == g && object.0 == o) (control header g o past) (in_use header outside h o past) live
+    (λ is. let above = (c (private_there header outside at.0 object.0 g o is ours)).1 in let same : o ≡ object.0 = grind (arith, nat_tests) in absurd (omega (arith, above, same, less)))
+    (λ e. w.homes g o less ours e h apart)
 homes_sent header outside at object (message.Terminate number) past w c g o less ours live h apart = by ((at.0 == g && is_control number (live_control g object.0 past)) && object.0 == o) live
   where
     by : (b : Bool) → (if b then (if is_file header o then 0 else 2) else control header g o past) ≡ 1 → in_use header outside h o past ≡ false

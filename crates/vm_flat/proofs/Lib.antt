@@ -10,6 +10,7 @@ pub mod Deeds
 pub mod Entries
 pub mod File
 pub mod FileRun
+pub mod FileStart
 pub mod Filling
 pub mod Good
 pub mod Held
@@ -23,6 +24,7 @@ pub mod Numbers
 pub mod Opening
 pub mod Pagers
 pub mod Ports
+pub mod Precious
 pub mod Queues
 pub mod Regions
 pub mod Slow

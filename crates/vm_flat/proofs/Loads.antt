@@ -2,18 +2,12 @@
 use Rattle.std.specs.Prelude.{List}
 use Rattle.vm_model.specs.declared.event.Event.{Event}
 use Rattle.vm_model.specs.declared.script.Header.{Header}
-use Rattle.vm_model.specs.Founded.{IsFounded}
 use Rattle.vm_model.specs.Moments.{EachEvent}
 use Rattle.vm_legal.specs.Bytes.{OwnBytes, CopiesCurrent, FlatBytes}
 use Rattle.vm_legal.specs.Licences.{HasCause}
 use Rattle.vm_legal.specs.Outside.{Outside}
-use Rattle.vm_flat.specs.Locals.{OthersFounded}
 use Rattle.vm_flat.proofs.Law.{law}
-use Rattle.vm_flat.proofs.Locals.{each_founded}
 use Rattle.vm_flat.proofs.Translation.{sustained}
 
 pub answers : (header : Header) (outside : Outside) (history : List Event) → EachEvent (HasCause header outside) history → EachEvent (OwnBytes header) history → EachEvent (CopiesCurrent header outside) history → EachEvent (FlatBytes header outside) history
 answers header outside history caused own current = law header outside history (sustained header outside history caused) own current
-
-pub founded : (header : Header) (outside : Outside) (history : List Event) → EachEvent (HasCause header outside) history → EachEvent (OthersFounded header outside) history → EachEvent (IsFounded header.size) history
-founded header outside history caused others = each_founded header outside history (sustained header outside history caused) others

@@ -9,24 +9,26 @@ use Rattle.vm_base.specs.declared.ids.ObjectId.{ObjectId}
 use Rattle.vm_model.specs.declared.message.Channel.TheVariants.{Up, Down}
 use Rattle.vm_model.specs.declared.message.Message.{Message}
 use Rattle.vm_model.specs.declared.message.Message.TheVariants as message
+use Rattle.vm_model.specs.declared.command.Command.{Command}
 use Rattle.vm_model.specs.declared.event.Event.{Event}
 use Rattle.vm_model.specs.declared.event.Event.TheVariants as event
 use Rattle.vm_model.specs.declared.script.Header.{Header}
 use Rattle.vm_model.specs.Controls.{is_control, without_control, control_after, last_control, live_after, live_control}
 use Rattle.vm_model.specs.Founded.{IsFounded}
 use Rattle.vm_model.specs.Local as L
-use Rattle.vm_model.specs.Local.{Local, Place, Elsewhere, is_known_absent, is_on, local, moved, taken_effect}
+use Rattle.vm_model.specs.Local.{Local, Elsewhere, is_known_absent, local, moved, taken_effect}
 use Rattle.vm_model.specs.Moments.{EachEvent}
 use Rattle.vm_model.specs.Words.{in_range}
 use Rattle.vm_model.specs.Named.{declared, named}
+use Rattle.vm_legal.specs.Licences.{Caused, HasCause, MaySendUp}
 use Rattle.vm_legal.specs.Outside.{Outside, is_file, is_file_kept, is_private, is_said, zeros}
 use Rattle.vm_legal.specs.Living.{lives_on}
 use Rattle.vm_flat.specs.Words.{DownWord, Supplying, Unavailing, Erring, Effect, Creates, Requests, Returns, TakesRequest, TakesReturn, Answers, Takes, Zeroes, Raises, Stores, Drops, Ends, StepEnds, Nothing}
 use Rattle.vm_flat.specs.Spot.{Spot, move}
-use Rattle.vm_flat.proofs.Sustained.{AllSustained, Sustained, MaySendUp}
-use Rattle.vm_flat.specs.Locals.{SpotIsLocal, OthersFounded}
+use Rattle.vm_flat.specs.Locals.{SpotIsLocal}
 use Rattle.vm_flat.proofs.Regions.{eq_yes, eq_no}
 use Rattle.vm_flat.specs.Places.{sent_up, taken_up, sent_down, taken_down, spot}
+use Rattle.vm_model.proofs.Ports.{same_control}
 
 -- what the tie reads of a place
 same : (file : Bool) (last : ℕ) (live : Option ℕ) (s t : Spot) (page : Local) → t.here ≡ s.here → t.bytes ≡ s.bytes → t.dirty ≡ s.dirty → t.asked ≡ s.asked → t.absent ≡ s.absent → t.file ≡ s.file → t.control ≡ s.control → SpotIsLocal file last live s page → SpotIsLocal file last live t page
@@ -46,9 +48,6 @@ never e = absurd (let bad : false ≡ true = e in cc)
 
 number_is : (a b : ℕ) → (a == b) ≡ true → a ≡ b
 number_is a b is = grind (arith, nat_tests)
-
-same_control : (host k o number : ℕ) (past : List Event) → (k == o) ≡ true → is_control number (live_control host o past) ≡ is_control number (live_control host k past)
-same_control host k o number past its = ap (λ (j : ℕ). is_control number (live_control host j past)) (sym (number_is k o its))
 
 -- each effect moves both alike
 
@@ -313,31 +312,24 @@ spot_is_local header outside (event.Taken (Down at object number) m ∷ past) ho
     took (zeros header) header.size host o p (is_file header o) (live_control host o past) (spot header outside host o p past) (local header.size host (record { object = o; page = p }) past) at object number m past (spot_is_local header outside past host o p)
 spot_is_local header outside (e ∷ past) host o p = spot_is_local header outside past host o p
 
--- what the causes of private objects say
+-- what causes say
 
-sent_founded : (header : Header) (outside : Outside) (at : HostId) (object : ObjectId) (m : Message) (past : List Event) → MaySendUp header outside at.0 object.0 m past → IsFounded header.size (event.Sent (Up at object) m) past
-sent_founded header outside at object (message.Request number page access) past c = c.live
-sent_founded header outside at object (message.Terminate number) past c = c.live
-sent_founded header outside at object m past c = tt
+sent_founded : (header : Header) (doing : Command) (at : HostId) (object : ObjectId) (m : Message) (past : List Event) → MaySendUp header doing at.0 object.0 m past → IsFounded header.size (event.Sent (Up at object) m) past
+sent_founded header doing at object (message.Request number page access) past c = c.live
+sent_founded header doing at object (message.Terminate number) past c = c.live
+sent_founded header doing at object m past c = tt
 
-by_private : (header : Header) (outside : Outside) (at : HostId) (object : ObjectId) (m : Message) (past : List Event) (b : Bool) → is_private header outside object.0 ≡ b → (is_private header outside object.0 ≡ true → MaySendUp header outside at.0 object.0 m past)
-    → (is_private header outside object.0 ≡ false → IsFounded header.size (event.Sent (Up at object) m) past) → IsFounded header.size (event.Sent (Up at object) m) past
-by_private header outside at object m past true is c other = sent_founded header outside at object m past (c is)
-by_private header outside at object m past false is c other = other is
+event_founded : (header : Header) (outside : Outside) (doing : Command) (e : Event) (past : List Event) → Caused header outside doing e past → IsFounded header.size e past
+event_founded header outside doing (event.Raised at lower lower_page upper upper_page) past c = c.here
+event_founded header outside doing (event.CopiedPage task page object object_page target) past c = (c.waits.at.host, c.waits.at.lives, c.here)
+event_founded header outside doing (event.Stored task object page at bytes value) past c = (c.waits.at.host, c.waits.at.lives)
+event_founded header outside doing (event.Sent (Up at object) m) past c = sent_founded header doing at object m past c
+event_founded header outside doing (event.Sent (Down at object number) m) past c = tt
+event_founded header outside doing e past c = tt
 
-event_founded : (header : Header) (outside : Outside) (e : Event) (past : List Event) → Sustained header outside e past → OthersFounded header outside e past → IsFounded header.size e past
-event_founded header outside (event.Raised at lower lower_page upper upper_page) past c other = c.here
-event_founded header outside (event.CopiedPage task page object object_page target) past c other =
-    (c.waits.at.host, c.waits.at.lives, c.here)
-event_founded header outside (event.Stored task object page at bytes value) past c other = (c.waits.at.host, c.waits.at.lives)
-event_founded header outside (event.Sent (Up at object) m) past c other = by_private header outside at object m past (is_private header outside object.0) refl c other
-event_founded header outside (event.Sent (Down at object number) m) past c other = tt
-event_founded header outside e past c other = tt
-
--- each event of a sustained history is founded, as far as other objects' are
-pub each_founded : (header : Header) (outside : Outside) (past : List Event) → AllSustained header outside past → EachEvent (OthersFounded header outside) past → EachEvent (IsFounded header.size) past
-each_founded header outside [] sustained other = tt
-each_founded header outside (e ∷ past) sustained other = (event_founded header outside e past sustained.0 other.0, each_founded header outside past sustained.1 other.1)
+pub each_founded : (header : Header) (outside : Outside) (past : List Event) → EachEvent (HasCause header outside) past → EachEvent (IsFounded header.size) past
+each_founded header outside [] caused = tt
+each_founded header outside (e ∷ past) caused = (event_founded header outside caused.0.0 e past caused.0.1, each_founded header outside past caused.1)
 
 -- of a private object a page is known absent where the host knows that
 pub known_absent : (header : Header) (outside : Outside) (past : List Event) (host o p : ℕ) → is_private header outside o ≡ true

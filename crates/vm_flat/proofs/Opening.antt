@@ -11,7 +11,7 @@ use Rattle.vm_model.specs.declared.message.Message.TheVariants as message
 use Rattle.vm_model.specs.declared.script.Header.{Header}
 use Rattle.vm_model.specs.Controls.{is_control, without_control, last_control, live_control}
 use Rattle.vm_model.specs.Moments.{EachEvent}
-use Rattle.vm_legal.specs.Licences.{HasCause, is_paged}
+use Rattle.vm_legal.specs.Licences.{HasCause}
 use Rattle.vm_legal.specs.Outside.{Outside, is_file}
 use Rattle.vm_flat.proofs.Lives.{control_is_live}
 use Rattle.vm_flat.proofs.Sustained.{control}
@@ -56,10 +56,6 @@ pub record Never (header : Header) (host o : ℕ) (past : List Event) : Type 0 w
 number_is : (a b : ℕ) → (a == b) ≡ true → a ≡ b
 number_is a b is = grind (arith, nat_tests)
 
-second : (a b : Bool) → (a && b) ≡ true → b ≡ true
-second true b is = is
-second false b is = absurd (let bad : false ≡ true = is in cc)
-
 -- this control is another's
 begun : (b : Bool) (number last n : ℕ) (live : Option ℕ) → (b ≡ true → (k : ℕ) × (number ≡ suc k)) → (if b then number else last) ≡ 0 → (last ≡ 0 → (n ≡ 0) × (live ≡ None))
     → ((if b then 1 else n) ≡ 0) × ((if b then Some number else live) ≡ None)
@@ -93,26 +89,26 @@ ended header host o at to number past never = record { control = by_object (at.0
     by_object a true same = off a (is_control number (live_control host to.0 past)) true _ (control header host o past) (ap (λ (k : ℕ). is_control number (live_control host k past)) (number_is to.0 o same) ∙ gone (live_control host o past) never.live) ∙ never.control
     by_object a false same = away a (is_control number (live_control host to.0 past)) _ (control header host o past) ∙ never.control
 
-pub unmade : (header : Header) (outside : Outside) (host o : ℕ) (past : List Event) → EachEvent (HasCause header outside) past → is_paged header o ≡ true → last_control host o past ≡ 0 → Never header host o past
-unmade header outside host o [] caused ours none = record { control = refl; live = refl }
-unmade header outside host o (event.Sent (Up at to) (message.Init number size) ∷ past) caused ours none =
+pub unmade : (header : Header) (outside : Outside) (host o : ℕ) (past : List Event) → EachEvent (HasCause header outside) past → last_control host o past ≡ 0 → Never header host o past
+unmade header outside host o [] caused none = record { control = refl; live = refl }
+unmade header outside host o (event.Sent (Up at to) (message.Init number size) ∷ past) caused none =
     let is : (control header host o (event.Sent (Up at to) (message.Init number size) ∷ past) ≡ 0) × (live_control host o (event.Sent (Up at to) (message.Init number size) ∷ past) ≡ None) =
     begun (at.0 == host && to.0 == o) number (last_control host o past) (control header host o past) (live_control host o past) positive none
-    (λ zero. let never : Never header host o past = unmade header outside host o past caused.1 ours zero in (never.control, never.live)) in
+    (λ zero. let never : Never header host o past = unmade header outside host o past caused.1 zero in (never.control, never.live)) in
     record { control = is.0; live = is.1 }
   where
     positive : (at.0 == host && to.0 == o) ≡ true → (k : ℕ) × (number ≡ suc k)
     positive mine = by_cause header outside (event.Sent (Up at to) (message.Init number size)) past caused.0
-        (λ doing c. (last_control at.0 to.0 past, (c (ap (λ (k : ℕ). is_paged header k) (number_is to.0 o (second (at.0 == host) (to.0 == o) mine)) ∙ ours)).number))
-unmade header outside host o (event.Sent (Up at to) (message.Create number size) ∷ past) caused ours none =
+        (λ doing c. (last_control at.0 to.0 past, c.number))
+unmade header outside host o (event.Sent (Up at to) (message.Create number size) ∷ past) caused none =
     let is : (control header host o (event.Sent (Up at to) (message.Create number size) ∷ past) ≡ 0) × (live_control host o (event.Sent (Up at to) (message.Create number size) ∷ past) ≡ None) =
     begun (at.0 == host && to.0 == o) number (last_control host o past) (control header host o past) (live_control host o past) positive none
-    (λ zero. let never : Never header host o past = unmade header outside host o past caused.1 ours zero in (never.control, never.live)) in
+    (λ zero. let never : Never header host o past = unmade header outside host o past caused.1 zero in (never.control, never.live)) in
     record { control = is.0; live = is.1 }
   where
     positive : (at.0 == host && to.0 == o) ≡ true → (k : ℕ) × (number ≡ suc k)
     positive mine = by_cause header outside (event.Sent (Up at to) (message.Create number size)) past caused.0
-        (λ doing c. (0, (c (ap (λ (k : ℕ). is_paged header k) (number_is to.0 o (second (at.0 == host) (to.0 == o) mine)) ∙ ours)).number))
-unmade header outside host o (event.Sent (Up at to) (message.Terminate number) ∷ past) caused ours none = ended header host o at to number past (unmade header outside host o past caused.1 ours none)
-unmade header outside host o (event.Sent (Up at to) m ∷ past) caused ours none = let never : Never header host o past = unmade header outside host o past caused.1 ours none in record { control = never.control; live = never.live }
-unmade header outside host o (e ∷ past) caused ours none = let never : Never header host o past = unmade header outside host o past caused.1 ours none in record { control = never.control; live = never.live }
+        (λ doing c. (0, c.number))
+unmade header outside host o (event.Sent (Up at to) (message.Terminate number) ∷ past) caused none = ended header host o at to number past (unmade header outside host o past caused.1 none)
+unmade header outside host o (event.Sent (Up at to) m ∷ past) caused none = let never : Never header host o past = unmade header outside host o past caused.1 none in record { control = never.control; live = never.live }
+unmade header outside host o (e ∷ past) caused none = let never : Never header host o past = unmade header outside host o past caused.1 none in record { control = never.control; live = never.live }

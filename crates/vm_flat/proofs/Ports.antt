@@ -33,6 +33,7 @@ use Rattle.vm_flat.proofs.World.{World}
 use Rattle.vm_flat.proofs.Classes.{ground, deeds}
 use Rattle.vm_flat.proofs.Ties.{spot_is, control_tie}
 use Rattle.vm_flat.proofs.Letters.{up_words, down_words, first_rest, up_place, down_place, up_sent, up_taken, up_sent_down, up_taken_down, down_of, answers, down_sent, down_taken, down_sent_up, down_taken_up}
+use Rattle.vm_model.proofs.Ports.{down_port_is, port_is}
 
 abbrev pub Worlds : Header → Outside → List Event → Type 0
 Worlds header outside past = (host : ℕ) → World (ground header outside) (deeds header outside host past)
@@ -66,12 +67,6 @@ calm header outside host o p past w ours none = calm_sound (zeros header) (spot 
 
 abbrev pub Ups : Header → Outside → List Event → Type 0
 Ups header outside past = (h o p : ℕ) → (spot header outside h o p past).up ≡ up_words p (queue (up_port h o) past)
-
-port_is : (at : HostId) (object : ObjectId) (h o : ℕ) → at.0 ≡ h → object.0 ≡ o → Up at object ≡ up_port h o
-port_is at object h o e f = ap (λ k. up_port k object.0) e ∙ ap (λ k. up_port h k) f
-
-down_port_is : (at : HostId) (object : ObjectId) (n h o k : ℕ) → at.0 ≡ h → object.0 ≡ o → n ≡ k → Down at object n ≡ down_port h o k
-down_port_is at object n h o k e f g = ap (λ x. down_port x object.0 n) e ∙ ap (λ x. down_port h x n) f ∙ ap (λ x. down_port h o x) g
 
 head_up : (at : HostId) (object : ObjectId) (m : Message) (past : List Event) (h o : ℕ) → first (queue (Up at object) past) ≡ Some m → (at.0 == h && object.0 == o) ≡ true → first (queue (up_port h o) past) ≡ Some m
 head_up at object m past h o head is = subst (λ (c : Channel). first (queue c past) ≡ Some m) (port_is at object h o (grind (arith, nat_tests)) (grind (arith, nat_tests))) head
@@ -397,6 +392,11 @@ pub record Locks (header : Header) (outside : Outside) (past : List Event) : Typ
 none_lock : (l : LockRequest) → ◌≡◌ {A = Option LockRequest} None (Some l) → ⊥
 none_lock l e = cc
 
+-- it was taken by a control that lived
+living : (b : Bool) (m l : LockRequest) → (if b then Some m else None) ≡ Some l → ◌≡◌ {A = Option LockRequest} (Some m) (Some l)
+living true m l e = e
+living false m l e = absurd (none_lock l e)
+
 some_lock : (l m : LockRequest) → ◌≡◌ {A = Option LockRequest} (Some l) (Some m) → l ≡ m
 some_lock l m e = cc
 
@@ -412,7 +412,7 @@ down_there a h o b k n is = grind arith
 
 taken_lock : (header : Header) (outside : Outside) (at : HostId) (object : ObjectId) (n : ℕ) (m : Message) (past : List Event) → Locks header outside past → first (queue (Down at object n) past) ≡ Some m → (l : LockRequest) → is_private header outside l.object ≡ true → lock_taken (event.Taken (Down at object n) m ∷ past) ≡ Some l → l.returns ≡ 2
 taken_lock header outside at object n (message.Lock page count returns flush lock reply) past locks head l ours e =
-    let same : record { host = at.0; object = object.0; page = page.0; count = count; returns = returns; flush = flush } ≡ l = some_lock _ _ e in
+    let same : record { host = at.0; object = object.0; control = n; page = page.0; count = count; returns = returns; flush = flush; lock = lock; reply = reply } ≡ l = some_lock _ _ (living (is_control n (live_control at.0 object.0 past)) _ l e) in
     let there : is_private header outside object.0 ≡ true = subst (λ (x : LockRequest). is_private header outside x.object ≡ true) (sym same) ours in
     let all : AllBack (queue (Down at object n) past) = locks.queued at.0 object.0 n there in
     sym (ap (λ (x : LockRequest). x.returns) same) ∙ (subst (λ (q : List Message). AllBack q) (first_rest (queue (Down at object n) past) (message.Lock page count returns flush lock reply) head) all).0

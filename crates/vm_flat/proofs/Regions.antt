@@ -84,9 +84,6 @@ shape_region z here region object count past sh ours is new =
       | no other ↦ subst (λ (x : Row). x.used ≡ true → covered z x.top ≡ true) (sym (made_other z here r region object count past other)) (sh.covers_tops r) used
     ]
 
-    under_small : (v : ℕ) → (link z v past).backed ≡ true → (link z v past).under < objects z past
-    under_small v backed = sh.born v backed
-
     pages_old : (k : ℕ) → k < objects z past → pages z k (Region here region object count ∷ past) ≡ pages z k past
     pages_old k small = if_no k object count (pages z k past) (λ e. omega (arith, small, e, new))
 
@@ -99,7 +96,7 @@ shape_region z here region object count past sh ours is new =
     apart : (r v : ℕ) → (row z r (Region here region object count ∷ past)).used ≡ true → (row z r (Region here region object count ∷ past)).mark ≡ false → z.named ≤ (row z r (Region here region object count ∷ past)).top → Reach z v (Region here region object count ∷ past) → (link z v past).backed ≡ true
         → (link z v past).under ≢ (row z r (Region here region object count ∷ past)).top
     apart r v used mark kind reach backed = elim (ℕ_discrete r region) [
-      | yes e ↦ λ same. omega (arith, under_small v backed, same ∙ if_yes r region object (row z r past).top e, new)
+      | yes e ↦ λ same. omega (arith, sh.born v backed, same ∙ if_yes r region object (row z r past).top e, new)
       | no other ↦
           let row_is : row z r (Region here region object count ∷ past) ≡ row z r past = made_other z here r region object count past other in
           elim (reach_region z here region object count v past sh new reach) [

@@ -1,10 +1,9 @@
 -- A run with a slow copy of a file's page, and with pages that the file pager wants back or away; the file is not told.
-use Rattle.std.proofs.Common.{ℕ, subst, List, [], ◌∷◌, true, false, refl, arith, inl, inr, ◌≡◌}
+use Rattle.std.proofs.Common.{◌<◌, ℕ, subst, List, [], ◌∷◌, true, false, refl, arith, inl, inr, ◌≡◌}
 use Rattle.std.proofs.lemmas.Bool.Decides.{nat_tests}
 use Rattle.std.specs.Prelude.{◌==◌}
 use Rattle.vm_base.specs.declared.entry.Entry.{Entry}
-use Rattle.vm_base.specs.declared.ids.Prot.{Prot}
-use Rattle.vm_base.specs.declared.ids.Inherit.TheVariants.{Share, Copy}
+use Rattle.vm_base.specs.declared.ids.Inherit.TheVariants.{Copy}
 use Rattle.vm_base.specs.declared.ids.ObjectKind.TheVariants.{File}
 use Rattle.vm_model.specs.declared.command.Command.{Command}
 use Rattle.vm_model.specs.declared.command.Command.TheVariants as command
@@ -18,8 +17,9 @@ use Rattle.vm_model.specs.Moments.{EachEvent}
 use Rattle.vm_model.specs.Waiting.{Loading}
 use Rattle.vm_legal.specs.Outside.{Outside, Untold}
 use Rattle.vm_legal.specs.Bytes.{OwnBytes, CopiesCurrent, FlatBytes}
-use Rattle.vm_legal.specs.Licences.{HasCause, Wanted, Flushed}
+use Rattle.vm_legal.specs.Licences.{HasCause, IsDoneAt, Wanted, Flushed}
 use Rattle.vm_legal.specs.Walks.{page_on}
+use Rattle.vm_flat.proofs.FileStart.{all, mapped, settling, past_0, past_1, past_2, past_3, past_4, past_5, past_6, past_7, past_8, past_9, past_10, past_11, past_12, past_13, past_14, past_15, past_16}
 use Rattle.vm_flat.proofs.Loads.{answers}
 
 abbrev header : Header
@@ -28,69 +28,15 @@ header = record { size = 16; slots = 1; frames = record { items = 8 ∷ []; room
 abbrev outside : Outside
 outside = record { files = Untold; paging = true }
 
-abbrev all : Prot
-all = record { read = true; write = true }
-
-abbrev mapped : Entry
-mapped = record { address = 64; bytes = 16; region = record { 0 = 0 }; offset = 0; prot = all; inherit = Share }
-
 abbrev copy : Entry
 copy = record { address = 128; bytes = 16; region = record { 0 = 1 }; offset = 0; prot = all; inherit = Copy }
 
--- for these commands
-abbrev settling : Command
-settling = command.Settle 9
+abbrev cleaning : Command
+cleaning = command.Clean (record { 0 = 0 }) (record { 0 = 0 }) 1 true
 
-abbrev past_0 : List Event
-past_0 = event.Line 1 ∷ []
-
-abbrev past_1 : List Event
-past_1 = event.TaskMade (record { 0 = 0 }) (record { 0 = 0 }) ∷ past_0
-
-abbrev past_2 : List Event
-past_2 = event.Line 2 ∷ past_1
-
-abbrev past_3 : List Event
-past_3 = event.Entered (record { 0 = 0 }) 64 16 (record { 0 = 0 }) 0 all Share ∷ past_2
-
-abbrev past_4 : List Event
-past_4 = event.Sent (Up (record { 0 = 0 }) (record { 0 = 0 })) (message.Init 1 16) ∷ past_3
-
-abbrev past_5 : List Event
-past_5 = event.Line 3 ∷ past_4
-
-abbrev past_6 : List Event
-past_6 = event.BegunLoad (record { 0 = 0 }) 64 2 ∷ past_5
-
-abbrev past_7 : List Event
-past_7 = event.Line 4 ∷ past_6
-
-abbrev past_8 : List Event
-past_8 = event.Taken (Up (record { 0 = 0 }) (record { 0 = 0 })) (message.Init 1 16) ∷ past_7
-
-abbrev past_9 : List Event
-past_9 = event.Sent (Down (record { 0 = 0 }) (record { 0 = 0 }) 1) (message.Ready false 0) ∷ past_8
-
-abbrev past_10 : List Event
-past_10 = event.Taken (Down (record { 0 = 0 }) (record { 0 = 0 }) 1) (message.Ready false 0) ∷ past_9
-
-abbrev past_11 : List Event
-past_11 = event.Sent (Up (record { 0 = 0 }) (record { 0 = 0 })) (message.Request 1 (record { 0 = 0 }) 1) ∷ past_10
-
-abbrev past_12 : List Event
-past_12 = event.Taken (Up (record { 0 = 0 }) (record { 0 = 0 })) (message.Request 1 (record { 0 = 0 }) 1) ∷ past_11
-
-abbrev past_13 : List Event
-past_13 = event.Sent (Down (record { 0 = 0 }) (record { 0 = 0 }) 1) (message.Supply (record { 0 = 0 }) 0 false (4 ∷ 5 ∷ 0 ∷ 0 ∷ 0 ∷ 0 ∷ 0 ∷ 0 ∷ 0 ∷ 0 ∷ 0 ∷ 0 ∷ 0 ∷ 0 ∷ 0 ∷ 0 ∷ [])) ∷ past_12
-
-abbrev past_14 : List Event
-past_14 = event.Taken (Down (record { 0 = 0 }) (record { 0 = 0 }) 1) (message.Supply (record { 0 = 0 }) 0 false (4 ∷ 5 ∷ 0 ∷ 0 ∷ 0 ∷ 0 ∷ 0 ∷ 0 ∷ 0 ∷ 0 ∷ 0 ∷ 0 ∷ 0 ∷ 0 ∷ 0 ∷ 0 ∷ [])) ∷ past_13
-
-abbrev past_15 : List Event
-past_15 = event.Loaded (record { 0 = 0 }) (record { 0 = 0 }) (record { 0 = 0 }) 1284 ∷ past_14
-
-abbrev past_16 : List Event
-past_16 = event.Line 5 ∷ past_15
+-- the flush is of one page
+flushed : (page : ℕ) (past : List Event) → IsDoneAt 2 true (page_on header 0 0 0 past) → page < 1 → IsDoneAt 2 true (page_on header 0 0 page past)
+flushed page past done below = let first : 0 ≡ page = omega (arith, below) in subst (λ (q : ℕ). IsDoneAt 2 true (page_on header 0 0 q past)) first done
 
 abbrev past_17 : List Event
 past_17 = event.BegunCopy (record { 0 = 0 }) 64 16 128 ∷ past_16
@@ -210,16 +156,16 @@ caused_2 : EachEvent (HasCause header outside) past_2
 caused_2 = ((settling, tt), caused_1)
 
 caused_3 : EachEvent (HasCause header outside) past_3
-caused_3 = ((settling, record { host = 0; lives = refl; whole = refl; inside = omega arith; made = omega arith; used = λ above. refl; file = λ is. refl; unfilled = refl }), caused_2)
+caused_3 = ((settling, record { idle = refl; host = 0; lives = refl; whole = refl; inside = omega arith; made = omega arith; used = λ above. refl; file = λ is. refl; unfilled = refl }), caused_2)
 
 caused_4 : EachEvent (HasCause header outside) past_4
-caused_4 = ((settling, λ ours. record { number = refl; sized = refl; declared = omega arith; none = refl; task = 0; address = 64; at = record { host = 0; entry = mapped; lives = refl; found = refl }; on_host = refl; region = refl }), caused_3)
+caused_4 = ((settling, record { number = refl; sized = refl; declared = omega arith; none = refl; task = 0; address = 64; at = record { host = 0; entry = mapped; lives = refl; found = refl }; on_host = refl; region = refl }), caused_3)
 
 caused_5 : EachEvent (HasCause header outside) past_5
 caused_5 = ((settling, tt), caused_4)
 
 caused_6 : EachEvent (HasCause header outside) past_6
-caused_6 = ((settling, tt), caused_5)
+caused_6 = ((settling, refl), caused_5)
 
 caused_7 : EachEvent (HasCause header outside) past_7
 caused_7 = ((settling, tt), caused_6)
@@ -228,19 +174,19 @@ caused_8 : EachEvent (HasCause header outside) past_8
 caused_8 = ((settling, (refl, (refl, omega arith))), caused_7)
 
 caused_9 : EachEvent (HasCause header outside) past_9
-caused_9 = ((settling, λ ours. (16, refl, refl, inr (refl, refl))), caused_8)
+caused_9 = ((settling, (16, refl, refl, inr (refl, refl))), caused_8)
 
 caused_10 : EachEvent (HasCause header outside) past_10
 caused_10 = ((settling, (refl, (refl, omega arith))), caused_9)
 
 caused_11 : EachEvent (HasCause header outside) past_11
-caused_11 = ((settling, λ ours. record { task = 0; access = Loading 64 2; waits = record { waits = refl; at = record { host = 0; entry = mapped; lives = refl; found = refl } }; on_host = refl; unmarked = λ store. refl; comes = record { top = 0; top_page = 0; steps = 0; is_top = record { object = refl; page = refl }; walks = (refl, refl) }; number = refl; live = refl; ready = refl; away = refl; unasked = refl; known = refl }), caused_10)
+caused_11 = ((settling, record { task = 0; access = Loading 64 2; waits = record { waits = refl; at = record { host = 0; entry = mapped; lives = refl; found = refl } }; on_host = refl; unmarked = λ store. refl; comes = record { top = 0; top_page = 0; steps = 0; is_top = record { object = refl; page = refl }; walks = (refl, refl) }; number = refl; live = refl; ready = refl; away = refl; unasked = refl; known = refl }), caused_10)
 
 caused_12 : EachEvent (HasCause header outside) past_12
 caused_12 = ((settling, (refl, (refl, omega arith))), caused_11)
 
 caused_13 : EachEvent (HasCause header outside) past_13
-caused_13 = ((settling, λ ours. (record { access = 1; taken = refl; unanswered = refl }, record { kept = refl; read = refl }, refl, refl, λ temporary. absurd (cc), λ told. absurd (cc))), caused_12)
+caused_13 = ((settling, (record { access = 1; taken = refl; unanswered = refl }, record { kept = refl; read = refl }, refl, refl, λ temporary. absurd (cc), λ told. absurd (cc))), caused_12)
 
 caused_14 : EachEvent (HasCause header outside) past_14
 caused_14 = ((settling, (refl, (refl, omega arith))), caused_13)
@@ -252,25 +198,25 @@ caused_16 : EachEvent (HasCause header outside) past_16
 caused_16 = ((settling, tt), caused_15)
 
 caused_17 : EachEvent (HasCause header outside) past_17
-caused_17 = ((settling, tt), caused_16)
+caused_17 = ((settling, refl), caused_16)
 
 caused_18 : EachEvent (HasCause header outside) past_18
 caused_18 = ((settling, (refl, refl)), caused_17)
 
 caused_19 : EachEvent (HasCause header outside) past_19
-caused_19 = ((settling, record { address = 64; bytes = 16; to = 128; waits = record { waits = refl; at = record { host = 0; entry = mapped; lives = refl; found = refl } }; next = refl; declared = omega arith; is_top = record { object = refl; page = refl }; here = refl; region = 1; filled = refl; inside = omega arith; away = refl; unasked = refl }), caused_18)
+caused_19 = ((settling, record { address = 64; bytes = 16; to = 128; waits = record { waits = refl; at = record { host = 0; entry = mapped; lives = refl; found = refl } }; next = refl; declared = omega arith; supplied = refl; is_top = record { object = refl; page = refl }; here = refl; region = 1; filled = refl; inside = omega arith; away = refl; unasked = refl }), caused_18)
 
 caused_20 : EachEvent (HasCause header outside) past_20
 caused_20 = ((settling, record { address = 64; bytes = 16; to = 128; waits = refl; all = refl }), caused_19)
 
 caused_21 : EachEvent (HasCause header outside) past_21
-caused_21 = ((settling, record { host = 0; lives = refl; whole = refl; inside = omega arith; made = omega arith; used = λ above. refl; file = λ is. refl; unfilled = refl }), caused_20)
+caused_21 = ((settling, record { idle = refl; host = 0; lives = refl; whole = refl; inside = omega arith; made = omega arith; used = λ above. refl; file = λ is. refl; unfilled = refl }), caused_20)
 
 caused_22 : EachEvent (HasCause header outside) past_22
 caused_22 = ((settling, tt), caused_21)
 
 caused_23 : EachEvent (HasCause header outside) past_23
-caused_23 = ((settling, tt), caused_22)
+caused_23 = ((settling, refl), caused_22)
 
 caused_24 : EachEvent (HasCause header outside) past_24
 caused_24 = ((settling, record { address = 64; waits = record { waits = refl; at = record { host = 0; entry = mapped; lives = refl; found = refl } }; is_top = record { object = refl; page = refl }; unmarked = refl; here = refl; place = refl }), caused_23)
@@ -279,7 +225,7 @@ caused_25 : EachEvent (HasCause header outside) past_25
 caused_25 = ((settling, tt), caused_24)
 
 caused_26 : EachEvent (HasCause header outside) past_26
-caused_26 = ((settling, tt), caused_25)
+caused_26 = ((settling, refl), caused_25)
 
 caused_27 : EachEvent (HasCause header outside) past_27
 caused_27 = ((settling, record { address = 128; bytes = 2; waits = record { waits = refl; at = record { host = 0; entry = copy; lives = refl; found = refl } }; comes = record { top = 1; top_page = 0; steps = 0; is_top = record { object = refl; page = refl }; walks = (refl, refl) }; here = refl }), caused_26)
@@ -288,7 +234,7 @@ caused_28 : EachEvent (HasCause header outside) past_28
 caused_28 = ((settling, tt), caused_27)
 
 caused_29 : EachEvent (HasCause header outside) past_29
-caused_29 = ((settling, tt), caused_28)
+caused_29 = ((settling, refl), caused_28)
 
 caused_30 : EachEvent (HasCause header outside) past_30
 caused_30 = ((settling, record { address = 64; bytes = 2; waits = record { waits = refl; at = record { host = 0; entry = mapped; lives = refl; found = refl } }; comes = record { top = 0; top_page = 0; steps = 0; is_top = record { object = refl; page = refl }; walks = (refl, refl) }; here = refl }), caused_29)
@@ -297,7 +243,7 @@ caused_31 : EachEvent (HasCause header outside) past_31
 caused_31 = ((settling, tt), caused_30)
 
 caused_32 : EachEvent (HasCause header outside) past_32
-caused_32 = ((settling, λ ours. (refl, refl, refl, refl)), caused_31)
+caused_32 = ((cleaning, (refl, refl, refl, refl, refl, (refl, refl, refl, refl), refl)), caused_31)
 
 caused_33 : EachEvent (HasCause header outside) past_33
 caused_33 = ((settling, tt), caused_32)
@@ -306,10 +252,10 @@ caused_34 : EachEvent (HasCause header outside) past_34
 caused_34 = ((settling, (refl, (refl, omega arith))), caused_33)
 
 caused_35 : EachEvent (HasCause header outside) past_35
-caused_35 = ((settling, λ ours. record { live = refl; here = refl; dirty = refl; same = refl; flag = refl; why = Wanted 2 true (record { first = 0; count = 1; taken = refl; from = omega arith; below = omega arith }) refl refl }), caused_34)
+caused_35 = ((settling, record { live = refl; here = refl; due = refl; same = refl; flag = refl; why = Wanted 2 true (record { control = 1; first = 0; count = 1; lock = 8; reply = true; taken = refl; from = omega arith; below = omega arith; undone = refl; rising = λ later above. refl }) refl refl }), caused_34)
 
 caused_36 : EachEvent (HasCause header outside) past_36
-caused_36 = ((settling, λ ours. (0, 1, 2, true, refl, refl, refl)), caused_35)
+caused_36 = ((settling, record { live = refl; returns = 2; flush = true; lock = 8; taken = refl; once = refl; done = λ page from below. flushed page past_35 (λ here. absurd (let bad : false ≡ true = here in cc)) below }), caused_35)
 
 caused_37 : EachEvent (HasCause header outside) past_37
 caused_37 = ((settling, (refl, (refl, omega arith))), caused_36)
@@ -321,10 +267,10 @@ caused_39 : EachEvent (HasCause header outside) past_39
 caused_39 = ((settling, tt), caused_38)
 
 caused_40 : EachEvent (HasCause header outside) past_40
-caused_40 = ((settling, tt), caused_39)
+caused_40 = ((settling, refl), caused_39)
 
 caused_41 : EachEvent (HasCause header outside) past_41
-caused_41 = ((settling, λ ours. record { task = 0; access = Loading 64 2; waits = record { waits = refl; at = record { host = 0; entry = mapped; lives = refl; found = refl } }; on_host = refl; unmarked = λ store. refl; comes = record { top = 0; top_page = 0; steps = 0; is_top = record { object = refl; page = refl }; walks = (refl, refl) }; number = refl; live = refl; ready = refl; away = refl; unasked = refl; known = refl }), caused_40)
+caused_41 = ((settling, record { task = 0; access = Loading 64 2; waits = record { waits = refl; at = record { host = 0; entry = mapped; lives = refl; found = refl } }; on_host = refl; unmarked = λ store. refl; comes = record { top = 0; top_page = 0; steps = 0; is_top = record { object = refl; page = refl }; walks = (refl, refl) }; number = refl; live = refl; ready = refl; away = refl; unasked = refl; known = refl }), caused_40)
 
 caused_42 : EachEvent (HasCause header outside) past_42
 caused_42 = ((settling, tt), caused_41)
@@ -333,7 +279,7 @@ caused_43 : EachEvent (HasCause header outside) past_43
 caused_43 = ((settling, (refl, (refl, omega arith))), caused_42)
 
 caused_44 : EachEvent (HasCause header outside) past_44
-caused_44 = ((settling, λ ours. (record { access = 1; taken = refl; unanswered = refl }, record { kept = refl; read = refl }, refl, refl, λ temporary. absurd (cc), λ told. absurd (cc))), caused_43)
+caused_44 = ((settling, (record { access = 1; taken = refl; unanswered = refl }, record { kept = refl; read = refl }, refl, refl, λ temporary. absurd (cc), λ told. absurd (cc))), caused_43)
 
 caused_45 : EachEvent (HasCause header outside) past_45
 caused_45 = ((settling, (refl, (refl, omega arith))), caused_44)
@@ -345,7 +291,7 @@ caused_47 : EachEvent (HasCause header outside) past_47
 caused_47 = ((settling, tt), caused_46)
 
 caused_48 : EachEvent (HasCause header outside) past_48
-caused_48 = ((settling, λ ours. (refl, refl, refl, refl)), caused_47)
+caused_48 = ((cleaning, (refl, refl, refl, refl, refl, (refl, refl, refl, refl), refl)), caused_47)
 
 caused_49 : EachEvent (HasCause header outside) past_49
 caused_49 = ((settling, tt), caused_48)
@@ -354,10 +300,10 @@ caused_50 : EachEvent (HasCause header outside) past_50
 caused_50 = ((settling, (refl, (refl, omega arith))), caused_49)
 
 caused_51 : EachEvent (HasCause header outside) past_51
-caused_51 = ((settling, λ ours. record { here = refl; why = Flushed 2 (record { first = 0; count = 1; taken = refl; from = omega arith; below = omega arith }) refl }), caused_50)
+caused_51 = ((settling, record { here = refl; why = Flushed 2 (record { control = 1; first = 0; count = 1; lock = 8; reply = true; taken = refl; from = omega arith; below = omega arith; undone = refl; rising = λ later above. refl }) refl }), caused_50)
 
 caused_52 : EachEvent (HasCause header outside) past_52
-caused_52 = ((settling, λ ours. (0, 1, 2, true, refl, refl, refl)), caused_51)
+caused_52 = ((settling, record { live = refl; returns = 2; flush = true; lock = 8; taken = refl; once = refl; done = λ page from below. flushed page past_51 (λ here. absurd (let bad : false ≡ true = here in cc)) below }), caused_51)
 
 own_15 : OwnBytes header (event.Loaded (record { 0 = 0 }) (record { 0 = 0 }) (record { 0 = 0 }) 1284) past_14
 own_15 = record { address = 64; bytes = 2; waits = record { waits = refl; at = record { host = 0; entry = mapped; lives = refl; found = refl } }; readable = record { here = refl; unlocked = inl refl }; number = refl }

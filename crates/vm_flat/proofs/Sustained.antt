@@ -133,7 +133,7 @@ pub data Leaves (header : Header) (outside : Outside) (host object page : ℕ) (
   -- no region leads to its temporary object
   Unreached : named header ≤ object → (Reach header outside host object past → ⊥) → Leaves header outside host object page dirty past
   -- its pager flushes it, and doesn't want it back
-  Flushed : (returns : ℕ) → L.IsLocked host object page returns true past → L.gives_back returns dirty ≡ false → Leaves header outside host object page dirty past
+  Flushed : (returns : ℕ) (precious : Bool) → L.IsLocked host object page returns true past → L.gives_back returns dirty precious ≡ false → Leaves header outside host object page dirty past
 
 pub record Drops (header : Header) (outside : Outside) (host object page : ℕ) (past : List Event) : Type 0 where
   pub here : (page_on header host object page past).here ≡ true

@@ -1,7 +1,7 @@
 -- An event that has its cause sustains the law.
 use Rattle.std.proofs.Common.{ℕ, ◌≡◌, ◌<◌, ◌≤◌, List, [], ◌∷◌, Bool, true, false, Some, None, if◌then◌else◌, refl, sym, ap, ◌∙◌, arith, inl, inr}
 use Rattle.std.proofs.lemmas.Bool.Decides.{nat_tests}
-use Rattle.std.specs.Prelude.{◌⊎◌, not, nat_lt}
+use Rattle.std.specs.Prelude.{◌⊎◌, ◌||◌, not, nat_lt}
 use Rattle.vm_model.specs.declared.command.Command.{Command}
 use Rattle.vm_model.specs.declared.event.Event.{Event}
 use Rattle.vm_model.specs.declared.event.Event.TheVariants as event
@@ -12,6 +12,7 @@ use Rattle.vm_model.specs.declared.script.Header.{Header}
 use Rattle.vm_model.specs.Local.{Local}
 use Rattle.vm_model.specs.Moments.{EachEvent}
 use Rattle.vm_model.specs.Named.{named}
+use Rattle.vm_legal.proofs.Served.{paged_may}
 use Rattle.vm_legal.specs.Licences as L
 use Rattle.vm_legal.specs.Licences.{Caused, HasCause, is_paged, pager_has, tells}
 use Rattle.vm_legal.specs.Outside.{Outside, is_file, is_private, is_said, start_page, zeros}
@@ -22,6 +23,7 @@ use Rattle.vm_flat.specs.Places.{spot}
 use Rattle.vm_flat.proofs.Locals.{spot_is_local}
 use Rattle.vm_flat.proofs.Numbers.{later_told}
 use Rattle.vm_flat.proofs.Opening.{unopened, unmade}
+use Rattle.vm_flat.proofs.Precious.{unprecious}
 use Rattle.vm_flat.proofs.Pagers.{kept_is, request_is, step_is}
 use Rattle.vm_flat.proofs.Sustained as S
 use Rattle.vm_flat.proofs.Sustained.{Sustained, AllSustained}
@@ -64,21 +66,24 @@ lacks header outside host o p past ours silent c = kept_is header outside host o
     by_file true file = c.1 (private_tells header outside o ours silent) file
     by_file false file = ap (λ x. newer x (if is_file header o then Some (start_page header outside o p) else None)) (c.0 file) ∙ ap (λ b. newer None (if b then Some (start_page header outside o p) else None)) file
 
-down : (header : Header) (outside : Outside) (host o control : ℕ) (m : Message) (past : List Event) → is_private header outside o ≡ true → L.MaySendDown header outside host o control m past → S.MaySendDown header outside host o control m past
-down header outside host o control (message.Supply page lock precious bytes) past ours (c, reads, lock_is, precious_is, returned, has) =
+down : (header : Header) (outside : Outside) (doing : Command) (host o control : ℕ) (m : Message) (past : List Event) → is_private header outside o ≡ true → L.MaySendDown header outside doing host o control m past → S.MaySendDown header outside host o control m past
+down header outside doing host o control (message.Supply page lock precious bytes) past ours (c, reads, lock_is, precious_is, returned, has) =
     (answers header outside host o control page.0 past c, λ silent. kept_is header outside host o page.0 past silent ∙ has (private_tells header outside o ours silent))
-down header outside host o control (message.Unavailable page) past ours (c, reads, may) = (answers header outside host o control page.0 past c, λ silent. lacks header outside host o page.0 past ours silent may)
-down header outside host o control (message.Error page reason) past ours (c, reason_is, fault) = answers header outside host o control page.0 past c
-down header outside host o control (message.Lock page count returns flush lock reply) past ours c = c.1
-down header outside host o control (message.Ready cache strategy) past ours c = tt
-down header outside host o control other past ours c = tt
+down header outside doing host o control (message.Unavailable page) past ours (c, reads, may) = (answers header outside host o control page.0 past c, λ silent. lacks header outside host o page.0 past ours silent may)
+down header outside doing host o control (message.Error page reason) past ours (c, reason_is, fault) = answers header outside host o control page.0 past c
+down header outside doing host o control (message.Lock page count returns flush lock reply) past ours c = c.1
+down header outside doing host o control (message.Ready cache strategy) past ours c = tt
+down header outside doing host o control other past ours c = tt
+
+changed_one : (dirty precious : Bool) → (dirty || precious) ≡ true → precious ≡ false → dirty ≡ true
+changed_one dirty precious one plain = grind arith
 
 up : (header : Header) (outside : Outside) (doing : Command) (host o : ℕ) (m : Message) (past : List Event) → EachEvent (HasCause header outside) past → is_private header outside o ≡ true → L.MaySendUp header doing host o m past → S.MaySendUp header outside host o m past
 up header outside doing host o (message.Init number size) past caused ours c =
     record { declared = c.declared; none = unopened header host o past (declared_file header outside o ours c.declared) c.none; task = c.task; address = c.address; at = c.at; on_host = c.on_host; region = c.region }
-up header outside doing host o (message.Create number size) past caused ours c = (c.number, c.temporary, (unmade header outside host o past caused (private_paged header outside o ours) c.never).control, c.page, c.here)
+up header outside doing host o (message.Create number size) past caused ours c = (c.number, c.temporary, (unmade header outside host o past caused c.never).control, c.page, c.here)
 up header outside doing host o (message.Request number page access) past caused ours c = c
-up header outside doing host o (message.Return number page dirty keep bytes) past caused ours c = record { live = c.live; here = c.here; dirty = c.dirty; same = c.same; flag = c.flag }
+up header outside doing host o (message.Return number page dirty keep bytes) past caused ours c = record { live = c.live; here = c.here; dirty = changed_one (page_on header host o page.0 past).dirty (page_on header host o page.0 past).precious c.due (unprecious header outside host o page.0 past caused (private_paged header outside o ours)); same = c.same; flag = c.flag }
 up header outside doing host o (message.Terminate number) past caused ours c = record { live = c.live; unreached = λ above reach. c.unreached above (reached header outside host o past reach); away = c.away; unasked = c.unasked }
 up header outside doing host o other past caused ours c = tt
 
@@ -87,8 +92,8 @@ up header outside doing host o other past caused ours c = tt
 leaves : (header : Header) (outside : Outside) (doing : Command) (host o p : ℕ) (past : List Event) (page : Local) → L.Leaves header doing host o p page past → S.Leaves header outside host o p page.dirty past
 leaves header outside doing host o p past page (L.Reclaimed clean plain why) = S.Clean clean
 leaves header outside doing host o p past page (L.Unreached above gone least) = S.Unreached above (λ reach. gone (reached header outside host o past reach))
-leaves header outside doing host o p past page (L.Flushed returns locked spared) = S.Flushed returns locked spared
-leaves header outside doing host o p past page (L.Ended clean plain below unmapped) = S.Clean clean
+leaves header outside doing host o p past page (L.Flushed returns locked spared) = S.Flushed returns page.precious locked spared
+leaves header outside doing host o p past page (L.Ended clean plain below unheld) = S.Clean clean
 
 filled : (header : Header) (outside : Outside) (host o p : ℕ) (past : List Event) → EachEvent (HasCause header outside) past → is_private header outside o ≡ true → (L.Fills header host o p past ⊎ L.Bottoms header host o p past)
     → ((o < named header) × S.Fills (spot header outside host o p past) (page_on header host o p past)) ⊎ L.Bottoms header host o p past
@@ -114,13 +119,13 @@ sustains header outside doing (event.Shadowed region new old) past caused c = c
 sustains header outside doing (event.Loaded task object page value) past caused c = c
 sustains header outside doing (event.Stored task object page at bytes value) past caused c = c
 sustains header outside doing (event.CopiedPage task page object object_page target) past caused c = c
-sustains header outside doing (event.Zeroed host object page) past caused c = λ ours. filled header outside host.0 object.0 page.0 past caused ours (c (private_paged header outside object.0 ours))
+sustains header outside doing (event.Zeroed host object page) past caused c = λ ours. filled header outside host.0 object.0 page.0 past caused ours c
 sustains header outside doing (event.Raised host lower lower_page upper upper_page) past caused c = c
 sustains header outside doing (event.Dropped host object page) past caused c = λ ours.
-    (let drops : L.Drops header doing host.0 object.0 page.0 past = c (private_paged header outside object.0 ours) in
-    record { here = drops.here; why = leaves header outside doing host.0 object.0 page.0 past (page_on header host.0 object.0 page.0 past) drops.why })
-sustains header outside doing (event.Sent (Up host object) m) past caused c = λ ours. up header outside doing host.0 object.0 m past caused ours (c (private_paged header outside object.0 ours))
-sustains header outside doing (event.Sent (Down host object control) m) past caused c = λ ours. down header outside host.0 object.0 control m past ours (c (private_paged header outside object.0 ours))
+    record { here = c.here; why = leaves header outside doing host.0 object.0 page.0 past (page_on header host.0 object.0 page.0 past) c.why }
+sustains header outside doing (event.Sent (Up host object) m) past caused c = λ ours. up header outside doing host.0 object.0 m past caused ours c
+sustains header outside doing (event.Sent (Down host object control) m) past caused c = λ ours.
+    down header outside doing host.0 object.0 control m past ours (paged_may header outside doing host.0 object.0 control m past (private_paged header outside object.0 ours) c)
 sustains header outside doing (event.Taken channel m) past caused c = c.0
 sustains header outside doing other past caused c = tt
 

@@ -5,6 +5,7 @@ use Rattle.std.specs.Prelude.{◌==◌, ◌&&◌}
 use Rattle.vm_base.specs.Pages.{little_endian_bytes}
 use Rattle.vm_base.specs.declared.ids.HostId.{HostId}
 use Rattle.vm_base.specs.declared.ids.ObjectId.{ObjectId}
+use Rattle.vm_model.specs.declared.command.Command.{Command}
 use Rattle.vm_model.specs.declared.event.Event.{Event}
 use Rattle.vm_model.specs.declared.event.Event.TheVariants as event
 use Rattle.vm_model.specs.declared.message.Channel.{Channel}
@@ -14,6 +15,7 @@ use Rattle.vm_model.specs.declared.message.Message.TheVariants as message
 use Rattle.vm_model.specs.declared.script.Header.{Header}
 use Rattle.vm_model.specs.Controls.{is_control, last_control, live_control}
 use Rattle.vm_model.specs.Moments.{EachEvent}
+use Rattle.vm_legal.proofs.Served.{paged_may}
 use Rattle.vm_legal.specs.Licences.{HasCause, MaySendDown, is_paged, zeroes}
 use Rattle.vm_legal.specs.Living.{lives_on}
 use Rattle.vm_legal.specs.Outside.{Outside, is_file, is_said, zeros}
@@ -26,7 +28,6 @@ use Rattle.vm_flat.specs.Words.{Supplying, Unavailing, Erring, Effect, Creates, 
 use Rattle.vm_flat.proofs.Lives.{itself}
 use Rattle.vm_flat.proofs.Locals.{is_live, spot_is_local}
 use Rattle.vm_flat.proofs.Pagers.{both_no}
-use Rattle.vm_flat.proofs.Using.{by_cause}
 
 void_if : (z : List ℕ) (s : Spot) (b : Bool) (e f : Effect) → (b ≡ true → (move z s e).void ≡ s.void) → (move z s f).void ≡ s.void → (move z s (if b then e else f)).void ≡ s.void
 void_if z s true e f one two = one refl
@@ -74,15 +75,15 @@ number_is : (a b : ℕ) → (a == b) ≡ true → a ≡ b
 number_is a b is = grind (arith, nat_tests)
 
 -- an answer cannot be sent in such a step
-sent_down_void : (header : Header) (outside : Outside) (z : List ℕ) (s : Spot) (o p at object control : ℕ) (own tells : Bool) (m : Message) (past : List Event) (a : Asked)
-    → absence_taken header.size past ≡ Some a → ((object == o) ≡ true → MaySendDown header outside at object control m past) → (move z s (sent_down o p own tells object m)).void ≡ s.void
-sent_down_void header outside z s o p at object control own tells (message.Supply page lock precious bytes) past a is c =
+sent_down_void : (header : Header) (outside : Outside) (doing : Command) (z : List ℕ) (s : Spot) (o p at object control : ℕ) (own tells : Bool) (m : Message) (past : List Event) (a : Asked)
+    → absence_taken header.size past ≡ Some a → ((object == o) ≡ true → MaySendDown header outside doing at object control m past) → (move z s (sent_down o p own tells object m)).void ≡ s.void
+sent_down_void header outside doing z s o p at object control own tells (message.Supply page lock precious bytes) past a is c =
     void_if z s (own && (object == o && page.0 == p)) (Answers tells (Supplying bytes)) Nothing (λ b. absurd (came_down header.size past a at object _ is (c (first (object == o) (page.0 == p) (second own _ b))).0.taken)) refl
-sent_down_void header outside z s o p at object control own tells (message.Unavailable page) past a is c =
+sent_down_void header outside doing z s o p at object control own tells (message.Unavailable page) past a is c =
     void_if z s (own && (object == o && page.0 == p)) (Answers tells Unavailing) Nothing (λ b. absurd (came_down header.size past a at object _ is (c (first (object == o) (page.0 == p) (second own _ b))).0.taken)) refl
-sent_down_void header outside z s o p at object control own tells (message.Error page reason) past a is c =
+sent_down_void header outside doing z s o p at object control own tells (message.Error page reason) past a is c =
     void_if z s (own && (object == o && page.0 == p)) (Answers tells Erring) Nothing (λ b. absurd (came_down header.size past a at object _ is (c (first (object == o) (page.0 == p) (second own _ b))).0.taken)) refl
-sent_down_void header outside z s o p at object control own tells other past a is c = refl
+sent_down_void header outside doing z s o p at object control own tells other past a is c = refl
 
 zeroed_void : (z : List ℕ) (s : Spot) (own here : Bool) → here ≡ false → (move z s (if own && here then Zeroes else Nothing)).void ≡ s.void
 zeroed_void z s true false is = refl
@@ -168,9 +169,9 @@ void_is header outside host o p (event.CopiedPage task page object object_page t
 void_is header outside host o p (event.Sent (Up at object) m ∷ past) caused file is none =
     sent_up_void (zeros header) (spot header outside host o p past) o p (at.0 == host) (live_control host object.0 past) object.0 m ∙ void_is header outside host o p past caused.1 file is none
 void_is header outside host o p (event.Sent (Down at object control) m ∷ past) caused file is none =
-    sent_down_void header outside (zeros header) (spot header outside host o p past) o p at.0 object.0 control (at.0 == host && control == last_control host object.0 past) (is_said header outside object.0) m past (absent host o p) is may
+    sent_down_void header outside caused.0.0 (zeros header) (spot header outside host o p past) o p at.0 object.0 control (at.0 == host && control == last_control host object.0 past) (is_said header outside object.0) m past (absent host o p) is may
     ∙ void_is header outside host o p past caused.1 file is (both_no false (since (zeroes o p) past) none).1
   where
-    may : (object.0 == o) ≡ true → MaySendDown header outside at.0 object.0 control m past
-    may same = by_cause header outside (event.Sent (Down at object control) m) past caused.0 (λ doing c. c (ap (λ (k : ℕ). is_paged header k) (number_is object.0 o same) ∙ file_paged header o file))
+    may : (object.0 == o) ≡ true → MaySendDown header outside caused.0.0 at.0 object.0 control m past
+    may same = paged_may header outside caused.0.0 at.0 object.0 control m past (ap (λ (k : ℕ). is_paged header k) (number_is object.0 o same) ∙ file_paged header o file) caused.0.1
 void_is header outside host o p (e ∷ past) caused file is none = void_is header outside host o p past caused.1 file is none

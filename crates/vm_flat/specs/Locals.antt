@@ -1,12 +1,6 @@
 -- What is said here of a place is what its host has of the page.
-use Rattle.std.specs.Prelude.{ℕ, ◌≡◌, ◌==◌, ◌&&◌, not, Bool, false, List, Option, Some, None, if◌then◌else◌}
-use Rattle.vm_model.specs.declared.event.Event.{Event}
-use Rattle.vm_model.specs.declared.event.Event.TheVariants as event
-use Rattle.vm_model.specs.declared.message.Channel.TheVariants.{Up}
-use Rattle.vm_model.specs.declared.script.Header.{Header}
-use Rattle.vm_model.specs.Founded.{IsFounded}
+use Rattle.std.specs.Prelude.{ℕ, ◌≡◌, ◌==◌, ◌&&◌, not, Bool, Option, Some, None, if◌then◌else◌}
 use Rattle.vm_model.specs.Local.{Local}
-use Rattle.vm_legal.specs.Outside.{Outside, is_private}
 use Rattle.vm_flat.specs.Spot.{Spot}
 
 -- a place is the host's page, but that no page of a file is known absent; its control lives where the host's newest does
@@ -18,8 +12,3 @@ pub record SpotIsLocal (filed : Bool) (newest : ℕ) (live : Option ℕ) (s : Sp
   pub absent : s.absent ≡ (not filed && page.absent)
   pub file : s.file ≡ filed
   pub control : (if s.control == 1 then Some newest else None) ≡ live
-
--- what hosts ask and end of the other objects is their live controls': this is for the laws of those objects to say
-abbrev pub OthersFounded : Header → Outside → Event → List Event → Type 0
-OthersFounded header outside (event.Sent (Up host object) m) past = is_private header outside object.0 ≡ false → IsFounded header.size (event.Sent (Up host object) m) past
-OthersFounded header outside other past = Unit {0}

@@ -11,7 +11,7 @@ ghost use Rattle.vm_model.specs.declared.script.Header.{Header};
 ghost use Rattle.vm_legal.specs.Bytes.{CopiesCurrent, FlatBytes, OwnBytes};
 ghost use Rattle.vm_legal.specs.Licences.{HasCause};
 ghost use Rattle.vm_legal.specs.Outside.{Outside, is_file, is_private};
-ghost use Rattle.vm_flat.specs.Locals.{OthersFounded, SpotIsLocal};
+ghost use Rattle.vm_flat.specs.Locals.{SpotIsLocal};
 ghost use Rattle.vm_flat.specs.Places.{spot};
 
 /// Each load of temporary or file memory answers the flat map's bytes, whatever was shadowed,
@@ -30,10 +30,10 @@ pub fn loads_answer()
 /// A place is what its host has of the page, at every moment of every history: there is one notion of
 /// a host's page. Locks, and whether a page is precious, are no matter of temporary and file memory.
 ///
-/// Each event that has its cause is founded, as far as what is asked and ended of other objects is.
-#[tactic(auto, using(crate::proofs::Locals::spot_is_local, crate::proofs::Loads::founded, crate::proofs::Locals::known_absent))]
+/// Each event that has its cause is founded.
+#[tactic(auto, using(crate::proofs::Locals::spot_is_local, crate::proofs::Locals::each_founded, crate::proofs::Locals::known_absent))]
 pub fn places_are_local()
     ensures page { (header : Header) (outside : Outside) (history : List Event) (host o p : ℕ) → SpotIsLocal (is_file header o) (last_control host o history) (live_control host o history) (spot header outside host o p history) (local header.size host (record { object = o; page = p }) history) }
     ensures known_absent { (header : Header) (outside : Outside) (history : List Event) (host o p : ℕ) → is_private header outside o ≡ true → (spot header outside host o p history).absent ≡ is_known_absent header (record { object = o; page = p }) (local header.size host (record { object = o; page = p }) history) }
-    ensures founded { (header : Header) (outside : Outside) (history : List Event) → EachEvent (HasCause header outside) history → EachEvent (OthersFounded header outside) history → EachEvent (IsFounded header.size) history }
+    ensures founded { (header : Header) (outside : Outside) (history : List Event) → EachEvent (HasCause header outside) history → EachEvent (IsFounded header.size) history }
 {}

@@ -1,13 +1,15 @@
 -- Each event of a history that the commands made has its cause.
 use Rattle.std.proofs.Common.{◌≡◌, List, [], ◌∷◌, ◌++◌, Option, Some, None, MatchOption, sym, subst}
+use Rattle.std.specs.Prelude.{IfNone}
 use Rattle.vm_base.specs.declared.code.Code.{Code}
 use Rattle.vm_model.specs.declared.command.Command.{Command}
+use Rattle.vm_model.specs.declared.command.Command.TheVariants as command
 use Rattle.vm_model.specs.declared.command.Numbered.{Numbered}
 use Rattle.vm_model.specs.declared.event.Event.{Event}
 use Rattle.vm_model.specs.declared.event.Event.TheVariants as event
 use Rattle.vm_model.specs.declared.script.Header.{Header}
 use Rattle.vm_model.specs.Moments.{EachEvent}
-use Rattle.vm_legal.specs.Follows.{Follows, FollowsSoFar, IsGroup, IsRun, head}
+use Rattle.vm_legal.specs.Follows.{Follows, FollowsCut, FollowsSoFar, IsDone, IsDoneSoFar, IsGroup, IsRun, head}
 use Rattle.vm_legal.specs.Licences.{AllLicensed, HasCause}
 use Rattle.vm_legal.specs.Outside.{Outside}
 use Rattle.vm_legal.specs.Refusal.{refusal}
@@ -34,6 +36,29 @@ pub whole : (header : Header) (outside : Outside) (commands : List Numbered) (hi
 whole header outside [] history is = subst (λ (h : List Event). EachEvent (HasCause header outside) h) (sym is) tt
 whole header outside (numbered ∷ before) history (past, group, is, made, done, follows) = with_group header outside past numbered group history is made (whole header outside before past follows)
 
+pub cut : (header : Header) (outside : Outside) (commands : List Numbered) (history : List Event) → FollowsCut header outside commands history → EachEvent (HasCause header outside) history
+cut header outside [] history is = subst (λ (h : List Event). EachEvent (HasCause header outside) h) (sym is) tt
+cut header outside (numbered ∷ before) history (past, group, is, made, follows) = with_group header outside past numbered group history is made (whole header outside before past follows)
+
+-- what follows its commands so far also follows them where its last step may be cut
+pub cut_of : (header : Header) (outside : Outside) (commands : List Numbered) (history : List Event) → FollowsSoFar header outside commands history → FollowsCut header outside commands history
+cut_of header outside [] history is = is
+cut_of header outside (numbered ∷ before) history (past, group, is, made, done, follows) = (past, group, is, made, follows)
+
 pub so_far : (header : Header) (outside : Outside) (commands : List Numbered) (history : List Event) → FollowsSoFar header outside commands history → EachEvent (HasCause header outside) history
-so_far header outside [] history is = subst (λ (h : List Event). EachEvent (HasCause header outside) h) (sym is) tt
-so_far header outside (numbered ∷ before) history (past, group, is, made, follows) = with_group header outside past numbered group history is made (whole header outside before past follows)
+so_far header outside commands history follows = cut header outside commands history (cut_of header outside commands history follows)
+
+-- and what follows them whole does so as far as it goes
+
+done_so_far : (header : Header) (doing : Command) (group past : List Event) → IsDone header doing group past → IsDoneSoFar header doing group past
+done_so_far header (command.Settle count) group past done = tt
+done_so_far header other group past done = done
+
+whole_so_far : (header : Header) (refused : Option Code) (doing : Command) (group past : List Event) → IfNone refused (IsDone header doing group past) → IfNone refused (IsDoneSoFar header doing group past)
+whole_so_far header None doing group past done = done_so_far header doing group past done
+whole_so_far header (Some code) doing group past done = tt
+
+pub open_of : (header : Header) (outside : Outside) (commands : List Numbered) (history : List Event) → Follows header outside commands history → FollowsSoFar header outside commands history
+open_of header outside [] history is = is
+open_of header outside (numbered ∷ before) history (past, group, is, made, done, follows) =
+    (past, group, is, made, whole_so_far header (refusal header past numbered.command) numbered.command group (event.Line numbered.line ∷ past) done, follows)

@@ -1,2 +1,10 @@
+pub mod Completing
+pub mod Files
 pub mod Groups
+pub mod Inside
+pub mod LockNames
+pub mod Locks
 pub mod Pageouts
+pub mod Served
+pub mod SoFar
+pub mod Stretched

@@ -1,15 +1,18 @@
 -- What a step owes when it ends.
-use Rattle.std.specs.Prelude.{ℕ, ◌<◌, ◌≤◌, ◌≡◌, List, true, Bool, Some, None}
+use Rattle.std.specs.Prelude.{ℕ, ◌+◌, ◌<◌, ◌≤◌, ◌≡◌, List, true, false, not, Bool, Some, None}
 use Rattle.vm_model.specs.declared.event.Event.{Event}
 use Rattle.vm_model.specs.declared.message.Message.TheVariants as message
 use Rattle.vm_model.specs.declared.script.Header.{Header}
+use Rattle.vm_model.specs.Local.{Local}
 use Rattle.vm_model.specs.Named.{named}
 use Rattle.vm_model.specs.Waiting.{Access}
-use Rattle.vm_legal.specs.Accesses.{Comes, Waits, is_ready, page_of}
+use Rattle.vm_legal.specs.Accesses.{Comes, Waits, page_of}
 use Rattle.vm_legal.specs.Frames.{frames_free}
-use Rattle.vm_legal.specs.Licences.{created, is_paged, up, zeroes}
+use Rattle.vm_legal.specs.Licences.{LockRequest, created, gives_back, is_paged, lock_taken, up, zeroes}
+use Rattle.vm_legal.specs.Outside.{is_wild}
 use Rattle.vm_legal.specs.Pagers.{LacksSlot}
-use Rattle.vm_legal.specs.Steps.{answers, absence_taken, before_step, error_taken, fails_access, fails_task, lacks_slot, readies, since, taken}
+use Rattle.vm_legal.specs.Steps.{answers, absence_taken, before_step, completes, drops_page, error_taken, fails_access, fails_task, lacks_slot, readies, returns_page, since, taken}
+use Rattle.vm_legal.specs.Walks.{page_on}
 
 -- a task of the host waits with an access whose walk stops at the place
 pub record StopsAt (header : Header) (host task object page : ℕ) (past : List Event) : Type 0 where
@@ -18,23 +21,40 @@ pub record StopsAt (header : Header) (host task object page : ℕ) (past : List 
   pub on_host : waits.at.host ≡ host
   pub comes : Comes header host waits.at.entry.region.0 (page_of header task access past waits.at.entry) object page past
 
--- an error has ended each access that waited for its page, of a pager that was ready, when the step began; on a host without a free frame some may have
--- waited for a frame
+-- what the host had of a page when the step took a lock_request
+abbrev pub was_on : Header → LockRequest → ℕ → List Event → Local
+was_on header request page past = page_on header request.host request.object page (before_step past)
+
+-- a page that the lock_request gives back was returned since, with a copy kept but by a flush; a flush drops any other
+pub record HasObeyed (header : Header) (request : LockRequest) (page : ℕ) (past : List Event) : Type 0 where
+  pub back : gives_back request.returns (was_on header request page past).dirty (was_on header request page past).precious ≡ true
+      → since (returns_page request.host request.object page (not request.flush)) past ≡ true
+  pub dropped : gives_back request.returns (was_on header request page past).dirty (was_on header request page past).precious ≡ false
+      → request.flush ≡ true → since (drops_page request.host request.object page) past ≡ true
+
+-- an error has ended each access that waited for its page when the step began; on a host without a free frame some may have waited for a frame
 abbrev pub EndsWaiters : Header → ℕ → ℕ → ℕ → List Event → Type 0
 EndsWaiters header host object page past =
-    (task : ℕ) → StopsAt header host task object page (before_step past) → is_ready host object (before_step past) ≡ true → (frames_free header host (before_step past) ≡ 0 → ⊥) → since (fails_task task object page) past ≡ true
+    (task : ℕ) → StopsAt header host task object page (before_step past) → (frames_free header host (before_step past) ≡ 0 → ⊥) → since (fails_task task object page) past ≡ true
+
+-- each page of its range that was here when a lock_request was taken has been given back, or has gone, as its kind says, and the reply was sent
+pub record HasLocked (header : Header) (request : LockRequest) (past : List Event) : Type 0 where
+  pub pages : (page : ℕ) → request.page ≤ page → page < request.page + request.count → (was_on header request page past).here ≡ true → HasObeyed header request page past
+  pub reply : request.reply ≡ true → since (completes request.host request.object) past ≡ true
 
 pub record IsPaid (header : Header) (past : List Event) : Type 0 where
   -- an object's first control is never made without the return behind it
   pub returned : created past ≡ None
-  -- a pager that was told of an object is ready
-  pub init : (host object control size : ℕ) → is_paged header object ≡ true → taken past ≡ Some (record { channel = up host object; message = message.Init control size }) → since (readies object) past ≡ true
-  pub create : (host object control size : ℕ) → is_paged header object ≡ true → taken past ≡ Some (record { channel = up host object; message = message.Create control size }) → since (readies object) past ≡ true
-  -- a request is answered
+  -- a pager that was told of an object is ready; a wild object has none
+  pub init : (host object control size : ℕ) → is_wild header object ≡ false → taken past ≡ Some (record { channel = up host object; message = message.Init control size }) → since (readies object) past ≡ true
+  pub create : (host object control size : ℕ) → is_wild header object ≡ false → taken past ≡ Some (record { channel = up host object; message = message.Create control size }) → since (readies object) past ≡ true
+  -- a request is answered; the server of shared memory may do so later
   pub request : (host object control page access : ℕ) → is_paged header object ≡ true
       → taken past ≡ Some (record { channel = up host object; message = message.Request control (record { 0 = page }) access }) → since (answers object page) past ≡ true
   -- an error ends some access, and each that waited for its page
   pub error : (host object page : ℕ) → error_taken header.size past ≡ Some (record { host = host; object = object; page = page }) → (since (fails_access object page) past ≡ true) × EndsWaiters header host object page past
+  -- a lock_request is obeyed
+  pub lock : (request : LockRequest) → lock_taken past ≡ Some request → HasLocked header request past
   -- where a pager has no page of a declared object, zeros come
   pub absence : (host object page : ℕ) → object < named header → absence_taken header.size past ≡ Some (record { host = host; object = object; page = page }) → since (zeroes object page) past ≡ true
   -- a returned page for which there is no slot is told of

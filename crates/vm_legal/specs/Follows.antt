@@ -2,6 +2,8 @@
 use Rattle.std.specs.Prelude.{ℕ, ◌+◌, ◌-◌, ◌/◌, ◌≡◌, ◌⊎◌, ◌==◌, true, List, [], ◌∷◌, ◌++◌, reverse, if◌then◌else◌, Option, Some, None, MatchOption, IfNone}
 use Rattle.vm_base.specs.declared.entry.Entry.{Entry}
 use Rattle.vm_base.specs.declared.ids.Inherit.TheVariants.{Copy}
+use Rattle.vm_base.specs.declared.ids.HostId.{HostId}
+use Rattle.vm_base.specs.declared.ids.ObjectId.{ObjectId}
 use Rattle.vm_base.specs.declared.ids.TaskId.{TaskId}
 use Rattle.vm_model.specs.declared.event.Event.{Event}
 use Rattle.vm_model.specs.declared.event.Event.TheVariants as event
@@ -9,9 +11,11 @@ use Rattle.vm_model.specs.declared.command.Command.{Command}
 use Rattle.vm_model.specs.declared.command.Command.TheVariants as command
 use Rattle.vm_model.specs.declared.command.Numbered.{Numbered}
 use Rattle.vm_model.specs.declared.message.Channel.{Channel}
+use Rattle.vm_model.specs.declared.message.Channel.TheVariants.{Down}
 use Rattle.vm_model.specs.declared.message.Message.{Message}
 use Rattle.vm_model.specs.declared.script.Header.{Header}
 use Rattle.vm_model.specs.Channels.{queue}
+use Rattle.vm_model.specs.Controls.{live_control}
 use Rattle.vm_model.specs.Regions.{next_region, next_object}
 use Rattle.vm_model.specs.Server.{first}
 use Rattle.vm_model.specs.Tasks.{host_of, entries_of, copies, shared}
@@ -41,6 +45,11 @@ abbrev pub take_head : Channel → Option Message → Option (List Event)
 take_head channel None = None
 take_head channel (Some m) = Some (event.Taken channel m ∷ [])
 
+-- the message is sent to the control that lives
+abbrev pub say_head : HostId → ObjectId → Message → Option ℕ → Option (List Event)
+say_head host object m None = None
+say_head host object m (Some control) = Some (event.Sent (Down host object control) m ∷ [])
+
 -- the head of a command's group behind its line, in the order of writing; a command without one is never run
 abbrev pub head : Header → List Event → Command → Option (List Event)
 head header past (command.Task task host) = Some (event.TaskMade task host ∷ [])
@@ -62,7 +71,10 @@ head header past (command.Unwire host count) = Some (event.Wired host (frames_wi
 head header past (command.Pageout host count) = Some []
 head header past (command.FailFiles count) = Some []
 head header past (command.FailPaging count) = Some []
-head header past other = None
+head header past (command.Say host object m) = say_head host object m (live_control host.0 object.0 past)
+head header past (command.Map task address bytes object offset) = None
+head header past (command.Copy task address bytes target to) = None
+head header past (command.Clean object page count flush) = None
 
 -- the event is no part of a head, nor a line
 abbrev pub IsConsequence : Event → Type 0
@@ -80,7 +92,19 @@ IsConsequence (event.BegunLoad task address size) = ⊥
 IsConsequence (event.BegunStore task address size value) = ⊥
 IsConsequence (event.BegunCopy task address bytes to) = ⊥
 IsConsequence (event.Wired host count) = ⊥
-IsConsequence other = Unit {0}
+IsConsequence (event.Loaded task object page value) = Unit {0}
+IsConsequence (event.Stored task object page at size value) = Unit {0}
+IsConsequence (event.CopiedPage task page object object_page target) = Unit {0}
+IsConsequence (event.CopyEnded task) = Unit {0}
+IsConsequence (event.Failed task object page) = Unit {0}
+IsConsequence (event.Sent channel m) = Unit {0}
+IsConsequence (event.Taken channel m) = Unit {0}
+IsConsequence (event.Dropped host object page) = Unit {0}
+IsConsequence (event.Zeroed host object page) = Unit {0}
+IsConsequence (event.Raised host lower lower_page upper upper_page) = Unit {0}
+IsConsequence (event.Shadowed region new old) = Unit {0}
+IsConsequence (event.DeviceFailed who way object page) = Unit {0}
+IsConsequence (event.NoSlot object page) = Unit {0}
 
 -- behind its line a group is the head of its command and what follows from it; each event has its cause
 pub record IsRun (header : Header) (outside : Outside) (past : List Event) (numbered : Numbered) (first group : List Event) : Type 0 where
@@ -102,7 +126,7 @@ pub record HasPagedOut (header : Header) (host count : ℕ) (group past : List E
   pub front : List Event
   pub is : group ≡ later ++ front
   pub reclaims : EachOf (IsReclaim host) front
-  pub enough : (gone (front ++ past) ≡ count) ⊎ IsExhausted header host past (front ++ past)
+  pub enough : (gone host (front ++ past) ≡ count) ⊎ IsExhausted header host past (front ++ past)
 
 -- the event ends the access of a task that did what it was to do
 abbrev pub IsEnd : ℕ → Event → Type 0
@@ -125,7 +149,22 @@ IsDone header (command.Store task address size value) group past =
     FindsPage header task.0 (event.BegunStore task address size value ∷ past) → EndsNext task.0 (event.BegunStore task address size value ∷ []) group
 IsDone header (command.Pageout host count) group past = HasPagedOut header host.0 count group past
 IsDone header (command.Settle count) group past = (takings (group ++ past) ≡ count) ⊎ (undelivered (group ++ past) ≡ [])
-IsDone header other group past = Unit {0}
+IsDone header (command.Task task host) group past = Unit {0}
+IsDone header (command.Fork task child) group past = Unit {0}
+IsDone header (command.Exit task) group past = Unit {0}
+IsDone header (command.Allocate task address bytes) group past = Unit {0}
+IsDone header (command.Map task address bytes object offset) group past = Unit {0}
+IsDone header (command.Deallocate task address bytes) group past = Unit {0}
+IsDone header (command.Protect task address bytes prot) group past = Unit {0}
+IsDone header (command.Inherit task address bytes inherit) group past = Unit {0}
+IsDone header (command.Copy task address bytes target to) group past = Unit {0}
+IsDone header (command.Take channel) group past = Unit {0}
+IsDone header (command.Clean object page count flush) group past = Unit {0}
+IsDone header (command.Wire host count) group past = Unit {0}
+IsDone header (command.Unwire host count) group past = Unit {0}
+IsDone header (command.FailFiles count) group past = Unit {0}
+IsDone header (command.FailPaging count) group past = Unit {0}
+IsDone header (command.Say host object m) group past = Unit {0}
 
 -- the group goes as far as its command does, unless that is refused
 abbrev pub IsWhole : Header → List Event → Numbered → List Event → Type 0
@@ -141,10 +180,29 @@ Follows header outside (numbered ∷ before) history =
     × IsWhole header past numbered group
     × Follows header outside before past
 
--- the same, but that the last command may have more to do
+-- the last command is done, but that a settle may have more to take
+abbrev pub IsDoneSoFar : Header → Command → List Event → List Event → Type 0
+IsDoneSoFar header (command.Settle count) group past = Unit {0}
+IsDoneSoFar header other group past = IsDone header other group past
+
+abbrev pub IsWholeSoFar : Header → List Event → Numbered → List Event → Type 0
+IsWholeSoFar header past numbered group =
+    IfNone (refusal header past numbered.command) (IsDoneSoFar header numbered.command group (event.Line numbered.line ∷ past))
+
+-- the same, but that a settle that is last may have more to take
 abbrev pub FollowsSoFar : Header → Outside → List Numbered → List Event → Type 0
 FollowsSoFar header outside [] history = history ≡ []
 FollowsSoFar header outside (numbered ∷ before) history =
+    (past : List Event) × (group : List Event)
+    × (history ≡ group ++ event.Line numbered.line ∷ past)
+    × IsGroup header outside past numbered group
+    × IsWholeSoFar header past numbered group
+    × Follows header outside before past
+
+-- the same, but that the last step may be cut: whatever the last command is, it may have more to do
+abbrev pub FollowsCut : Header → Outside → List Numbered → List Event → Type 0
+FollowsCut header outside [] history = history ≡ []
+FollowsCut header outside (numbered ∷ before) history =
     (past : List Event) × (group : List Event)
     × (history ≡ group ++ event.Line numbered.line ∷ past)
     × IsGroup header outside past numbered group

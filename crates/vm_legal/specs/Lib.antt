@@ -4,6 +4,7 @@ pub mod Debts
 pub mod Flat
 pub mod Follows
 pub mod Frames
+pub mod Homes
 pub mod Legal
 pub mod Licences
 pub mod Living

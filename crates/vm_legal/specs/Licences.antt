@@ -1,6 +1,8 @@
--- Why an event stands where it does: its cause, in the events in front of it. What is said here is about temporary and file memory.
+-- Why an event stands where it does: its cause, in the events in front of it.
 use Rattle.std.specs.Prelude.{ℕ, zero, suc, ◌+◌, ◌*◌, ◌/◌, ◌%◌, ◌<◌, ◌≤◌, ◌≡◌, ◌⊎◌, List, [], ◌∷◌, ◌++◌, Bool, true, false, not, Option, Some, None, MatchOption, if◌then◌else◌, ◌==◌, ◌&&◌, ◌||◌, nat_lt}
 use Rattle.vm_base.specs.Entries.{page_at}
+use Rattle.vm_base.specs.declared.ids.ObjectKind.{ObjectKind}
+use Rattle.vm_base.specs.declared.ids.ObjectKind.TheVariants.{Temp, File, Shared, Wild}
 use Rattle.vm_model.specs.declared.event.Event.{Event}
 use Rattle.vm_model.specs.declared.event.Event.TheVariants as event
 use Rattle.vm_model.specs.declared.event.Device.TheVariants as device
@@ -15,19 +17,22 @@ use Rattle.vm_model.specs.declared.message.Message.{Message}
 use Rattle.vm_model.specs.declared.message.Message.TheVariants as message
 use Rattle.vm_model.specs.declared.script.Header.{Header}
 use Rattle.vm_model.specs.Channels.{queue}
-use Rattle.vm_model.specs.Controls.{last_control, live_control}
+use Rattle.vm_model.specs.Controls.{is_control, last_control, live_control}
 use Rattle.vm_model.specs.Local.{Local, is_known_absent}
 use Rattle.vm_model.specs.Named.{named}
+use Rattle.vm_model.specs.PageLicences as server
+use Rattle.vm_model.specs.PagePart.{page_part}
 use Rattle.vm_model.specs.Regions.{next_region, next_object, region_of, backing_of}
 use Rattle.vm_model.specs.Server.{first}
 use Rattle.vm_model.specs.Tasks.{host_of, entries_of, has_entry}
+use Rattle.vm_model.specs.Words.{Supplying, Locking, in_range}
 use Rattle.vm_model.specs.Waiting.{Access, Loading, Storing, Copying, waiting, next_page, copy_target, is_store}
-use Rattle.vm_legal.specs.Accesses.{At, Waits, Comes, HasPlace, begun_at, is_ready, page_of}
+use Rattle.vm_legal.specs.Accesses.{At, Waits, Comes, HasPlace, begun_at, is_ready, names, page_of}
 use Rattle.vm_legal.specs.Living.{lives_on, tasks}
-use Rattle.vm_legal.specs.Outside.{Outside, is_file, is_said, start_page, zeros}
-use Rattle.vm_legal.specs.Pagers.{LacksSlot, is_lost, last_return, newer, slot_at}
+use Rattle.vm_legal.specs.Outside.{Outside, is_file, is_said, is_wild, kind_of, start_page, zeros}
+use Rattle.vm_legal.specs.Pagers.{LacksSlot, is_lost, known_control, last_return, newer, slot_at}
 use Rattle.vm_legal.specs.Reclaims.{Reclaims}
-use Rattle.vm_legal.specs.Steps.{Letter, absence_taken, answers, error_taken, fails_reading, fails_task, readies, since, taken, takings}
+use Rattle.vm_legal.specs.Steps.{Letter, absence_taken, answers, completes, error_taken, fails_reading, fails_task, gives_page, just_begun, readies, since, taken, takings}
 use Rattle.vm_legal.specs.Undelivered.{oldest}
 use Rattle.vm_legal.specs.Used.{in_use, is_filled}
 use Rattle.vm_legal.specs.Walks.{IsTop, Reach, Sinks, Walks, page_on, sight}
@@ -91,7 +96,7 @@ pub record Fills (header : Header) (host object page : ℕ) (past : List Event) 
   pub away : (page_on header host object page past).here ≡ false
   pub unasked : (page_on header host object page past).asked ≡ false
 
--- a slow copy makes its next page, of a declared object's page that is here, a page of the region that it fills
+-- a slow copy makes its next page, of the page of a declared object that is here and isn't wild, a page of the region that it fills
 pub record CopiesPage (header : Header) (task index object page target : ℕ) (past : List Event) : Type 0 where
   pub address : ℕ
   pub bytes : ℕ
@@ -99,6 +104,7 @@ pub record CopiesPage (header : Header) (task index object page target : ℕ) (p
   pub waits : Waits header task (Copying address bytes to) past
   pub next : index ≡ next_page task past
   pub declared : waits.at.entry.region.0 < named header
+  pub supplied : is_wild header waits.at.entry.region.0 ≡ false
   pub is_top : IsTop (region_of header waits.at.entry.region.0 past) (page_at header.size (address + next_page task past * header.size) waits.at.entry) object page
   pub here : (page_on header waits.at.host object page past).here ≡ true
   pub region : ℕ
@@ -148,34 +154,83 @@ pub record Asks (header : Header) (host control object page wanted : ℕ) (past 
 abbrev pub IsUnmapped : Header → ℕ → ℕ → List Event → Type 0
 IsUnmapped header host region past = (task : ℕ) → lives_on host task past ≡ true → has_entry region (entries_of header.size task past) ≡ false
 
--- a lock_request for so many pages of an object
+-- nothing holds a declared object on the host
+abbrev pub IsUnheld : Header → ℕ → ℕ → List Event → Type 0
+IsUnheld header host object past = IsUnmapped header host object past
+
+-- a lock_request to a control, for so many pages of its object
 pub record LockRequest : Type 0 where
   pub host : ℕ
   pub object : ℕ
+  pub control : ℕ
   pub page : ℕ
   pub count : ℕ
   pub returns : ℕ
   pub flush : Bool
+  pub lock : ℕ
+  pub reply : Bool
 
--- what the present step took, if that was a lock_request
+-- what the present step took, if that was a lock_request, of a control that lived
 abbrev pub lock_taken : List Event → Option LockRequest
 lock_taken [] = None
 lock_taken (event.Line line ∷ past) = None
-lock_taken (event.Taken (Down host object control) (message.Lock page count returns flush lock reply) ∷ past) = Some (record { host = host.0; object = object.0; page = page.0; count = count; returns = returns; flush = flush })
+lock_taken (event.Taken (Down host object control) (message.Lock page count returns flush lock reply) ∷ past) =
+    if is_control control (live_control host.0 object.0 past)
+    then Some (record { host = host.0; object = object.0; control = control; page = page.0; count = count; returns = returns; flush = flush; lock = lock; reply = reply })
+    else None
 lock_taken (event.Taken channel other ∷ past) = None
 lock_taken (e ∷ past) = lock_taken past
 
--- a lock_request of this kind gives such a page back: kind 1 and 2 the changed ones; of these objects none is precious
-abbrev pub gives_back : ℕ → Bool → Bool
-gives_back returns dirty = (returns == 1 || returns == 2) && dirty
+-- a lock_request of this kind gives such a page back: kind 1 the changed ones, kind 2 the changed and the precious ones
+abbrev pub gives_back : ℕ → Bool → Bool → Bool
+gives_back returns dirty precious = (returns == 1 && dirty) || (returns == 2 && (dirty || precious))
 
--- the step took a lock_request over the page, of this kind
+-- the step took a lock_request over the page, of this kind; it isn't done yet, and goes through its range by rising page
 pub record IsLocked (host object page returns : ℕ) (flush : Bool) (past : List Event) : Type 0 where
+  pub control : ℕ
   pub first : ℕ
   pub count : ℕ
-  pub taken : lock_taken past ≡ Some (record { host = host; object = object; page = first; count = count; returns = returns; flush = flush })
+  pub lock : ℕ
+  pub reply : Bool
+  pub taken : lock_taken past ≡ Some (record { host = host; object = object; control = control; page = first; count = count; returns = returns; flush = flush; lock = lock; reply = reply })
   pub from : first ≤ page
   pub below : page < first + count
+  pub undone : since (completes host object) past ≡ false
+  pub rising : (later : ℕ) → page < later → since (gives_page host object later) past ≡ false
+
+-- the lock_request has a reply, and is over the page
+abbrev pub is_answered_over : ℕ → ℕ → ℕ → Option LockRequest → Bool
+is_answered_over host object page None = false
+is_answered_over host object page (Some request) = request.reply && (request.host == host && (request.object == object && in_range page request.page request.count))
+
+-- what a lock_request of this kind leaves of a page that is here: a flush none, and others none that it gives back
+abbrev pub IsDoneAt : ℕ → Bool → Local → Type 0
+IsDoneAt returns flush page = page.here ≡ true → (flush ≡ false) × (gives_back returns page.dirty page.precious ≡ false)
+
+-- a lock_request that wants a reply is done at each page of its range, and the host says so once
+pub record Completes (header : Header) (host control object first count : ℕ) (past : List Event) : Type 0 where
+  pub live : live_control host object past ≡ Some control
+  pub returns : ℕ
+  pub flush : Bool
+  pub lock : ℕ
+  pub taken : lock_taken past ≡ Some (record { host = host; object = object; control = control; page = first; count = count; returns = returns; flush = flush; lock = lock; reply = true })
+  pub once : since (completes host object) past ≡ false
+  pub done : (page : ℕ) → first ≤ page → page < first + count → IsDoneAt returns flush (page_on header host object page past)
+
+-- the walk of a waiting access stops at a page that is here and that its lock names, and no unlock is outstanding
+pub record Unlocks (header : Header) (host control object page wanted : ℕ) (past : List Event) : Type 0 where
+  pub task : ℕ
+  pub access : Access
+  pub waits : Waits header task access past
+  pub on_host : waits.at.host ≡ host
+  pub comes : Comes header host waits.at.entry.region.0 (page_of header task access past waits.at.entry) object page past
+  pub number : wanted ≡ access_number access comes.steps
+  pub live : live_control host object past ≡ Some control
+  pub here : (page_on header host object page past).here ≡ true
+  pub named : names (page_on header host object page past).lock (is_store access) ≡ true
+  pub none : (page_on header host object page past).unlocking ≡ false
+  -- behind the completion, where the step took a lock_request over the page that has one
+  pub behind : is_answered_over host object page (lock_taken past) ≡ true → since (completes host object) past ≡ true
 
 -- why a page goes back to its pager
 pub data Gives (header : Header) (doing : Command) (host object page : ℕ) (keep : Bool) (past : List Event) : Type 0 where
@@ -185,15 +240,16 @@ pub data Gives (header : Header) (doing : Command) (host object page : ℕ) (kee
   Created : (control size : ℕ) (rest : List Event) → past ≡ event.Sent (up host object) (message.Create control size) ∷ rest
       → keep ≡ false → Reclaims header doing host object page rest → Gives header doing host object page keep past
   -- its pager wants it
-  Wanted : (returns : ℕ) (flush : Bool) → IsLocked host object page returns flush past → gives_back returns true ≡ true → keep ≡ not flush → Gives header doing host object page keep past
+  Wanted : (returns : ℕ) (flush : Bool) → IsLocked host object page returns flush past → gives_back returns (page_on header host object page past).dirty (page_on header host object page past).precious ≡ true
+      → keep ≡ not flush → Gives header doing host object page keep past
   -- its object ends on the host
-  Ended : keep ≡ false → object < named header → IsUnmapped header host object past → Gives header doing host object page keep past
+  Ended : keep ≡ false → object < named header → IsUnheld header host object past → Gives header doing host object page keep past
 
--- a changed page goes back to its pager, as it is
+-- a changed or precious page goes back to its pager, as it is
 pub record GivesBack (header : Header) (doing : Command) (host control object page : ℕ) (changed keep : Bool) (bytes : List ℕ) (past : List Event) : Type 0 where
   pub live : live_control host object past ≡ Some control
   pub here : (page_on header host object page past).here ≡ true
-  pub dirty : (page_on header host object page past).dirty ≡ true
+  pub due : ((page_on header host object page past).dirty || (page_on header host object page past).precious) ≡ true
   pub same : bytes ≡ (page_on header host object page past).bytes
   pub flag : changed ≡ (page_on header host object page past).dirty
   pub why : Gives header doing host object page keep past
@@ -219,22 +275,22 @@ pub record Opens (header : Header) (host control object size : ℕ) (past : List
   pub on_host : at.host ≡ host
   pub region : at.entry.region.0 ≡ object
 
--- an object ends on a host: it is a declared one without an entry there, or no region leads to it, and nothing of it is here or asked
+-- an object ends on a host: it is a declared one that nothing holds there, or no region leads to it, and nothing of it is here or asked
 pub record Ends (header : Header) (host control object : ℕ) (past : List Event) : Type 0 where
   pub live : live_control host object past ≡ Some control
   pub unreached : named header ≤ object → Reach header host object past → ⊥
-  pub unmapped : object < named header → IsUnmapped header host object past
+  pub unheld : object < named header → IsUnheld header host object past
   pub away : (page : ℕ) → (page_on header host object page past).here ≡ false
   pub unasked : (page : ℕ) → (page_on header host object page past).asked ≡ false
 
--- what a host sends up about a temporary object or a file
+-- what a host sends up
 abbrev pub MaySendUp : Header → Command → ℕ → ℕ → Message → List Event → Type 0
 MaySendUp header why host object (message.Init control size) past = Opens header host control object size past
 MaySendUp header why host object (message.Create control size) past = Creates header host control object size past
 MaySendUp header why host object (message.Request control page access) past = Asks header host control object page.0 access past
 MaySendUp header why host object (message.Return control page dirty keep bytes) past = GivesBack header why host control object page.0 dirty keep bytes past
-MaySendUp header why host object (message.Completed control page count) past =
-    (first : ℕ) × (counted : ℕ) × (returns : ℕ) × (flush : Bool) × (lock_taken past ≡ Some (record { host = host; object = object; page = first; count = counted; returns = returns; flush = flush })) × (page.0 ≡ first) × (count ≡ counted)
+MaySendUp header why host object (message.Unlock control page access) past = Unlocks header host control object page.0 access past
+MaySendUp header why host object (message.Completed control page count) past = Completes header host control object page.0 count past
 MaySendUp header why host object (message.Terminate control) past = Ends header host control object past
 MaySendUp header why host object other past = ⊥
 
@@ -268,21 +324,52 @@ MayLack header outside host object page past =
     (is_file header object ≡ false → last_return host object page past ≡ None)
     × (tells header outside object ≡ true → is_file header object ≡ true → pager_has header outside host object page past ≡ Some (zeros header))
 
+-- the command is a clean of so many pages
+abbrev pub IsClean : Command → ℕ → ℕ → ℕ → Bool → Type 0
+IsClean (command.Clean file from number flushes) object page count flush = (file.0 ≡ object) × (from.0 ≡ page) × (number ≡ count) × (flushes ≡ flush)
+IsClean other object page count flush = ⊥
+
 -- what the pager of a temporary object or a file sends down
-abbrev pub MaySendDown : Header → Outside → ℕ → ℕ → ℕ → Message → List Event → Type 0
-MaySendDown header outside host object control (message.Supply page lock precious bytes) past =
+abbrev pub MaySendDown : Header → Outside → Command → ℕ → ℕ → ℕ → Message → List Event → Type 0
+MaySendDown header outside why host object control (message.Supply page lock precious bytes) past =
     Answers host object control page.0 past × Reads object page.0 past × (lock ≡ 0) × (precious ≡ false)
     × (is_file header object ≡ false → (was : List ℕ) × (last_return host object page.0 past ≡ Some was))
     × (tells header outside object ≡ true → pager_has header outside host object page.0 past ≡ Some bytes)
-MaySendDown header outside host object control (message.Unavailable page) past = Answers host object control page.0 past × Reads object page.0 past × MayLack header outside host object page.0 past
-MaySendDown header outside host object control (message.Error page reason) past = Answers host object control page.0 past × (reason ≡ 10) × IsFault object page.0 past
-MaySendDown header outside host object control (message.Ready cache strategy) past =
+MaySendDown header outside why host object control (message.Unavailable page) past = Answers host object control page.0 past × Reads object page.0 past × MayLack header outside host object page.0 past
+MaySendDown header outside why host object control (message.Error page reason) past = Answers host object control page.0 past × (reason ≡ 10) × IsFault object page.0 past
+MaySendDown header outside why host object control (message.Ready cache strategy) past =
     (size : ℕ) × (cache ≡ false) × (since (readies object) past ≡ false)
     × (((taken past ≡ Some (record { channel = up host object; message = message.Create control size })) × (strategy ≡ 3))
     ⊎ ((taken past ≡ Some (record { channel = up host object; message = message.Init control size })) × (strategy ≡ 0)))
--- the file pager's clean wants all changed pages back
-MaySendDown header outside host object control (message.Lock page count returns flush lock reply) past = (is_file header object ≡ true) × (returns ≡ 2) × (lock ≡ 8) × (reply ≡ true)
-MaySendDown header outside host object control other past = ⊥
+-- a clean wants all changed pages of a file back, from the control that its pager knows
+MaySendDown header outside why host object control (message.Lock page count returns flush lock reply) past =
+    (is_file header object ≡ true) × (returns ≡ 2) × (lock ≡ 8) × (reply ≡ true)
+    × (known_control host object past ≡ Some control) × IsClean why object page.0 count flush × (just_begun past ≡ true)
+MaySendDown header outside why host object control other past = ⊥
+
+-- what the server of shared memory sends down: what its directory of the page allows, and one ready for an init
+abbrev pub ServerSends : Header → ℕ → ℕ → ℕ → Message → List Event → Type 0
+ServerSends header host object control (message.Supply page lock precious bytes) past =
+    server.Answers header.size host control (Supplying lock precious bytes) (page_part header.size object page.0 past)
+ServerSends header host object control (message.Lock page count returns flush lock reply) past =
+    server.Answers header.size host control (Locking count returns flush lock reply) (page_part header.size object page.0 past)
+ServerSends header host object control (message.Ready cache strategy) past =
+    (size : ℕ) × (cache ≡ false) × (since (readies object) past ≡ false)
+    × (taken past ≡ Some (record { channel = up host object; message = message.Init control size })) × (strategy ≡ 0)
+ServerSends header host object control other past = ⊥
+
+-- the script says it, to the live control: the one message of its command
+abbrev pub Says : Command → ℕ → ℕ → ℕ → Message → List Event → Type 0
+Says (command.Say at wild said) host object control m past =
+    (at.0 ≡ host) × (wild.0 ≡ object) × (said ≡ m) × (live_control host object past ≡ Some control) × (just_begun past ≡ true)
+Says other host object control m past = ⊥
+
+-- what is sent down, by the kind of the object
+abbrev pub PagerSends : ObjectKind → Header → Outside → Command → ℕ → ℕ → ℕ → Message → List Event → Type 0
+PagerSends Temp header outside why host object control m past = MaySendDown header outside why host object control m past
+PagerSends File header outside why host object control m past = MaySendDown header outside why host object control m past
+PagerSends Shared header outside why host object control m past = ServerSends header host object control m past
+PagerSends Wild header outside why host object control m past = Says why host object control m past
 
 -- a symmetric copy is of pages of an entry on a temporary region
 pub record CopiesRegion (header : Header) (region source offset pages : ℕ) (past : List Event) : Type 0 where
@@ -294,8 +381,9 @@ pub record CopiesRegion (header : Header) (region source offset pages : ℕ) (pa
   pub source_is : source ≡ at.entry.region.0
   pub inside : offset + pages ≤ at.entry.offset + at.entry.bytes / header.size
 
--- an entry is of whole pages that its region has, on the host where the region is in use
+-- an entry is of whole pages that its region has, on the host where the region is in use; its task doesn't wait
 pub record Enters (header : Header) (task bytes region offset : ℕ) (past : List Event) : Type 0 where
+  pub idle : waiting task past ≡ None
   pub host : ℕ
   pub lives : host_of task past ≡ Some host
   pub whole : bytes % header.size ≡ 0
@@ -324,9 +412,9 @@ pub data Leaves (header : Header) (doing : Command) (host object page : ℕ) (se
   -- no region leads to its temporary object, whose pages go by rising number
   Unreached : named header ≤ object → (Reach header host object past → ⊥) → ((q : ℕ) → q < page → (page_on header host object q past).here ≡ false) → Leaves header doing host object page seen past
   -- its pager flushes it, and doesn't want it back
-  Flushed : (returns : ℕ) → IsLocked host object page returns true past → gives_back returns seen.dirty ≡ false → Leaves header doing host object page seen past
+  Flushed : (returns : ℕ) → IsLocked host object page returns true past → gives_back returns seen.dirty seen.precious ≡ false → Leaves header doing host object page seen past
   -- it is clean, and its object ends on the host
-  Ended : seen.dirty ≡ false → seen.precious ≡ false → object < named header → IsUnmapped header host object past → Leaves header doing host object page seen past
+  Ended : seen.dirty ≡ false → seen.precious ≡ false → object < named header → IsUnheld header host object past → Leaves header doing host object page seen past
 
 pub record Drops (header : Header) (doing : Command) (host object page : ℕ) (past : List Event) : Type 0 where
   pub here : (page_on header host object page past).here ≡ true
@@ -410,15 +498,27 @@ Caused header outside why (event.Stored task object page at bytes value) past = 
 Caused header outside why (event.CopiedPage task page object object_page target) past = CopiesPage header task.0 page.0 object.0 object_page.0 target.0 past
 Caused header outside why (event.CopyEnded task) past = EndsCopy header task.0 past
 Caused header outside why (event.Failed task object page) past = Fails header task.0 object.0 page.0 past
-Caused header outside why (event.Zeroed host object page) past = is_paged header object.0 ≡ true → Fills header host.0 object.0 page.0 past ⊎ Bottoms header host.0 object.0 page.0 past
+Caused header outside why (event.Zeroed host object page) past = Fills header host.0 object.0 page.0 past ⊎ Bottoms header host.0 object.0 page.0 past
 Caused header outside why (event.Raised host lower lower_page upper upper_page) past = Raises header host.0 lower.0 lower_page.0 upper.0 upper_page.0 past
-Caused header outside why (event.Dropped host object page) past = is_paged header object.0 ≡ true → Drops header why host.0 object.0 page.0 past
-Caused header outside why (event.Sent (Up host object) m) past = is_paged header object.0 ≡ true → MaySendUp header why host.0 object.0 m past
-Caused header outside why (event.Sent (Down host object control) m) past = is_paged header object.0 ≡ true → MaySendDown header outside host.0 object.0 control m past
+Caused header outside why (event.Dropped host object page) past = Drops header why host.0 object.0 page.0 past
+Caused header outside why (event.Sent (Up host object) m) past = MaySendUp header why host.0 object.0 m past
+Caused header outside why (event.Sent (Down host object control) m) past = PagerSends (kind_of header object.0) header outside why host.0 object.0 control m past
 Caused header outside why (event.Taken channel m) past = (first (queue channel past) ≡ Some m) × MayTake why channel past
 Caused header outside why (event.DeviceFailed who way object page) past = DeviceFails header who way object.0 page.0 past
 Caused header outside why (event.NoSlot object page) past = NoSlotFor header object.0 page.0 past
-Caused header outside why other past = Unit {0}
+-- whoever changes its entries, ends, or begins an access has none that waits
+Caused header outside why (event.TaskEnded task) past = waiting task.0 past ≡ None
+Caused header outside why (event.Removed task address bytes) past = waiting task.0 past ≡ None
+Caused header outside why (event.Protected task address bytes prot) past = waiting task.0 past ≡ None
+Caused header outside why (event.Inherited task address bytes inherit) past = waiting task.0 past ≡ None
+Caused header outside why (event.BegunLoad task address size) past = waiting task.0 past ≡ None
+Caused header outside why (event.BegunStore task address size value) past = waiting task.0 past ≡ None
+Caused header outside why (event.BegunCopy task address bytes to) past = waiting task.0 past ≡ None
+-- these stand in the head of a group alone
+Caused header outside why (event.Line line) past = Unit {0}
+Caused header outside why (event.Refused code) past = Unit {0}
+Caused header outside why (event.TaskMade task host) past = Unit {0}
+Caused header outside why (event.Wired host count) past = Unit {0}
 
 -- the event has its cause, whatever the command is in whose step it stands
 abbrev pub HasCause : Header → Outside → Event → List Event → Type 0

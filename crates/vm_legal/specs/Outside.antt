@@ -1,14 +1,34 @@
 -- What is told of the outside, and of which objects the flat map speaks.
-use Rattle.std.specs.Prelude.{ℕ, ◌&&◌, ◌||◌, not, nat_lt, Bool, true, false, List, replicate, Option, Some, None}
+use Rattle.std.specs.Prelude.{ℕ, ◌&&◌, ◌||◌, not, nat_lt, Bool, true, false, List, replicate, Option, Some, None, if◌then◌else◌}
 use Rattle.vm_base.specs.declared.ids.ObjectKind.{ObjectKind}
-use Rattle.vm_base.specs.declared.ids.ObjectKind.TheVariants.{File}
+use Rattle.vm_base.specs.declared.ids.ObjectKind.TheVariants.{Temp, File, Shared, Wild}
 use Rattle.vm_model.specs.declared.script.Header.{Header}
 use Rattle.vm_model.specs.declared.script.Declared.{Declared}
 use Rattle.vm_model.specs.Named.{declared, named}
 
+abbrev pub kind_in : Option Declared → ObjectKind
+kind_in None = Temp
+kind_in (Some object) = object.kind
+
+-- the kind of an object: temporary, where none with its number is declared
+abbrev pub kind_of : Header → ℕ → ObjectKind
+kind_of header object = if nat_lt object (named header) then kind_in (declared header object) else Temp
+
+abbrev pub is_wild_kind : ObjectKind → Bool
+is_wild_kind Temp = false
+is_wild_kind File = false
+is_wild_kind Shared = false
+is_wild_kind Wild = true
+
+-- the number is a wild object's, and its region's too
+abbrev pub is_wild : Header → ℕ → Bool
+is_wild header object = is_wild_kind (kind_of header object)
+
 abbrev pub is_file_kind : ObjectKind → Bool
+is_file_kind Temp = false
 is_file_kind File = true
-is_file_kind other = false
+is_file_kind Shared = false
+is_file_kind Wild = false
 
 abbrev pub is_file_kept : Option Declared → Bool
 is_file_kept None = false

@@ -6,6 +6,7 @@ use Rattle.vm_model.specs.declared.message.Channel.TheVariants.{Up}
 use Rattle.vm_model.specs.declared.message.Message.{Message}
 use Rattle.vm_model.specs.declared.message.Message.TheVariants as message
 use Rattle.vm_model.specs.declared.script.Header.{Header}
+use Rattle.vm_model.specs.Controls.{without_control}
 use Rattle.vm_model.specs.Named.{named}
 use Rattle.vm_legal.specs.Steps.{fails_writing, lacks_slot}
 
@@ -31,6 +32,18 @@ is_lost o p (event.Taken (Up at object) (message.Return control page dirty keep 
 is_lost o p (event.DeviceFailed who way object page ∷ past) = fails_writing o p (event.DeviceFailed who way object page) || is_lost o p past
 is_lost o p (event.NoSlot object page ∷ past) = lacks_slot o p (event.NoSlot object page) || is_lost o p past
 is_lost o p (e ∷ past) = is_lost o p past
+
+abbrev pub known_after : Message → Option ℕ → Option ℕ
+known_after (message.Init control size) was = Some control
+known_after (message.Create control size) was = Some control
+known_after (message.Terminate control) was = without_control control was
+known_after other was = was
+
+-- the control of the object on the host that its pager knows: it took its init or create, and not its terminate
+abbrev pub known_control : ℕ → ℕ → List Event → Option ℕ
+known_control host o [] = None
+known_control host o (event.Taken (Up at object) m ∷ past) = if at.0 == host && object.0 == o then known_after m (known_control host o past) else known_control host o past
+known_control host o (e ∷ past) = known_control host o past
 
 -- a page of an object in a slot of a host's paging area
 pub record Slotted : Type 0 where

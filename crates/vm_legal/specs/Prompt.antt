@@ -7,6 +7,7 @@ use Rattle.vm_model.specs.Named.{named}
 use Rattle.vm_model.specs.Waiting.{Access, is_store}
 use Rattle.vm_legal.specs.Accesses.{Comes, HasPlace, Waits, WaitsUnlocked, WantsFrame, is_ready, names, page_of}
 use Rattle.vm_legal.specs.Frames.{frames_free, returns_out}
+use Rattle.vm_legal.specs.Licences.{IsUnheld}
 use Rattle.vm_legal.specs.Walks.{Reach, page_on}
 
 -- what an access waits for at a place of its page
@@ -52,11 +53,18 @@ pub record IsFull (header : Header) (host : ℕ) (past : List Event) : Type 0 wh
 abbrev pub NoneInVain : Header → ℕ → List Event → Type 0
 NoneInVain header host past = (task : ℕ) (access : Access) → (waits : Waits header task access past) → waits.at.host ≡ host → WaitsForPager header host task access past ⊎ IsFull header host past
 
--- no temporary object to which no region leads has a page or a live control left on the host
+-- no temporary object to which no region leads has a page or a live control left on the host, and no declared one that nothing holds there
 pub record IsSwept (header : Header) (host : ℕ) (past : List Event) : Type 0 where
   pub pages : (object page : ℕ) → named header ≤ object → (Reach header host object past → ⊥) → (page_on header host object page past).here ≡ false
   pub controls : (object : ℕ) → named header ≤ object → (Reach header host object past → ⊥) → live_control host object past ≡ None
+  pub declared_pages : (object page : ℕ) → object < named header → IsUnheld header host object past → (page_on header host object page past).here ≡ false
+  pub declared_controls : (object : ℕ) → object < named header → IsUnheld header host object past → live_control host object past ≡ None
 
-pub record Prompt (header : Header) (past : List Event) : Type 0 where
-  pub waits : (host : ℕ) → host < length header.frames.items → NoneInVain header host past
-  pub swept : (host : ℕ) → host < length header.frames.items → IsSwept header host past
+-- what one host is to see to
+pub record PromptAt (header : Header) (host : ℕ) (past : List Event) : Type 0 where
+  pub waits : NoneInVain header host past
+  pub swept : IsSwept header host past
+
+-- each host has seen to it
+abbrev pub Prompt : Header → List Event → Type 0
+Prompt header past = (host : ℕ) → host < length header.frames.items → PromptAt header host past

@@ -26,7 +26,7 @@ ReclaimsOnly host (e ∷ past) = IsReclaim host e × ReclaimsOnly host past
 
 -- a pageout reclaims so many pages of its host, before anything else is done
 abbrev pub PagesOut : Command → ℕ → List Event → Type 0
-PagesOut (command.Pageout at count) host past = (at.0 ≡ host) × (gone past < count) × ReclaimsOnly host past
+PagesOut (command.Pageout at count) host past = (at.0 ≡ host) × (gone host past < count) × ReclaimsOnly host past
 PagesOut other host past = ⊥
 
 -- somebody on the host wants a frame, none is free, and none is on its way back

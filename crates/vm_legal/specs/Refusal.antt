@@ -1,7 +1,7 @@
 -- Why a command is refused: the first test that holds.
 use Rattle.std.specs.Prelude.{ℕ, ◌+◌, ◌/◌, ◌%◌, Bool, true, false, not, ◌&&◌, ◌||◌, List, [], ◌∷◌, length, if◌then◌else◌, ◌==◌, nat_lt, nat_le, is_some, is_none, Option, Some, None}
 use Rattle.vm_base.specs.declared.code.Code.{Code}
-use Rattle.vm_base.specs.declared.code.Code.TheVariants.{NoSuchName, NameTaken, Blocked, InvalidArgument, InvalidAddress, ProtectionFailure, NoSpace, ResourceShortage, EmptyPort, TableFull}
+use Rattle.vm_base.specs.declared.code.Code.TheVariants.{NoSuchName, NameTaken, Blocked, InvalidArgument, WrongHost, InvalidAddress, ProtectionFailure, NoSpace, ResourceShortage, EmptyPort, TableFull}
 use Rattle.vm_base.specs.declared.entry.Entry.{Entry}
 use Rattle.vm_base.specs.declared.ids.Access.{Access}
 use Rattle.vm_base.specs.declared.ids.Access.TheVariants as need
@@ -10,13 +10,18 @@ use Rattle.vm_model.specs.declared.event.Event.{Event}
 use Rattle.vm_model.specs.declared.command.Command.{Command}
 use Rattle.vm_model.specs.declared.command.Command.TheVariants as command
 use Rattle.vm_model.specs.declared.script.Header.{Header}
-use Rattle.vm_model.specs.Tasks.{host_of, entries_of, is_copied, copies, sources}
+use Rattle.vm_model.specs.Controls.{live_control}
+use Rattle.vm_model.specs.Local.{is_on}
+use Rattle.vm_model.specs.Named.{declared_pages, named}
+use Rattle.vm_model.specs.Tasks.{host_of, entries_of, is_copied, copies, new_marks}
 use Rattle.vm_model.specs.Waiting.{waiting}
-use Rattle.vm_model.specs.Regions.{next_region, next_object}
+use Rattle.vm_model.specs.Regions.{marked_regions, next_region, next_object, region_of}
 use Rattle.vm_model.specs.Channels.{queue}
 use Rattle.vm_model.specs.declared.message.Message.{Message}
 use Rattle.vm_legal.specs.Frames.{frames_free, frames_wired}
+use Rattle.vm_legal.specs.Outside.{is_file, is_wild}
 use Rattle.vm_legal.specs.Undelivered.{is_made}
+use Rattle.vm_legal.specs.Used.{in_use}
 
 -- this code where the test holds, else what the later tests say
 abbrev pub where_true : Bool → Code → Option Code → Option Code
@@ -28,15 +33,53 @@ acting past task later = where_true (is_none (host_of task past)) NoSuchName (wh
 
 -- one entry, region and object more is too much
 abbrev pub is_full : Header → ℕ → List Event → Bool
-is_full header task past = nat_lt most_entries (length (entries_of header.size task past) + 1) || (nat_le 8192 (next_region header past) || nat_le 8192 (next_object header past))
+is_full header task past = nat_lt most_entries (length (entries_of header.size task past) + 1) || (nat_le 8192 (next_region header past) || nat_le 8192 (next_object header past + marked_regions header past))
 
 -- more entries than a task may have
 abbrev pub are_many : List Entry → Bool
 are_many rows = nat_lt most_entries (length rows)
 
--- so many regions and marks of regions more, by a fork, are too much; no region was marked before
+-- the region has a copy mark
+abbrev pub is_marked : Header → List Event → ℕ → Bool
+is_marked header past region = (region_of header region past).mark
+
+-- so many regions and marks of regions more, by a fork, are too much
 abbrev pub is_fork_full : Header → List Entry → List Event → Bool
-is_fork_full header rows past = nat_lt 8192 (next_region header past + copies rows) || nat_lt 8192 (next_object header past + copies rows + sources rows)
+is_fork_full header rows past =
+    nat_lt 8192 (next_region header past + copies rows) || nat_lt 8192 (next_object header past + marked_regions header past + copies rows + new_marks (is_marked header past) rows)
+
+-- one region more is too much, with its object, or with its mark and the one of the region that it copies
+abbrev pub is_copy_full : Header → ℕ → List Event → Bool
+is_copy_full header source past =
+    nat_le 8192 (next_region header past) || nat_lt 8192 (next_object header past + marked_regions header past + copy_cost (nat_lt source (named header)) (is_marked header past source))
+  where
+    copy_cost : Bool → Bool → ℕ
+    copy_cost true marked = 1
+    copy_cost false true = 1
+    copy_cost false false = 2
+
+abbrev pub same_host : Option ℕ → Option ℕ → Bool
+same_host None other = false
+same_host (Some host) other = is_on host other
+
+-- a file's object belongs to the host of its first entry
+abbrev pub is_elsewhere : Header → ℕ → Option ℕ → List Event → Bool
+is_elsewhere header object None past = false
+is_elsewhere header object (Some host) past = is_file header object && not (in_use header host object past)
+
+-- a range is not copied from an entry on a wild object, nor from one on another declared object to another task
+abbrev pub is_uncopied : Header → Bool → Option Entry → Bool
+is_uncopied header own None = false
+is_uncopied header own (Some entry) = is_wild header entry.region.0 || (nat_lt entry.region.0 (named header) && not own)
+
+-- why a copy of a range in this entry is refused, if its numbers are right
+abbrev pub copy_refusal : Header → ℕ → ℕ → ℕ → ℕ → List Event → Option Entry → Option Code
+copy_refusal header address bytes target to past None = Some InvalidAddress
+copy_refusal header address bytes target to past (Some entry) =
+    where_true (nat_lt (entry.address + entry.bytes) (address + bytes)) InvalidAddress
+    (where_true (not (allows need.Load entry.prot)) ProtectionFailure
+    (where_true (meets_range to bytes (entries_of header.size target past)) NoSpace
+    (where_true (nat_lt most_entries (length (entries_of header.size target past) + 1) || is_copy_full header entry.region.0 past) TableFull None)))
 
 -- an entry on a declared object, of which there are so many, has an address of the range
 abbrev pub meets_declared : ℕ → ℕ → ℕ → List Entry → Bool
@@ -91,4 +134,23 @@ refusal header past (command.Inherit task address bytes inherit) =
 refusal header past (command.Wire host count) = where_true (nat_lt (frames_free header host.0 past) count) ResourceShortage None
 refusal header past (command.Unwire host count) = where_true (nat_lt (frames_wired host.0 past) count) InvalidArgument None
 refusal header past (command.Take channel) = where_true (not (is_made channel past)) NoSuchName (where_true (is_empty (queue channel past)) EmptyPort None)
-refusal header past other = None
+refusal header past (command.Map task address bytes object offset) =
+    acting past task.0
+    (where_true (not (is_range header.size address bytes) || nat_lt (declared_pages header object.0) (offset + bytes / header.size)) InvalidArgument
+    (where_true (is_elsewhere header object.0 (host_of task.0 past) past) WrongHost
+    (where_true (meets_range address bytes (entries_of header.size task.0 past)) NoSpace
+    (where_true (nat_lt most_entries (length (entries_of header.size task.0 past) + 1)) TableFull None))))
+refusal header past (command.Copy task address bytes target to) =
+    where_true (is_none (host_of task.0 past) || is_none (host_of target.0 past)) NoSuchName
+    (where_true (is_some (waiting task.0 past) || is_some (waiting target.0 past)) Blocked
+    (where_true (not (is_range header.size address bytes && is_range header.size to bytes) || (nat_lt 4096 (bytes / header.size) || (not (same_host (host_of task.0 past) (host_of target.0 past))
+    || is_uncopied header (task.0 == target.0) (entry_at address (entries_of header.size task.0 past))))) InvalidArgument
+    (copy_refusal header address bytes target.0 to past (entry_at address (entries_of header.size task.0 past)))))
+refusal header past (command.Clean object page count flush) =
+    where_true (not (is_file header object.0) || (count == 0 || nat_lt (declared_pages header object.0) (page.0 + count))) InvalidArgument None
+refusal header past (command.Say host object m) =
+    where_true (is_none (live_control host.0 object.0 past)) NoSuchName (where_true (not (is_wild header object.0)) InvalidArgument None)
+refusal header past (command.Settle count) = None
+refusal header past (command.Pageout host count) = None
+refusal header past (command.FailFiles count) = None
+refusal header past (command.FailPaging count) = None

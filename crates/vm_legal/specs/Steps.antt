@@ -7,7 +7,7 @@ use Rattle.vm_model.specs.declared.event.Way.TheVariants as way
 use Rattle.vm_model.specs.declared.event.Device.{Device}
 use Rattle.vm_model.specs.declared.event.Way.{Way}
 use Rattle.vm_model.specs.declared.message.Channel.{Channel}
-use Rattle.vm_model.specs.declared.message.Channel.TheVariants.{Down}
+use Rattle.vm_model.specs.declared.message.Channel.TheVariants.{Up, Down}
 use Rattle.vm_model.specs.declared.message.Message.{Message}
 use Rattle.vm_model.specs.declared.message.Message.TheVariants as message
 use Rattle.vm_model.specs.Controls.{is_control, live_control}
@@ -39,14 +39,55 @@ takings (event.Line line ∷ past) = 0
 takings (event.Taken channel m ∷ past) = takings past + 1
 takings (e ∷ past) = takings past
 
--- how many pages were reclaimed, or went otherwise, in the step
-abbrev pub gone : List Event → ℕ
-gone [] = 0
-gone (event.Line line ∷ past) = 0
-gone (event.Taken channel m ∷ past) = 0
-gone (event.Dropped host object page ∷ past) = gone past + 1
-gone (event.Sent channel (message.Return control page dirty keep bytes) ∷ past) = if keep then gone past else gone past + 1
-gone (e ∷ past) = gone past
+-- how many pages of a host were reclaimed, or went otherwise, in the step
+abbrev pub gone : ℕ → List Event → ℕ
+gone host [] = 0
+gone host (event.Line line ∷ past) = 0
+gone host (event.Taken channel m ∷ past) = 0
+gone host (event.Dropped at object page ∷ past) = if at.0 == host then gone host past + 1 else gone host past
+gone host (event.Sent (Up at object) (message.Return control page dirty keep bytes) ∷ past) = if at.0 == host && not keep then gone host past + 1 else gone host past
+gone host (e ∷ past) = gone host past
+
+-- nothing stands behind the line of the present command yet
+abbrev pub just_begun : List Event → Bool
+just_begun [] = false
+just_begun (event.Line line ∷ past) = true
+just_begun (e ∷ past) = false
+
+abbrev pub is_completion : Message → Bool
+is_completion (message.Completed control page count) = true
+is_completion other = false
+
+-- the event says that the host has done a lock of the object
+abbrev pub completes : ℕ → ℕ → Event → Bool
+completes h o (event.Sent (Up host object) m) = host.0 == h && (object.0 == o && is_completion m)
+completes h o other = false
+
+abbrev pub is_return : ℕ → Message → Bool
+is_return p (message.Return control page dirty keep bytes) = page.0 == p
+is_return p other = false
+
+-- the message returns the page, and keeps a copy or not
+abbrev pub is_kept_return : ℕ → Bool → Message → Bool
+is_kept_return p true (message.Return control page dirty keep bytes) = page.0 == p && keep
+is_kept_return p false (message.Return control page dirty keep bytes) = page.0 == p && not keep
+is_kept_return p kept other = false
+
+-- the host returns the page, and keeps a copy or not
+abbrev pub returns_page : ℕ → ℕ → ℕ → Bool → Event → Bool
+returns_page h o p kept (event.Sent (Up host object) m) = host.0 == h && (object.0 == o && is_kept_return p kept m)
+returns_page h o p kept other = false
+
+-- the host drops the page
+abbrev pub drops_page : ℕ → ℕ → ℕ → Event → Bool
+drops_page h o p (event.Dropped host object page) = host.0 == h && (object.0 == o && page.0 == p)
+drops_page h o p other = false
+
+-- the host returns the page or drops it
+abbrev pub gives_page : ℕ → ℕ → ℕ → Event → Bool
+gives_page h o p (event.Sent (Up host object) m) = host.0 == h && (object.0 == o && is_return p m)
+gives_page h o p (event.Dropped host object page) = host.0 == h && (object.0 == o && page.0 == p)
+gives_page h o p other = false
 
 -- a message to a host about a page is the answer to a request for it
 abbrev pub is_answer : ℕ → Message → Bool

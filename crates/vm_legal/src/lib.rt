@@ -2,31 +2,61 @@
 //! what each command makes of the history.
 #![tactic(auto)]
 
-ghost use Rattle.std.specs.Prelude.{◌≡◌, ℕ, ◌<◌, List, ◌∷◌, ◌++◌};
+ghost use Rattle.std.specs.Prelude.{◌≡◌, ◌≢◌, ℕ, ◌<◌, List, [], None, ◌∷◌, ◌++◌, ◌+◌, ◌≤◌, ◌||◌, true, false, Some};
 ghost use Rattle.vm_base.specs.declared.ids.HostId.{HostId};
+ghost use Rattle.vm_base.specs.declared.ids.ObjectId.{ObjectId};
+ghost use Rattle.vm_base.specs.declared.ids.PageNo.{PageNo};
 ghost use Rattle.vm_model.specs.Moments.{EachEvent};
+ghost use Rattle.vm_model.specs.declared.command.Command.{Command};
 ghost use Rattle.vm_model.specs.declared.command.Command.TheVariants as command;
 ghost use Rattle.vm_model.specs.declared.command.Numbered.{Numbered};
 ghost use Rattle.vm_model.specs.declared.event.Event.{Event};
+ghost use Rattle.vm_model.specs.declared.event.Event.TheVariants as event;
+ghost use Rattle.vm_model.specs.declared.message.Channel.TheVariants.{Up};
+ghost use Rattle.vm_model.specs.declared.message.Message.TheVariants as message;
 ghost use Rattle.vm_model.specs.declared.script.Header.{Header};
-ghost use Rattle.vm_legal.specs.Follows.{Follows, FollowsSoFar, IsDone};
-ghost use Rattle.vm_legal.specs.Licences.{HasCause};
+ghost use Rattle.vm_legal.specs.Follows.{Follows, FollowsCut, FollowsSoFar, IsDone};
+ghost use Rattle.vm_legal.specs.Licences.{HasCause, Caused, LockRequest, gives_back, is_answered_over, lock_taken};
 ghost use Rattle.vm_legal.specs.Outside.{Outside};
 ghost use Rattle.vm_legal.specs.Prompt.{IsExhausted};
 ghost use Rattle.vm_legal.specs.Reclaims.{IsReclaim};
-ghost use Rattle.vm_legal.specs.Steps.{gone};
+ghost use Rattle.vm_legal.specs.Refusal.{refusal};
+ghost use Rattle.vm_legal.specs.Steps.{gone, completes, since};
 ghost use Rattle.vm_legal.specs.Stretches.{EachOf};
+ghost use Rattle.vm_legal.specs.Walks.{page_on};
 
 /// Each event of a history that commands made has its cause: laws of histories whose events have their causes speak of what the
-/// program writes, also where its last command has more to do.
-#[tactic(auto, using(crate::proofs::Groups::whole, crate::proofs::Groups::so_far))]
+/// program writes, also where its last command has more to do, or its last step is cut.
+#[tactic(auto, using(crate::proofs::Groups::whole, crate::proofs::Groups::so_far, crate::proofs::Groups::cut))]
 pub fn groups_have_causes()
     ensures whole { (header : Header) (outside : Outside) (commands : List Numbered) (history : List Event) → Follows header outside commands history → EachEvent (HasCause header outside) history }
     ensures so_far { (header : Header) (outside : Outside) (commands : List Numbered) (history : List Event) → FollowsSoFar header outside commands history → EachEvent (HasCause header outside) history }
+    ensures cut { (header : Header) (outside : Outside) (commands : List Numbered) (history : List Event) → FollowsCut header outside commands history → EachEvent (HasCause header outside) history }
 {}
 
 /// A pageout isn't done where something else stands in its group behind fewer reclaims than it wants, while more could be reclaimed all along:
 /// a page that goes later, for an access that waits, doesn't count as its own.
 pub fn pageouts_reclaim_first()
-    ensures { (header : Header) (at : HostId) (count : ℕ) (later front past : List Event) (e : Event) → EachOf (IsReclaim at.0) front → (IsReclaim at.0 e → ⊥) → gone (front ++ past) < count → ((more first : List Event) → front ≡ more ++ first → IsExhausted header at.0 past (first ++ past) → ⊥) → IsDone header (command.Pageout at count) (later ++ e ∷ front) past → ⊥ }
+    ensures { (header : Header) (at : HostId) (count : ℕ) (later front past : List Event) (e : Event) → EachOf (IsReclaim at.0) front → (IsReclaim at.0 e → ⊥) → gone at.0 (front ++ past) < count → ((more first : List Event) → front ≡ more ++ first → IsExhausted header at.0 past (first ++ past) → ⊥) → IsDone header (command.Pageout at count) (later ++ e ∷ front) past → ⊥ }
+{}
+
+/// A host says once that it has done a lock_request, only where its pager wants that, and not while a page is still here that the
+/// request flushes or gives back. An unlock for one of its pages comes behind that.
+#[tactic(auto, using(crate::proofs::Completing::once, crate::proofs::Completing::unasked, crate::proofs::Completing::done, crate::proofs::Completing::behind))]
+pub fn locks_complete_once()
+    ensures once { (header : Header) (outside : Outside) (doing : Command) (host : HostId) (object : ObjectId) (control count : ℕ) (first : PageNo) (past : List Event) → since (completes host.0 object.0) past ≡ true → Caused header outside doing (event.Sent (Up host object) (message.Completed control first count)) past → ⊥ }
+    ensures unasked { (header : Header) (outside : Outside) (doing : Command) (host : HostId) (object : ObjectId) (control count : ℕ) (first : PageNo) (past : List Event) (request : LockRequest) → lock_taken past ≡ Some request → request.reply ≡ false → Caused header outside doing (event.Sent (Up host object) (message.Completed control first count)) past → ⊥ }
+    ensures done { (header : Header) (outside : Outside) (doing : Command) (host : HostId) (object : ObjectId) (control count page : ℕ) (first : PageNo) (past : List Event) (request : LockRequest) → lock_taken past ≡ Some request → first.0 ≤ page → page < first.0 + count → (page_on header host.0 object.0 page past).here ≡ true → (request.flush || gives_back request.returns (page_on header host.0 object.0 page past).dirty (page_on header host.0 object.0 page past).precious) ≡ true → Caused header outside doing (event.Sent (Up host object) (message.Completed control first count)) past → ⊥ }
+    ensures behind { (header : Header) (outside : Outside) (doing : Command) (host : HostId) (object : ObjectId) (control access : ℕ) (page : PageNo) (past : List Event) → is_answered_over host.0 object.0 page.0 (lock_taken past) ≡ true → since (completes host.0 object.0) past ≡ false → Caused header outside doing (event.Sent (Up host object) (message.Unlock control page access)) past → ⊥ }
+{}
+
+/// Nor does a page that goes from another host.
+pub fn pageouts_count_own_pages()
+    ensures { (header : Header) (at : HostId) (other : HostId) (object : ObjectId) (page : PageNo) (count : ℕ) (past : List Event) → other.0 ≢ at.0 → gone at.0 past < count → (IsExhausted header at.0 past past → ⊥) → IsDone header (command.Pageout at count) (event.Dropped other object page ∷ []) past → ⊥ }
+{}
+
+/// A history isn't legal so far where it ends behind the line of a pageout that wants a page, while one could be reclaimed: none but a settle
+/// may have more to do there.
+pub fn pageouts_are_whole_so_far()
+    ensures { (header : Header) (outside : Outside) (line count : ℕ) (at : HostId) (run : List Numbered) (past : List Event) → 0 < count → refusal header past (command.Pageout at count) ≡ None → (IsExhausted header at.0 (event.Line line ∷ past) (event.Line line ∷ past) → ⊥) → FollowsSoFar header outside (record { line = line; command = command.Pageout at count } ∷ run) (event.Line line ∷ past) → ⊥ }
 {}

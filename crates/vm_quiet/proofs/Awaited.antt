@@ -14,13 +14,14 @@ use Rattle.vm_model.specs.declared.message.Message.TheVariants as message
 use Rattle.vm_model.specs.declared.script.Header.{Header}
 use Rattle.vm_model.specs.Channels.{is_channel, queue, up_port, down_port}
 use Rattle.vm_model.specs.Controls.{is_control, without_control, live_control}
-use Rattle.vm_model.specs.Local.{Effect, Local, Zeroes, Raises, Stores, Drops, Returns, Asks, TakesPage, TakesNothing, TakesError, TakesLock, Begins, Ends, Elsewhere, is_on, moved, taken_effect}
+use Rattle.vm_model.specs.Local.{Effect, Local, Zeroes, Raises, Stores, Drops, Returns, Asks, Unlocks, TakesPage, TakesNothing, TakesError, TakesLock, Begins, Ends, Elsewhere, is_on, moved, taken_effect}
 use Rattle.vm_model.specs.Moments.{BeforeSteps, EachEvent}
 use Rattle.vm_model.specs.Server.{first}
 use Rattle.vm_model.specs.Tasks.{host_of}
 use Rattle.vm_model.specs.Words.{in_range}
 use Rattle.vm_legal.specs.Accesses.{is_ready}
 use Rattle.vm_legal.specs.Debts.{IsPaid}
+use Rattle.vm_legal.proofs.Served.{paged_may, paged_supplied}
 use Rattle.vm_legal.specs.Licences.{Answers, HasCause, MaySendDown, MaySendUp}
 use Rattle.vm_legal.specs.Outside.{Outside}
 use Rattle.vm_legal.specs.Steps.{answers, is_answer, is_ready as says_ready, readies, since, taken}
@@ -40,8 +41,8 @@ done_request header past all paid h o k p (message.Request control page access) 
 done_request header past all paid h o k p m is test = never test
 
 pub done_opening : (header : Header) (past : List Event) → AllPaged header → IsPaid header past → (h o k : ℕ) → IsDone (opens k) (readies o) h o past
-done_opening header past all paid h o k (message.Init control size) is test = paid.init h o control size (paged header all o) is
-done_opening header past all paid h o k (message.Create control size) is test = paid.create h o control size (paged header all o) is
+done_opening header past all paid h o k (message.Init control size) is test = paid.init h o control size (paged_supplied header o (paged header all o)) is
+done_opening header past all paid h o k (message.Create control size) is test = paid.create h o control size (paged_supplied header o (paged header all o)) is
 done_opening header past all paid h o k m is test = never test
 
 -- a page that is asked
@@ -103,33 +104,35 @@ up_asks header host at object (message.Request control page access) past c all o
     by false t l own its is = asking_sent host o p at object (message.Request control page access) past refl (all o p is)
 up_asks header host at object (message.Return control page dirty keep bytes) past c all o p = λ is.
     asking_sent host o p at object (message.Return control page dirty keep bytes) past refl (all o p (sym (asked_two header.size (at.0 == host && object.0 == o) (page.0 == p) (Returns keep) (page_on header host o p past) (returned_asked header.size keep (page_on header host o p past))) ∙ is))
+up_asks header host at object (message.Unlock control page access) past c all o p = λ is.
+    asking_sent host o p at object (message.Unlock control page access) past refl (all o p (sym (asked_two header.size (at.0 == host && object.0 == o) (page.0 == p) Unlocks (page_on header host o p past) refl) ∙ is))
 up_asks header host at object (message.Completed control page count) past c all o p = λ is.
     asking_sent host o p at object (message.Completed control page count) past refl (all o p (sym (asked_if header.size (at.0 == host && object.0 == o) Elsewhere (page_on header host o p past) refl) ∙ is))
 up_asks header host at object m past c all o p = absurd c.1
 
-answer_cause : (header : Header) (outside : Outside) (h o k p : ℕ) (m : Message) (past : List Event) → MaySendDown header outside h o k m past → is_answer p m ≡ true → Answers h o k p past
-answer_cause header outside h o k p (message.Supply page lock precious bytes) past c is = subst (λ q. Answers h o k q past) (page_is page.0 p is) c.0
+answer_cause : (header : Header) (outside : Outside) (doing : Command) (h o k p : ℕ) (m : Message) (past : List Event) → MaySendDown header outside doing h o k m past → is_answer p m ≡ true → Answers h o k p past
+answer_cause header outside doing h o k p (message.Supply page lock precious bytes) past c is = subst (λ q. Answers h o k q past) (page_is page.0 p is) c.0
   where
     page_is : (a b : ℕ) → (a == b) ≡ true → a ≡ b
     page_is a b e = grind (arith, nat_tests)
-answer_cause header outside h o k p (message.Unavailable page) past c is = subst (λ q. Answers h o k q past) (page_is page.0 p is) c.0
+answer_cause header outside doing h o k p (message.Unavailable page) past c is = subst (λ q. Answers h o k q past) (page_is page.0 p is) c.0
   where
     page_is : (a b : ℕ) → (a == b) ≡ true → a ≡ b
     page_is a b e = grind (arith, nat_tests)
-answer_cause header outside h o k p (message.Error page reason) past c is = subst (λ q. Answers h o k q past) (page_is page.0 p is) c.0
+answer_cause header outside doing h o k p (message.Error page reason) past c is = subst (λ q. Answers h o k q past) (page_is page.0 p is) c.0
   where
     page_is : (a b : ℕ) → (a == b) ≡ true → a ≡ b
     page_is a b e = grind (arith, nat_tests)
-answer_cause header outside h o k p m past c is = never is
+answer_cause header outside doing h o k p m past c is = never is
 
 -- an answer goes down to the control that asked
 port_is : (a b n h o k : ℕ) → a ≡ h → b ≡ o → (n == k) ≡ true → (a == h && (b == o && n == k)) ≡ true
 port_is a b n h o k e f g = grind (arith, nat_tests)
 
-answered_there : (header : Header) (outside : Outside) (host o p k : ℕ) (at : HostId) (object : ObjectId) (n : ℕ) (m : Message) (past : List Event) → MaySendDown header outside at.0 object.0 n m past → (object.0 == o && is_answer p m) ≡ true
+answered_there : (header : Header) (outside : Outside) (doing : Command) (host o p k : ℕ) (at : HostId) (object : ObjectId) (n : ℕ) (m : Message) (past : List Event) → MaySendDown header outside doing at.0 object.0 n m past → (object.0 == o && is_answer p m) ≡ true
     → (r : Message) → taken past ≡ Some (record { channel = up_port host o; message = r }) → is_request k p r ≡ true → (is_channel (down_port host o k) (Down at object n) ≡ true) × (is_answer p m ≡ true)
-answered_there header outside host o p k at object n m past c is r was test =
-    let a : Answers at.0 object.0 n p past = answer_cause header outside at.0 object.0 n p m past c (right (object.0 == o) (is_answer p m) is) in
+answered_there header outside doing host o p k at object n m past c is r was test =
+    let a : Answers at.0 object.0 n p past = answer_cause header outside doing at.0 object.0 n p m past c (right (object.0 == o) (is_answer p m) is) in
     let s = same_taken host o at.0 object.0 r (message.Request n (record { 0 = p }) a.access) (is_request k p) past was a.taken test in
     (port_is at.0 object.0 n host o k s.0 s.1 (left (n == k) (p == p) s.2), right (object.0 == o) (is_answer p m) is)
 
@@ -217,13 +220,13 @@ asks_next header outside host (event.CopiedPage task page object object_page tar
 asks_next header outside host (event.Stored task object page at size value) past paged_all c paid all = λ o p is.
     all o p (sym (asked_if header.size (is_on host (host_of task.0 past) && (object.0 == o && page.0 == p)) (Stores at (little_endian_bytes size value)) (page_on header host o p past) refl) ∙ is)
 asks_next header outside host (event.Dropped at object page) past paged_all c paid all = λ o p is. all o p (sym (asked_if header.size (at.0 == host && (object.0 == o && page.0 == p)) Drops (page_on header host o p past) refl) ∙ is)
-asks_next header outside host (event.Sent (Up at object) m) past paged_all c paid all = up_asks header host at object m past (c.0, c.1 (paged header paged_all object.0)) all
+asks_next header outside host (event.Sent (Up at object) m) past paged_all c paid all = up_asks header host at object m past c all
 asks_next header outside host (event.Sent (Down at object n) m) past paged_all c paid all = λ o p is.
     let a = all o p is in (
       a.0,
       a.1,
       way_sent (is_request a.0 p) (is_answer p) (answers o p) host o a.0 (Down at object n) m past
-          (λ e r was test. answered_there header outside host o p a.0 at object n m past (c.1 (paged header paged_all object.0)) e r was test) a.2,
+          (λ e r was test. answered_there header outside c.0 host o p a.0 at object n m past (paged_may header outside c.0 at.0 object.0 n m past (paged header paged_all object.0) c.1) e r was test) a.2,
     )
 asks_next header outside host (event.Taken (Up at object) m) past paged_all c paid all = λ o p is.
     let a = all o p is in
@@ -289,15 +292,15 @@ up_opens host at object (message.Terminate control) past all o k = λ live is.
     opening_sent host o k at object (message.Terminate control) past (all o k (was_live (at.0 == host && object.0 == o) control k (live_control host o past) live) is)
 up_opens host at object m past all o k = λ live is. opening_sent host o k at object m past (all o k live is)
 
-ready_there : (header : Header) (outside : Outside) (host o k : ℕ) (at : HostId) (object : ObjectId) (n : ℕ) (m : Message) (past : List Event) → MaySendDown header outside at.0 object.0 n m past → (object.0 == o && says_ready m) ≡ true
+ready_there : (header : Header) (outside : Outside) (doing : Command) (host o k : ℕ) (at : HostId) (object : ObjectId) (n : ℕ) (m : Message) (past : List Event) → MaySendDown header outside doing at.0 object.0 n m past → (object.0 == o && says_ready m) ≡ true
     → (r : Message) → taken past ≡ Some (record { channel = up_port host o; message = r }) → opens k r ≡ true → (is_channel (down_port host o k) (Down at object n) ≡ true) × (says_ready m ≡ true)
-ready_there header outside host o k at object n (message.Ready cache strategy) past c is r was test = by c.3
+ready_there header outside doing host o k at object n (message.Ready cache strategy) past c is r was test = by c.3
   where
     by : ((taken past ≡ Some (record { channel = up_port at.0 object.0; message = message.Create n c.0 })) × (strategy ≡ 3)) ⊎ ((taken past ≡ Some (record { channel = up_port at.0 object.0; message = message.Init n c.0 })) × (strategy ≡ 0))
         → (is_channel (down_port host o k) (Down at object n) ≡ true) × (true ≡ true)
     by (inl t) = let s = same_taken host o at.0 object.0 r (message.Create n c.0) (opens k) past was t.0 test in (port_is at.0 object.0 n host o k s.0 s.1 s.2, refl)
     by (inr t) = let s = same_taken host o at.0 object.0 r (message.Init n c.0) (opens k) past was t.0 test in (port_is at.0 object.0 n host o k s.0 s.1 s.2, refl)
-ready_there header outside host o k at object n m past c is r was test = never (right (object.0 == o) false is)
+ready_there header outside doing host o k at object n m past c is r was test = never (right (object.0 == o) false is)
 
 unready : (b r : Bool) → (if b then true else r) ≡ false → (b ≡ false) × (r ≡ false)
 unready true r is = never (sym is)
@@ -314,7 +317,7 @@ down_opens header outside host at object n m past head paged_all paid all o k li
 opens_next : (header : Header) (outside : Outside) (host : ℕ) (e : Event) (past : List Event) → AllPaged header → HasCause header outside e past → StepPaid header e past → AllOpening host past → AllOpening host (e ∷ past)
 opens_next header outside host (event.Sent (Up at object) m) past paged_all c paid all = up_opens host at object m past all
 opens_next header outside host (event.Sent (Down at object n) m) past paged_all c paid all = λ o k live is.
-    way_sent (opens k) says_ready (readies o) host o k (Down at object n) m past (λ e r was test. ready_there header outside host o k at object n m past (c.1 (paged header paged_all object.0)) e r was test) (all o k live is)
+    way_sent (opens k) says_ready (readies o) host o k (Down at object n) m past (λ e r was test. ready_there header outside c.0 host o k at object n m past (paged_may header outside c.0 at.0 object.0 n m past (paged header paged_all object.0) c.1) e r was test) (all o k live is)
 opens_next header outside host (event.Taken (Up at object) m) past paged_all c paid all = λ o k live is.
     way_taken (opens k) says_ready (readies o) host o k (Up at object) m past c.1.0 (done_opening header past paged_all paid host o k) (λ e. never e) (all o k live is)
 opens_next header outside host (event.Taken (Down at object n) m) past paged_all c paid all = down_opens header outside host at object n m past c.1.0 paged_all paid all

@@ -14,7 +14,7 @@ use Rattle.vm_model.specs.declared.message.Message.TheVariants as message
 use Rattle.vm_model.specs.declared.script.Header.{Header}
 use Rattle.vm_model.specs.Channels.{queue}
 use Rattle.vm_model.specs.Controls.{is_control, last_control, live_control}
-use Rattle.vm_model.specs.Local.{Effect, Local, Zeroes, Raises, Stores, Drops, Returns, Asks, TakesPage, TakesNothing, TakesError, TakesLock, Begins, Ends, Elsewhere, is_on, moved}
+use Rattle.vm_model.specs.Local.{Effect, Local, Zeroes, Raises, Stores, Drops, Returns, Asks, Unlocks, TakesPage, TakesNothing, TakesError, TakesLock, Begins, Ends, Elsewhere, is_on, moved}
 use Rattle.vm_model.specs.Moments.{EachEvent}
 use Rattle.vm_model.specs.Server.{first}
 use Rattle.vm_model.specs.Tasks.{host_of}
@@ -23,10 +23,11 @@ use Rattle.vm_legal.specs.Frames.{Takes, Gives, changed, frames_held, returns_ou
 use Rattle.vm_legal.specs.Licences.{HasCause, MaySendUp}
 use Rattle.vm_legal.specs.Outside.{Outside}
 use Rattle.vm_legal.specs.Walks.{page_on}
+use Rattle.vm_model.proofs.Ports.{same_control}
 use Rattle.vm_quiet.specs.Places.{AllPaged, FramesAreCounted, has_frame}
 use Rattle.vm_quiet.proofs.Letters.{never, some_out, passed}
 use Rattle.vm_quiet.proofs.Places.{Held, one_if, held_none, held_same, held_more, held_less, held_some, test_there}
-use Rattle.vm_quiet.proofs.Sane.{Base, IsVacant, base_of, paged, not_true, there, there_two, vacant_zeroed, vacant_raised, vacant_copied, left, right, control_of}
+use Rattle.vm_quiet.proofs.Sane.{Base, IsVacant, base_of, not_true, there, there_two, vacant_zeroed, vacant_raised, vacant_copied, left, right, control_of}
 
 abbrev pub framed : Header → ℕ → List Event → ℕ → ℕ → Bool
 framed header host past o p = has_frame (page_on header host o p past)
@@ -117,9 +118,6 @@ no_out : (own : Bool) (r : ℕ) → (if own && false then r + 1 else r) ≡ r
 no_out true r = refl
 no_out false r = refl
 
-same_control : (host k o number : ℕ) (past : List Event) → (k == o) ≡ true → is_control number (live_control host o past) ≡ is_control number (live_control host k past)
-same_control host k o number past its = ap (λ (j : ℕ). is_control number (live_control host j past)) (sym (own_host k o its))
-
 asks_here : (own object at live : Bool) → ((own && object) ≡ true → live ≡ true) → (own && (object && (at && live))) ≡ (own && (object && at))
 asks_here true true true live is = is refl
 asks_here true true false live is = refl
@@ -172,6 +170,10 @@ count_up header host at object (message.Return control page dirty false bytes) p
     (λ is. (base.sane o p).apart (there (λ h k q. (page_on header h k q past).here ≡ true) at.0 object.0 page.0 host o p is c.1.here)))
     count.held count.sum in
     record { number = out.0; held = out.1; sum = out.2 }
+count_up header host at object (message.Unlock control page access) past base c count =
+    sent_same header host at object (message.Unlock control page access) past
+    (λ o p. kept_two header.size (at.0 == host && object.0 == o) (page.0 == p) Unlocks (page_on header host o p past) (λ s t. refl))
+    refl refl count
 count_up header host at object (message.Completed control page number) past base c count =
     sent_same header host at object (message.Completed control page number) past
     (λ o p. kept_if header.size (at.0 == host && object.0 == o) Elsewhere (page_on header host o p past) (λ is. refl))
@@ -312,7 +314,7 @@ count_next header outside host (event.Zeroed at object page) past all base c cou
     record {
       number = if at.0 == host then count.number + 1 else count.number;
       held = more_if (at.0 == host) (framed header host past) (framed header host (event.Zeroed at object page ∷ past)) count.number object.0 page.0
-          (λ is. vacant_free (page_on header host object.0 page.0 past) (on_host (λ h. IsVacant (page_on header h object.0 page.0 past)) at.0 host is (vacant_zeroed header at.0 object.0 page.0 past (c.1 (paged header all object.0)))))
+          (λ is. vacant_free (page_on header host object.0 page.0 past) (on_host (λ h. IsVacant (page_on header h object.0 page.0 past)) at.0 host is (vacant_zeroed header at.0 object.0 page.0 past c.1)))
           (λ o p. used_if header.size (at.0 == host && (object.0 == o && page.0 == p)) Zeroes (page_on header host o p past) true (λ is. refl))
           count.held;
       sum = takes (at.0 == host) count.number (returns_out host past) (frames_held header.size host past) count.sum;
@@ -347,14 +349,14 @@ count_next header outside host (event.Dropped at object page) past all base c co
       number = if at.0 == host then count.number - 1 else count.number;
       held = less_if (at.0 == host) (framed header host past) (framed header host (event.Dropped at object page ∷ past)) count.number object.0 page.0 (λ is. here_framed (page_on header host object.0 page.0 past) (own is))
           (λ o p. used_if header.size (at.0 == host && (object.0 == o && page.0 == p)) Drops (page_on header host o p past) false
-          (λ is. (base.sane o p).apart (there (λ h k q. (page_on header h k q past).here ≡ true) at.0 object.0 page.0 host o p is (c.1 (paged header all object.0)).here)))
+          (λ is. (base.sane o p).apart (there (λ h k q. (page_on header h k q past).here ≡ true) at.0 object.0 page.0 host o p is c.1.here)))
           count.held;
       sum = gives (at.0 == host) (framed header host past) count.number object.0 page.0 (returns_out host past) (frames_held header.size host past) (λ is. here_framed (page_on header host object.0 page.0 past) (own is)) count.held count.sum;
     }
   where
     own : (at.0 == host) ≡ true → (page_on header host object.0 page.0 past).here ≡ true
-    own is = on_host (λ h. (page_on header h object.0 page.0 past).here ≡ true) at.0 host is (c.1 (paged header all object.0)).here
-count_next header outside host (event.Sent (Up at object) m) past all base c count = count_up header host at object m past base (c.0, c.1 (paged header all object.0)) count
+    own is = on_host (λ h. (page_on header h object.0 page.0 past).here ≡ true) at.0 host is c.1.here
+count_next header outside host (event.Sent (Up at object) m) past all base c count = count_up header host at object m past base c count
 count_next header outside host (event.Taken (Up at object) m) past all base c count = count_taken header host at object m past base c.1.0 count
 count_next header outside host (event.Taken (Down at object control) m) past all base c count = count_down header host at object control m past base count
 count_next header outside host e past all base c count = record { number = count.number; held = held_same (framed header host past) (framed header host past) count.number (λ o p. refl) count.held; sum = count.sum }

@@ -13,6 +13,7 @@ use Rattle.vm_legal.specs.Steps.{absence_taken, error_taken, taken}
 use Rattle.vm_legal.specs.Undelivered.{undelivered}
 use Rattle.vm_quiet.specs.Full.{header, history, outside, region}
 use Rattle.vm_quiet.specs.Places.{AllPaged}
+use Rattle.vm_legal.proofs.Locks.{no_request, none_locked}
 use Rattle.vm_quiet.proofs.Letters.{never}
 
 pub full_paged : AllPaged header
@@ -28,6 +29,7 @@ idle past made took failed lacked =
       request = λ h o k p access ours is. absurd (cc);
       error = λ h o p is. absurd (cc);
       absence = λ h o p ours is. absurd (cc);
+      lock = λ request is. no_request request past (none_locked past took) is;
       slot = λ h o k p dirty keep bytes ours is lacks. absurd (cc);
     }
 
@@ -39,7 +41,7 @@ full_steps = (idle _ refl refl refl refl, (idle _ refl refl refl refl, (idle _ r
 
 pub full_causes : EachEvent (HasCause header outside) history
 full_causes = (
-  (command.Settle 0, tt),
+  (command.Settle 0, refl),
   (
     (command.Settle 0, tt),
     (
@@ -47,7 +49,7 @@ full_causes = (
       (
         (command.Settle 0, tt),
         (
-          (command.Settle 0, record { host = 0; lives = refl; whole = refl; inside = omega arith; made = omega arith; used = λ is. refl; file = λ is. never is; unfilled = refl }),
+          (command.Settle 0, record { idle = refl; host = 0; lives = refl; whole = refl; inside = omega arith; made = omega arith; used = λ is. refl; file = λ is. never is; unfilled = refl }),
           ((command.Settle 0, (refl, refl)), ((command.Settle 0, tt), ((command.Settle 0, tt), ((command.Settle 0, tt), tt)))),
         ),
       ),
@@ -59,10 +61,10 @@ full_none : NoneInVain header 0 history
 full_none t access waits on = inr (record { none = refl; why = inr (record { held = λ o p is. never is; one = λ o p q r is also no_wait none_waits. never is }) })
 
 pub full_prompt : Prompt header history
-full_prompt =
+full_prompt h below =
     record {
-      waits = λ h below. let first : 0 ≡ h = omega (arith, below) in subst (λ (k : ℕ). NoneInVain header k history) first full_none;
-      swept = λ h below. record { pages = λ o p ours unreached. refl; controls = λ o ours unreached. refl };
+      waits = let first : 0 ≡ h = omega (arith, below) in subst (λ (k : ℕ). NoneInVain header k history) first full_none;
+      swept = record { pages = λ o p ours unreached. refl; controls = λ o ours unreached. refl; declared_pages = λ o p ours unheld. refl; declared_controls = λ o ours unheld. refl };
     }
 
 pub full_delivered : undelivered history ≡ []

@@ -2,30 +2,23 @@
 use Rattle.std.proofs.Common.{ℕ, suc, ◌≡◌, List, [], ◌∷◌, ◌++◌, Bool, true, false, refl, sym, ap, subst, ◌∙◌, arith, Some, if◌then◌else◌}
 use Rattle.std.proofs.lemmas.Bool.Decides.{nat_tests}
 use Rattle.std.specs.Prelude.{◌==◌, ◌&&◌, ◌+◌, ◌-◌, ◌<◌, not}
-use Rattle.vm_base.specs.declared.ids.HostId.{HostId}
-use Rattle.vm_base.specs.declared.ids.ObjectId.{ObjectId}
 use Rattle.vm_model.specs.declared.event.Event.{Event}
 use Rattle.vm_model.specs.declared.event.Event.TheVariants as event
 use Rattle.vm_model.specs.declared.message.Channel.{Channel}
 use Rattle.vm_model.specs.declared.message.Channel.TheVariants.{Up, Down}
 use Rattle.vm_model.specs.declared.message.Message.{Message}
 use Rattle.vm_model.specs.declared.message.Message.TheVariants as message
-use Rattle.vm_model.specs.Channels.{is_channel, queue, up_port, down_port}
+use Rattle.vm_model.specs.Channels.{is_channel, queue}
 use Rattle.vm_model.specs.Server.{first}
 use Rattle.vm_model.specs.Side.{rest}
 use Rattle.vm_legal.specs.Frames.{returns_out}
 use Rattle.vm_legal.specs.Steps.{Letter}
 use Rattle.vm_legal.specs.Undelivered.{undelivered, without_first}
+use Rattle.vm_model.proofs.Ports.{down_port_is, port_is}
 use Rattle.vm_quiet.specs.Letters.{messages_on}
 
 pub never : {A : Type 0} → false ≡ true → A
 never e = absurd (let bad : false ≡ true = e in cc)
-
-pub port_is : (at : HostId) (object : ObjectId) (h o : ℕ) → at.0 ≡ h → object.0 ≡ o → Up at object ≡ up_port h o
-port_is at object h o e f = ap (λ k. up_port k object.0) e ∙ ap (λ k. up_port h k) f
-
-pub down_port_is : (at : HostId) (object : ObjectId) (n h o k : ℕ) → at.0 ≡ h → object.0 ≡ o → n ≡ k → Down at object n ≡ down_port h o k
-down_port_is at object n h o k e f g = ap (λ x. down_port x object.0 n) e ∙ ap (λ x. down_port h x n) f ∙ ap (λ x. down_port h o x) g
 
 -- `is_channel` is equality
 pub same_channel : (c d : Channel) → is_channel c d ≡ true → d ≡ c

@@ -1,11 +1,12 @@
 -- A history in which nothing is on its way leaves waiting only those who wait for frames.
-use Rattle.std.proofs.Common.{inl, inr, ℕ, ◌≡◌, ◌∙◌, List, [], length, Bool, true, false, refl, ap, subst, arith}
+use Rattle.std.proofs.Common.{inl, inr, ℕ, ◌≡◌, ◌∙◌, List, [], length, Bool, true, false, refl, ap, arith}
 use Rattle.std.specs.Prelude.{◌||◌, ◌+◌, ◌-◌, ◌<◌, ◌≤◌, ◌⊎◌}
+use Rattle.vm_legal.proofs.LockNames.{unnamed}
 use Rattle.vm_model.specs.declared.event.Event.{Event}
 use Rattle.vm_model.specs.declared.script.Header.{Header}
 use Rattle.vm_model.specs.Local.{Local}
 use Rattle.vm_model.specs.Waiting.{Access, is_store}
-use Rattle.vm_legal.specs.Accesses.{Waits, WaitsUnlocked, names}
+use Rattle.vm_legal.specs.Accesses.{Waits, WaitsUnlocked}
 use Rattle.vm_model.specs.Moments.{BeforeSteps, EachEvent}
 use Rattle.vm_legal.specs.Debts.{IsPaid}
 use Rattle.vm_legal.specs.Licences.{HasCause}
@@ -18,7 +19,7 @@ use Rattle.vm_legal.specs.Walks.{page_on}
 use Rattle.vm_quiet.specs.Carried.{is_request, opens}
 use Rattle.vm_quiet.specs.Places.{AllPaged, has_frame}
 use Rattle.vm_quiet.specs.Quiet.{IsShortOfFrames, NobodyWaitsInVain}
-use Rattle.vm_quiet.proofs.Letters.{never, outs}
+use Rattle.vm_quiet.proofs.Letters.{outs}
 use Rattle.vm_quiet.proofs.Places.{held_one}
 use Rattle.vm_quiet.proofs.Sane.{Base, base_of}
 use Rattle.vm_quiet.proofs.Counting.{Count, count_of, framed}
@@ -32,14 +33,6 @@ record IsQuiet (header : Header) (outside : Outside) (history : List Event) : Ty
   prompt : Prompt header history
   delivered : undelivered history ≡ []
 
--- no lock, so nothing to unlock
-no_lock : (lock : ℕ) (store : Bool) → lock ≡ 0 → names lock store ≡ true → ⊥
-no_lock lock store none named = by store (subst (λ l. names l store ≡ true) none named)
-  where
-    by : (store : Bool) → names 0 store ≡ true → ⊥
-    by true is = never is
-    by false is = never is
-
 quiet_asked : (header : Header) (outside : Outside) (history : List Event) (host o p : ℕ) → AllPaged header → IsQuiet header outside history → (page_on header host o p history).asked ≡ true → ⊥
 quiet_asked header outside history host o p all quiet is =
     let a = asks_of header outside host history all quiet.causes quiet.steps o p is in
@@ -49,10 +42,10 @@ no_pager : (header : Header) (outside : Outside) (history : List Event) (host : 
 no_pager header outside history host store o p all quiet base (AnAnswer is) = quiet_asked header outside history host o p all quiet is
 no_pager header outside history host store o p all quiet base (AReady control live is) =
     way_none (opens control) says_ready (readies o) host o control history quiet.delivered (done_opening header history all quiet.paid host o control) (opens_of header outside host history all quiet.causes quiet.steps o control live is)
-no_pager header outside history host store o p all quiet base (AnUnlock here named unlocking) = no_lock (page_on header host o p history).lock store (base.sane o p).unlocked named
+no_pager header outside history host store o p all quiet base (AnUnlock here named unlocking) = unnamed (page_on header host o p history).lock store (base.sane o p).unlocked named
 
 no_unlock : (header : Header) (history : List Event) (host o p : ℕ) → Base header host history → WaitsUnlocked header host o p history → ⊥
-no_unlock header history host o p base w = no_lock (page_on header host o p history).lock (is_store w.access) (base.sane o p).unlocked w.named
+no_unlock header history host o p base w = unnamed (page_on header host o p history).lock (is_store w.access) (base.sane o p).unlocked w.named
 
 here_of : (page : Local) → (page.asked ≡ true → ⊥) → has_frame page ≡ true → page.here ≡ true
 here_of page unasked is = by page.here page.asked unasked is
@@ -81,7 +74,7 @@ full_short header outside history host all quiet base count full = by full.why
         record { none = full.none; wired = short (frames_of header host) (frames_held header.size host history) (frames_wired host history) full.none held }
 
 one_short : (header : Header) (outside : Outside) (history : List Event) (host task : ℕ) (access : Access) → AllPaged header → IsQuiet header outside history → host < length header.frames.items → (waits : Waits header task access history) → waits.at.host ≡ host → IsShortOfFrames header host history
-one_short header outside history host task access all q below waits on = by (q.prompt.waits host below task access waits on)
+one_short header outside history host task access all q below waits on = by ((q.prompt host below).waits task access waits on)
   where
     base : Base header host history
     base = base_of header outside host history all q.causes

@@ -22,6 +22,7 @@ use Rattle.vm_model.specs.Side.{rest}
 use Rattle.vm_model.specs.Tasks.{host_of}
 use Rattle.vm_model.specs.Words.{in_range}
 use Rattle.vm_legal.specs.Frames.{returns_out}
+use Rattle.vm_legal.proofs.Served.{paged_may}
 use Rattle.vm_legal.specs.Licences.{Bottoms, CopiesPage, Fills, HasCause, MaySendDown, MaySendUp, Raises as RaisesPage, is_paged}
 use Rattle.vm_legal.specs.Outside.{Outside, is_file}
 use Rattle.vm_legal.specs.Undelivered.{undelivered}
@@ -109,7 +110,7 @@ Allowed (Stores at bytes) was live after = Lives live after
 Allowed Drops was live after = was.here ≡ true
 Allowed (Returns keep) was live after = was.here ≡ true
 Allowed Asks was live after = IsVacant was × (is_some after ≡ true)
-Allowed Unlocks was live after = ⊥
+Allowed Unlocks was live after = Lives live after
 Allowed (TakesPage lock precious bytes) was live after = lock ≡ 0
 Allowed TakesNothing was live after = Unit {0}
 Allowed TakesError was live after = Unit {0}
@@ -137,7 +138,7 @@ sane_moved size Drops was live after c s = record { apart = λ is. s.apart c; li
 sane_moved size (Returns true) was live after c s = record { apart = s.apart; living = λ is. never (sym (s.apart c) ∙ is); unlocked = s.unlocked }
 sane_moved size (Returns false) was live after c s = record { apart = λ is. s.apart c; living = λ is. never (sym (s.apart c) ∙ is); unlocked = refl }
 sane_moved size Asks was live after c s = record { apart = λ is. never (sym c.0.away ∙ is); living = λ is. c.1; unlocked = s.unlocked }
-sane_moved size Unlocks was live after c s = absurd c
+sane_moved size Unlocks was live after c s = record { apart = s.apart; living = λ is. c (s.living is); unlocked = s.unlocked }
 sane_moved size (TakesPage lock precious bytes) was live after c s = by was.asked refl
   where
     by : (b : Bool) → was.asked ≡ b → Sane (if b then record was { here = true; bytes = bytes; lock = lock; dirty = false; precious = precious; unlocking = false; asked = false } else was) after
@@ -223,17 +224,17 @@ control_of live k e = ap (λ (l : Option ℕ). is_control k l) e ∙ own k
     own : (k : ℕ) → (k == k) ≡ true
     own k = grind (arith, nat_tests)
 
+begins_allowed : (b : Bool) (control : ℕ) (page : Local) (live : Option ℕ) → Allowed (if b then Begins else Elsewhere) page live (if b then Some control else live)
+begins_allowed true control page live = tt
+begins_allowed false control page live = λ is. is
+
+elsewhere_allowed : (b : Bool) (page : Local) (live : Option ℕ) → Allowed (if b then Elsewhere else Elsewhere) page live live
+elsewhere_allowed true page live = λ is. is
+elsewhere_allowed false page live = λ is. is
+
 up_allowed : (header : Header) (host : ℕ) (at : HostId) (object : ObjectId) (m : Message) (past : List Event) (o p : ℕ) → ((doing : Command) × MaySendUp header doing at.0 object.0 m past) → Allowed (effect host (record { object = o; page = p }) (λ source. local header.size host source past) (event.Sent (Up at object) m) past) (page_on header host o p past) (live_control host o past) (live_control host o (event.Sent (Up at object) m ∷ past))
-up_allowed header host at object (message.Init control size) past o p c = by (at.0 == host && object.0 == o)
-  where
-    by : (b : Bool) → Allowed (if b then Begins else Elsewhere) (page_on header host o p past) (live_control host o past) (if b then Some control else live_control host o past)
-    by true = tt
-    by false = λ is. is
-up_allowed header host at object (message.Create control size) past o p c = by (at.0 == host && object.0 == o)
-  where
-    by : (b : Bool) → Allowed (if b then Begins else Elsewhere) (page_on header host o p past) (live_control host o past) (if b then Some control else live_control host o past)
-    by true = tt
-    by false = λ is. is
+up_allowed header host at object (message.Init control size) past o p c = begins_allowed (at.0 == host && object.0 == o) control (page_on header host o p past) (live_control host o past)
+up_allowed header host at object (message.Create control size) past o p c = begins_allowed (at.0 == host && object.0 == o) control (page_on header host o p past) (live_control host o past)
 up_allowed header host at object (message.Terminate control) past o p c = by (at.0 == host && object.0 == o) (is_control control (live_control host o past)) (λ is. control_of (live_control host o past) control (there_two (λ h k. live_control h k past ≡ Some control) at.0 object.0 host o is c.1.live))
   where
     by : (b t : Bool) → (b ≡ true → t ≡ true) → Allowed (if b then (if t then Ends else Elsewhere) else Elsewhere) (page_on header host o p past) (live_control host o past) (if b then without_control control (live_control host o past) else live_control host o past)
@@ -251,11 +252,9 @@ up_allowed header host at object (message.Return control page dirty keep bytes) 
     allowed_two (at.0 == host && object.0 == o) (page.0 == p) (Returns keep) (page_on header host o p past) (live_control host o past) (live_control host o past)
     (λ s t. there (λ h k q. (page_on header h k q past).here ≡ true) at.0 object.0 page.0 host o p (join (at.0 == host) (object.0 == o) (page.0 == p) s t) c.1.here)
     (λ is. is)
-up_allowed header host at object (message.Completed control page count) past o p c = by (at.0 == host && object.0 == o)
-  where
-    by : (b : Bool) → Allowed (if b then Elsewhere else Elsewhere) (page_on header host o p past) (live_control host o past) (live_control host o past)
-    by true = λ is. is
-    by false = λ is. is
+up_allowed header host at object (message.Unlock control page access) past o p c =
+    allowed_two (at.0 == host && object.0 == o) (page.0 == p) Unlocks (page_on header host o p past) (live_control host o past) (live_control host o past) (λ s t. λ is. is) (λ is. is)
+up_allowed header host at object (message.Completed control page count) past o p c = elsewhere_allowed (at.0 == host && object.0 == o) (page_on header host o p past) (live_control host o past)
 up_allowed header host at object m past o p c = absurd c.1
 
 port_there : (header : Header) (host : ℕ) (past : List Event) (at : HostId) (object : ObjectId) (control o : ℕ) (m : Message) → Base header host past → first (queue (Down at object control) past) ≡ Some m → (at.0 == host && object.0 == o) ≡ true → IsPlain m
@@ -281,17 +280,13 @@ down_allowed header host at object control (message.Lock page count returns flus
     allowed_two (at.0 == host && (object.0 == o && is_control control (live_control host o past))) (in_range p page.0 count) (TakesLock lock flush) (page_on header host o p past) (live_control host o past) (live_control host o past)
     (λ s t. (port_there header host past at object control o (message.Lock page count returns flush lock reply) base head (pair (at.0 == host) (object.0 == o) (is_control control (live_control host o past)) s), λ is. is))
     (λ is. is)
-down_allowed header host at object control m past o p base head = by (at.0 == host && (object.0 == o && is_control control (live_control host o past)))
-  where
-    by : (b : Bool) → Allowed (if b then Elsewhere else Elsewhere) (page_on header host o p past) (live_control host o past) (live_control host o past)
-    by true = λ is. is
-    by false = λ is. is
+down_allowed header host at object control m past o p base head = elsewhere_allowed (at.0 == host && (object.0 == o && is_control control (live_control host o past))) (page_on header host o p past) (live_control host o past)
 
 allowed_next : (header : Header) (outside : Outside) (host : ℕ) (e : Event) (past : List Event) → AllPaged header → Base header host past → HasCause header outside e past → (o p : ℕ)
     → Allowed (effect host (record { object = o; page = p }) (λ source. local header.size host source past) e past) (page_on header host o p past) (live_control host o past) (live_control host o (e ∷ past))
 allowed_next header outside host (event.Zeroed at object page) past all base c o p =
     allowed_if (at.0 == host && (object.0 == o && page.0 == p)) Zeroes (page_on header host o p past) (live_control host o past) (live_control host o past)
-    (λ is. there (λ h k q. IsVacant (page_on header h k q past)) at.0 object.0 page.0 host o p is (vacant_zeroed header at.0 object.0 page.0 past (c.1 (paged header all object.0))))
+    (λ is. there (λ h k q. IsVacant (page_on header h k q past)) at.0 object.0 page.0 host o p is (vacant_zeroed header at.0 object.0 page.0 past c.1))
     (λ is. is)
 allowed_next header outside host (event.Raised at lower lower_page upper upper_page) past all base c o p =
     allowed_if (at.0 == host && (upper.0 == o && upper_page.0 == p)) (Raises (page_on header host lower.0 lower_page.0 past).bytes) (page_on header host o p past) (live_control host o past) (live_control host o past)
@@ -306,9 +301,9 @@ allowed_next header outside host (event.Stored task object page at size value) p
     allowed_if (is_on host (host_of task.0 past) && (object.0 == o && page.0 == p)) (Stores at (little_endian_bytes size value)) (page_on header host o p past) (live_control host o past) (live_control host o past) (λ is. λ x. x) (λ is. is)
 allowed_next header outside host (event.Dropped at object page) past all base c o p =
     allowed_if (at.0 == host && (object.0 == o && page.0 == p)) Drops (page_on header host o p past) (live_control host o past) (live_control host o past)
-    (λ is. there (λ h k q. (page_on header h k q past).here ≡ true) at.0 object.0 page.0 host o p is (c.1 (paged header all object.0)).here)
+    (λ is. there (λ h k q. (page_on header h k q past).here ≡ true) at.0 object.0 page.0 host o p is c.1.here)
     (λ is. is)
-allowed_next header outside host (event.Sent (Up at object) m) past all base c o p = up_allowed header host at object m past o p (c.0, c.1 (paged header all object.0))
+allowed_next header outside host (event.Sent (Up at object) m) past all base c o p = up_allowed header host at object m past o p c
 allowed_next header outside host (event.Sent (Down at object control) m) past all base c o p = λ is. is
 allowed_next header outside host (event.Taken (Up at object) m) past all base c o p = λ is. is
 allowed_next header outside host (event.Taken (Down at object control) m) past all base c o p = down_allowed header host at object control m past o p base c.1.0
@@ -326,20 +321,20 @@ none_without false control live is = is
 
 numbered_next : (header : Header) (outside : Outside) (host : ℕ) (e : Event) (past : List Event) → AllPaged header → Base header host past → HasCause header outside e past → (o : ℕ) → last_control host o (e ∷ past) ≡ 0 → is_some (live_control host o (e ∷ past)) ≡ false
 numbered_next header outside host (event.Sent (Up at object) (message.Init control size)) past all base c o =
-    numbered_if (at.0 == host && object.0 == o) control (last_control host o past) (live_control host o past) (omega (arith, (c.1 (paged header all object.0)).number)) (base.numbered o)
+    numbered_if (at.0 == host && object.0 == o) control (last_control host o past) (live_control host o past) (omega (arith, c.1.number)) (base.numbered o)
 numbered_next header outside host (event.Sent (Up at object) (message.Create control size)) past all base c o =
-    numbered_if (at.0 == host && object.0 == o) control (last_control host o past) (live_control host o past) (omega (arith, (c.1 (paged header all object.0)).number)) (base.numbered o)
+    numbered_if (at.0 == host && object.0 == o) control (last_control host o past) (live_control host o past) (omega (arith, c.1.number)) (base.numbered o)
 numbered_next header outside host (event.Sent (Up at object) (message.Terminate control)) past all base c o = λ none. none_without (at.0 == host && object.0 == o) control (live_control host o past) (base.numbered o none)
 numbered_next header outside host e past all base c o = base.numbered o
 
-down_plain : (header : Header) (outside : Outside) (h o k : ℕ) (m : Message) (past : List Event) → MaySendDown header outside h o k m past → IsPlain m
-down_plain header outside h o k (message.Supply page lock precious bytes) past c = c.2
-down_plain header outside h o k (message.Lock page count returns flush lock reply) past c = c.2
-down_plain header outside h o k m past c = tt
+down_plain : (header : Header) (outside : Outside) (doing : Command) (h o k : ℕ) (m : Message) (past : List Event) → MaySendDown header outside doing h o k m past → IsPlain m
+down_plain header outside doing h o k (message.Supply page lock precious bytes) past c = c.2
+down_plain header outside doing h o k (message.Lock page count returns flush lock reply) past c = c.2
+down_plain header outside doing h o k m past c = tt
 
 plain_next : (header : Header) (outside : Outside) (host : ℕ) (e : Event) (past : List Event) → AllPaged header → Base header host past → HasCause header outside e past → (o k : ℕ) → ArePlain (queue (down_port host o k) (e ∷ past))
 plain_next header outside host (event.Sent (Down at object n) m) past all base c o k =
-    plain_if (at.0 == host && (object.0 == o && n == k)) (queue (down_port host o k) past) m (down_plain header outside at.0 object.0 n m past (c.1 (paged header all object.0))) (base.plain o k)
+    plain_if (at.0 == host && (object.0 == o && n == k)) (queue (down_port host o k) past) m (down_plain header outside c.0 at.0 object.0 n m past (paged_may header outside c.0 at.0 object.0 n m past (paged header all object.0) c.1)) (base.plain o k)
 plain_next header outside host (event.Taken (Down at object n) m) past all base c o k = plain_rest (at.0 == host && (object.0 == o && n == k)) (queue (down_port host o k) past) (base.plain o k)
 plain_next header outside host e past all base c o k = base.plain o k
 

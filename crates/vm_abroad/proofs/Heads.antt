@@ -1,0 +1,164 @@
+-- Behind each region that the commands make stands its entry.
+use Rattle.std.proofs.Common.{◌≡◌, ℕ, ◌+◌, ◌-◌, ◌/◌, ◌==◌, Bool, true, false, not, List, [], ◌∷◌, ◌++◌, reverse, Option, Some, None, MatchOption, append_assoc, refl, ap, sym, ◌∙◌, subst}
+use mathlib.Core.List.{reverse_aux}
+use Rattle.std.specs.Prelude.{if◌then◌else◌}
+use Rattle.vm_base.specs.declared.code.Code.{Code}
+use Rattle.vm_base.specs.declared.entry.Entry.{Entry}
+use Rattle.vm_base.specs.declared.ids.HostId.{HostId}
+use Rattle.vm_base.specs.declared.ids.Inherit.TheVariants.{Copy}
+use Rattle.vm_base.specs.declared.ids.ObjectId.{ObjectId}
+use Rattle.vm_base.specs.declared.ids.TaskId.{TaskId}
+use Rattle.vm_model.specs.declared.command.Command.{Command}
+use Rattle.vm_model.specs.declared.command.Command.TheVariants as command
+use Rattle.vm_model.specs.declared.command.Numbered.{Numbered}
+use Rattle.vm_model.specs.declared.event.Event.{Event}
+use Rattle.vm_model.specs.declared.event.Event.TheVariants as event
+use Rattle.vm_model.specs.declared.message.Channel.{Channel}
+use Rattle.vm_model.specs.declared.message.Channel.TheVariants.{Down}
+use Rattle.vm_model.specs.declared.message.Message.{Message}
+use Rattle.vm_model.specs.declared.script.Header.{Header}
+use Rattle.vm_model.specs.Channels.{queue}
+use Rattle.vm_model.specs.Controls.{live_control}
+use Rattle.vm_model.specs.Moments.{EachEvent}
+use Rattle.vm_model.specs.Regions.{next_object, next_region}
+use Rattle.vm_model.specs.Server.{first as oldest}
+use Rattle.vm_model.specs.Tasks.{copies, entries_of, host_of, shared}
+use Rattle.vm_legal.specs.Follows.{Follows, FollowsSoFar, IsConsequence, IsGroup, IsRun, fork_head, gets, head, say_head, take_head}
+use Rattle.vm_legal.specs.Frames.{frames_wired}
+use Rattle.vm_legal.specs.Homes.{EntersNext, enters, is_open, starts_copy}
+use Rattle.vm_legal.specs.Outside.{Outside}
+use Rattle.vm_legal.specs.Refusal.{refusal}
+use Rattle.vm_legal.specs.Stretches.{EachOf}
+use Rattle.vm_abroad.specs.Whose.{IsShut}
+use Rattle.vm_abroad.proofs.Sounds.{both_left}
+
+-- each region has its entry, and none waits for one
+record Paired (past : List Event) : Type 0 where
+  each : EachEvent EntersNext past
+  shut : IsShut past
+
+-- the event makes no region
+abbrev MakesNone : Event → Type 0
+MakesNone e = (region : ℕ) (past : List Event) → is_open region (e ∷ past) ≡ false
+
+next_shut : (e : Event) (past : List Event) → IsShut past → EntersNext e past
+next_shut e past shut region opened = absurd (let bad : true ≡ false = sym opened ∙ shut region in cc)
+
+paired : (events past : List Event) → EachOf MakesNone events → Paired past → Paired (events ++ past)
+paired [] past none was = was
+paired (e ∷ events) past none was =
+    let later = paired events past none.1 was in record { each = (next_shut e (events ++ past) later.shut, later.each); shut = λ region. none.0 region (events ++ past) }
+
+each_onto : (events more : List Event) → EachOf MakesNone events → EachOf MakesNone more → EachOf MakesNone (reverse_aux events more)
+each_onto [] more one two = two
+each_onto (e ∷ events) more one two = each_onto events (e ∷ more) one.1 (one.0, two)
+
+consequence : (e : Event) → IsConsequence e → MakesNone e
+consequence (event.RegionMade region object pages) is = absurd is
+consequence other is = λ r past. refl
+
+consequences : (events : List Event) → EachOf IsConsequence events → EachOf MakesNone events
+consequences [] each = tt
+consequences (e ∷ events) each = (consequence e each.0, consequences events each.1)
+
+-- heads
+
+plain : (events first past : List Event) → EachOf MakesNone events → Some events ≡ Some first → Paired past → Paired (reverse first ++ past)
+plain events first past none is was =
+    let same : events ≡ first = cc in
+    subst (λ (z : List Event). Paired (reverse z ++ past)) same (paired (reverse events) past (each_onto events [] none tt) was)
+
+no_head : (first past : List Event) → None ≡ Some first → Paired (reverse first ++ past)
+no_head first past is = absurd (cc)
+
+gets_none : (task : TaskId) (rows : List Entry) → EachOf MakesNone (gets task rows)
+gets_none task [] = tt
+gets_none task (row ∷ rows) = ((λ r past. refl), gets_none task rows)
+
+forked : (child : TaskId) (x : Option ℕ) (rows : List Entry) (first past : List Event) → fork_head child x rows ≡ Some first → Paired past → Paired (reverse first ++ past)
+forked child None rows first past is was = no_head first past is
+forked child (Some host) rows first past is was = by_test (copies rows == 0) is
+  where
+    by_test : (b : Bool) → (if b then Some (event.TaskMade child (record { 0 = host }) ∷ gets child (shared rows)) else None) ≡ Some first → Paired (reverse first ++ past)
+    by_test true is = plain (event.TaskMade child (record { 0 = host }) ∷ gets child (shared rows)) first past ((λ r h. refl), gets_none child (shared rows)) is was
+    by_test false is = no_head first past is
+
+taken : (channel : Channel) (x : Option Message) (first past : List Event) → take_head channel x ≡ Some first → Paired past → Paired (reverse first ++ past)
+taken channel None first past is was = no_head first past is
+taken channel (Some m) first past is was = plain (event.Taken channel m ∷ []) first past ((λ r h. refl), tt) is was
+
+said : (host : HostId) (object : ObjectId) (m : Message) (x : Option ℕ) (first past : List Event) → say_head host object m x ≡ Some first → Paired past → Paired (reverse first ++ past)
+said host object m None first past is was = no_head first past is
+said host object m (Some control) first past is was = plain (event.Sent (Down host object control) m ∷ []) first past ((λ r h. refl), tt) is was
+
+made_and_entered : (made entered : Event) (first past : List Event) → Some (made ∷ entered ∷ []) ≡ Some first → MakesNone entered → ((region : ℕ) → is_open region (made ∷ past) ≡ true → enters region entered ≡ true)
+    → Paired past → Paired (reverse first ++ past)
+made_and_entered made entered first past is none next was =
+    let same : made ∷ entered ∷ [] ≡ first = cc in
+    subst (λ (z : List Event). Paired (reverse z ++ past)) same (record { each = (next, (next_shut made past was.shut, was.each)); shut = λ region. none region (made ∷ past) })
+
+head_paired : (header : Header) (before past : List Event) (doing : Command) (first : List Event) → head header before doing ≡ Some first → Paired past → Paired (reverse first ++ past)
+head_paired header before past (command.Allocate task address bytes) first is was =
+    let r = next_region header before in
+    let made : Event = event.RegionMade (record { 0 = r }) (record { 0 = next_object header before }) (bytes / header.size) in
+    let entered : Event = event.Entered task address bytes (record { 0 = r }) 0 (record { read = true; write = true }) Copy in
+    made_and_entered made entered first past is (λ region past. refl) (λ region opened. both_left (region == r) (not (starts_copy past)) opened) was
+head_paired header before past (command.Task task host) first is was = plain (event.TaskMade task host ∷ []) first past ((λ r h. refl), tt) is was
+head_paired header before past (command.Load task address size) first is was = plain (event.BegunLoad task address size ∷ []) first past ((λ r h. refl), tt) is was
+head_paired header before past (command.Store task address size value) first is was = plain (event.BegunStore task address size value ∷ []) first past ((λ r h. refl), tt) is was
+head_paired header before past (command.Fork task child) first is was = forked child (host_of task.0 before) (entries_of header.size task.0 before) first past is was
+head_paired header before past (command.Exit task) first is was = plain (event.TaskEnded task ∷ []) first past ((λ r h. refl), tt) is was
+head_paired header before past (command.Deallocate task address bytes) first is was = plain (event.Removed task address bytes ∷ []) first past ((λ r h. refl), tt) is was
+head_paired header before past (command.Protect task address bytes prot) first is was = plain (event.Protected task address bytes prot ∷ []) first past ((λ r h. refl), tt) is was
+head_paired header before past (command.Inherit task address bytes inherit) first is was = plain (event.Inherited task address bytes inherit ∷ []) first past ((λ r h. refl), tt) is was
+head_paired header before past (command.Take channel) first is was = taken channel (oldest (queue channel before)) first past is was
+head_paired header before past (command.Settle count) first is was = plain [] first past tt is was
+head_paired header before past (command.Wire host count) first is was = plain (event.Wired host (frames_wired host.0 before + count) ∷ []) first past ((λ r h. refl), tt) is was
+head_paired header before past (command.Unwire host count) first is was = plain (event.Wired host (frames_wired host.0 before - count) ∷ []) first past ((λ r h. refl), tt) is was
+head_paired header before past (command.Pageout host count) first is was = plain [] first past tt is was
+head_paired header before past (command.FailFiles count) first is was = plain [] first past tt is was
+head_paired header before past (command.FailPaging count) first is was = plain [] first past tt is was
+head_paired header before past (command.Say host object m) first is was = said host object m (live_control host.0 object.0 before) first past is was
+head_paired header before past other first is was = no_head first past is
+
+-- a head and what follows from it
+run_paired : (header : Header) (before past : List Event) (doing : Command) (first more : List Event) → head header before doing ≡ Some first → EachOf IsConsequence more → Paired past → Paired (more ++ (reverse first ++ past))
+run_paired header before past doing first more is follows was = paired more (reverse first ++ past) (consequences more follows) (head_paired header before past doing first is was)
+
+-- groups
+
+group_paired : (header : Header) (outside : Outside) (past : List Event) (numbered : Numbered) (group : List Event) (refused : Option Code) (x : Option (List Event)) → head header past numbered.command ≡ x
+    → MatchOption refused (MatchOption x ⊥ (λ events. IsRun header outside past numbered events group)) (λ code. group ≡ event.Refused code ∷ []) → Paired past → Paired (group ++ event.Line numbered.line ∷ past)
+group_paired header outside past numbered group None None is made was = absurd made
+group_paired header outside past numbered group None (Some events) is run was =
+    let line : Paired (event.Line numbered.line ∷ past) = paired (event.Line numbered.line ∷ []) past ((λ r h. refl), tt) was in
+    let whole = run_paired header past (event.Line numbered.line ∷ past) numbered.command events run.more is run.follows line in
+    subst Paired (sym (append_assoc run.more (reverse events) (event.Line numbered.line ∷ past)) ∙ ap (λ z. z ++ event.Line numbered.line ∷ past) (sym run.is)) whole
+group_paired header outside past numbered group (Some code) x is made was =
+    subst (λ (z : List Event). Paired (z ++ event.Line numbered.line ∷ past)) (sym made) (paired (event.Refused code ∷ event.Line numbered.line ∷ []) past ((λ r h. refl), ((λ r h. refl), tt)) was)
+
+group_of : (header : Header) (outside : Outside) (past : List Event) (numbered : Numbered) (group history : List Event) → history ≡ group ++ event.Line numbered.line ∷ past → IsGroup header outside past numbered group → Paired past → Paired history
+group_of header outside past numbered group history is made was =
+    subst Paired (sym is) (group_paired header outside past numbered group (refusal header past numbered.command) (head header past numbered.command) refl made was)
+
+follows_paired : (header : Header) (outside : Outside) (commands : List Numbered) (history : List Event) → Follows header outside commands history → Paired history
+follows_paired header outside [] history is = subst Paired (sym is) (record { each = tt; shut = λ region. refl })
+follows_paired header outside (numbered ∷ before) history (past, group, is, made, done, follows) = group_of header outside past numbered group history is made (follows_paired header outside before past follows)
+
+so_far_paired : (header : Header) (outside : Outside) (commands : List Numbered) (history : List Event) → FollowsSoFar header outside commands history → Paired history
+so_far_paired header outside [] history is = subst Paired (sym is) (record { each = tt; shut = λ region. refl })
+so_far_paired header outside (numbered ∷ before) history (past, group, is, made, whole, follows) = group_of header outside past numbered group history is made (follows_paired header outside before past follows)
+
+pub entered : (header : Header) (outside : Outside) (commands : List Numbered) (history : List Event) → FollowsSoFar header outside commands history → EachEvent EntersNext history
+entered header outside commands history follows = (so_far_paired header outside commands history follows).each
+
+pub none_open : (header : Header) (outside : Outside) (commands : List Numbered) (history : List Event) → FollowsSoFar header outside commands history → IsShut history
+none_open header outside commands history follows = (so_far_paired header outside commands history follows).shut
+
+-- what a command adds behind its line
+
+pub entered_run : (header : Header) (before past : List Event) (doing : Command) (first more : List Event) → head header before doing ≡ Some first → EachOf IsConsequence more → EachEvent EntersNext past → IsShut past → EachEvent EntersNext (more ++ (reverse first ++ past))
+entered_run header before past doing first more is follows each shut = (run_paired header before past doing first more is follows (record { each = each; shut = shut })).each
+
+pub shut_run : (header : Header) (before past : List Event) (doing : Command) (first more : List Event) → head header before doing ≡ Some first → EachOf IsConsequence more → EachEvent EntersNext past → IsShut past → IsShut (more ++ (reverse first ++ past))
+shut_run header before past doing first more is follows each shut = (run_paired header before past doing first more is follows (record { each = each; shut = shut })).shut

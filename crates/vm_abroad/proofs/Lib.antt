@@ -1,0 +1,11 @@
+pub mod Chains
+pub mod Facts
+pub mod Heads
+pub mod Own
+pub mod Pages
+pub mod Regions
+pub mod Sounds
+pub mod Tasks
+pub mod TwoHosts
+pub mod Waits
+pub mod Whose

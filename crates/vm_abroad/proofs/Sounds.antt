@@ -1,0 +1,226 @@
+-- Temporary regions are used on one host, and what is declared stays as it was.
+use Rattle.std.proofs.Common.{◌≡◌, ℕ, ◌+◌, ◌<◌, ◌≤◌, ◌==◌, ◌&&◌, ◌||◌, Bool, true, false, not, List, [], ◌∷◌, Option, Some, None, refl, ap, sym, ◌∙◌, arith}
+use Rattle.std.proofs.lemmas.Bool.Decides.{nat_tests}
+use Rattle.std.specs.Prelude.{if◌then◌else◌, nat_lt, ◌≢◌}
+use Rattle.vm_model.specs.declared.event.Event.{Event}
+use Rattle.vm_model.specs.declared.event.Event.TheVariants as event
+use Rattle.vm_model.specs.declared.script.Header.{Header}
+use Rattle.vm_model.specs.Local.{is_on}
+use Rattle.vm_model.specs.Moments.{EachEvent}
+use Rattle.vm_model.specs.Named.{named}
+use Rattle.vm_model.specs.Regions.{backing_of, next_object, next_region, region_of}
+use Rattle.vm_model.specs.Tasks.{host_of}
+use Rattle.vm_legal.specs.Homes.{EntersNext, enters, is_open, is_used, starts_copy}
+use Rattle.vm_legal.specs.Licences.{HasCause}
+use Rattle.vm_legal.specs.Living.{lives_on}
+use Rattle.vm_legal.specs.Outside.{Outside, is_file}
+use Rattle.vm_legal.specs.Used.{in_use, is_kept, made_here}
+use Rattle.vm_abroad.specs.Sound.{Sound}
+
+-- tests
+
+pub both_left : (a b : Bool) → (a && b) ≡ true → a ≡ true
+both_left true b is = refl
+both_left false b is = is
+
+both_right : (a b : Bool) → (a && b) ≡ true → b ≡ true
+both_right true b is = is
+both_right false b is = absurd (let bad : false ≡ true = is in cc)
+
+no_not : (b : Bool) → not b ≡ true → b ≡ false
+no_not false is = refl
+no_not true is = absurd (let bad : false ≡ true = is in cc)
+
+pub unlike : (a b : ℕ) → a ≢ b → (a == b) ≡ false
+unlike a b other = grind (arith, nat_tests)
+
+-- in use, and used
+
+pub use_of : (header : Header) (h r : ℕ) (past : List Event) → is_used header h r past ≡ true → in_use header h r past ≡ true
+use_of header h r past is = both_left (in_use header h r past) (not (is_open r past)) is
+
+pub shut_of : (header : Header) (h r : ℕ) (past : List Event) → is_used header h r past ≡ true → is_open r past ≡ false
+shut_of header h r past is = no_not (is_open r past) (both_right (in_use header h r past) (not (is_open r past)) is)
+
+pub used_of : (header : Header) (h r : ℕ) (past : List Event) → is_open r past ≡ false → in_use header h r past ≡ true → is_used header h r past ≡ true
+used_of header h r past shut is = rw (shut, is) refl
+
+-- behind a region that was made stands its entry
+pub shut_before : (r : ℕ) (e : Event) (past : List Event) → EntersNext e past → enters r e ≡ false → is_open r past ≡ false
+shut_before r e past next other = by_test (is_open r past) refl
+  where
+    by_test : (b : Bool) → is_open r past ≡ b → b ≡ false
+    by_test false is = refl
+    by_test true is = absurd (let bad : true ≡ false = sym (next r is) ∙ other in cc)
+
+-- a task lives on one host
+pub one_home : (g h task : ℕ) (past : List Event) → lives_on g task past ≡ true → lives_on h task past ≡ true → g ≡ h
+one_home g h task past first second = go (host_of task past) first second
+  where
+    go : (x : Option ℕ) → is_on g x ≡ true → is_on h x ≡ true → g ≡ h
+    go None one two = absurd (let bad : false ≡ true = one in cc)
+    go (Some own) one two = grind (arith, nat_tests)
+
+-- a region in use was made
+
+made_next : (header : Header) (outside : Outside) (e : Event) (past : List Event) → Sound header past → HasCause header outside e past → (h r : ℕ) → named header ≤ r → in_use header h r (e ∷ past) ≡ true → r < next_region header (e ∷ past)
+made_next header outside (event.RegionMade new object pages) past sound cause h r temporary used = by_test (r == new.0) refl used
+  where
+    by_test : (b : Bool) → (r == new.0) ≡ b → (if b then made_here h past else in_use header h r past) ≡ true → r < next_region header past + 1
+    by_test true is now = let it : r ≡ new.0 = grind (arith, nat_tests) in let number = cause.1.0 in omega (arith, it, number)
+    by_test false is now = let old = sound.made h r temporary now in omega (arith, old)
+made_next header outside (event.RegionCopied new source offset pages) past sound cause h r temporary used = by_test (r == new.0) refl used
+  where
+    by_test : (b : Bool) → (r == new.0) ≡ b → (if b then in_use header h source.0 past else in_use header h r past) ≡ true → r < next_region header past + 1
+    by_test true is now = let it : r ≡ new.0 = grind (arith, nat_tests) in let number = cause.1.next in omega (arith, it, number)
+    by_test false is now = let old = sound.made h r temporary now in omega (arith, old)
+made_next header outside (event.Entered task address bytes entered offset prot inherit) past sound cause h r temporary used =
+    sound.made h r temporary (both_right (not (r == entered.0) || lives_on h task.0 past) (in_use header h r past) used)
+made_next header outside (event.Removed task address bytes) past sound cause h r temporary used =
+    sound.made h r temporary (both_right (is_kept header r (event.Removed task address bytes ∷ past)) (in_use header h r past) used)
+made_next header outside (event.TaskEnded task) past sound cause h r temporary used =
+    sound.made h r temporary (both_right (is_kept header r (event.TaskEnded task ∷ past)) (in_use header h r past) used)
+made_next header outside (event.Failed task object page) past sound cause h r temporary used =
+    sound.made h r temporary (both_right (is_kept header r (event.Failed task object page ∷ past)) (in_use header h r past) used)
+made_next header outside other past sound cause h r temporary used = sound.made h r temporary used
+
+-- on one host
+
+made_apart : (g h : ℕ) (past : List Event) → (made_here g past && not (not (starts_copy past))) ≡ true → (made_here h past && not (not (starts_copy past))) ≡ true → g ≡ h
+made_apart g h (event.BegunCopy task address bytes to ∷ past) one two = one_home g h task.0 past (both_left (lives_on g task.0 past) true one) (both_left (lives_on h task.0 past) true two)
+made_apart g h [] one two = absurd (let bad : false ≡ true = one in cc)
+made_apart g h (e ∷ past) one two = absurd (let bad : false ≡ true = one in cc)
+
+-- an event that makes no region, and enters this one on no host, leaves at most what was used
+was_used : (header : Header) (h r : ℕ) (e : Event) (past : List Event) → EntersNext e past → enters r e ≡ false → (in_use header h r past && true) ≡ true → is_used header h r past ≡ true
+was_used header h r e past next other is = used_of header h r past (shut_before r e past next other) (both_left (in_use header h r past) true is)
+
+kept_used : (header : Header) (h r : ℕ) (kept : Bool) (e : Event) (past : List Event) → EntersNext e past → enters r e ≡ false → ((kept && in_use header h r past) && true) ≡ true → is_used header h r past ≡ true
+kept_used header h r kept e past next other is = used_of header h r past (shut_before r e past next other) (both_right kept (in_use header h r past) (both_left (kept && in_use header h r past) true is))
+
+apart_next : (header : Header) (outside : Outside) (e : Event) (past : List Event) → Sound header past → HasCause header outside e past → EntersNext e past
+    → (g h r : ℕ) → named header ≤ r → is_used header g r (e ∷ past) ≡ true → is_used header h r (e ∷ past) ≡ true → g ≡ h
+apart_next header outside (event.RegionMade new object pages) past sound cause next g h r temporary one two = by_test (r == new.0) one two
+  where
+    by_test : (b : Bool) → ((if b then made_here g past else in_use header g r past) && not (b && not (starts_copy past))) ≡ true → ((if b then made_here h past else in_use header h r past) && not (b && not (starts_copy past))) ≡ true → g ≡ h
+    by_test true one two = made_apart g h past one two
+    by_test false one two = sound.apart g h r temporary (was_used header g r (event.RegionMade new object pages) past next refl one) (was_used header h r (event.RegionMade new object pages) past next refl two)
+apart_next header outside (event.RegionCopied new source offset pages) past sound cause next g h r temporary one two = by_test (r == new.0) one two
+  where
+    by_test : (b : Bool) → ((if b then in_use header g source.0 past else in_use header g r past) && true) ≡ true → ((if b then in_use header h source.0 past else in_use header h r past) && true) ≡ true → g ≡ h
+    by_test true one two = sound.apart g h source.0 cause.1.temporary (was_used header g source.0 (event.RegionCopied new source offset pages) past next refl one) (was_used header h source.0 (event.RegionCopied new source offset pages) past next refl two)
+    by_test false one two = sound.apart g h r temporary (was_used header g r (event.RegionCopied new source offset pages) past next refl one) (was_used header h r (event.RegionCopied new source offset pages) past next refl two)
+apart_next header outside (event.Entered task address bytes entered offset prot inherit) past sound cause next g h r temporary one two = by_test (r == entered.0) refl one two
+  where
+    by_test : (b : Bool) → (r == entered.0) ≡ b → (((not b || lives_on g task.0 past) && in_use header g r past) && true) ≡ true → (((not b || lives_on h task.0 past) && in_use header h r past) && true) ≡ true → g ≡ h
+    by_test true is one two =
+        one_home g h task.0 past (both_left (lives_on g task.0 past) (in_use header g r past) (both_left (lives_on g task.0 past && in_use header g r past) true one))
+        (both_left (lives_on h task.0 past) (in_use header h r past) (both_left (lives_on h task.0 past && in_use header h r past) true two))
+    by_test false is one two =
+        let e : Event = event.Entered task address bytes entered offset prot inherit in
+        sound.apart g h r temporary (was_used header g r e past next is one) (was_used header h r e past next is two)
+apart_next header outside (event.Removed task address bytes) past sound cause next g h r temporary one two =
+    let e : Event = event.Removed task address bytes in
+    let kept : Bool = is_kept header r (e ∷ past) in
+    sound.apart g h r temporary (kept_used header g r kept e past next refl one) (kept_used header h r kept e past next refl two)
+apart_next header outside (event.TaskEnded task) past sound cause next g h r temporary one two =
+    let e : Event = event.TaskEnded task in
+    let kept : Bool = is_kept header r (e ∷ past) in
+    sound.apart g h r temporary (kept_used header g r kept e past next refl one) (kept_used header h r kept e past next refl two)
+apart_next header outside (event.Failed task object page) past sound cause next g h r temporary one two =
+    let e : Event = event.Failed task object page in
+    let kept : Bool = is_kept header r (e ∷ past) in
+    sound.apart g h r temporary (kept_used header g r kept e past next refl one) (kept_used header h r kept e past next refl two)
+apart_next header outside other past sound cause next g h r temporary one two = sound.apart g h r temporary (was_used header g r other past next refl one) (was_used header h r other past next refl two)
+
+-- what is declared
+
+unmarked_next : (header : Header) (outside : Outside) (e : Event) (past : List Event) → Sound header past → HasCause header outside e past → (r : ℕ) → r < named header → (region_of header r (e ∷ past)).mark ≡ false
+unmarked_next header outside (event.RegionMade new object pages) past sound cause r declared =
+    let number = cause.1.0 in
+    let more = sound.named_regions in
+    let other : (r == new.0) ≡ false = unlike r new.0 (λ same. omega (arith, same, number, more, declared)) in
+    rw other (sound.unmarked r declared)
+unmarked_next header outside (event.RegionCopied new source offset pages) past sound cause r declared =
+    let number = cause.1.next in
+    let more = sound.named_regions in
+    let temporary = cause.1.temporary in
+    let other : (r == new.0) ≡ false = unlike r new.0 (λ same. omega (arith, same, number, more, declared)) in
+    let apart : (r == source.0) ≡ false = unlike r source.0 (λ same. omega (arith, same, temporary, declared)) in
+    rw (other, apart) (sound.unmarked r declared)
+unmarked_next header outside (event.Shadowed changed new old) past sound cause r declared = by_test (r == changed.0)
+  where
+    by_test : (b : Bool) → (if b then false else (region_of header r past).mark) ≡ false
+    by_test true = refl
+    by_test false = sound.unmarked r declared
+unmarked_next header outside other past sound cause r declared = sound.unmarked r declared
+
+-- a region that gets a shadow is marked, so it is none of these
+pub no_shadow : (header : Header) (r changed : ℕ) (past : List Event) → Sound header past → r < named header → (region_of header changed past).mark ≡ true → (r == changed) ≡ false
+no_shadow header r changed past sound declared marked =
+    unlike r changed (λ same. let bad : false ≡ true = sym (sound.unmarked r declared) ∙ (ap (λ z. (region_of header z past).mark) same ∙ marked) in absurd (cc))
+
+tops_next : (header : Header) (outside : Outside) (e : Event) (past : List Event) → Sound header past → HasCause header outside e past → (r : ℕ) → r < named header → (region_of header r (e ∷ past)).top ≡ r
+tops_next header outside (event.RegionMade new object pages) past sound cause r declared =
+    let number = cause.1.0 in
+    let more = sound.named_regions in
+    let other : (r == new.0) ≡ false = unlike r new.0 (λ same. omega (arith, same, number, more, declared)) in
+    rw other (sound.tops r declared)
+tops_next header outside (event.RegionCopied new source offset pages) past sound cause r declared =
+    let number = cause.1.next in
+    let more = sound.named_regions in
+    let other : (r == new.0) ≡ false = unlike r new.0 (λ same. omega (arith, same, number, more, declared)) in
+    rw other (sound.tops r declared)
+tops_next header outside (event.Shadowed changed new old) past sound cause r declared =
+    let other : (r == changed.0) ≡ false = no_shadow header r changed.0 past sound declared cause.1.marked in
+    rw other (sound.tops r declared)
+tops_next header outside other past sound cause r declared = sound.tops r declared
+
+bare_next : (header : Header) (outside : Outside) (e : Event) (past : List Event) → Sound header past → HasCause header outside e past → (o : ℕ) → o < named header → (backing_of header o (e ∷ past)).backed ≡ false
+bare_next header outside (event.Shadowed changed new old) past sound cause o declared =
+    let number = cause.1.next in
+    let more = sound.named_objects in
+    let other : (o == new.0) ≡ false = unlike o new.0 (λ same. omega (arith, same, number, more, declared)) in
+    rw other (sound.bare o declared)
+bare_next header outside other past sound cause o declared = sound.bare o declared
+
+-- numbers rise
+
+pub regions_rise : (header : Header) (e : Event) (past : List Event) → next_region header past ≤ next_region header (e ∷ past)
+regions_rise header (event.RegionMade new object pages) past = omega arith
+regions_rise header (event.RegionCopied new source offset pages) past = omega arith
+regions_rise header other past = omega arith
+
+pub objects_rise : (header : Header) (e : Event) (past : List Event) → next_object header past ≤ next_object header (e ∷ past)
+objects_rise header (event.RegionMade new object pages) past = omega arith
+objects_rise header (event.Shadowed changed new old) past = omega arith
+objects_rise header other past = omega arith
+
+pub sound_next : (header : Header) (outside : Outside) (e : Event) (past : List Event) → Sound header past → HasCause header outside e past → EntersNext e past → Sound header (e ∷ past)
+sound_next header outside e past sound cause next = record {
+  named_regions = let rise = regions_rise header e past in let was = sound.named_regions in omega (arith, rise, was);
+  named_objects = let rise = objects_rise header e past in let was = sound.named_objects in omega (arith, rise, was);
+  made = made_next header outside e past sound cause;
+  apart = apart_next header outside e past sound cause next;
+  unmarked = unmarked_next header outside e past sound cause;
+  tops = tops_next header outside e past sound cause;
+  bare = bare_next header outside e past sound cause;
+}
+
+pub sound_start : (header : Header) → Sound header []
+sound_start header = record {
+  named_regions = omega arith;
+  named_objects = omega arith;
+  made = made_first;
+  apart = λ g h r temporary one two. let small = made_first g r temporary (both_left (is_file header r) true one) in absurd (omega (arith, small, temporary));
+  unmarked = λ r declared. refl;
+  tops = λ r declared. refl;
+  bare = λ o declared. refl;
+}
+  where
+    made_first : (h r : ℕ) → named header ≤ r → is_file header r ≡ true → r < named header
+    made_first h r temporary file = let less = both_left (nat_lt r (named header)) _ file in grind (arith, nat_tests)
+
+pub sound_of : (header : Header) (outside : Outside) (past : List Event) → EachEvent (HasCause header outside) past → EachEvent EntersNext past → Sound header past
+sound_of header outside [] causes next = sound_start header
+sound_of header outside (e ∷ past) causes next = sound_next header outside e past (sound_of header outside past causes.1 next.1) causes.0 next.0

@@ -1,0 +1,226 @@
+-- Whoever waits on a host waits as before, and for the same, where the host's facts read the same.
+use Rattle.std.proofs.Common.{◌≡◌, ℕ, zero, suc, ◌<◌, ◌≤◌, ◌==◌, ◌&&◌, Bool, true, false, not, List, Option, Some, ap, sym, ◌∙◌, subst, arith, inl, inr}
+use Rattle.std.proofs.lemmas.Bool.Decides.{nat_tests}
+use Rattle.std.specs.Prelude.{is_some}
+use Rattle.vm_base.specs.declared.entry.Entry.{Entry}
+use Rattle.vm_base.specs.Entries.{entry_at, page_at}
+use Rattle.vm_model.specs.declared.event.Event.{Event}
+use Rattle.vm_model.specs.declared.script.Header.{Header}
+use Rattle.vm_model.specs.Controls.{live_control}
+use Rattle.vm_model.specs.Local.{is_known_absent, is_on}
+use Rattle.vm_model.specs.Named.{named}
+use Rattle.vm_model.specs.Regions.{Region, backing_of, region_of}
+use Rattle.vm_model.specs.Rows.{found_row}
+use Rattle.vm_model.specs.Tasks.{entries_of, has_entry}
+use Rattle.vm_model.specs.Waiting.{Access, address_of, is_store, next_page}
+use Rattle.vm_legal.specs.Accesses.{Comes, Copies, Elsewhere, HasPlace, Nowhere, Raises, Waits, WaitsUnlocked, WantsFrame, names, page_of}
+use Rattle.vm_legal.specs.Frames.{frames_free}
+use Rattle.vm_legal.specs.Homes.{is_open, is_used}
+use Rattle.vm_legal.specs.Licences.{IsUnheld}
+use Rattle.vm_legal.specs.Prompt.{AReady, AnAnswer, AnUnlock, Awaits, IsExhausted, IsFull, IsSource, IsSwept, NoneInVain, WaitsForPager}
+use Rattle.vm_legal.specs.Walks.{Below, IsTop, Reach, Sight, Sinks, Walks, page_on, sight}
+use Rattle.vm_abroad.specs.Same.{SameFacts}
+use Rattle.vm_abroad.specs.Sound.{IsMade, IsRegionOf, Knows, Sound}
+use Rattle.vm_abroad.proofs.Chains.{below_is, leads_is, sinks_is, walks_is}
+use Rattle.vm_abroad.proofs.Facts.{small_region}
+use Rattle.vm_abroad.proofs.Regions.{kind_of}
+use Rattle.vm_abroad.proofs.Sounds.{use_of, used_of}
+
+lives_at : (h task : ℕ) (past : List Event) (x : Option ℕ) (host : ℕ) → x ≡ Some host → host ≡ h → is_on h x ≡ true
+lives_at h task past x host lives on = ap (is_on h) lives ∙ (let e : (host == h) ≡ true = grind (arith, nat_tests) in e)
+
+module _ (header : Header) (h : ℕ) (old new : List Event) (sound : Sound header old) (knows : Knows header h old) (same : SameFacts header h old new) where
+  -- places
+
+  pub page_now : (o p : ℕ) → page_on header h o p new ≡ page_on header h o p old
+  page_now o p = same.pages.local (record { object = o; page = p })
+
+  sight_now : (o p : ℕ) → sight header h o p new ≡ sight header h o p old
+  sight_now o p =
+      ap (λ z. let seen : Sight = record { page = z; may_have = is_some (live_control h o new) && not (is_known_absent header (record { object = o; page = p }) z) } in seen) (page_now o p)
+      ∙ ap (λ z. let seen : Sight = record { page = page_on header h o p old; may_have = is_some z && not (is_known_absent header (record { object = o; page = p }) (page_on header h o p old)) } in seen) (same.pages.live o)
+
+  region_now : (r : ℕ) → IsRegionOf header h r old → region_of header r new ≡ region_of header r old
+  region_now r own = same.region r (small_region header h r old sound own) own
+
+  top_now : (r page top top_page : ℕ) → IsRegionOf header h r old → IsTop (region_of header r old) page top top_page → IsTop (region_of header r new) page top top_page
+  top_now r page top top_page own is = subst (λ (z : Region). IsTop z page top top_page) (sym (region_now r own)) is
+
+  made_top : (r page top top_page : ℕ) → IsRegionOf header h r old → IsTop (region_of header r old) page top top_page → IsMade header top old
+  made_top r page top top_page own is = subst (λ (z : ℕ). IsMade header z old) is.object (knows.chains r (small_region header h r old sound own) own)
+
+  place_now : (r page object object_page : ℕ) → IsRegionOf header h r old → HasPlace header r page object object_page old → HasPlace header r page object object_page new
+  place_now r page object object_page own is = record {
+    top = is.top;
+    top_page = is.top_page;
+    steps = is.steps;
+    is_top = top_now r page is.top is.top_page own is.is_top;
+    leads = leads_is header old new same.backing is.steps is.top is.top_page object object_page (made_top r page is.top is.top_page own is.is_top) is.leads;
+  }
+
+  walks_now : (r page top top_page n object object_page : ℕ) → IsRegionOf header h r old → IsTop (region_of header r old) page top top_page
+      → Walks (λ k q. sight header h k q old) (λ k. backing_of header k old) n top top_page object object_page → Walks (λ k q. sight header h k q new) (λ k. backing_of header k new) n top top_page object object_page
+  walks_now r page top top_page n object object_page own is_top walks =
+      walks_is header old new same.backing (λ k q. sight header h k q old) (λ k q. sight header h k q new) sight_now n top top_page object object_page (made_top r page top top_page own is_top) walks
+
+  sinks_now : (r page top top_page n : ℕ) → IsRegionOf header h r old → IsTop (region_of header r old) page top top_page
+      → Sinks (λ k q. sight header h k q old) (λ k. backing_of header k old) n top top_page → Sinks (λ k q. sight header h k q new) (λ k. backing_of header k new) n top top_page
+  sinks_now r page top top_page n own is_top sinks =
+      sinks_is header old new same.backing (λ k q. sight header h k q old) (λ k q. sight header h k q new) sight_now n top top_page (made_top r page top top_page own is_top) sinks
+
+  comes_now : (r page object object_page : ℕ) → IsRegionOf header h r old → Comes header h r page object object_page old → Comes header h r page object object_page new
+  comes_now r page object object_page own is = record {
+    top = is.top;
+    top_page = is.top_page;
+    steps = is.steps;
+    is_top = top_now r page is.top is.top_page own is.is_top;
+    walks = walks_now r page is.top is.top_page is.steps object object_page own is.is_top is.walks;
+  }
+
+  -- accesses
+
+  abbrev waits_now : (task : ℕ) (access : Access) (w : Waits header task access old) → w.at.host ≡ h → Waits header task access new
+  waits_now task access w on =
+      let it = same.task task (lives_at h task old _ w.at.host w.at.lives on) in
+      record {
+        waits = it.waiting ∙ w.waits;
+        at = record {
+          host = w.at.host;
+          entry = w.at.entry;
+          lives = it.host ∙ w.at.lives;
+          found = ap (λ z. entry_at (address_of header.size z access) (entries_of header.size task new)) it.next ∙ (ap (entry_at (address_of header.size (next_page task old) access)) it.entries ∙ w.at.found);
+        };
+      }
+
+  abbrev waits_was : (task : ℕ) (access : Access) (w : Waits header task access new) → w.at.host ≡ h → Waits header task access old
+  waits_was task access w on =
+      let it = same.task task (sym (same.lives task) ∙ lives_at h task new _ w.at.host w.at.lives on) in
+      record {
+        waits = sym it.waiting ∙ w.waits;
+        at = record {
+          host = w.at.host;
+          entry = w.at.entry;
+          lives = sym it.host ∙ w.at.lives;
+          found = ap (entry_at (address_of header.size (next_page task old) access)) (sym it.entries) ∙ (ap (λ z. entry_at (address_of header.size z access) (entries_of header.size task new)) (sym it.next) ∙ w.at.found);
+        };
+      }
+
+  own_region : (task : ℕ) (access : Access) (w : Waits header task access old) → w.at.host ≡ h → IsRegionOf header h w.at.entry.region.0 old
+  own_region task access w on =
+      (found_row (λ row. IsRegionOf header h row.region.0 old) (address_of header.size (next_page task old) access) (entries_of header.size task old) w.at.entry (knows.entries task (lives_at h task old _ w.at.host w.at.lives on)) w.at.found).is
+
+  index_now : (task : ℕ) (access : Access) (w : Waits header task access old) → w.at.host ≡ h → (entry : Entry) → page_of header task access old entry ≡ page_of header task access new entry
+  index_now task access w on entry = ap (λ z. page_at header.size (address_of header.size z access) entry) (sym (same.task task (lives_at h task old _ w.at.host w.at.lives on)).next)
+
+  wants_now : (task : ℕ) (access : Access) (r page : ℕ) → IsRegionOf header h r old → WantsFrame header h task access r page old → WantsFrame header h task access r page new
+  wants_now task access r page own (Nowhere top top_page steps is sinks) = Nowhere top top_page steps (top_now r page top top_page own is) (sinks_now r page top top_page steps own is sinks)
+  wants_now task access r page own (Elsewhere object object_page comes away unasked may ready) =
+      Elsewhere object object_page (comes_now r page object object_page own comes) (ap (λ z. z.here) (page_now object object_page) ∙ away) (ap (λ z. z.asked) (page_now object object_page) ∙ unasked)
+      (ap (λ z. z.may_have) (sight_now object object_page) ∙ may) (same.pages.ready object ∙ ready)
+  wants_now task access r page own (Copies object object_page comes here address bytes to is) =
+      Copies object object_page (comes_now r page object object_page own comes) (ap (λ z. z.here) (page_now object object_page) ∙ here) address bytes to is
+  wants_now task access r page own (Raises top top_page steps object object_page is walks here store) =
+      Raises top top_page steps object object_page (top_now r page top top_page own is) (walks_now r page top top_page (suc steps) object object_page own is walks) (ap (λ z. z.here) (page_now object object_page) ∙ here) store
+
+  awaits_now : (store : Bool) (object page : ℕ) → Awaits header h store object page old → Awaits header h store object page new
+  awaits_now store object page (AnAnswer asked) = AnAnswer (ap (λ z. z.asked) (page_now object page) ∙ asked)
+  awaits_now store object page (AReady control live unready) = AReady control (same.pages.live object ∙ live) (same.pages.ready object ∙ unready)
+  awaits_now store object page (AnUnlock here named unlocking) =
+      AnUnlock (ap (λ z. z.here) (page_now object page) ∙ here) (ap (λ z. names z.lock store) (page_now object page) ∙ named) (ap (λ z. z.unlocking) (page_now object page) ∙ unlocking)
+
+  place_of_wait : (task : ℕ) (access : Access) (w : Waits header task access old) → w.at.host ≡ h → (object page : ℕ) → HasPlace header w.at.entry.region.0 (page_of header task access old w.at.entry) object page old
+      → HasPlace header w.at.entry.region.0 (page_of header task access new w.at.entry) object page new
+  place_of_wait task access w on object page is =
+      subst (λ (z : ℕ). HasPlace header w.at.entry.region.0 z object page new) (index_now task access w on w.at.entry)
+      (place_now w.at.entry.region.0 (page_of header task access old w.at.entry) object page (own_region task access w on) is)
+
+  -- what they wait for
+
+  for_pager_now : (task : ℕ) (access : Access) → WaitsForPager header h task access old → WaitsForPager header h task access new
+  for_pager_now task access is = record {
+    waits = waits_now task access is.waits is.on_host;
+    on_host = is.on_host;
+    object = is.object;
+    page = is.page;
+    place = place_of_wait task access is.waits is.on_host is.object is.page is.place;
+    what = awaits_now (is_store access) is.object is.page is.what;
+  }
+
+  unlocked_now : (object page : ℕ) → WaitsUnlocked header h object page old → WaitsUnlocked header h object page new
+  unlocked_now object page is = record {
+    task = is.task;
+    access = is.access;
+    waits = waits_now is.task is.access is.waits is.on_host;
+    on_host = is.on_host;
+    place = place_of_wait is.task is.access is.waits is.on_host object page is.place;
+    here = ap (λ z. z.here) (page_now object page) ∙ is.here;
+    named = ap (λ z. names z.lock (is_store is.access)) (page_now object page) ∙ is.named;
+    unlocking = ap (λ z. z.unlocking) (page_now object page) ∙ is.unlocking;
+  }
+
+  source_now : (object page : ℕ) → IsSource header h object page old → IsSource header h object page new
+  source_now object page is =
+      let own = own_region is.task is.access is.waits is.on_host in
+      let index = index_now is.task is.access is.waits is.on_host is.waits.at.entry in
+      record {
+        task = is.task;
+        access = is.access;
+        waits = waits_now is.task is.access is.waits is.on_host;
+        on_host = is.on_host;
+        comes = subst (λ (z : ℕ). Comes header h is.waits.at.entry.region.0 z object page new) index (comes_now is.waits.at.entry.region.0 (page_of header is.task is.access old is.waits.at.entry) object page own is.comes);
+        wants = subst (λ (z : ℕ). WantsFrame header h is.task is.access is.waits.at.entry.region.0 z new) index (wants_now is.task is.access is.waits.at.entry.region.0 (page_of header is.task is.access old is.waits.at.entry) own is.wants);
+      }
+
+  here_was : (o p : ℕ) → (page_on header h o p new).here ≡ true → (page_on header h o p old).here ≡ true
+  here_was o p here = sym (ap (λ z. z.here) (page_now o p)) ∙ here
+
+  exhausted_now : IsExhausted header h old old → IsExhausted header h new new
+  exhausted_now is = record {
+    held = λ o p here. elim (is.held o p (here_was o p here)) [ inl waits ↦ inl (unlocked_now o p waits) | inr source ↦ inr (source_now o p source) ];
+    one = λ o p q r here there none nor. is.one o p q r (here_was o p here) (here_was q r there) (λ waits. none (unlocked_now o p waits)) (λ waits. nor (unlocked_now q r waits));
+  }
+
+  free_now : frames_free header h new ≡ frames_free header h old
+  free_now = let held = same.pages.held in let wired = same.pages.wired in omega (arith, held, wired)
+
+  pub full_now : IsFull header h old → IsFull header h new
+  full_now is = record {
+    none = free_now ∙ is.none;
+    why = elim (is.why) [ inl out ↦ inl (subst (λ (z : ℕ). 0 < z) (sym same.pages.out) out) | inr exhausted ↦ inr (exhausted_now exhausted) ];
+  }
+
+  pub vain_now : NoneInVain header h old → NoneInVain header h new
+  vain_now none task access waits on = elim (none task access (waits_was task access waits on) on) [ inl pager ↦ inl (for_pager_now task access pager) | inr full ↦ inr (full_now full) ]
+
+  -- what is left of temporary objects
+
+  reach_declared : (r n object : ℕ) → r < named header → named header ≤ object → Below (λ o. backing_of header o old) n r object → ⊥
+  reach_declared r zero object declared temporary is = omega (arith, is, declared, temporary)
+  reach_declared r (suc n) object declared temporary is = let bad : true ≡ false = sym is.0 ∙ sound.bare r declared in absurd (cc)
+
+  reach_now : ((r : ℕ) → is_open r old ≡ false) → (object : ℕ) → named header ≤ object → Reach header h object old → Reach header h object new
+  reach_now shut object temporary reach = elim (kind_of header reach.0) [
+    | inl declared ↦ absurd (reach_declared reach.0 reach.1 object declared temporary (subst (λ (z : ℕ). Below (λ o. backing_of header o old) reach.1 z object) (sound.tops reach.0 declared) reach.3))
+    | inr ours ↦
+        let used : is_used header h reach.0 old ≡ true = used_of header h reach.0 old (shut reach.0) reach.2 in
+        let own : IsRegionOf header h reach.0 old = λ is. used in (
+          reach.0,
+          reach.1,
+          use_of header h reach.0 new (same.used reach.0 ours ∙ used),
+          subst (λ (z : Region). Below (λ o. backing_of header o new) reach.1 z.top object) (sym (region_now reach.0 own))
+              (below_is header old new same.backing reach.1 (region_of header reach.0 old).top object (knows.chains reach.0 (small_region header h reach.0 old sound own) own) reach.3),
+        )
+  ]
+
+  -- what is left of declared ones
+
+  unheld_was : (object : ℕ) → IsUnheld header h object new → IsUnheld header h object old
+  unheld_was object none task lives = sym (ap (has_entry object) (same.task task lives).entries) ∙ none task (same.lives task ∙ lives)
+
+  pub swept_now : ((r : ℕ) → is_open r old ≡ false) → IsSwept header h old → IsSwept header h new
+  swept_now shut is = record {
+    pages = λ object page temporary away. ap (λ z. z.here) (page_now object page) ∙ is.pages object page temporary (λ reach. away (reach_now shut object temporary reach));
+    controls = λ object temporary away. same.pages.live object ∙ is.controls object temporary (λ reach. away (reach_now shut object temporary reach));
+    declared_pages = λ object page declared none. ap (λ z. z.here) (page_now object page) ∙ is.declared_pages object page declared (unheld_was object none);
+    declared_controls = λ object declared none. same.pages.live object ∙ is.declared_controls object declared (unheld_was object none);
+  }

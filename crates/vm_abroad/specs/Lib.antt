@@ -1,0 +1,5 @@
+pub mod Own
+pub mod Run
+pub mod Same
+pub mod Sound
+pub mod Whose

@@ -1,0 +1,62 @@
+-- What an event of a host does to the host's own facts: nothing is asked of whose it is.
+use Rattle.std.specs.Prelude.{ℕ, ◌+◌, ◌-◌, ◌==◌, ◌&&◌, not, Bool, true, false, Option, Some, if◌then◌else◌}
+use Rattle.vm_base.specs.Pages.{little_endian_bytes}
+use Rattle.vm_model.specs.declared.event.Event.{Event}
+use Rattle.vm_model.specs.declared.event.Event.TheVariants as event
+use Rattle.vm_model.specs.declared.message.Channel.TheVariants.{Up, Down}
+use Rattle.vm_model.specs.declared.message.Message.TheVariants as message
+use Rattle.vm_model.specs.Controls.{is_control, without_control}
+use Rattle.vm_model.specs.Local.{Drops, Effect, Elsewhere, Local, Place, Raises, Stores, Zeroes, is_place, sent_effect, taken_effect}
+use Rattle.vm_legal.specs.Frames.{Change, Gives, Keeps, Takes, sent_up, taken_down, taken_up}
+
+-- to a place of the host, with what the host has of the others, and the live control of its object
+abbrev pub own_effect : Place → (Place → Local) → Option ℕ → Event → Effect
+own_effect place others live (event.Zeroed at object page) = if is_place place object.0 page.0 then Zeroes else Elsewhere
+own_effect place others live (event.Raised at lower lower_page upper upper_page) =
+    if is_place place upper.0 upper_page.0 then Raises (others (record { object = lower.0; page = lower_page.0 })).bytes else Elsewhere
+own_effect place others live (event.CopiedPage task page object object_page target) =
+    if is_place place target.0 page.0 then Raises (others (record { object = object.0; page = object_page.0 })).bytes else Elsewhere
+own_effect place others live (event.Stored task object page at size value) = if is_place place object.0 page.0 then Stores at (little_endian_bytes size value) else Elsewhere
+own_effect place others live (event.Dropped at object page) = if is_place place object.0 page.0 then Drops else Elsewhere
+own_effect place others live (event.Sent (Up at object) m) = if object.0 == place.object then sent_effect place.page live m else Elsewhere
+own_effect place others live (event.Taken (Down at object control) m) = if object.0 == place.object && is_control control live then taken_effect place.page m else Elsewhere
+own_effect place others live other = Elsewhere
+
+-- to its frames; whether its live control of an object has asked for a page comes in as a function
+abbrev pub own_change : (ℕ → ℕ → ℕ → Bool) → Event → Change
+own_change asked (event.Zeroed at object page) = Takes
+own_change asked (event.Raised at lower lower_page upper upper_page) = Takes
+own_change asked (event.CopiedPage task page object object_page target) = Takes
+own_change asked (event.Dropped at object page) = Gives
+own_change asked (event.Sent (Up at object) m) = sent_up true m
+own_change asked (event.Taken (Up at object) m) = taken_up true m
+own_change asked (event.Taken (Down at object control) m) = taken_down (asked object.0 control) m
+own_change asked other = Keeps
+
+-- to the live control of an object, the last one, and whether that is ready
+abbrev pub own_live : ℕ → Event → Option ℕ → Option ℕ
+own_live o (event.Sent (Up host object) (message.Init control size)) live = if object.0 == o then Some control else live
+own_live o (event.Sent (Up host object) (message.Create control size)) live = if object.0 == o then Some control else live
+own_live o (event.Sent (Up host object) (message.Terminate control)) live = if object.0 == o then without_control control live else live
+own_live o other live = live
+
+abbrev pub own_last : ℕ → Event → ℕ → ℕ
+own_last o (event.Sent (Up host object) (message.Init control size)) last = if object.0 == o then control else last
+own_last o (event.Sent (Up host object) (message.Create control size)) last = if object.0 == o then control else last
+own_last o other last = last
+
+abbrev pub own_ready : ℕ → Option ℕ → Event → Bool → Bool
+own_ready o live (event.Sent (Up host object) (message.Init control size)) was = if object.0 == o then false else was
+own_ready o live (event.Sent (Up host object) (message.Create control size)) was = if object.0 == o then false else was
+own_ready o live (event.Taken (Down host object control) (message.Ready cache strategy)) was = if object.0 == o && is_control control live then true else was
+own_ready o live other was = was
+
+-- to the frames that are wired, and the returns that are out
+abbrev pub own_wired : Event → ℕ → ℕ
+own_wired (event.Wired at count) was = count
+own_wired other was = was
+
+abbrev pub own_out : Event → ℕ → ℕ
+own_out (event.Sent (Up at object) (message.Return control page dirty keep bytes)) out = if not keep then out + 1 else out
+own_out (event.Taken (Up at object) (message.Return control page dirty keep bytes)) out = if not keep then out - 1 else out
+own_out other out = out

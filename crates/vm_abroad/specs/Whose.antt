@@ -1,0 +1,28 @@
+-- An event of one host is no other's.
+use Rattle.std.specs.Prelude.{ℕ, ◌≡◌, true, false, List, None}
+use Rattle.vm_model.specs.declared.event.Event.{Event}
+use Rattle.vm_model.specs.declared.event.Event.TheVariants as event
+use Rattle.vm_model.specs.declared.script.Header.{Header}
+use Rattle.vm_model.specs.Tasks.{host_of}
+use Rattle.vm_legal.specs.Homes.{EntersNext, is_home, is_open}
+use Rattle.vm_legal.specs.Licences.{HasCause}
+use Rattle.vm_legal.specs.Outside.{Outside}
+
+-- whosever the event is, it is this host's
+abbrev pub IsOwn : Header → ℕ → Event → List Event → Type 0
+IsOwn header g e past = (h : ℕ) → is_home header h e past ≡ true → h ≡ g
+
+-- a task that begins doesn't live yet
+abbrev pub IsNew : Event → List Event → Type 0
+IsNew (event.TaskMade task host) past = host_of task.0 past ≡ None
+IsNew other past = Unit {0}
+
+-- an event of a host, or nobody's
+pub record IsOfHost (header : Header) (outside : Outside) (g : ℕ) (e : Event) (past : List Event) : Type 0 where
+  pub cause : HasCause header outside e past
+  pub enters : EntersNext e past
+  pub own : IsOwn header g e past
+
+-- no region waits for its entry
+abbrev pub IsShut : List Event → Type 0
+IsShut past = (region : ℕ) → is_open region past ≡ false

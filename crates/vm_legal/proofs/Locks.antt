@@ -1,0 +1,35 @@
+-- A step that took no message down took no lock_request.
+use Rattle.std.proofs.Common.{◌≡◌, Bool, true, false, List, [], ◌∷◌, Option, Some, None, refl, ap, sym, ◌∙◌}
+use Rattle.vm_model.specs.declared.event.Event.{Event}
+use Rattle.vm_model.specs.declared.event.Event.TheVariants as event
+use Rattle.vm_model.specs.declared.message.Channel.{Channel}
+use Rattle.vm_model.specs.declared.message.Channel.TheVariants.{Up, Down}
+use Rattle.vm_model.specs.declared.message.Message.{Message}
+use Rattle.vm_legal.specs.Licences.{LockRequest, lock_taken}
+use Rattle.vm_legal.specs.Steps.{Letter, taken}
+
+abbrev is_down : Channel → Bool
+is_down (Up host object) = false
+is_down (Down host object control) = true
+
+abbrev pub came_down : Option Letter → Bool
+came_down None = false
+came_down (Some letter) = is_down letter.channel
+
+-- what was taken was no lock_request
+unlocking : (at : Channel) (m : Message) (past : List Event) → is_down at ≡ false → lock_taken (event.Taken at m ∷ past) ≡ None
+unlocking (Up host object) m past up = refl
+unlocking (Down host object control) m past up = absurd (let bad : true ≡ false = up in cc)
+
+pub no_lock : (past : List Event) → came_down (taken past) ≡ false → lock_taken past ≡ None
+no_lock [] up = refl
+no_lock (event.Line line ∷ past) up = refl
+no_lock (event.Taken channel m ∷ past) up = unlocking channel m past up
+no_lock (e ∷ past) up = no_lock past up
+
+pub none_locked : (past : List Event) → taken past ≡ None → lock_taken past ≡ None
+none_locked past none = no_lock past (ap came_down none)
+
+-- so it owes nothing of one
+pub no_request : {R : Type 0} (request : LockRequest) (past : List Event) → lock_taken past ≡ None → lock_taken past ≡ Some request → R
+no_request request past none is = let bad : ◌≡◌ {A = Option LockRequest} None (Some request) = sym none ∙ is in absurd (cc)
