@@ -13,24 +13,14 @@ use Rattle.vm_objects.specs.Objects.{ObjectTable, PutsAbsent, PutsObject, SameRo
 use Rattle.vm_objects.specs.declared.row.ObjectRow.{ObjectRow}
 use Rattle.vm_objects.specs.declared.row.PagerState.{PagerState}
 use Rattle.vm_objects.specs.declared.row.PagerState.TheVariants as state
+use Rattle.vm_parts.specs.Changes.{Discards, Removes}
+use Rattle.vm_parts.specs.declared.parts.HostParts.{HostParts}
 use Rattle.vm_pageout.specs.Laundry.{LaundryList}
 use Rattle.vm_pageout.specs.declared.answer.Reclaim.{Reclaim}
 use Rattle.vm_pageout.specs.declared.answer.Reclaim.TheVariants as reclaim
 use Rattle.vm_queues.specs.Queues.{AllSkipped, Queues, balanced, chosen, is_queued, is_skipped, removed, spared}
 use Rattle.vm_resident.specs.Resident.{PutsOwner, PutsRow, ResidentTable, owner_of, row_at}
 use Rattle.vm_resident.specs.declared.page_row.PageRow.{PageRow}
-
--- the parts of a host from which pages are reclaimed, and the events so far
-pub record Parts : Type 0 where
-  pub frames : FrameTable
-  pub resident : ResidentTable
-  pub queues : Queues
-  pub objects : ObjectTable
-  pub laundry : LaundryList
-  pub events : List Event
-
-abbrev pub parts : FrameTable → ResidentTable → Queues → ObjectTable → LaundryList → List Event → Parts
-parts f r q o l e = record { frames = f; resident = r; queues = q; objects = o; laundry = l; events = e }
 
 -- the queues, once a victim was looked for
 abbrev pub searched : Queues → Queues
@@ -56,74 +46,70 @@ told_from told creation events = events
 abbrev pub told : HostId → PageKey → ℕ → ObjectRow → List Event → List Event
 told host key size row events = told_from row.state (sends host key (message.Create (controlled row).control size)) events
 
--- a page that is here is the victim, and leaves the host
-pub record Leaves (skip : List FrameNo) (frame : FrameNo) (key : PageKey) (row : PageRow) (old new : Parts) : Type 0 where
-  pub victim : chosen skip (searched old.queues) ≡ Some frame
-  pub listed : is_queued old.queues frame.0 ≡ true
-  pub unskipped : is_skipped skip frame.0 ≡ false
-  pub page : owner_of old.resident frame.0 ≡ Some key
-  pub found : row_at old.resident key.object.0 key.page.0 ≡ Some row
-  pub framed : row.frame ≡ frame
+-- the parts, once a victim was looked for
+abbrev pub looked : HostParts → HostParts
+looked parts = record parts { queues = searched parts.queues }
+
+-- a page that is here is the victim
+pub record IsChosen (skip : List FrameNo) (row : PageRow) (queues : Queues) : Type 0 where
+  pub victim : chosen skip (searched queues) ≡ Some row.frame
+  pub listed : is_queued queues row.frame.0 ≡ true
+  pub unskipped : is_skipped skip row.frame.0 ≡ false
   pub here : row.here ≡ true
-  pub gone : PutsRow key.object.0 key.page.0 None old.resident new.resident
-  pub unowned : PutsOwner frame.0 None old.resident new.resident
-  pub queues : new.queues ≡ removed frame.0 (searched old.queues)
 
 -- each page is skipped, and nothing but the lists' order changes
-pub record IsNothing (skip : List FrameNo) (old new : Parts) : Type 0 where
+pub record IsNothing (skip : List FrameNo) (old new : HostParts) (was now : LaundryList) (before after : List Event) : Type 0 where
   pub skipped : AllSkipped skip old.queues
   pub queues : new.queues ≡ searched old.queues
   pub frames : new.frames ≡ old.frames
   pub resident : new.resident ≡ old.resident
   pub objects : new.objects ≡ old.objects
-  pub laundry : new.laundry ≡ old.laundry
-  pub events : new.events ≡ old.events
+  pub laundry : now ≡ was
+  pub events : after ≡ before
 
 -- the victim is neither dirty nor precious; it is dropped, and its frame is free
-pub record IsFreed (host : HostId) (skip : List FrameNo) (old new : Parts) : Type 0 where
-  pub frame : FrameNo
+pub record IsFreed (host : HostId) (skip : List FrameNo) (old new : HostParts) (was now : LaundryList) (before after : List Event) : Type 0 where
   pub key : PageKey
   pub row : PageRow
-  pub leaves : Leaves skip frame key row old new
+  pub victim : IsChosen skip row old.queues
+  pub page : Discards key row (looked old) new
   pub clean : row.dirty ≡ false
   pub plain : row.precious ≡ false
-  pub frames : Releases frame.0 old.frames new.frames
   pub objects : new.objects ≡ old.objects
-  pub laundry : new.laundry ≡ old.laundry
-  pub events : new.events ≡ event.Dropped host key.object key.page ∷ old.events
+  pub laundry : now ≡ was
+  pub events : after ≡ event.Dropped host key.object key.page ∷ before
 
 -- The victim is dirty or precious. Its bytes go to the object's pager, which is told of the object first where it has no pager;
 -- its frame stays claimed, and the laundry holds it.
-pub record IsReturned (host : HostId) (size : ℕ) (skip : List FrameNo) (old new : Parts) : Type 0 where
-  pub frame : FrameNo
+pub record IsReturned (host : HostId) (skip : List FrameNo) (old new : HostParts) (was now : LaundryList) (before after : List Event) : Type 0 where
   pub key : PageKey
   pub row : PageRow
   pub object : ObjectRow
-  pub leaves : Leaves skip frame key row old new
+  pub victim : IsChosen skip row old.queues
+  pub page : Removes key row (looked old) new
   pub wanted : (row.dirty || row.precious) ≡ true
-  pub frames : new.frames ≡ old.frames
   pub known : object_at old.objects key.object.0 ≡ Some object
   pub objects : PutsObject key.object.0 (Some (controlled object)) old.objects new.objects
   pub live : (controlled object).live ≡ true
   pub present : PutsAbsent key.object.0 key.page.0 false old.objects new.objects
   pub rooms : SameRooms old.objects new.objects
-  pub held : new.laundry.held ≡ old.laundry.held ++ frame ∷ []
-  pub room : new.laundry.room + 1 ≡ old.laundry.room
+  pub held : now.held ≡ was.held ++ row.frame ∷ []
+  pub room : now.room + 1 ≡ was.room
   pub events :
-      new.events ≡ sends host key (message.Return (controlled object).control key.page row.dirty false (page_in old.frames frame.0))
-      ∷ told host key size object old.events
+      after ≡ sends host key (message.Return (controlled object).control key.page row.dirty false (page_in old.frames row.frame.0))
+      ∷ told host key old.buffers.size object before
 
--- what the answer says of the parts
-abbrev pub Reclaims : Reclaim → HostId → ℕ → List FrameNo → Parts → Parts → Type 0
-Reclaims reclaim.Freed host size skip old new = IsFreed host skip old new
-Reclaims reclaim.Returned host size skip old new = IsReturned host size skip old new
-Reclaims reclaim.Nothing host size skip old new = IsNothing skip old new
+-- what the answer says of the parts, the laundry and the events
+abbrev pub Reclaims : Reclaim → HostId → List FrameNo → HostParts → HostParts → LaundryList → LaundryList → List Event → List Event → Type 0
+Reclaims reclaim.Freed host skip old new was now before after = IsFreed host skip old new was now before after
+Reclaims reclaim.Returned host skip old new was now before after = IsReturned host skip old new was now before after
+Reclaims reclaim.Nothing host skip old new was now before after = IsNothing skip old new was now before after
 
--- the parts are as they were
-pub record IsUnchanged (old new : Parts) : Type 0 where
+-- all is as it was, but for the buffers that are kept
+pub record IsUnchanged (old new : HostParts) (was now : LaundryList) (before after : List Event) : Type 0 where
   pub frames : new.frames ≡ old.frames
   pub resident : new.resident ≡ old.resident
   pub queues : new.queues ≡ old.queues
   pub objects : new.objects ≡ old.objects
-  pub laundry : new.laundry ≡ old.laundry
-  pub events : new.events ≡ old.events
+  pub laundry : now ≡ was
+  pub events : after ≡ before

@@ -1,23 +1,23 @@
 // A page is taken from a host.
 ghost use Rattle.std.specs.Prelude.{◌≡◌, ◌+◌, ◌≤◌, ◌<◌, ◌↔◌, true, false, Some, ◌∷◌, IfOk, IfSome, IsOk, IsSome, OnErr, OnOk, length};
-ghost use Rattle.vm_frames.specs.Frames.{Releases, is_claimed, page_in};
+ghost use Rattle.vm_frames.specs.Frames.{is_claimed, page_in};
 ghost use Rattle.vm_model.specs.declared.event.Event.TheVariants as event;
 ghost use Rattle.vm_model.specs.declared.message.Message.TheVariants as message;
-ghost use Rattle.vm_objects.specs.Objects.{PutsAbsent, PutsObject, SameMarks, SameObjects, SameRooms, object_at};
+ghost use Rattle.vm_objects.specs.Objects.{PutsAbsent, PutsObject, SameMarks, SameRooms, object_at};
 ghost use Rattle.vm_pageout.specs.declared.answer.Reclaim.TheVariants as answers;
-ghost use Rattle.vm_pageout.specs.Reclaims.{IsUnchanged, Reclaims, controlled, parts, sends, told};
+ghost use Rattle.vm_pageout.specs.Reclaims.{IsUnchanged, Reclaims, controlled, sends, told};
+ghost use Rattle.vm_parts.specs.Changes.{Discards};
 ghost use Rattle.vm_parts.specs.Controls.{AllLive, HasNumbers};
 ghost use Rattle.vm_parts.specs.Fits.{Fit};
 ghost use Rattle.vm_queues.specs.Queues.{AllSkipped};
+ghost use Rattle.vm_resident.specs.Resident.{row_at};
 
 use crate::{Laundry, Reclaim};
-use std::alloc::Global;
-use vm_base::{Buffers, FrameNo, HostId, NoMemory, PageBytes, PageKey};
-use vm_frames::Frames;
+use vm_base::{FrameNo, HostId, NoMemory, PageKey};
 use vm_model::{Channel, Event, Events, Message};
 use vm_objects::{Objects, PagerState};
-use vm_queues::PageQueues;
-use vm_resident::{PageRow, Resident};
+use vm_parts::HostParts;
+use vm_resident::PageRow;
 
 /// Reclaims a page that is here, and says what became of it.
 ///
@@ -26,66 +26,63 @@ use vm_resident::{PageRow, Resident};
 /// without kernel copy, and behind memory_object_create where the pager doesn't know the object yet.
 /// The log gets at most two events. It fails for want of memory alone, before anything changes.
 pub fn reclaim(
-    alloc: Global,
     host: HostId,
-    frames: &mut Frames,
-    resident: &mut Resident,
-    queues: &mut PageQueues,
-    objects: &mut Objects,
-    buffers: &mut Buffers,
+    parts: &mut HostParts,
     skip: &[FrameNo],
     laundry: &mut Laundry,
     log: &mut Events,
 ) -> Result<Reclaim, NoMemory>
-    requires fit { Fit buffers.old.size frames.old resident.old queues.old objects.old }
+    requires fit { Fit parts.old }
     requires room { 0 < laundry.old.room }
-    requires live { AllLive objects.old }
-    requires numbers { HasNumbers objects.old }
-    ensures ok { IfOk result (λ answer. Reclaims answer host buffers.old.size skip.now
-        (parts frames.old resident.old queues.old objects.old laundry.old log.old.items)
-        (parts frames.new resident.new queues.new objects.new laundry.new log.new.items)) }
-    ensures nothing { IfOk result (λ answer. (answer ≡ answers.Nothing) ↔ AllSkipped skip.now queues.old) }
-    ensures err { OnErr result (IsUnchanged
-        (parts frames.old resident.old queues.old objects.old laundry.old log.old.items)
-        (parts frames.new resident.new queues.new objects.new laundry.new log.new.items)) }
-    ensures fit { Fit buffers.new.size frames.new resident.new queues.new objects.new }
-    ensures live { AllLive objects.new }
-    ensures size { buffers.new.size ≡ buffers.old.size }
-    ensures buffers { buffers.old.count ≤ buffers.new.count + 1 }
+    requires live { AllLive parts.old.objects }
+    requires numbers { HasNumbers parts.old.objects }
+    ensures ok { IfOk result (λ answer. Reclaims answer host skip.now parts.old parts.new laundry.old laundry.new log.old.items log.new.items) }
+    ensures nothing { IfOk result (λ answer. (answer ≡ answers.Nothing) ↔ AllSkipped skip.now parts.old.queues) }
+    ensures err { OnErr result (IsUnchanged parts.old parts.new laundry.old laundry.new log.old.items log.new.items) }
+    ensures fit { Fit parts.new }
+    ensures live { AllLive parts.new.objects }
+    ensures size { parts.new.buffers.size ≡ parts.old.buffers.size }
+    ensures buffers { parts.old.buffers.count ≤ parts.new.buffers.count + 1 }
     ensures log { log.old.room ≤ log.new.room + 2 }
-    ensures spare { resident.old.spare ≤ resident.new.spare }
-    ensures succeeds { 2 ≤ log.old.room → 0 < buffers.old.count → IsOk result }
+    ensures spare { parts.old.resident.spare ≤ parts.new.resident.spare }
+    ensures succeeds { 2 ≤ log.old.room → 0 < parts.old.buffers.count → IsOk result }
 {
     log.reserve(2)?;
-    buffers.reserve(1)?;
-    let Some(frame) = queues.victim(skip) else {
+    parts.buffers.reserve(1)?;
+    let Some(frame) = parts.queues.victim(skip) else {
         return Ok(Reclaim::Nothing);
     };
-    let Some(key) = resident.page_of(frame) else {
+    let Some(key) = parts.resident.page_of(frame) else {
         unreachable!()
     };
-    let Some(row) = resident.remove(key) else {
+    let Some(row) = parts.resident.get(key) else {
         unreachable!()
     };
-    queues.remove(frame);
     if !row.dirty && !row.precious {
-        drop_page(host, key, frame, frames, log);
+        drop_page(host, key, row, parts, log);
         return Ok(Reclaim::Freed);
     }
-    return_page(host, key, row, frames, objects, buffers, log);
+    let _ = parts.remove(key);
+    return_page(host, key, row, parts, log);
     laundry.hold(frame);
     Ok(Reclaim::Returned)
 }
 
-// Gives the frame of a page back, and says that the page is dropped.
-fn drop_page(host: HostId, key: PageKey, frame: FrameNo, frames: &mut Frames, log: &mut Events)
-    requires claimed { is_claimed frames.old frame.0 ≡ true }
+// Drops a page, and says so.
+fn drop_page(host: HostId, key: PageKey, row: PageRow, parts: &mut HostParts, log: &mut Events)
+    requires fit { Fit parts.old }
+    requires found { row_at parts.old.resident key.object.0 key.page.0 ≡ Some row }
+    requires here { row.here ≡ true }
     requires room { 0 < log.old.room }
-    ensures frames { Releases frame.0 frames.old frames.new }
+    ensures fit { Fit parts.new }
+    ensures discards { Discards key row parts.old parts.new }
+    ensures objects { parts.new.objects ≡ parts.old.objects }
+    ensures buffers { parts.new.buffers ≡ parts.old.buffers }
+    ensures spare { parts.old.resident.spare ≤ parts.new.resident.spare }
     ensures log { log.new.items ≡ event.Dropped host key.object key.page ∷ log.old.items }
     ensures less { log.old.room ≤ log.new.room + 1 }
 {
-    frames.release(frame);
+    parts.discard(key);
     let _ = log.push(Event::Dropped {
         host,
         object: key.object,
@@ -93,37 +90,31 @@ fn drop_page(host: HostId, key: PageKey, frame: FrameNo, frames: &mut Frames, lo
     });
 }
 
-// Sends a page to the pager of its object, which has it then.
-fn return_page(
-    host: HostId,
-    key: PageKey,
-    row: PageRow,
-    frames: &Frames,
-    objects: &mut Objects,
-    buffers: &mut Buffers,
-    log: &mut Events,
-)
-    requires claimed { is_claimed frames.now row.frame.0 ≡ true }
-    requires sized { length (page_in frames.now row.frame.0) ≡ buffers.old.size }
-    requires there { IsSome (object_at objects.old key.object.0) }
-    requires inside { IfSome (object_at objects.old key.object.0) (λ object. key.page.0 < object.pages) }
-    requires numbers { HasNumbers objects.old }
-    requires buffers { 0 < buffers.old.count }
+// Sends the bytes of a page that has left to the pager of its object, which has it then.
+fn return_page(host: HostId, key: PageKey, row: PageRow, parts: &mut HostParts, log: &mut Events)
+    requires claimed { is_claimed parts.old.frames row.frame.0 ≡ true }
+    requires sized { length (page_in parts.old.frames row.frame.0) ≡ parts.old.buffers.size }
+    requires there { IsSome (object_at parts.old.objects key.object.0) }
+    requires inside { IfSome (object_at parts.old.objects key.object.0) (λ object. key.page.0 < object.pages) }
+    requires numbers { HasNumbers parts.old.objects }
+    requires buffers { 0 < parts.old.buffers.count }
     requires room { 2 ≤ log.old.room }
-    ensures objects { IfSome (object_at objects.old key.object.0) (λ object. PutsObject key.object.0 (Some (controlled object)) objects.old objects.new) }
-    ensures present { PutsAbsent key.object.0 key.page.0 false objects.old objects.new }
-    ensures rooms { SameRooms objects.old objects.new }
-    ensures log { IfSome (object_at objects.old key.object.0) (λ object. log.new.items ≡
-        sends host key (message.Return (controlled object).control key.page row.dirty false (page_in frames.now row.frame.0))
-        ∷ told host key buffers.old.size object log.old.items) }
-    ensures size { buffers.new.size ≡ buffers.old.size }
-    ensures count { buffers.old.count ≡ buffers.new.count + 1 }
+    ensures rest { parts.new ≡ record parts.old { objects = parts.new.objects; buffers = parts.new.buffers } }
+    ensures objects { IfSome (object_at parts.old.objects key.object.0) (λ object. PutsObject key.object.0 (Some (controlled object)) parts.old.objects parts.new.objects) }
+    ensures present { PutsAbsent key.object.0 key.page.0 false parts.old.objects parts.new.objects }
+    ensures rooms { SameRooms parts.old.objects parts.new.objects }
+    ensures log { IfSome (object_at parts.old.objects key.object.0) (λ object. log.new.items ≡
+        sends host key (message.Return (controlled object).control key.page row.dirty false (page_in parts.old.frames row.frame.0))
+        ∷ told host key parts.old.buffers.size object log.old.items) }
+    ensures size { parts.new.buffers.size ≡ parts.old.buffers.size }
+    ensures count { parts.old.buffers.count ≡ parts.new.buffers.count + 1 }
     ensures less { log.old.room ≤ log.new.room + 2 }
 {
-    let control = control_of(host, key, buffers.size().bytes(), objects, log);
-    objects.clear_absent(key);
-    let mut hex = buffers.take();
-    hex.fill(frames.bytes(row.frame).as_slice());
+    let size = parts.buffers.size().bytes();
+    let control = control_of(host, key, size, &mut parts.objects, log);
+    parts.objects.clear_absent(key);
+    let mut hex = parts.buffers.take();
+    hex.fill(parts.frames.bytes(row.frame).as_slice());
     let _ = log.push(Event::Sent {
         channel: Channel::Up {
             host,

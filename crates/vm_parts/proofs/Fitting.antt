@@ -1,35 +1,155 @@
--- The parts of a host fit each other still, once one of them has changed.
-use Rattle.std.proofs.Common.{◌≡◌, ℕ, ◌<◌, ◌==◌, Bool, true, false, List, [], get_or, set, length, ap, sym, ◌∙◌, subst, Some, None, inl, inr, length-set}
-use Rattle.std.proofs.lemmas.List.{get_or-set_same}
-use Rattle.std.specs.Prelude.{if◌then◌else◌, ◌⊎◌}
+-- The parts of a host fit each other still, once a page or one of them has changed.
+use Rattle.std.proofs.Common.{◌≡◌, ℕ, ◌<◌, ◌==◌, Bool, true, false, List, length, refl, ap, sym, ◌∙◌, subst, Some, None, Option, inl, inr, length-set}
+use Rattle.std.specs.Prelude.{if◌then◌else◌, ◌⊎◌, is_some}
+use Rattle.vm_base.specs.declared.ids.FrameNo.{FrameNo}
 use Rattle.vm_base.specs.declared.ids.PageKey.{PageKey}
-use Rattle.vm_frames.specs.Frames.{Claims, FrameTable, Releases, frame_count, is_claimed, page_in}
-use Rattle.vm_frames.specs.Lending.{with_page}
+use Rattle.vm_frames.specs.Frames.{FrameTable, Releases, frame_count, is_claimed, page_in}
 use Rattle.vm_objects.specs.Objects.{ObjectTable, PutsObject, object_at}
 use Rattle.vm_objects.specs.declared.row.ObjectRow.{ObjectRow}
-use Rattle.vm_queues.specs.Queues.{KeepsPages, LosesPage, Queues, is_queued}
-use Rattle.vm_resident.specs.Resident.{IsOwned, PutsOwner, PutsRow, ResidentTable, owner_of, page_key, row_at}
+use Rattle.vm_queues.specs.Queues.{KeepsPages, Queues, is_queued}
+use Rattle.vm_resident.specs.Resident.{ResidentTable, owner_among, owner_of, page_key, row_among, row_at}
 use Rattle.vm_resident.specs.declared.page_row.PageRow.{PageRow}
+use Rattle.vm_parts.specs.Changes.{Changes, IsIn, is_here, led}
 use Rattle.vm_parts.specs.Fits.{Fit, object_pages, pages_kept}
-use Rattle.vm_parts.proofs.Rows.{IsOther, IsPut, claimed_inside, if_true, one_case, row_cases, set_cases, some_is}
+use Rattle.vm_parts.specs.declared.parts.HostParts.{HostParts}
+use Rattle.vm_parts.proofs.Rows.{IsOther, IsPut, claimed_inside, one_case, row_cases, set_cases, some_is}
 
--- the frame that a page has
-pub owner_is : (size : ℕ) (fs : FrameTable) (rs : ResidentTable) (qs : Queues) (os : ObjectTable) (key : PageKey) (row : PageRow)
-    → Fit size fs rs qs os → row_at rs key.object.0 key.page.0 ≡ Some row → owner_of rs row.frame.0 ≡ Some key
-owner_is size fs rs qs os key row fit found = fit.owned.at key.object.0 key.page.0 row found
+-- a row in the frame
+in_frame : (frame : FrameNo) (now : Option PageRow) (row : PageRow) → IsIn frame now → now ≡ Some row → row.frame.0 ≡ frame.0
+in_frame frame now row is same = ap (λ z. z.0) (subst (λ (z : Option PageRow). IsIn frame z) same is)
 
--- a frame on a list is a page's
-pub listed_owned : (size : ℕ) (fs : FrameTable) (rs : ResidentTable) (qs : Queues) (os : ObjectTable) (f : ℕ)
-    → Fit size fs rs qs os → is_queued qs f ≡ true → owner_of rs f ≡ None → ⊥
-listed_owned size fs rs qs os f fit listed none = let bad : false ≡ true = sym (fit.unlisted f none) ∙ listed in cc
+-- a frame that a page had leads to no other page
+led_apart : (key : PageKey) (was : Option PageRow) (o p : ℕ) → (key.object.0 ≡ o → key.page.0 ≡ p → ⊥) → led key was ≡ Some (page_key o p) → ⊥
+led_apart key None o p apart is = let bad : None ≡ Some (page_key o p) = is in cc
+led_apart key (Some row) o p apart is = let same : key ≡ page_key o p = some_is key (page_key o p) is in apart (ap (λ z. z.object.0) same) (ap (λ z. z.page.0) same)
 
-pub claims_it : (fs fs2 : FrameTable) (f : ℕ) → Claims f fs fs2 → is_claimed fs2 f ≡ true
-claims_it fs fs2 f claims = ap (λ z. is_claimed z f) claims.is ∙ get_or-set_same fs.claims f true false claims.inside
+led_none : (key : PageKey) (now : Option PageRow) → led key now ≡ None → now ≡ None
+led_none key None none = refl
+led_none key (Some row) none = absurd (let bad : Some key ≡ None = none in cc)
+
+unheld_none : (now : Option PageRow) (held : Bool) → (is_some now ≡ true → held ≡ true) → held ≡ false → now ≡ None
+unheld_none None held kept none = refl
+unheld_none (Some row) held kept none = absurd (let bad : true ≡ false = sym (kept refl) ∙ none in cc)
+
+-- the frame of another page is another
+pub frame_apart : (key : PageKey) (frame : FrameNo) (was now : Option PageRow) (held : Bool) (bytes : List ℕ) (lists : Queues) (old new : HostParts) → Fit old → Changes key frame was now held bytes lists old new
+    → (o p : ℕ) (row : PageRow) → (key.object.0 ≡ o → key.page.0 ≡ p → ⊥) → row_at old.resident o p ≡ Some row → frame.0 ≡ row.frame.0 → ⊥
+frame_apart key frame was now held bytes lists old new fit c o p row apart found same = led_apart key was o p apart (sym c.owned ∙ (ap (owner_of old.resident) same ∙ fit.owned.at o p row found))
+
+-- a page and its frame have changed
+pub fit_changed : (key : PageKey) (frame : FrameNo) (was now : Option PageRow) (held : Bool) (bytes : List ℕ) (lists : Queues) (old new : HostParts) → Fit old → Changes key frame was now held bytes lists old new
+    → (is_some now ≡ true → held ≡ true) → (is_some now ≡ true → key.page.0 < object_pages old.objects key.object.0) → length bytes ≡ old.buffers.size → lists.frames ≡ old.queues.frames
+    → new.objects ≡ old.objects → new.buffers ≡ old.buffers → Fit new
+fit_changed key frame was now held bytes lists old new fit c kept inside whole frames objects buffers =
+    record {
+      owned = record {
+        at = λ o p r is. elim (cases o p) [
+          | inl put ↦
+              let its : led key now ≡ Some key = ap (led key) (sym put.is ∙ is) in
+              ap (owner_of new.resident) (mine o p r put is) ∙ (owner_here ∙ (its ∙ ap Some (ap (λ z. page_key z key.page.0) put.object ∙ ap (page_key o) put.page)))
+          | inr that ↦ elim (one_case frame.0 r.frame.0 (led key now) (owner_of old.resident r.frame.0) (owner_of new.resident r.frame.0) (c.owner.at r.frame.0)) [
+            | inl same ↦ absurd (apart o p r that is same.0)
+            | inr other ↦ other.1 ∙ fit.owned.at o p r (sym that.is ∙ is)
+          ]
+        ];
+      };
+      held = λ o p r is. elim (one_case frame.0 r.frame.0 held (is_claimed old.frames r.frame.0) (is_claimed new.frames r.frame.0) (c.claim.at r.frame.0)) [
+        | inl same ↦ elim (cases o p) [
+          | inl put ↦ same.1 ∙ kept (ap is_some (sym put.is ∙ is))
+          | inr that ↦ absurd (apart o p r that is same.0)
+        ]
+        | inr other ↦ elim (cases o p) [
+          | inl put ↦ absurd (other.0 (sym (mine o p r put is)))
+          | inr that ↦ other.1 ∙ fit.held o p r (sym that.is ∙ is)
+        ]
+      ];
+      listed = λ o p r is. elim (one_case frame.0 r.frame.0 (is_here now) (is_queued old.queues r.frame.0) (is_queued new.queues r.frame.0) (c.lists_are r.frame.0)) [
+        | inl same ↦ elim (cases o p) [
+          | inl put ↦ same.1 ∙ ap is_here (sym put.is ∙ is)
+          | inr that ↦ absurd (apart o p r that is same.0)
+        ]
+        | inr other ↦ elim (cases o p) [
+          | inl put ↦ absurd (other.0 (sym (mine o p r put is)))
+          | inr that ↦ other.1 ∙ fit.listed o p r (sym that.is ∙ is)
+        ]
+      ];
+      unlisted = λ g none. elim (one_case frame.0 g (led key now) (owner_of old.resident g) (owner_of new.resident g) (c.owner.at g)) [
+        | inl same ↦ elim (one_case frame.0 g (is_here now) (is_queued old.queues g) (is_queued new.queues g) (c.lists_are g)) [
+          | inl also ↦ also.1 ∙ ap is_here (led_none key now (sym same.1 ∙ none))
+          | inr other ↦ absurd (other.0 same.0)
+        ]
+        | inr that ↦ elim (one_case frame.0 g (is_here now) (is_queued old.queues g) (is_queued new.queues g) (c.lists_are g)) [
+          | inl same ↦ absurd (that.0 same.0)
+          | inr other ↦ other.1 ∙ fit.unlisted g (sym that.1 ∙ none)
+        ]
+      ];
+      unowned = λ g free. elim (one_case frame.0 g held (is_claimed old.frames g) (is_claimed new.frames g) (c.claim.at g)) [
+        | inl same ↦ sym (ap (owner_of new.resident) same.0) ∙ (owner_here ∙ ap (led key) (unheld_none now held kept (sym same.1 ∙ free)))
+        | inr that ↦ elim (one_case frame.0 g (led key now) (owner_of old.resident g) (owner_of new.resident g) (c.owner.at g)) [
+          | inl same ↦ absurd (that.0 same.0)
+          | inr other ↦ other.1 ∙ fit.unowned g (sym that.1 ∙ free)
+        ]
+      ];
+      inside = λ o p r is. subst (λ (z : ObjectTable). p < object_pages z o) (sym objects) (elim (cases o p) [
+        | inl put ↦ subst (λ (z : ℕ). p < object_pages old.objects z) put.object (subst (λ (z : ℕ). z < object_pages old.objects key.object.0) put.page (inside (ap is_some (sym put.is ∙ is))))
+        | inr that ↦ fit.inside o p r (sym that.is ∙ is)
+      ]);
+      all_sized = λ g below. elim (one_case frame.0 g bytes (page_in old.frames g) (page_in new.frames g) (c.page.at g)) [
+        | inl same ↦ ap length same.1 ∙ (whole ∙ sym size)
+        | inr other ↦ ap length other.1 ∙ (fit.all_sized g (subst (λ (z : ℕ). g < z) count below) ∙ sym size)
+      ];
+      count = ap (λ z. z.frames) c.queues ∙ (frames ∙ (fit.count ∙ sym count));
+      pages = ap (λ z. length z.pages) c.frames ∙ (length-set old.frames.pages frame.0 bytes ∙ (fit.pages ∙ sym count));
+    }
+  where
+    cases : (o p : ℕ) → IsPut key.object.0 key.page.0 now o p (row_at new.resident o p) ⊎ IsOther key.object.0 key.page.0 (row_at old.resident o p) o p (row_at new.resident o p)
+    cases o p = row_cases key.object.0 key.page.0 now old.resident new.resident c.row o p
+
+    mine : (o p : ℕ) (r : PageRow) → IsPut key.object.0 key.page.0 now o p (row_at new.resident o p) → row_at new.resident o p ≡ Some r → r.frame.0 ≡ frame.0
+    mine o p r put is = in_frame frame now r c.now_in (sym put.is ∙ is)
+
+    apart : (o p : ℕ) (r : PageRow) → IsOther key.object.0 key.page.0 (row_at old.resident o p) o p (row_at new.resident o p) → row_at new.resident o p ≡ Some r → frame.0 ≡ r.frame.0 → ⊥
+    apart o p r that is same = frame_apart key frame was now held bytes lists old new fit c o p r that.apart (sym that.is ∙ is) same
+
+    owner_here : owner_of new.resident frame.0 ≡ led key now
+    owner_here = elim (one_case frame.0 frame.0 (led key now) (owner_of old.resident frame.0) (owner_of new.resident frame.0) (c.owner.at frame.0)) [ inl same ↦ same.1 | inr other ↦ absurd (other.0 refl) ]
+
+    count : frame_count new.frames ≡ frame_count old.frames
+    count = ap (λ z. length z.claims) c.frames ∙ length-set old.frames.claims frame.0 held
+
+    size : new.buffers.size ≡ old.buffers.size
+    size = ap (λ z. z.size) buffers
+
+-- a frame is claimed no more that no page has
+pub fit_released : (parts : HostParts) (fs : FrameTable) (f : ℕ) → Fit parts → is_claimed parts.frames f ≡ true → owner_of parts.resident f ≡ None → Releases f parts.frames fs → Fit (record parts { frames = fs })
+fit_released parts fs f fit mine none releases =
+    record {
+      owned = fit.owned;
+      held = λ o p r is. elim (one_case f r.frame.0 false (is_claimed parts.frames r.frame.0) (is_claimed fs r.frame.0) (claims r.frame.0)) [
+        | inl same ↦ absurd (let bad : None ≡ Some (page_key o p) = sym none ∙ (ap (owner_of parts.resident) same.0 ∙ fit.owned.at o p r is) in cc)
+        | inr that ↦ that.1 ∙ fit.held o p r is
+      ];
+      listed = fit.listed;
+      unlisted = fit.unlisted;
+      unowned = λ g free. elim (one_case f g false (is_claimed parts.frames g) (is_claimed fs g) (claims g)) [
+        | inl same ↦ sym (ap (owner_of parts.resident) same.0) ∙ none
+        | inr that ↦ fit.unowned g (sym that.1 ∙ free)
+      ];
+      inside = fit.inside;
+      all_sized = λ g below. ap (λ z. length (page_in z g)) releases.is ∙ fit.all_sized g (subst (λ (z : ℕ). g < z) count below);
+      count = fit.count ∙ sym count;
+      pages = ap (λ z. length z.pages) releases.is ∙ (fit.pages ∙ sym count);
+    }
+  where
+    claims : (g : ℕ) → is_claimed fs g ≡ (if f == g then false else is_claimed parts.frames g)
+    claims g = ap (λ z. is_claimed z g) releases.is ∙ set_cases parts.frames.claims f false false (claimed_inside parts.frames.claims f mine) g
+
+    count : frame_count fs ≡ frame_count parts.frames
+    count = ap frame_count releases.is ∙ length-set parts.frames.claims f false
 
 -- the lists hold the same pages
-pub fit_touched : (size : ℕ) (fs : FrameTable) (rs : ResidentTable) (qs qs2 : Queues) (os : ObjectTable)
-    → Fit size fs rs qs os → KeepsPages qs qs2 → qs2.frames ≡ qs.frames → Fit size fs rs qs2 os
-fit_touched size fs rs qs qs2 os fit keeps count =
+pub fit_touched : (parts : HostParts) (qs : Queues) → Fit parts → KeepsPages parts.queues qs → qs.frames ≡ parts.queues.frames → Fit (record parts { queues = qs })
+fit_touched parts qs fit keeps count =
     record {
       owned = fit.owned;
       held = fit.held;
@@ -42,21 +162,24 @@ fit_touched size fs rs qs qs2 os fit keeps count =
       pages = fit.pages;
     }
 
--- each object has as many pages
-pub fit_objects : (size : ℕ) (fs : FrameTable) (rs : ResidentTable) (qs : Queues) (os os2 : ObjectTable)
-    → Fit size fs rs qs os → ((o : ℕ) → object_pages os2 o ≡ object_pages os o) → Fit size fs rs qs os2
-fit_objects size fs rs qs os os2 fit same =
+-- the pages that are here are within their objects
+pub fit_within : (parts : HostParts) (os : ObjectTable) → Fit parts → ((o p : ℕ) (row : PageRow) → row_at parts.resident o p ≡ Some row → p < object_pages os o) → Fit (record parts { objects = os })
+fit_within parts os fit inside =
     record {
       owned = fit.owned;
       held = fit.held;
       listed = fit.listed;
       unlisted = fit.unlisted;
       unowned = fit.unowned;
-      inside = λ o p r is. subst (λ (z : ℕ). p < z) (sym (same o)) (fit.inside o p r is);
+      inside = inside;
       all_sized = fit.all_sized;
       count = fit.count;
       pages = fit.pages;
     }
+
+-- each object has as many pages
+pub fit_objects : (parts : HostParts) (os : ObjectTable) → Fit parts → ((o : ℕ) → object_pages os o ≡ object_pages parts.objects o) → Fit (record parts { objects = os })
+fit_objects parts os fit same = fit_within parts os fit (λ o p r is. subst (λ (z : ℕ). p < z) (sym (same o)) (fit.inside o p r is))
 
 -- an object's row has changed, but not its number of pages
 pub same_pages : (os os2 : ObjectTable) (id : ℕ) (row row2 : ObjectRow) → object_at os id ≡ Some row → row2.pages ≡ row.pages
@@ -66,109 +189,30 @@ same_pages os os2 id row row2 found same put o = elim (one_case id o (Some row2)
   | inr that ↦ ap pages_kept that.1
 ]
 
--- a page has left; its frame stays claimed
-pub fit_returned : (size : ℕ) (fs : FrameTable) (rs rs2 : ResidentTable) (qs qs2 : Queues) (os : ObjectTable) (key : PageKey) (row : PageRow)
-    → Fit size fs rs qs os → row_at rs key.object.0 key.page.0 ≡ Some row
-    → PutsRow key.object.0 key.page.0 None rs rs2 → PutsOwner row.frame.0 None rs rs2 → IsOwned rs2 → LosesPage row.frame.0 qs qs2 → qs2.frames ≡ qs.frames
-    → Fit size fs rs2 qs2 os
-fit_returned size fs rs rs2 qs qs2 os key row fit found put owner owned loses frames =
+-- there is more room
+pub fit_reserved : (parts : HostParts) (rs : ResidentTable) → Fit parts → rs.rows ≡ parts.resident.rows → Fit (record parts { resident = rs })
+fit_reserved parts rs fit same =
     record {
-      owned = owned;
-      held = λ o p r is. fit.held o p r (was o p r is);
-      listed = λ o p r is. elim (one_case row.frame.0 r.frame.0 false (is_queued qs r.frame.0) (is_queued qs2 r.frame.0) (loses r.frame.0)) [
-        | inl same ↦ absurd (apart o p r is same.0)
-        | inr that ↦ that.1 ∙ fit.listed o p r (was o p r is)
-      ];
-      unlisted = λ g none. elim (one_case row.frame.0 g false (is_queued qs g) (is_queued qs2 g) (loses g)) [
-        | inl same ↦ same.1
-        | inr that ↦ elim (one_case row.frame.0 g None (owner_of rs g) (owner_of rs2 g) (owner.at g)) [
-          | inl same ↦ absurd (that.0 same.0)
-          | inr more ↦ that.1 ∙ fit.unlisted g (sym more.1 ∙ none)
-        ]
-      ];
-      unowned = λ g free. elim (one_case row.frame.0 g None (owner_of rs g) (owner_of rs2 g) (owner.at g)) [
-        | inl same ↦ same.1
-        | inr more ↦ more.1 ∙ fit.unowned g free
-      ];
-      inside = λ o p r is. fit.inside o p r (was o p r is);
+      owned = record { at = λ o p r is. owners r.frame.0 ∙ fit.owned.at o p r (rows o p ∙ is) };
+      held = λ o p r is. fit.held o p r (rows o p ∙ is);
+      listed = λ o p r is. fit.listed o p r (rows o p ∙ is);
+      unlisted = λ f none. fit.unlisted f (sym (owners f) ∙ none);
+      unowned = λ f free. owners f ∙ fit.unowned f free;
+      inside = λ o p r is. fit.inside o p r (rows o p ∙ is);
       all_sized = fit.all_sized;
-      count = frames ∙ fit.count;
+      count = fit.count;
       pages = fit.pages;
     }
   where
-    was : (o p : ℕ) (r : PageRow) → row_at rs2 o p ≡ Some r → row_at rs o p ≡ Some r
-    was o p r is = elim (row_cases key.object.0 key.page.0 None rs rs2 put o p) [
-      | inl gone ↦ absurd (let bad : None ≡ Some r = sym gone.is ∙ is in cc)
-      | inr other ↦ sym other.is ∙ is
-    ]
+    rows : (o p : ℕ) → row_at parts.resident o p ≡ row_at rs o p
+    rows o p = ap (row_among o p) (sym same)
 
-    -- no other page has its frame
-    apart : (o p : ℕ) (r : PageRow) → row_at rs2 o p ≡ Some r → row.frame.0 ≡ r.frame.0 → ⊥
-    apart o p r is same = elim (row_cases key.object.0 key.page.0 None rs rs2 put o p) [
-      | inl gone ↦ let bad : None ≡ Some r = sym gone.is ∙ is in cc
-      | inr other ↦
-          let mine = fit.owned.at key.object.0 key.page.0 row found in
-          let its = fit.owned.at o p r (sym other.is ∙ is) in
-          let both : page_key key.object.0 key.page.0 ≡ page_key o p = some_is (page_key key.object.0 key.page.0) (page_key o p) (sym mine ∙ (ap (owner_of rs) same ∙ its)) in
-          other.apart (ap (λ z. z.object.0) both) (ap (λ z. z.page.0) both)
-    ]
+    owners : (f : ℕ) → owner_of rs f ≡ owner_of parts.resident f
+    owners f = ap (owner_among f) same
 
--- the frames with one claimed or not, where no page has it
-fit_claims : (size : ℕ) (fs : FrameTable) (rs : ResidentTable) (qs : Queues) (os : ObjectTable) (f : ℕ) (b : Bool)
-    → Fit size fs rs qs os → owner_of rs f ≡ None → f < frame_count fs → Fit size (record fs { claims = set fs.claims f b }) rs qs os
-fit_claims size fs rs qs os f b fit none inside =
-    record {
-      owned = fit.owned;
-      held = λ o p r is. elim (one_case f r.frame.0 b (is_claimed fs r.frame.0) (get_or (set fs.claims f b) r.frame.0 false) (cases r.frame.0)) [
-        | inl same ↦ absurd (let bad : None ≡ Some (page_key o p) = sym none ∙ (ap (owner_of rs) same.0 ∙ fit.owned.at o p r is) in cc)
-        | inr that ↦ that.1 ∙ fit.held o p r is
-      ];
-      listed = fit.listed;
-      unlisted = fit.unlisted;
-      unowned = λ g free. elim (one_case f g b (is_claimed fs g) (get_or (set fs.claims f b) g false) (cases g)) [
-        | inl same ↦ sym (ap (owner_of rs) same.0) ∙ none
-        | inr that ↦ fit.unowned g (sym that.1 ∙ free)
-      ];
-      inside = fit.inside;
-      all_sized = λ g below. fit.all_sized g (subst (λ (z : ℕ). g < z) count below);
-      count = fit.count ∙ sym count;
-      pages = fit.pages ∙ sym count;
-    }
-  where
-    count : length (set fs.claims f b) ≡ frame_count fs
-    count = length-set fs.claims f b
-
-    cases : (g : ℕ) → get_or (set fs.claims f b) g false ≡ (if f == g then b else is_claimed fs g)
-    cases g = set_cases fs.claims f b false inside g
-
--- a frame is claimed no more that no page has
-pub fit_released : (size : ℕ) (fs fs2 : FrameTable) (rs : ResidentTable) (qs : Queues) (os : ObjectTable) (f : ℕ)
-    → Fit size fs rs qs os → is_claimed fs f ≡ true → owner_of rs f ≡ None → Releases f fs fs2 → Fit size fs2 rs qs os
-fit_released size fs fs2 rs qs os f fit held none releases =
-    subst (λ (z : FrameTable). Fit size z rs qs os) (sym releases.is) (fit_claims size fs rs qs os f false fit none (claimed_inside fs.claims f held))
-
--- a frame is claimed
-pub fit_claimed : (size : ℕ) (fs fs2 : FrameTable) (rs : ResidentTable) (qs : Queues) (os : ObjectTable) (f : ℕ)
-    → Fit size fs rs qs os → Claims f fs fs2 → Fit size fs2 rs qs os
-fit_claimed size fs fs2 rs qs os f fit claims =
-    subst (λ (z : FrameTable). Fit size z rs qs os) (sym claims.is) (fit_claims size fs rs qs os f true fit (fit.unowned f claims.fresh) claims.inside)
-
--- a page has left, and its frame was released
-pub fit_lost : (size : ℕ) (fs fs2 : FrameTable) (rs rs2 : ResidentTable) (qs qs2 : Queues) (os : ObjectTable) (key : PageKey) (row : PageRow)
-    → Fit size fs rs qs os → row_at rs key.object.0 key.page.0 ≡ Some row → Releases row.frame.0 fs fs2
-    → PutsRow key.object.0 key.page.0 None rs rs2 → PutsOwner row.frame.0 None rs rs2 → IsOwned rs2 → LosesPage row.frame.0 qs qs2 → qs2.frames ≡ qs.frames
-    → Fit size fs2 rs2 qs2 os
-fit_lost size fs fs2 rs rs2 qs qs2 os key row fit found releases put owner owned loses frames =
-    fit_released size fs fs2 rs2 qs2 os row.frame.0
-    (fit_returned size fs rs rs2 qs qs2 os key row fit found put owner owned loses frames)
-    (fit.held key.object.0 key.page.0 row found)
-    (if_true row.frame.0 None (owner_of rs row.frame.0) (owner_of rs2 row.frame.0) (owner.at row.frame.0))
-    releases
-
--- a frame has other bytes
-pub fit_filled : (size : ℕ) (fs : FrameTable) (rs : ResidentTable) (qs : Queues) (os : ObjectTable) (f : ℕ) (bytes : List ℕ)
-    → Fit size fs rs qs os → is_claimed fs f ≡ true → length bytes ≡ size → Fit size (with_page fs f bytes) rs qs os
-fit_filled size fs rs qs os f bytes fit held whole =
+-- other buffers of that size are kept
+pub fit_buffers : (parts : HostParts) (size count : ℕ) → Fit parts → size ≡ parts.buffers.size → Fit (record parts { buffers = record { size = size; count = count } })
+fit_buffers parts size count fit same =
     record {
       owned = fit.owned;
       held = fit.held;
@@ -176,103 +220,7 @@ fit_filled size fs rs qs os f bytes fit held whole =
       unlisted = fit.unlisted;
       unowned = fit.unowned;
       inside = fit.inside;
-      all_sized = λ g below. elim (one_case f g bytes (page_in fs g) (page_in (with_page fs f bytes) g) (set_cases fs.pages f bytes [] inside g)) [
-        | inl same ↦ ap length same.1 ∙ whole
-        | inr that ↦ ap length that.1 ∙ fit.all_sized g below
-      ];
+      all_sized = λ f below. fit.all_sized f below ∙ sym same;
       count = fit.count;
-      pages = length-set fs.pages f bytes ∙ fit.pages;
-    }
-  where
-    inside : f < length fs.pages
-    inside = subst (λ (z : ℕ). f < z) (sym fit.pages) (claimed_inside fs.claims f held)
-
--- a page has got a row, with a claimed frame that no page had
-pub fit_brought : (size : ℕ) (fs : FrameTable) (rs rs2 : ResidentTable) (qs qs2 : Queues) (os : ObjectTable) (key : PageKey) (row : PageRow)
-    → Fit size fs rs qs os → is_claimed fs row.frame.0 ≡ true → owner_of rs row.frame.0 ≡ None → key.page.0 < object_pages os key.object.0
-    → PutsRow key.object.0 key.page.0 (Some row) rs rs2 → PutsOwner row.frame.0 (Some key) rs rs2 → IsOwned rs2
-    → ((g : ℕ) → is_queued qs2 g ≡ (if row.frame.0 == g then row.here else is_queued qs g)) → qs2.frames ≡ qs.frames
-    → Fit size fs rs2 qs2 os
-fit_brought size fs rs rs2 qs qs2 os key row fit held none inside put owner owned gains frames =
-    record {
-      owned = owned;
-      held = λ o p r is. elim (cases o p) [
-        | inl now ↦ subst (λ (z : PageRow). is_claimed fs z.frame.0 ≡ true) (some_is row r (sym now.is ∙ is)) held
-        | inr other ↦ fit.held o p r (sym other.is ∙ is)
-      ];
-      listed = λ o p r is. elim (cases o p) [
-        | inl now ↦
-            subst (λ (z : PageRow). is_queued qs2 z.frame.0 ≡ z.here) (some_is row r (sym now.is ∙ is))
-            (if_true row.frame.0 row.here (is_queued qs row.frame.0) (is_queued qs2 row.frame.0) (gains row.frame.0))
-        | inr other ↦ elim (one_case row.frame.0 r.frame.0 row.here (is_queued qs r.frame.0) (is_queued qs2 r.frame.0) (gains r.frame.0)) [
-          | inl same ↦ absurd (let bad : None ≡ Some (page_key o p) = sym none ∙ (ap (owner_of rs) same.0 ∙ fit.owned.at o p r (sym other.is ∙ is)) in cc)
-          | inr apart ↦ apart.1 ∙ fit.listed o p r (sym other.is ∙ is)
-        ]
-      ];
-      unlisted = λ g gone. elim (one_case row.frame.0 g (Some key) (owner_of rs g) (owner_of rs2 g) (owner.at g)) [
-        | inl same ↦ absurd (let bad : None ≡ Some key = sym gone ∙ same.1 in cc)
-        | inr apart ↦ elim (one_case row.frame.0 g row.here (is_queued qs g) (is_queued qs2 g) (gains g)) [
-          | inl same ↦ absurd (apart.0 same.0)
-          | inr more ↦ more.1 ∙ fit.unlisted g (sym apart.1 ∙ gone)
-        ]
-      ];
-      unowned = λ g free. elim (one_case row.frame.0 g (Some key) (owner_of rs g) (owner_of rs2 g) (owner.at g)) [
-        | inl same ↦ absurd (let bad : true ≡ false = sym held ∙ (ap (is_claimed fs) same.0 ∙ free) in cc)
-        | inr more ↦ more.1 ∙ fit.unowned g free
-      ];
-      inside = λ o p r is. elim (cases o p) [
-        | inl now ↦ subst (λ (z : ℕ). p < object_pages os z) now.object (subst (λ (z : ℕ). z < object_pages os key.object.0) now.page inside)
-        | inr other ↦ fit.inside o p r (sym other.is ∙ is)
-      ];
-      all_sized = fit.all_sized;
-      count = frames ∙ fit.count;
       pages = fit.pages;
     }
-  where
-    cases : (o p : ℕ) → IsPut key.object.0 key.page.0 (Some row) o p (row_at rs2 o p) ⊎ IsOther key.object.0 key.page.0 (row_at rs o p) o p (row_at rs2 o p)
-    cases o p = row_cases key.object.0 key.page.0 (Some row) rs rs2 put o p
-
--- a page's row has changed, on its frame, which is on a list exactly where the page is here now
-pub fit_set : (size : ℕ) (fs : FrameTable) (rs rs2 : ResidentTable) (qs qs2 : Queues) (os : ObjectTable) (key : PageKey) (row row2 : PageRow)
-    → Fit size fs rs qs os → row_at rs key.object.0 key.page.0 ≡ Some row → row2.frame ≡ row.frame
-    → PutsRow key.object.0 key.page.0 (Some row2) rs rs2 → ((g : ℕ) → owner_of rs2 g ≡ owner_of rs g) → IsOwned rs2
-    → ((g : ℕ) → is_queued qs2 g ≡ (if row.frame.0 == g then row2.here else is_queued qs g)) → qs2.frames ≡ qs.frames
-    → Fit size fs rs2 qs2 os
-fit_set size fs rs rs2 qs qs2 os key row row2 fit found same put owners owned lists frames =
-    record {
-      owned = owned;
-      held = λ o p r is. elim (cases o p) [
-        | inl now ↦ subst (λ (z : PageRow). is_claimed fs z.frame.0 ≡ true) (some_is row2 r (sym now.is ∙ is)) (ap (λ z. is_claimed fs z.0) same ∙ fit.held key.object.0 key.page.0 row found)
-        | inr other ↦ fit.held o p r (sym other.is ∙ is)
-      ];
-      listed = λ o p r is. elim (cases o p) [
-        | inl now ↦
-            subst (λ (z : PageRow). is_queued qs2 z.frame.0 ≡ z.here) (some_is row2 r (sym now.is ∙ is))
-            (ap (λ z. is_queued qs2 z.0) same ∙ if_true row.frame.0 row2.here (is_queued qs row.frame.0) (is_queued qs2 row.frame.0) (lists row.frame.0))
-        | inr other ↦ elim (one_case row.frame.0 r.frame.0 row2.here (is_queued qs r.frame.0) (is_queued qs2 r.frame.0) (lists r.frame.0)) [
-          | inl shared ↦
-              let mine = fit.owned.at key.object.0 key.page.0 row found in
-              let its = fit.owned.at o p r (sym other.is ∙ is) in
-              let both : page_key key.object.0 key.page.0 ≡ page_key o p = some_is (page_key key.object.0 key.page.0) (page_key o p) (sym mine ∙ (ap (owner_of rs) shared.0 ∙ its)) in
-              absurd (other.apart (ap (λ z. z.object.0) both) (ap (λ z. z.page.0) both))
-          | inr apart ↦ apart.1 ∙ fit.listed o p r (sym other.is ∙ is)
-        ]
-      ];
-      unlisted = λ g none. elim (one_case row.frame.0 g row2.here (is_queued qs g) (is_queued qs2 g) (lists g)) [
-        | inl now ↦
-            let mine = fit.owned.at key.object.0 key.page.0 row found in
-            absurd (let bad : None ≡ Some (page_key key.object.0 key.page.0) = sym none ∙ (owners g ∙ (sym (ap (owner_of rs) now.0) ∙ mine)) in cc)
-        | inr apart ↦ apart.1 ∙ fit.unlisted g (sym (owners g) ∙ none)
-      ];
-      unowned = λ g free. owners g ∙ fit.unowned g free;
-      inside = λ o p r is. elim (cases o p) [
-        | inl now ↦ subst (λ (z : ℕ). p < object_pages os z) now.object (subst (λ (z : ℕ). z < object_pages os key.object.0) now.page (fit.inside key.object.0 key.page.0 row found))
-        | inr other ↦ fit.inside o p r (sym other.is ∙ is)
-      ];
-      all_sized = fit.all_sized;
-      count = frames ∙ fit.count;
-      pages = fit.pages;
-    }
-  where
-    cases : (o p : ℕ) → IsPut key.object.0 key.page.0 (Some row2) o p (row_at rs2 o p) ⊎ IsOther key.object.0 key.page.0 (row_at rs o p) o p (row_at rs2 o p)
-    cases o p = row_cases key.object.0 key.page.0 (Some row2) rs rs2 put o p

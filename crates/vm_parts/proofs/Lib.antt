@@ -1,3 +1,4 @@
+pub mod Changing
 pub mod Fitting
 pub mod Numbering
 pub mod Rows

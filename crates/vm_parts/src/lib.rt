@@ -1,4 +1,12 @@
-//! How the parts of a host fit each other: its frames, resident pages, page queues and memory objects.
+//! The parts of a host in which its pages are: frames, resident pages, page queues, memory objects and
+//! page buffers.
 //!
-//! The calls that work on these parts take them as they fit, and leave them so.
+//! A page comes, is asked for, is filled, is written, and leaves. Each of these calls takes the parts
+//! as they fit each other, and leaves them so.
 #![tactic(auto)]
+
+mod leaving;
+mod pages;
+mod parts;
+
+pub use parts::HostParts;

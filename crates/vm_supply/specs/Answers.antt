@@ -1,11 +1,15 @@
 -- What the answers of a pager come to, and what each does to a host.
-use Rattle.std.specs.Prelude.{ℕ, ◌<◌, ◌≡◌, ◌==◌, ◌&&◌, Bool, true, false, List, ◌∷◌, Option, Some, None, if◌then◌else◌, is_some, length, replicate}
+use Rattle.std.specs.Prelude.{ℕ, ◌+◌, ◌||◌, ◌<◌, ◌≡◌, ◌==◌, ◌&&◌, Bool, true, false, List, ◌∷◌, Option, Some, None, if◌then◌else◌, is_some, length, replicate}
+use Rattle.std.proofs.Common.{arith}
+use Rattle.std.proofs.lemmas.Bool.Decides.{nat_tests}
 use Rattle.vm_base.specs.declared.ids.HostId.{HostId}
+use Rattle.vm_base.specs.declared.ids.Lock.{Lock}
 use Rattle.vm_base.specs.declared.ids.ObjectId.{ObjectId}
 use Rattle.vm_base.specs.declared.ids.ObjectKind.{ObjectKind}
 use Rattle.vm_base.specs.declared.ids.ObjectKind.TheVariants as kind
 use Rattle.vm_base.specs.declared.ids.PageKey.{PageKey}
 use Rattle.vm_base.specs.declared.ids.PageNo.{PageNo}
+use Rattle.vm_model.specs.declared.event.Event.{Event}
 use Rattle.vm_model.specs.declared.event.Event.TheVariants as event
 use Rattle.vm_model.specs.declared.message.Message.{Message}
 use Rattle.vm_model.specs.declared.message.Message.TheVariants as message
@@ -15,9 +19,18 @@ use Rattle.vm_objects.specs.declared.row.PagerState.{PagerState}
 use Rattle.vm_objects.specs.declared.row.PagerState.TheVariants as state
 use Rattle.vm_resident.specs.Resident.{row_at}
 use Rattle.vm_resident.specs.declared.page_row.PageRow.{PageRow}
-use Rattle.vm_supply.specs.Pages.{Comes, Ends, HostParts, asked_row, lock_of, unlocked}
+use Rattle.vm_parts.specs.Changes.{Cancels, Fills, asked_row, unlocked}
+use Rattle.vm_parts.specs.declared.parts.HostParts.{HostParts}
 use Rattle.vm_supply.specs.declared.woken.Woken.{Woken}
 use Rattle.vm_supply.specs.declared.woken.Woken.TheVariants as woken
+
+-- the accesses that a lock's number prohibits: 1 reading, 2 writing, 3 both
+abbrev pub lock_of : ℕ → Lock
+lock_of number = record { read = number == 1 || number == 3; write = number == 2 || number == 3 }
+
+-- the number is made up of what it prohibits
+pub lock_of-prohibits : (number : ℕ) → number < 4 → (if (lock_of number).read then 1 else 0) + (if (lock_of number).write then 2 else 0) ≡ number
+lock_of-prohibits number few = grind (arith, nat_tests)
 
 -- an answer of a pager, where a page has so many bytes
 abbrev pub IsAnswer : ℕ → Message → Type 0
@@ -77,7 +90,7 @@ abbrev pub outcome_on : HostParts → ObjectId → ℕ → Message → Outcome
 outcome_on parts object control message = outcome_of (object_at parts.objects object.0) control (row_at parts.resident object.0) message
 
 -- the pager of an object is ready now
-pub record Readies (object : ObjectId) (who : Woken) (old new : HostParts) : Type 0 where
+pub record Readies (object : ObjectId) (who : Woken) (old new : HostParts) (before after : List Event) : Type 0 where
   pub woken : who ≡ woken.ReadyOf object
   pub known : ObjectRow
   pub found : object_at old.objects object.0 ≡ Some known
@@ -85,41 +98,54 @@ pub record Readies (object : ObjectId) (who : Woken) (old new : HostParts) : Typ
   pub marks : SameMarks old.objects new.objects
   pub rooms : SameRooms old.objects new.objects
   pub rest : new ≡ record old { objects = new.objects }
+  pub events : after ≡ before
 
 -- a page has come, as its pager supplied it
-pub record Supplies (key : PageKey) (lock : ℕ) (precious : Bool) (bytes : List ℕ) (who : Woken) (old new : HostParts) : Type 0 where
+pub record Supplies (key : PageKey) (lock : ℕ) (precious : Bool) (bytes : List ℕ) (who : Woken) (old new : HostParts) (before after : List Event) : Type 0 where
   pub woken : who ≡ woken.Page key
-  pub page : Comes key (lock_of lock) precious bytes old new
-  pub events : new.events ≡ old.events
+  pub was : PageRow
+  pub asked : asked_row (row_at old.resident key.object.0 key.page.0) ≡ Some was
+  pub page : Fills key was (lock_of lock) precious bytes old new
+  pub objects : new.objects ≡ old.objects
+  pub events : after ≡ before
 
 -- a page that its pager doesn't have has come as zeros, and that was told
-pub record Zeroes (size : ℕ) (host : HostId) (key : PageKey) (who : Woken) (old new : HostParts) : Type 0 where
+pub record Zeroes (host : HostId) (key : PageKey) (who : Woken) (old new : HostParts) (before after : List Event) : Type 0 where
   pub woken : who ≡ woken.Page key
-  pub page : Comes key unlocked false (replicate size 0) old new
-  pub events : new.events ≡ event.Zeroed host key.object key.page ∷ old.events
+  pub was : PageRow
+  pub asked : asked_row (row_at old.resident key.object.0 key.page.0) ≡ Some was
+  pub page : Fills key was unlocked false (replicate old.buffers.size 0) old new
+  pub objects : new.objects ≡ old.objects
+  pub events : after ≡ event.Zeroed host key.object key.page ∷ before
 
 -- a page of temporary memory is known not to be with its pager
-pub record Lacks (key : PageKey) (who : Woken) (old new : HostParts) : Type 0 where
+pub record Lacks (key : PageKey) (who : Woken) (old new : HostParts) (before after : List Event) : Type 0 where
   pub woken : who ≡ woken.Page key
-  pub page : Ends key old new
+  pub was : PageRow
+  pub asked : asked_row (row_at old.resident key.object.0 key.page.0) ≡ Some was
+  pub page : Cancels key was old new
   pub absent : PutsAbsent key.object.0 key.page.0 true old.objects new.objects
   pub objects : SameObjects old.objects new.objects
   pub rooms : SameRooms old.objects new.objects
+  pub events : after ≡ before
 
 -- a page couldn't be given
-pub record Fails (key : PageKey) (who : Woken) (old new : HostParts) : Type 0 where
+pub record Fails (key : PageKey) (who : Woken) (old new : HostParts) (before after : List Event) : Type 0 where
   pub woken : who ≡ woken.Fails key
-  pub page : Ends key old new
+  pub was : PageRow
+  pub asked : asked_row (row_at old.resident key.object.0 key.page.0) ≡ Some was
+  pub page : Cancels key was old new
   pub objects : new.objects ≡ old.objects
+  pub events : after ≡ before
 
 abbrev pub key_of : ObjectId → PageNo → PageKey
 key_of object page = record { object = object; page = page }
 
--- whom an answer wakes, and what it changes
-abbrev pub Answered : ℕ → HostId → ObjectId → Outcome → Woken → HostParts → HostParts → Type 0
-Answered size host object Discarded who old new = (who ≡ woken.Nobody) × (new ≡ old)
-Answered size host object Readied who old new = Readies object who old new
-Answered size host object (Supplied page lock precious bytes) who old new = Supplies (key_of object page) lock precious bytes who old new
-Answered size host object (Zeroed page) who old new = Zeroes size host (key_of object page) who old new
-Answered size host object (Lacked page) who old new = Lacks (key_of object page) who old new
-Answered size host object (Failed page) who old new = Fails (key_of object page) who old new
+-- whom an answer wakes, what it changes, and what it tells
+abbrev pub Answered : HostId → ObjectId → Outcome → Woken → HostParts → HostParts → List Event → List Event → Type 0
+Answered host object Discarded who old new before after = (who ≡ woken.Nobody) × (new ≡ old) × (after ≡ before)
+Answered host object Readied who old new before after = Readies object who old new before after
+Answered host object (Supplied page lock precious bytes) who old new before after = Supplies (key_of object page) lock precious bytes who old new before after
+Answered host object (Zeroed page) who old new before after = Zeroes host (key_of object page) who old new before after
+Answered host object (Lacked page) who old new before after = Lacks (key_of object page) who old new before after
+Answered host object (Failed page) who old new before after = Fails (key_of object page) who old new before after

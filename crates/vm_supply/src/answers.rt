@@ -1,24 +1,17 @@
 // The answers of a pager.
-ghost use Rattle.std.specs.Prelude.{ℕ, ◌≡◌, ◌≤◌, ◌<◌, List, Some, IfOk, IfSome, IsOk, IsSome, OnErr, OnOk, is_some, length};
+ghost use Rattle.std.specs.Prelude.{◌≡◌, ◌≤◌, ◌<◌, List, replicate, Some, IfOk, IfSome, IsOk, IsSome, OnErr, OnOk, length};
 ghost use Rattle.vm_base.specs.declared.ids.HostId.{HostId};
 ghost use Rattle.vm_model.specs.declared.event.Event.{Event};
-ghost use Rattle.vm_objects.specs.Objects.{ObjectTable, object_at};
-ghost use Rattle.vm_parts.specs.Fits.{Fit, object_pages};
-ghost use Rattle.vm_queues.specs.Queues.{Queues};
-ghost use Rattle.vm_resident.specs.Resident.{IsOwned, row_at};
-ghost use Rattle.vm_supply.specs.Answers.{Answered, Failed, IsAnswer, Lacked, Supplied, Zeroed, key_of, outcome_on, ready_outcome, where_asked};
-ghost use Rattle.vm_supply.specs.Held.{ClaimedWhereAsked, HeldWhereAsked, SizedWhereAsked};
-ghost use Rattle.vm_supply.specs.Pages.{HostParts, asked_row, host_parts, lock_of};
+ghost use Rattle.vm_objects.specs.Objects.{object_at};
+ghost use Rattle.vm_parts.specs.Fits.{Fit};
+ghost use Rattle.vm_resident.specs.Resident.{row_at};
+ghost use Rattle.vm_supply.specs.Answers.{Answered, Failed, IsAnswer, Lacked, Supplied, Zeroed, lock_of, outcome_on, ready_outcome, where_asked};
 
 use crate::Woken;
-use crate::pages::{asked, bring, end};
-use std::alloc::Global;
-use vm_base::{Buffers, HostId, Lock, NoMemory, ObjectId, ObjectKind, PageBytes, PageKey, PageNo};
-use vm_frames::Frames;
+use vm_base::{HostId, Lock, NoMemory, ObjectId, ObjectKind, PageBytes, PageKey, PageNo};
 use vm_model::{Event, Events, Message};
-use vm_objects::{Objects, PagerState};
-use vm_queues::PageQueues;
-use vm_resident::Resident;
+use vm_objects::PagerState;
+use vm_parts::HostParts;
 
 const UNLOCKED: Lock = Lock {
     read: false,
@@ -35,70 +28,60 @@ const UNLOCKED: Lock = Lock {
 ///
 /// No memory is taken but for the event of a page of zeros; where there is none, nothing changed.
 pub fn answer(
-    alloc: Global,
     host: HostId,
     object: ObjectId,
     control: u32,
     message: &Message,
-    frames: &mut Frames,
-    resident: &mut Resident,
-    queues: &mut PageQueues,
-    objects: &mut Objects,
-    buffers: &mut Buffers,
+    parts: &mut HostParts,
     log: &mut Events,
 ) -> Result<Woken, NoMemory>
-    requires fit { Fit buffers.old.size frames.old resident.old queues.old objects.old }
-    requires answer { IsAnswer buffers.old.size message.now }
-    ensures fit { OnOk result (Fit buffers.new.size frames.new resident.new queues.new objects.new) }
-    ensures answered { IfOk result (λ woken. Answered buffers.old.size host object
-        (outcome_on (host_parts frames.old resident.old queues.old objects.old log.old.items) object control message.now) woken
-        (host_parts frames.old resident.old queues.old objects.old log.old.items)
-        (host_parts frames.new resident.new queues.new objects.new log.new.items)) }
-    ensures spare { resident.old.spare ≤ resident.new.spare }
-    ensures buffers { buffers.new ≡ buffers.old }
-    ensures err { OnErr result (host_parts frames.new resident.new queues.new objects.new log.new.items
-        ≡ host_parts frames.old resident.old queues.old objects.old log.old.items) }
+    requires fit { Fit parts.old }
+    requires answer { IsAnswer parts.old.buffers.size message.now }
+    ensures fit { Fit parts.new }
+    ensures answered { IfOk result (λ woken. Answered host object (outcome_on parts.old object control message.now) woken parts.old parts.new log.old.items log.new.items) }
+    ensures spare { parts.old.resident.spare ≤ parts.new.resident.spare }
+    ensures buffers { parts.new.buffers ≡ parts.old.buffers }
+    ensures err { OnErr result ((parts.new ≡ parts.old) × (log.new.items ≡ log.old.items)) }
     ensures succeeds { 0 < log.old.room → IsOk result }
 {
-    let Some(known) = objects.find(object) else {
+    let Some(known) = parts.objects.find(object) else {
         return Ok(Woken::Nobody);
     };
     if !known.live || known.control != control {
         return Ok(Woken::Nobody);
     }
     match message {
-        Message::Ready { .. } => Ok(ready(objects, object, known.state)),
+        Message::Ready { .. } => Ok(ready(parts, object, known.state)),
         Message::Supply {
             page,
             lock,
             precious,
             hex,
-        } => {
-            Ok(supply(
-                frames, resident, queues, object, *page, *lock, *precious, hex,
-            ))
-        },
+        } => Ok(supply(parts, object, *page, *lock, *precious, hex)),
         Message::Unavailable { page } => match known.kind {
-            ObjectKind::Temp => Ok(lack(frames, resident, objects, object, *page)),
+            ObjectKind::Temp => Ok(lack(parts, object, *page)),
             ObjectKind::File | ObjectKind::Shared | ObjectKind::Wild => {
-                Ok(zero(host, frames, resident, queues, object, *page, log)?)
+                Ok(zero(host, parts, object, *page, log)?)
             },
         },
-        Message::Error { page, .. } => Ok(fail(frames, resident, object, *page)),
+        Message::Error { page, .. } => Ok(fail(parts, object, *page)),
         _ => unreachable!(),
     }
 }
 
 // The pager is ready.
-fn ready(objects: &mut Objects, object: ObjectId, state: PagerState) -> Woken
-    requires { IfSome (object_at objects.old object.0) (λ known. known.state ≡ state) × IsSome (object_at objects.old object.0) }
-    ensures { (size : ℕ) (host : HostId) (parts : HostParts) → parts.objects ≡ objects.old →
-        Answered size host object (ready_outcome state) result parts (record parts { objects = objects.new }) }
+fn ready(parts: &mut HostParts, object: ObjectId, state: PagerState) -> Woken
+    requires fit { Fit parts.old }
+    requires known { IfSome (object_at parts.old.objects object.0) (λ known. known.state ≡ state) × IsSome (object_at parts.old.objects object.0) }
+    ensures fit { Fit parts.new }
+    ensures buffers { parts.new.buffers ≡ parts.old.buffers }
+    ensures spare { parts.old.resident.spare ≤ parts.new.resident.spare }
+    ensures answered { (host : HostId) (events : List Event) → Answered host object (ready_outcome state) result parts.old parts.new events events }
 {
     match state {
         PagerState::Ready => Woken::Nobody,
         PagerState::Without | PagerState::Sent => {
-            objects.set_ready(object);
+            parts.objects.set_ready(object);
             Woken::ReadyOf { object }
         },
     }
@@ -116,110 +99,85 @@ fn lock_of(number: u32) -> Lock
 
 // The pager supplies a page.
 fn supply(
-    frames: &mut Frames,
-    resident: &mut Resident,
-    queues: &mut PageQueues,
+    parts: &mut HostParts,
     object: ObjectId,
     page: PageNo,
     lock: u32,
     precious: bool,
     bytes: &PageBytes,
 ) -> Woken
-    requires held { HeldWhereAsked (key_of object page) frames.old resident.old queues.old }
-    requires sized { SizedWhereAsked (length bytes.now) (key_of object page) frames.old resident.old }
-    ensures spare { resident.old.spare ≤ resident.new.spare }
-    ensures answered { (size : ℕ) (host : HostId) (objects : ObjectTable) (events : List Event) →
-        Answered size host object
-        (where_asked (row_at resident.old object.0 page.0) (Supplied page lock precious bytes.now)) result
-        (host_parts frames.old resident.old queues.old objects events)
-        (host_parts frames.new resident.new queues.new objects events) }
+    requires fit { Fit parts.old }
+    requires whole { length bytes.now ≡ parts.old.buffers.size }
+    ensures fit { Fit parts.new }
+    ensures buffers { parts.new.buffers ≡ parts.old.buffers }
+    ensures spare { parts.old.resident.spare ≤ parts.new.resident.spare }
+    ensures answered { (host : HostId) (events : List Event) →
+        Answered host object (where_asked (row_at parts.old.resident object.0 page.0) (Supplied page lock precious bytes.now)) result parts.old parts.new events events }
 {
     let key = PageKey { object, page };
-    let Some(was) = asked(resident, key) else {
+    let Some(_) = parts.asked(key) else {
         return Woken::Nobody;
     };
-    bring(
-        frames,
-        resident,
-        queues,
-        key,
-        was,
-        lock_of(lock),
-        precious,
-        bytes.as_slice(),
-    );
+    parts.fill(key, lock_of(lock), precious, bytes.as_slice());
     Woken::Page { key }
 }
 
 // The pager of a named object doesn't have a page, which comes as zeros.
 fn zero(
     host: HostId,
-    frames: &mut Frames,
-    resident: &mut Resident,
-    queues: &mut PageQueues,
+    parts: &mut HostParts,
     object: ObjectId,
     page: PageNo,
     log: &mut Events,
 ) -> Result<Woken, NoMemory>
-    requires { HeldWhereAsked (key_of object page) frames.old resident.old queues.old }
-    ensures spare { resident.old.spare ≤ resident.new.spare }
-    ensures answered { IfOk result (λ woken. (size : ℕ) (objects : ObjectTable) → SizedWhereAsked size (key_of object page) frames.old resident.old →
-        Answered size host object (where_asked (row_at resident.old object.0 page.0) (Zeroed page)) woken
-        (host_parts frames.old resident.old queues.old objects log.old.items)
-        (host_parts frames.new resident.new queues.new objects log.new.items)) }
-    ensures err { OnErr result ((frames.new ≡ frames.old) × (resident.new ≡ resident.old) × (queues.new ≡ queues.old) × (log.new.items ≡ log.old.items)) }
+    requires fit { Fit parts.old }
+    ensures fit { Fit parts.new }
+    ensures buffers { parts.new.buffers ≡ parts.old.buffers }
+    ensures spare { parts.old.resident.spare ≤ parts.new.resident.spare }
+    ensures answered { IfOk result (λ woken. Answered host object (where_asked (row_at parts.old.resident object.0 page.0) (Zeroed page)) woken parts.old parts.new log.old.items log.new.items) }
+    ensures err { OnErr result ((parts.new ≡ parts.old) × (log.new.items ≡ log.old.items)) }
     ensures succeeds { 0 < log.old.room → IsOk result }
 {
     let key = PageKey { object, page };
-    let Some(was) = asked(resident, key) else {
+    let Some(_) = parts.asked(key) else {
         return Ok(Woken::Nobody);
     };
     log.push(Event::Zeroed { host, object, page })?;
-    bring(frames, resident, queues, key, was, UNLOCKED, false, &[]);
+    parts.fill(key, UNLOCKED, false, &[]);
     Ok(Woken::Page { key })
 }
 
 // The pager of a temporary object doesn't have a page.
-fn lack(
-    frames: &mut Frames,
-    resident: &mut Resident,
-    objects: &mut Objects,
-    object: ObjectId,
-    page: PageNo,
-) -> Woken
-    requires held { ClaimedWhereAsked (key_of object page) frames.old resident.old }
-    requires owned { IsOwned resident.old }
-    requires object { IsSome (object_at objects.old object.0) }
-    requires inside { IsSome (asked_row (row_at resident.old object.0 page.0)) → page.0 < object_pages objects.old object.0 }
-    ensures spare { resident.old.spare ≤ resident.new.spare }
-    ensures answered { (size : ℕ) (host : HostId) (queues : Queues) (events : List Event) →
-        Answered size host object (where_asked (row_at resident.old object.0 page.0) (Lacked page)) result
-        (host_parts frames.old resident.old queues objects.old events)
-        (host_parts frames.new resident.new queues objects.new events) }
+fn lack(parts: &mut HostParts, object: ObjectId, page: PageNo) -> Woken
+    requires fit { Fit parts.old }
+    ensures fit { Fit parts.new }
+    ensures buffers { parts.new.buffers ≡ parts.old.buffers }
+    ensures spare { parts.old.resident.spare ≤ parts.new.resident.spare }
+    ensures answered { (host : HostId) (events : List Event) →
+        Answered host object (where_asked (row_at parts.old.resident object.0 page.0) (Lacked page)) result parts.old parts.new events events }
 {
     let key = PageKey { object, page };
-    let Some(was) = asked(resident, key) else {
+    let Some(_) = parts.asked(key) else {
         return Woken::Nobody;
     };
-    end(frames, resident, key, was);
-    objects.note_absent(key);
+    parts.cancel(key);
+    parts.objects.note_absent(key);
     Woken::Page { key }
 }
 
 // The pager can't give a page.
-fn fail(frames: &mut Frames, resident: &mut Resident, object: ObjectId, page: PageNo) -> Woken
-    requires held { ClaimedWhereAsked (key_of object page) frames.old resident.old }
-    requires owned { IsOwned resident.old }
-    ensures spare { resident.old.spare ≤ resident.new.spare }
-    ensures answered { (size : ℕ) (host : HostId) (queues : Queues) (objects : ObjectTable) (events : List Event) →
-        Answered size host object (where_asked (row_at resident.old object.0 page.0) (Failed page)) result
-        (host_parts frames.old resident.old queues objects events)
-        (host_parts frames.new resident.new queues objects events) }
+fn fail(parts: &mut HostParts, object: ObjectId, page: PageNo) -> Woken
+    requires fit { Fit parts.old }
+    ensures fit { Fit parts.new }
+    ensures buffers { parts.new.buffers ≡ parts.old.buffers }
+    ensures spare { parts.old.resident.spare ≤ parts.new.resident.spare }
+    ensures answered { (host : HostId) (events : List Event) →
+        Answered host object (where_asked (row_at parts.old.resident object.0 page.0) (Failed page)) result parts.old parts.new events events }
 {
     let key = PageKey { object, page };
-    let Some(was) = asked(resident, key) else {
+    let Some(_) = parts.asked(key) else {
         return Woken::Nobody;
     };
-    end(frames, resident, key, was);
+    parts.cancel(key);
     Woken::Fails { key }
 }

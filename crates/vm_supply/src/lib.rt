@@ -3,7 +3,6 @@
 #![tactic(auto)]
 
 mod answers;
-mod pages;
 mod woken;
 
 pub use answers::answer;

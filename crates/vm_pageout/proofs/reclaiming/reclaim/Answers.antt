@@ -1,9 +1,7 @@
-use Rattle.std.proofs.Common.{sym}
-use Rattle.vm_pageout.proofs.Returning.{fit_sent}
+use Rattle.std.proofs.Common.{sym, ap, ◌∙◌}
+use Rattle.vm_parts.proofs.Fitting.{fit_buffers, fit_touched}
 use Rattle.vm_pageout.proofs.reclaiming.reclaim.Goals as goal
 
-pub returns-clause-fit : goal.returns-clause-fit
-returns-clause-fit c =
-    let owner = c.in-Some-remove.ensures.frames c.requires.fit.owned in
-    rw (c.return_page.ensures.size, c.in_ok-reserve-2.ensures.size)
-    (fit_sent _ _ _ _ _ _ _ _ _ c.in-Some-page_of.key c.in-Some-remove.row _ c.requires.fit c.in-Some.ensures.pages c.in-Some.ensures.queues (sym c.in-Some-remove.ensures.value) c.in-Some-page_of.ensures.row c.in-Some-remove.ensures.rows owner (c.in-Some-remove.ensures.owned c.requires.fit.owned) c.remove-2.ensures.pages c.remove-2.ensures.queues c.return_page.ensures.objects)
+pub drop_page-requires-clause-fit : goal.drop_page-requires-clause-fit
+drop_page-requires-clause-fit c =
+    fit_buffers _ c.reserve-2.new.self.size c.reserve-2.new.self.count (fit_touched c.args.parts.now c.victim.new.self c.requires.fit c.victim.ensures.pages (ap (λ z. z.frames) c.victim.ensures.queues)) c.in_ok-reserve-2.ensures.size
