@@ -1,6 +1,6 @@
 -- A waiting access gets a page of zeros, or ends with its page: what the history says, and what the kernel has then.
-use Rattle.std.proofs.Common.{◌≡◌, ℕ, ◌+◌, ◌%◌, ◌==◌, true, List, ◌∷◌, replicate, refl, ap, sym, ◌∙◌, subst, arith, Some, inl, inr}
-use Rattle.std.specs.Prelude.{if◌then◌else◌, reverse, slice_get, slice_range}
+use Rattle.std.proofs.Common.{◌≡◌, ℕ, ◌+◌, ◌%◌, true, List, ◌∷◌, replicate, refl, ap, sym, ◌∙◌, subst, arith, Some, inl, inr, false, None}
+use Rattle.std.specs.Prelude.{reverse, slice_get, slice_range}
 use Rattle.vm_base.specs.declared.entry.Entry.{Entry}
 use Rattle.vm_base.specs.declared.ids.FrameNo.{FrameNo}
 use Rattle.vm_base.specs.declared.ids.HostId.{HostId}
@@ -15,7 +15,7 @@ use Rattle.vm_model.specs.declared.event.Event.TheVariants as event
 use Rattle.vm_model.specs.declared.command.Command.{Command}
 use Rattle.vm_model.specs.declared.script.Header.{Header}
 use Rattle.vm_model.specs.Bytes.{number_in}
-use Rattle.vm_model.specs.Local.{local}
+use Rattle.vm_model.specs.Local.{is_on, local}
 use Rattle.vm_model.specs.Tasks.{host_of}
 use Rattle.vm_legal.specs.Frames.{Suffice, frames_held, frames_wired, returns_out}
 use Rattle.vm_legal.specs.Outside.{Outside}
@@ -29,115 +29,113 @@ use Rattle.vm_waits.specs.declared.waiting.Want.{Want}
 use Rattle.vm_waits.specs.declared.waiting.Want.TheVariants as want
 use Rattle.vm_kernel.specs.Changes.{Brought, IsHere, Wrote}
 use Rattle.vm_kernel.specs.Faulting.{Touched}
-use Rattle.vm_kernel.specs.Matches.{HasPages, IsPlain, Matches, the_host}
-use Rattle.vm_kernel.specs.Places.{fresh_row, place_of}
+use Rattle.vm_kernel.specs.Matches.{HasPages, IsPlain, Matches, host_id}
+use Rattle.vm_kernel.specs.Places.{place_of}
 use Rattle.vm_kernel.specs.declared.parts.Parts.{Parts}
 use Rattle.vm_kernel.proofs.Growing.{Follows}
 use Rattle.vm_kernel.proofs.Leading.{Leads, Lies, it_waits, lies_there, none_named, top_at}
-use Rattle.vm_kernel.proofs.Pages.{frames_claimed, frames_kept, laundry_claimed, laundry_kept, pages_brought, pages_wrote}
-use Rattle.vm_kernel.proofs.Rows.{row_cases}
+use Rattle.vm_kernel.proofs.Pages.{bytes_now, frames_changed, laundry_changed, pages_moved, shown_as, shown_here}
+use Rattle.vm_parts.proofs.Rows.{row_put, some_is}
+use Rattle.vm_parts.specs.Changes.{clean_row, unlocked}
+use Rattle.vm_objects.specs.Objects.{absent_at}
+use Rattle.vm_model.specs.Local.{Stores, Zeroes, moved}
 use Rattle.vm_kernel.proofs.Standing.{Shows}
 use Rattle.vm_kernel.proofs.Walking.{comes_top}
+use Rattle.vm_kernel.proofs.Own.{lives_in, own_host}
+use Rattle.vm_kernel.proofs.Uses.{holds_waits, uses_still}
+use Rattle.vm_maps.specs.Maps.{rows_in}
 
 -- a page of zeros comes
 
-pub zeroed_follows : (header : Header) (outside : Outside) (doing : Command) (past : List Event) (task : ℕ) (what : Want) (key : PageKey) → IsPlain header → Leads header past task what key → Passes (sight header 0 key.object.0 key.page.0 past)
-    → Suffice header 0 (event.Zeroed the_host key.object key.page ∷ past) → Follows header outside doing (event.Zeroed the_host key.object key.page) past
-zeroed_follows header outside doing past task what key plain to passes frames =
+pub zeroed_follows : (header : Header) (h : ℕ) (outside : Outside) (doing : Command) (past : List Event) (task : ℕ) (what : Want) (key : PageKey) → IsPlain header → Leads header h past task what key → Passes (sight header h key.object.0 key.page.0 past)
+    → Suffice header h (event.Zeroed (host_id h) key.object key.page ∷ past) → Follows header h outside doing (event.Zeroed (host_id h) key.object key.page) past
+zeroed_follows header h outside doing past task what key plain to passes frames =
     record {
       consequence = tt;
-      cause = λ paged. inr (record {
+      cause = inr (record {
         task = task;
         access = _;
-        waits = it_waits header past task what key to;
+        waits = it_waits header h past task what key to;
         on_host = refl;
         temporary = let none = none_named header plain in omega arith;
         unmarked = λ store. to.unmarked;
-        is_top = top_at header past task what key to;
+        is_top = top_at header h past task what key to;
         steps = 0;
         sinks = (passes, to.bare);
       });
       own_bytes = tt;
-      copies = tt;
       frames = frames;
       inner = tt;
       said = tt;
     }
 
-pub matches_zeroed : (header : Header) (k mid : Parts) (ids : Ids) (lost : List Entry) (past : List Event) (key : PageKey) (frame : FrameNo) → Matches header k ids lost past → Brought key frame k mid → Lies k key
-    → Matches header mid ids lost (event.Zeroed the_host key.object key.page ∷ past)
-matches_zeroed header k mid ids lost past key frame m b lies =
-    let o = key.object.0 in
-    let p = key.page.0 in
-    let zeros : (g : ℕ) → page_in mid.frames g ≡ (if frame.0 == g then replicate header.size 0 else page_in k.frames g) =
-    subst (λ (z : ℕ). (g : ℕ) → page_in mid.frames g ≡ (if frame.0 == g then replicate z 0 else page_in k.frames g)) m.size b.page.at in
-    let pages2 = pages_brought header.size k.frames mid.frames k.resident mid.resident k.queues k.objects k.chains (λ o2 p2. local header.size 0 (place_of o2 p2) past) frame o p (rw m.size at m.fits.parts) m.pages b.fresh b.absent b.row zeros (lies_there k key lies) in
+pub matches_zeroed : (header : Header) (h : ℕ) (k mid : Parts) (ids : Ids) (lost : List Entry) (past : List Event) (key : PageKey) (frame : FrameNo) → Matches header h k ids lost past → Brought key frame k mid → Lies k key
+    → Matches header h mid ids lost (event.Zeroed (host_id h) key.object key.page ∷ past)
+matches_zeroed header h k mid ids lost past key frame m b lies =
+    let fit = m.fits.parts in
+    let sized : k.memory.buffers.size ≡ header.size = m.fits.buffers ∙ m.size in
+    let zeros = bytes_now key frame _ _ _ _ _ k.memory mid.memory b.page ∙ ap (λ z. replicate z 0) sized in
+    let pages2 = pages_moved header.size Zeroes key frame _ _ _ _ _ k.memory mid.memory k.memory.objects k.chains (λ o p. local header.size h (place_of o p) past) fit m.pages b.page (λ some. lies_there k key lies)
+    (ap (λ z. shown_as (clean_row frame unlocked false) true true z (absent_at k.memory.objects key.object.0 key.page.0)) (sym zeros)) (λ o p apart. refl) in
     record {
       plain = m.plain;
+      known = m.known;
       size = b.plan.size ∙ m.size;
-      host = b.plan.host ∙ m.host;
+      host = rw b.plan.host m.host;
       fits = b.fits;
       tasks = rw b.plan.maps m.tasks;
       regions = rw (b.plan.chains, b.plan.objects) m.regions;
       entries = rw (b.plan.chains, b.plan.maps) m.entries;
-      pages = rw (b.plan.chains, b.plan.objects) pages2;
+      pages = rw (b.plan.chains, b.plan.objects, own_host h) pages2;
       uses = rw b.plan.maps m.uses;
       controls = rw b.plan.objects m.controls;
       settled = refl;
-      laundry = rw b.plan.laundry (laundry_claimed k.frames mid.frames k.resident mid.resident k.laundry (returns_out 0 past) frame (Some key) m.laundry b.fresh b.claim b.owner b.count);
-      frames = frames_claimed (slice_get (reverse header.frames.items) 0) k.frames mid.frames (frames_held header.size 0 past) (frames_wired 0 past) m.frames b.claims b.wired b.count b.room;
+      laundry = rw b.plan.laundry (laundry_changed key frame _ _ _ _ _ k.memory mid.memory k.laundry (returns_out h past) m.laundry b.page);
+      frames = rw (own_host h) (frames_changed (slice_get (reverse header.frames.items) h) key frame _ _ _ _ _ k.memory mid.memory (frames_held header.size h past) (frames_held header.size h past + 1) (frames_wired h past) m.frames b.page (λ held. let more = b.page.claims in omega arith));
     }
 
 -- the page is here then
 pub brought_here : (key : PageKey) (frame : FrameNo) (k mid : Parts) → Brought key frame k mid → IsHere key frame mid
-brought_here key frame k mid b =
-    record {
-      row = fresh_row frame;
-      found = elim (row_cases key.object.0 key.page.0 (Some (fresh_row frame)) k.resident mid.resident b.row key.object.0 key.page.0) [
-        | inl now ↦ now.is
-        | inr other ↦ absurd (other.apart refl refl)
-      ];
-      is = refl;
-      here = refl;
-    }
+brought_here key frame k mid b = record { row = clean_row frame unlocked false; found = row_put k.memory.resident mid.memory.resident key.object.0 key.page.0 _ b.page.row; is = refl; here = refl }
 
 -- the access leads to where it led
-pub leads_zeroed : (header : Header) (past : List Event) (task : ℕ) (what : Want) (key : PageKey) (host : HostId) (object : ObjectId) (page : PageNo) → Leads header past task what key → Leads header (event.Zeroed host object page ∷ past) task what key
-leads_zeroed header past task what key host object page to =
+pub leads_zeroed : (header : Header) (h : ℕ) (past : List Event) (task : ℕ) (what : Want) (key : PageKey) (host : HostId) (object : ObjectId) (page : PageNo) → Leads header h past task what key → Leads header h (event.Zeroed host object page ∷ past) task what key
+leads_zeroed header h past task what key host object page to =
     record { entry = to.entry; lives = to.lives; found = to.found; waits = to.waits; unmarked = to.unmarked; top = to.top; bare = to.bare }
 
 -- a load ends
 
-pub loaded_follows : (header : Header) (outside : Outside) (doing : Command) (past : List Event) (task : TaskId) (address n value : ℕ) (key : PageKey) (bytes : List ℕ) → Leads header past task.0 (want.Load address n) key → Shows header past key bytes
-    → value ≡ little_endian (slice_range bytes (address % header.size) (address % header.size + n)) → Suffice header 0 (event.Loaded task key.object key.page value ∷ past) → Follows header outside doing (event.Loaded task key.object key.page value) past
-loaded_follows header outside doing past task address n value key bytes to shows number frames =
+pub loaded_follows : (header : Header) (h : ℕ) (outside : Outside) (doing : Command) (past : List Event) (task : TaskId) (address n value : ℕ) (key : PageKey) (bytes : List ℕ) → Leads header h past task.0 (want.Load address n) key → Shows header h past key bytes
+    → value ≡ little_endian (slice_range bytes (address % header.size) (address % header.size + n)) → Suffice header h (event.Loaded task key.object key.page value ∷ past) → Follows header h outside doing (event.Loaded task key.object key.page value) past
+loaded_follows header h outside doing past task address n value key bytes to shows number frames =
     record {
       consequence = tt;
       cause = record {
         address = address;
         bytes = n;
-        waits = it_waits header past task.0 (want.Load address n) key to;
-        comes = comes_top header to.entry.region.0 (page_at header.size address to.entry) key.object.0 key.page.0 past to.top;
+        waits = it_waits header h past task.0 (want.Load address n) key to;
+        comes = comes_top header h to.entry.region.0 (page_at header.size address to.entry) key.object.0 key.page.0 past to.top;
         here = shows.here;
       };
       own_bytes = record {
         address = address;
         bytes = n;
-        waits = it_waits header past task.0 (want.Load address n) key to;
+        waits = it_waits header h past task.0 (want.Load address n) key to;
         readable = record { here = shows.here; unlocked = inl shows.unlocked };
         number = number ∙ ap (λ z. number_in z header.size address n) (sym shows.bytes_are);
       };
-      copies = tt;
       frames = frames;
       inner = tt;
       said = tt;
     }
 
-pub matches_loaded : (header : Header) (k : Parts) (ids : Ids) (lost : List Entry) (past : List Event) (task : TaskId) (object : ObjectId) (page : PageNo) (value : ℕ) → Matches header k ids lost past
-    → Matches header k ids lost (event.Loaded task object page value ∷ past)
-matches_loaded header k ids lost past task object page value m =
+pub matches_loaded : (header : Header) (h : ℕ) (k : Parts) (ids : Ids) (lost : List Entry) (past : List Event) (task : TaskId) (object : ObjectId) (page : PageNo) (value : ℕ) → Matches header h k ids lost past → host_of task.0 past ≡ Some h
+    → Matches header h k ids lost (event.Loaded task object page value ∷ past)
+matches_loaded header h k ids lost past task object page value m lives =
+    let there = lives_in task.0 m.tasks (ap (is_on h) lives ∙ own_host h) in
     record {
       plain = m.plain;
+      known = m.known;
       size = m.size;
       host = m.host;
       fits = m.fits;
@@ -145,7 +143,7 @@ matches_loaded header k ids lost past task object page value m =
       regions = m.regions;
       entries = m.entries;
       pages = m.pages;
-      uses = m.uses;
+      uses = uses_still k.maps _ _ _ _ _ m.uses (λ t r none. holds_waits header.size task.0 t r k.maps (rows_in task.0 k.maps) past None there none);
       controls = m.controls;
       settled = refl;
       laundry = m.laundry;
@@ -154,14 +152,14 @@ matches_loaded header k ids lost past task object page value m =
 
 -- a store ends
 
-pub stored_follows : (header : Header) (outside : Outside) (doing : Command) (past : List Event) (task : TaskId) (address n value : ℕ) (key : PageKey) (bytes : List ℕ) → Leads header past task.0 (want.Store address n value) key → Shows header past key bytes
-    → Suffice header 0 (event.Stored task key.object key.page (address % header.size) n value ∷ past) → Follows header outside doing (event.Stored task key.object key.page (address % header.size) n value) past
-stored_follows header outside doing past task address n value key bytes to shows frames =
+pub stored_follows : (header : Header) (h : ℕ) (outside : Outside) (doing : Command) (past : List Event) (task : TaskId) (address n value : ℕ) (key : PageKey) (bytes : List ℕ) → Leads header h past task.0 (want.Store address n value) key → Shows header h past key bytes
+    → Suffice header h (event.Stored task key.object key.page (address % header.size) n value ∷ past) → Follows header h outside doing (event.Stored task key.object key.page (address % header.size) n value) past
+stored_follows header h outside doing past task address n value key bytes to shows frames =
     record {
       consequence = tt;
       cause = record {
         address = address;
-        waits = it_waits header past task.0 (want.Store address n value) key to;
+        waits = it_waits header h past task.0 (want.Store address n value) key to;
         is_top = to.top;
         unmarked = to.unmarked;
         here = shows.here;
@@ -169,58 +167,58 @@ stored_follows header outside doing past task address n value key bytes to shows
       };
       own_bytes = record {
         address = address;
-        waits = it_waits header past task.0 (want.Store address n value) key to;
+        waits = it_waits header h past task.0 (want.Store address n value) key to;
         writable = record { here = shows.here; unlocked = shows.unlocked };
         place = refl;
       };
-      copies = tt;
       frames = frames;
       inner = tt;
       said = tt;
     }
 
-pub matches_stored : (header : Header) (k mid : Parts) (ids : Ids) (lost : List Entry) (past : List Event) (task : TaskId) (at n value : ℕ) (key : PageKey) (frame : FrameNo) → Matches header k ids lost past → host_of task.0 past ≡ Some 0 → IsHere key frame k
-    → Wrote key frame (with_bytes at (little_endian_bytes n value) (page_in k.frames frame.0)) k mid → Matches header mid ids lost (event.Stored task key.object key.page at n value ∷ past)
-matches_stored header k mid ids lost past task at n value key frame m lives stands w =
+pub matches_stored : (header : Header) (h : ℕ) (k mid : Parts) (ids : Ids) (lost : List Entry) (past : List Event) (task : TaskId) (at n value : ℕ) (key : PageKey) (frame : FrameNo) → Matches header h k ids lost past → host_of task.0 past ≡ Some h → IsHere key frame k
+    → Wrote key frame (with_bytes at (little_endian_bytes n value) (page_in k.memory.frames frame.0)) k mid → Matches header h mid ids lost (event.Stored task key.object key.page at n value ∷ past)
+matches_stored header h k mid ids lost past task at n value key frame m lives stands w =
     let o = key.object.0 in
     let p = key.page.0 in
     let put = little_endian_bytes n value in
     let row = w.row in
-    let here : row.here ≡ true = row_here stands.row row (sym stands.found ∙ w.found) stands.here in
-    let written : (g : ℕ) → page_in mid.frames g ≡ (if row.frame.0 == g then with_bytes at put (page_in k.frames row.frame.0) else page_in k.frames g) =
-    subst (λ (z : FrameNo). (g : ℕ) → page_in mid.frames g ≡ (if z.0 == g then with_bytes at put (page_in k.frames z.0) else page_in k.frames g)) (sym w.is) w.page.at in
-    let pages2 = pages_wrote header.size k.frames mid.frames k.resident mid.resident k.queues k.objects k.chains (λ o2 p2. local header.size 0 (place_of o2 p2) past) o p at put row (rw m.size at m.fits.parts) m.pages w.found here w.put written in
-    let pages3 : HasPages mid.frames mid.resident k.objects k.chains (λ o2 p2. local header.size 0 (place_of o2 p2) (event.Stored task key.object key.page at n value ∷ past)) = rw lives pages2 in
+    let row2 : PageRow = record row { dirty = true } in
+    let lacked = absent_at k.memory.objects o p in
+    let here : row.here ≡ true = ap (λ z. z.here) (some_is row stands.row (sym w.page.found ∙ stands.found)) ∙ stands.here in
+    let written = bytes_now key row.frame _ _ _ _ _ k.memory mid.memory w.page ∙ ap (λ (z : FrameNo). with_bytes at put (page_in k.memory.frames z.0)) (sym w.is) in
+    let pages2 = pages_moved header.size (Stores at put) key row.frame _ _ _ _ _ k.memory mid.memory k.memory.objects k.chains (λ o2 p2. local header.size h (place_of o2 p2) past) m.fits.parts m.pages w.page (λ some. m.pages.live o p row w.page.found)
+    (ap (moved header.size (Stores at put)) (shown_here k.memory.frames row lacked here) ∙ (ap (λ z. shown_as row2 true true z lacked) (sym written) ∙ sym (shown_here mid.memory.frames row2 lacked here))) (λ o2 p2 apart. refl) in
+    let pages3 : HasPages mid.memory.frames mid.memory.resident k.memory.objects k.chains (λ o2 p2. local header.size h (place_of o2 p2) (event.Stored task key.object key.page at n value ∷ past)) = rw (lives, own_host h) pages2 in
     record {
       plain = m.plain;
+      known = m.known;
       size = w.plan.size ∙ m.size;
-      host = w.plan.host ∙ m.host;
+      host = rw w.plan.host m.host;
       fits = w.fits;
       tasks = rw w.plan.maps m.tasks;
       regions = rw (w.plan.chains, w.plan.objects) m.regions;
       entries = rw (w.plan.chains, w.plan.maps) m.entries;
       pages = rw (w.plan.chains, w.plan.objects) pages3;
-      uses = rw w.plan.maps m.uses;
+      uses = rw w.plan.maps (uses_still k.maps _ _ _ _ _ m.uses (λ t r none. holds_waits header.size task.0 t r k.maps (rows_in task.0 k.maps) past None (lives_in task.0 m.tasks (ap (is_on h) lives ∙ own_host h)) none));
       controls = rw w.plan.objects m.controls;
       settled = refl;
-      laundry = rw w.plan.laundry (laundry_kept k.frames mid.frames k.resident mid.resident k.laundry (returns_out 0 past) m.laundry w.claims w.owners);
-      frames = frames_kept (slice_get (reverse header.frames.items) 0) k.frames mid.frames (frames_held header.size 0 past) (frames_wired 0 past) m.frames w.claims w.wired;
+      laundry = rw w.plan.laundry (laundry_changed key row.frame _ _ _ _ _ k.memory mid.memory k.laundry (returns_out h past) m.laundry w.page);
+      frames = frames_changed (slice_get (reverse header.frames.items) h) key row.frame _ _ _ _ _ k.memory mid.memory (frames_held header.size h past) (frames_held header.size h past) (frames_wired h past) m.frames w.page (λ held. let same = w.page.claims in omega arith);
     }
-  where
-    row_here : (x y : PageRow) → Some x ≡ Some y → x.here ≡ true → y.here ≡ true
-    row_here x y same is = let it : x ≡ y = cc in sym (ap (λ (z : PageRow). z.here) it) ∙ is
 
 -- the lists of pages have another order
-pub matches_touched : (frame : FrameNo) (header : Header) (k new : Parts) (ids : Ids) (lost : List Entry) (past : List Event) → Matches header k ids lost past → Touched frame k new → Matches header new ids lost past
-matches_touched frame header k new ids lost past m touched = subst (λ (z : Parts). Matches header z ids lost past) (sym touched.is) with_queues
+pub matches_touched : (frame : FrameNo) (header : Header) (h : ℕ) (k new : Parts) (ids : Ids) (lost : List Entry) (past : List Event) → Matches header h k ids lost past → Touched frame k new → Matches header h new ids lost past
+matches_touched frame header h k new ids lost past m touched = subst (λ (z : Parts). Matches header h z ids lost past) (sym touched.is) with_queues
   where
-    with_queues : Matches header (record k { queues = new.queues }) ids lost past
+    with_queues : Matches header h (record k { memory = record k.memory { queues = new.memory.queues } }) ids lost past
     with_queues =
         record {
           plain = m.plain;
+          known = m.known;
           size = m.size;
           host = m.host;
-          fits = record { parts = fit_touched k.size k.frames k.resident k.queues new.queues k.objects m.fits.parts touched.keeps touched.frames; plain = m.fits.plain; buffers = m.fits.buffers };
+          fits = record { parts = fit_touched k.memory new.memory.queues m.fits.parts touched.keeps touched.frames; plain = m.fits.plain; buffers = m.fits.buffers };
           tasks = m.tasks;
           regions = m.regions;
           entries = m.entries;
@@ -233,10 +231,11 @@ matches_touched frame header k new ids lost past m touched = subst (λ (z : Part
         }
 
 -- other accesses wait
-pub matches_waits : (header : Header) (k : Parts) (ids : Ids) (lost : List Entry) (past : List Event) (waits : WaitTable) → Matches header k ids lost past → Matches header (record k { waits = waits }) ids lost past
-matches_waits header k ids lost past waits m =
+pub matches_waits : (header : Header) (h : ℕ) (k : Parts) (ids : Ids) (lost : List Entry) (past : List Event) (waits : WaitTable) → Matches header h k ids lost past → Matches header h (record k { waits = waits }) ids lost past
+matches_waits header h k ids lost past waits m =
     record {
       plain = m.plain;
+      known = m.known;
       size = m.size;
       host = m.host;
       fits = record { parts = m.fits.parts; plain = m.fits.plain; buffers = m.fits.buffers };

@@ -18,8 +18,8 @@ use Rattle.vm_model.specs.Waiting.{Access, waiting}
 use Rattle.vm_legal.specs.Accesses.{FindsPage, begun_at}
 use Rattle.vm_legal.specs.Follows.{EndsNext, IsDone}
 use Rattle.vm_legal.specs.Outside.{Outside}
-use Rattle.vm_legal.specs.Refusal.{access_refusal, acting, where_true}
-use Rattle.vm_maps.specs.Maps.{Mapped, entries_in}
+use Rattle.vm_legal.specs.Refusal.{access_refusal, acting, refusal, where_true}
+use Rattle.vm_maps.specs.Maps.{Mapped, entries_in, rows_in}
 use Rattle.vm_objects.specs.Objects.{ObjectTable}
 use Rattle.vm_resident.specs.Resident.{ResidentTable}
 use Rattle.vm_shadow.specs.Chains.{ChainTable}
@@ -37,10 +37,14 @@ use Rattle.vm_kernel.specs.Matches.{Matches, Rests, Works}
 use Rattle.vm_kernel.specs.Serving.{IsNext, RunsFirst}
 use Rattle.vm_kernel.specs.Waiters.{BeganInOrder, Asker, HasWaiters, IsSizedWant, Reason, access_in, address_in, need_in, waiting_in}
 use Rattle.vm_kernel.specs.declared.parts.Parts.{Parts}
+use Rattle.vm_kernel.proofs.Changing.{acts}
 use Rattle.vm_kernel.proofs.Growing.{grows_goes, suffices}
 use Rattle.vm_kernel.proofs.Ordering.{begun_below, begun_order}
 use Rattle.vm_kernel.proofs.Heads.{grows_one, passed}
-use Rattle.vm_kernel.proofs.Tasks.{lives_of}
+use Rattle.vm_kernel.proofs.Making.{idle_of}
+use Rattle.vm_kernel.proofs.Own.{lives_in, rows_here}
+use Rattle.vm_legal.specs.Living.{lives_on}
+use Rattle.vm_kernel.proofs.Uses.{uses_still, holds_waits}
 
 -- what tests find of an access that isn't refused
 
@@ -70,12 +74,13 @@ pub record IsFine (k : Parts) (past : List Event) (task address n : ℕ) (need :
   pub even : address % n ≡ 0
   pub allowed : IsAllowed k.maps task address need
 
-pub fine_of : (header : Header) (k : Parts) (ids : Ids) (past : List Event) (task address n : ℕ) (need : Need) → Matches header k ids [] past
+pub fine_of : (header : Header) (h : ℕ) (k : Parts) (ids : Ids) (past : List Event) (task address n : ℕ) (need : Need) → Matches header h k ids [] past → lives_on h task past ≡ true
     → acting past task (where_true (not (address % n == 0)) code.InvalidArgument (access_refusal need (entry_at address (entries_of header.size task past)))) ≡ None → IsFine k past task address n need
-fine_of header k ids past task address n need m fine =
+fine_of header h k ids past task address n need m here fine =
     let acts = acting_of past task (where_true (not (address % n == 0)) code.InvalidArgument (access_refusal need (entry_at address (entries_of header.size task past)))) fine in
     let test = passed (not (address % n == 0)) code.InvalidArgument (access_refusal need (entry_at address (entries_of header.size task past))) acts.passes in
     let found = found_of need (entry_at address (entries_of header.size task past)) test.1 in
+    let lives = lives_in task m.tasks here in
     record {
       idle = acts.idle;
       even = elim (eqb_tells (address % n) 0) [
@@ -85,8 +90,8 @@ fine_of header k ids past task address n need m fine =
       allowed =
           record {
             entry = found.0;
-            lives = lives_of (entries_in task k.maps) (host_of task past) (m.tasks.hosts task) acts.lives;
-            found = ap (entry_at address) (sym (m.tasks.rows task)) ∙ found.1;
+            lives = lives;
+            found = ap (entry_at address) (sym (rows_here m.tasks lives)) ∙ found.1;
             allowed = found.2;
           };
     }
@@ -111,27 +116,24 @@ pub record CanBegin (k : Parts) (past : List Event) (task : ℕ) (what : Want) :
   pub allowed : IsAllowed k.maps task (address_in what) (need_in what)
   pub sized : IsSizedWant what
 
-pub can_begin : (header : Header) (task : TaskId) (what : Want) (past : List Event) (k : Parts) (ids : Ids) (before : List Event) → Starts header (asks task what) past k ids before → CanBegin k past task.0 what
-can_begin header task (want.Load address size) past k ids before s =
-    let fine = fine_of header k ids past task.0 address size (need_in (want.Load address size)) s.rests.matches s.accepted in
+pub can_begin : (header : Header) (h : ℕ) (task : TaskId) (what : Want) (past : List Event) (k : Parts) (ids : Ids) (before : List Event) → Starts header h (asks task what) past k ids before → CanBegin k past task.0 what
+can_begin header h task (want.Load address size) past k ids before s =
+    let fine = fine_of header h k ids past task.0 address size (need_in (want.Load address size)) s.rests.matches s.acts s.accepted in
     record { idle = fine.idle; allowed = fine.allowed; sized = (s.range.size, fine.even) }
-can_begin header task (want.Store address size value) past k ids before s =
-    let fine = fine_of header k ids past task.0 address size (need_in (want.Store address size value)) s.rests.matches s.accepted in
+can_begin header h task (want.Store address size value) past k ids before s =
+    let fine = fine_of header h k ids past task.0 address size (need_in (want.Store address size value)) s.rests.matches s.acts s.accepted in
     record { idle = fine.idle; allowed = fine.allowed; sized = (s.range.0.size, fine.even, s.range.1) }
 
--- a task that doesn't wait has no row
-idle_row : (x : Option Waiting) (w : Option Access) → w ≡ waiting_in x → is_some w ≡ false → x ≡ None
-idle_row None w is idle = refl
-idle_row (Some row) w is idle = absurd (let bad : true ≡ false = sym (ap is_some is) ∙ idle in cc)
-
-pub absent_row : (header : Header) (task : TaskId) (what : Want) (past : List Event) (k : Parts) (ids : Ids) (before : List Event) → Starts header (asks task what) past k ids before → entry k.waits.rows task.0 ≡ None
-absent_row header task what past k ids before s = idle_row (entry k.waits.rows task.0) (waiting task.0 past) (s.rests.waits.is task.0) (can_begin header task what past k ids before s).idle
+pub absent_row : (header : Header) (h : ℕ) (task : TaskId) (what : Want) (past : List Event) (k : Parts) (ids : Ids) (before : List Event) → Starts header h (asks task what) past k ids before → entry k.waits.rows task.0 ≡ None
+absent_row header h task what past k ids before s = idle_of (entry k.waits.rows task.0) (waiting task.0 past) (s.rests.waits.is task.0 (ap is_some (can_begin header h task what past k ids before s).allowed.lives)) (can_begin header h task what past k ids before s).idle
 
 -- the history in which an access has begun
-begun_matches : (header : Header) (k : Parts) (ids : Ids) (past : List Event) (waits : WaitTable) (task : TaskId) (what : Want) → Matches header k ids [] past → Matches header (record k { waits = waits }) ids [] (begun task what ∷ past)
-begun_matches header k ids past waits task (want.Load address size) m =
+begun_matches : (header : Header) (h : ℕ) (k : Parts) (ids : Ids) (past : List Event) (waits : WaitTable) (task : TaskId) (what : Want) (rows : List Entry) → Matches header h k ids [] past → entries_in task.0 k.maps ≡ Some rows
+    → Matches header h (record k { waits = waits }) ids [] (begun task what ∷ past)
+begun_matches header h k ids past waits task (want.Load address size) rows m lives =
     record {
       plain = m.plain;
+      known = m.known;
       size = m.size;
       host = m.host;
       fits = record { parts = m.fits.parts; plain = m.fits.plain; buffers = m.fits.buffers };
@@ -139,15 +141,16 @@ begun_matches header k ids past waits task (want.Load address size) m =
       regions = m.regions;
       entries = m.entries;
       pages = m.pages;
-      uses = m.uses;
+      uses = uses_still k.maps _ _ _ _ _ m.uses (λ t r none. holds_waits header.size task.0 t r k.maps rows past _ lives none);
       controls = m.controls;
       settled = refl;
       laundry = m.laundry;
       frames = m.frames;
     }
-begun_matches header k ids past waits task (want.Store address size value) m =
+begun_matches header h k ids past waits task (want.Store address size value) rows m lives =
     record {
       plain = m.plain;
+      known = m.known;
       size = m.size;
       host = m.host;
       fits = record { parts = m.fits.parts; plain = m.fits.plain; buffers = m.fits.buffers };
@@ -155,7 +158,7 @@ begun_matches header k ids past waits task (want.Store address size value) m =
       regions = m.regions;
       entries = m.entries;
       pages = m.pages;
-      uses = m.uses;
+      uses = uses_still k.maps _ _ _ _ _ m.uses (λ t r none. holds_waits header.size task.0 t r k.maps rows past _ lives none);
       controls = m.controls;
       settled = refl;
       laundry = m.laundry;
@@ -173,13 +176,13 @@ begun_when task (want.Store address size value) past t = refl
 lined_below : (t : ℕ) (past : List Event) → IsLined past → begun_at t past < length past
 lined_below t past is = subst (λ (z : List Event). begun_at t z < length z) (sym is.is) (begun_below t (event.Line is.line) is.before)
 
-begun_grows : (header : Header) (outside : Outside) (k : Parts) (ids : Ids) (past : List Event) (task : TaskId) (what : Want) → Matches header k ids [] past → Grows header outside (asks task what) past (begun task what ∷ [])
-begun_grows header outside k ids past task (want.Load address size) m =
-    grows_one header outside (command.Load task address size) past (event.BegunLoad task address size) refl
-    (record { quiet = m.settled; cause = tt; own_bytes = tt; copies = tt; frames = suffices header k.frames past m.frames; inner = tt; said = tt })
-begun_grows header outside k ids past task (want.Store address size value) m =
-    grows_one header outside (command.Store task address size value) past (event.BegunStore task address size value) refl
-    (record { quiet = m.settled; cause = tt; own_bytes = tt; copies = tt; frames = suffices header k.frames past m.frames; inner = tt; said = tt })
+begun_grows : (header : Header) (h : ℕ) (outside : Outside) (k : Parts) (ids : Ids) (past : List Event) (task : TaskId) (what : Want) → Matches header h k ids [] past → refusal header past (asks task what) ≡ None → Grows header h outside (asks task what) past (begun task what ∷ [])
+begun_grows header h outside k ids past task (want.Load address size) m fine =
+    grows_one header h outside (command.Load task address size) past (event.BegunLoad task address size) refl
+    (record { quiet = m.settled; cause = acts task.0 past _ fine; own_bytes = tt; frames = suffices header h k.memory.frames past m.frames; inner = tt; said = tt })
+begun_grows header h outside k ids past task (want.Store address size value) m fine =
+    grows_one header h outside (command.Store task address size value) past (event.BegunStore task address size value) refl
+    (record { quiet = m.settled; cause = acts task.0 past _ fine; own_bytes = tt; frames = suffices header h k.memory.frames past m.frames; inner = tt; said = tt })
 
 -- a task that didn't wait waits with an access that is to be run
 pub waits_begun : (maps : Mapped) (chains : ChainTable) (resident : ResidentTable) (objects : ObjectTable) (rows new : List Waiting) (task : TaskId) (what : Want) (was : ℕ → Option Access) (now : ℕ → Option Access)
@@ -187,7 +190,7 @@ pub waits_begun : (maps : Mapped) (chains : ChainTable) (resident : ResidentTabl
     → ((t : ℕ) → now t ≡ (if task.0 == t then Some (access_in what) else was t)) → HasWaiters maps chains resident objects new woken.Nobody now
 waits_begun maps chains resident objects rows new task what was now has puts none allowed sized is =
     record {
-      is = λ t. is t ∙ (both (task.0 == t) t ∙ ap waiting_in (sym (puts.at t)));
+      is = λ t here. is t ∙ (both (task.0 == t) t here ∙ ap waiting_in (sym (puts.at t)));
       allowed = λ t w found. puts_cases task.0 t (Some (begun_row task what)) rows new w puts found
           (λ same row. subst (λ (z : Waiting). IsAllowed maps t (address_in z.want) (need_in z.want)) (some_is (begun_row task what) w row) (subst (λ (z : ℕ). IsAllowed maps z (address_in what) (need_in what)) same allowed))
           (λ apart old. has.allowed t w old);
@@ -201,14 +204,15 @@ waits_begun maps chains resident objects rows new task what was now has puts non
           (λ same row. absurd (let bad : on.Again ≡ on.Page key = ap (λ (z : Waiting). z.on) (some_is (begun_row task what) w row) ∙ on_page in cc))
           (λ apart old. has.aims t w key old on_page);
       askers = λ o p row found away. asks_still o p (has.askers o p row found away);
+      ready = has.ready;
     }
   where
     some_is : (x y : Waiting) → Some x ≡ Some y → x ≡ y
     some_is x y e = cc
 
-    both : (b : Bool) (t : ℕ) → (if b then Some (access_in what) else was t) ≡ waiting_in (if b then Some (begun_row task what) else entry rows t)
-    both true t = refl
-    both false t = has.is t
+    both : (b : Bool) (t : ℕ) → is_some (entries_in t maps) ≡ true → (if b then Some (access_in what) else was t) ≡ waiting_in (if b then Some (begun_row task what) else entry rows t)
+    both true t here = refl
+    both false t here = has.is t here
 
     asks_still : (o p : ℕ) → Asker rows o p → Asker new o p
     asks_still o p asker =
@@ -222,23 +226,23 @@ waits_begun maps chains resident objects rows new task what was now has puts non
 begun_log : (task : TaskId) (what : Want) (before log : List Event) → before ≡ [] → log ≡ begun task what ∷ before → log ≡ begun task what ∷ []
 begun_log task what before log none told = told ∙ ap (λ (z : List Event). begun task what ∷ z) none
 
-pub begun_works : (header : Header) (doing : Command) (task : TaskId) (what : Want) (past : List Event) (k : Parts) (ids : Ids) (before log : List Event) (reserved waits : WaitTable) → doing ≡ asks task what → Starts header doing past k ids before
+pub begun_works : (header : Header) (h : ℕ) (doing : Command) (task : TaskId) (what : Want) (past : List Event) (k : Parts) (ids : Ids) (before log : List Event) (reserved waits : WaitTable) → doing ≡ asks task what → Starts header h doing past k ids before
     → log ≡ begun task what ∷ before → reserved.rows ≡ k.waits.rows → PutsEntry task.0 (Some (begun_row task what)) reserved.rows waits.rows
-    → waits.rows ≡ reserved.rows ++ begun_row task what ∷ [] → Works header (record k { waits = waits }) ids woken.Nobody (log ++ past)
-begun_works header doing task what past k ids before log reserved waits is starts told same puts pushed =
-    let s : Starts header (asks task what) past k ids before = subst (λ (z : Command). Starts header z past k ids before) is starts in
-    let can = can_begin header task what past k ids before s in
+    → waits.rows ≡ reserved.rows ++ begun_row task what ∷ [] → Works header h (record k { waits = waits }) ids woken.Nobody (log ++ past)
+begun_works header h doing task what past k ids before log reserved waits is starts told same puts pushed =
+    let s : Starts header h (asks task what) past k ids before = subst (λ (z : Command). Starts header h z past k ids before) is starts in
+    let can = can_begin header h task what past k ids before s in
     let puts_here : PutsEntry task.0 (Some (begun_row task what)) k.waits.rows waits.rows = subst (λ (z : List Waiting). PutsEntry task.0 (Some (begun_row task what)) z waits.rows) same puts in
     let order : BeganInOrder (λ t. begun_at t (begun task what ∷ past)) 0 waits.rows =
     subst (λ (z : List Waiting). BeganInOrder (λ t. begun_at t (begun task what ∷ past)) 0 z) (sym (pushed ∙ ap (λ z. z ++ begun_row task what ∷ []) same))
-    (begun_order (λ t. begun_at t past) (λ t. begun_at t (begun task what ∷ past)) (begun_row task what) (length past) 0 k.waits.rows (absent_row header task what past k ids before s) (begun_when task what past) (λ t. lined_below t past s.begins) (omega arith) s.rests.order) in
-    subst (λ (z : List Event). Works header (record k { waits = waits }) ids woken.Nobody (z ++ past)) (sym (begun_log task what before log s.nothing told))
+    (begun_order (λ t. begun_at t past) (λ t. begun_at t (begun task what ∷ past)) (begun_row task what) (length past) 0 k.waits.rows (absent_row header h task what past k ids before s) (begun_when task what past) (λ t. lined_below t past s.begins) (omega arith) s.rests.order) in
+    subst (λ (z : List Event). Works header h (record k { waits = waits }) ids woken.Nobody (z ++ past)) (sym (begun_log task what before log s.nothing told))
     (record {
-      matches = begun_matches header k ids past waits task what s.rests.matches;
+      matches = begun_matches header h k ids past waits task what (rows_in task.0 k.maps) s.rests.matches can.allowed.lives;
       used = s.rests.used;
       reached = s.rests.reached;
       order = order;
-      waits = waits_begun k.maps k.chains k.resident k.objects k.waits.rows waits.rows task what (λ t. waiting t past) (λ t. waiting t (begun task what ∷ past)) s.rests.waits puts_here (absent_row header task what past k ids before s) can.allowed can.sized (begun_waiting task what past);
+      waits = waits_begun k.maps k.chains k.memory.resident k.memory.objects k.waits.rows waits.rows task what (λ t. waiting t past) (λ t. waiting t (begun task what ∷ past)) s.rests.waits puts_here (absent_row header h task what past k ids before s) can.allowed can.sized (begun_waiting task what past);
     })
 
 -- it is the only one that is to be run
@@ -256,18 +260,18 @@ begun_done header task (want.Load address size) past events ends = ends
 begun_done header task (want.Store address size value) past events ends = ends
 
 -- the access was run, and all that were to be
-pub begun_ran : (header : Header) (outside : Outside) (doing : Command) (task : TaskId) (what : Want) (past : List Event) (k new : Parts) (ids : Ids) (before log after : List Event) (rows : List Waiting) → doing ≡ asks task what
-    → Starts header doing past k ids before → log ≡ begun task what ∷ before → IsNext task.0 rows → Rests header new ids (after ++ past) → Goes header outside doing past log after → RunsFirst header rows past log after
-    → Ran header outside doing past new ids after
-begun_ran header outside doing task what past k new ids before log after rows is starts told next rests goes runs =
-    let first : Grows header outside (asks task what) past (begun task what ∷ []) = begun_grows header outside k ids past task what starts.rests.matches in
+pub begun_ran : (header : Header) (h : ℕ) (outside : Outside) (doing : Command) (task : TaskId) (what : Want) (past : List Event) (k new : Parts) (ids : Ids) (before log after : List Event) (rows : List Waiting) → doing ≡ asks task what
+    → Starts header h doing past k ids before → log ≡ begun task what ∷ before → IsNext task.0 rows → Rests header h new ids (after ++ past) → Goes header h outside doing past log after → RunsFirst header rows past log after
+    → Ran header h outside doing past new ids after
+begun_ran header h outside doing task what past k new ids before log after rows is starts told next rests goes runs =
+    let first : Grows header h outside (asks task what) past (begun task what ∷ []) = begun_grows header h outside k ids past task what starts.rests.matches (subst (λ (z : Command). refusal header past z ≡ None) is starts.accepted) in
     let same = begun_log task what before log starts.nothing told in
-    let grows : Grows header outside doing past log =
-    subst (λ (z : Command). Grows header outside z past log) (sym is) (subst (λ (z : List Event). Grows header outside (asks task what) past z) (sym same) first) in
+    let grows : Grows header h outside doing past log =
+    subst (λ (z : Command). Grows header h outside z past log) (sym is) (subst (λ (z : List Event). Grows header h outside (asks task what) past z) (sym same) first) in
     let ends : FindsPage header task.0 (begun task what ∷ past) → EndsNext task.0 (begun task what ∷ []) after =
     subst (λ (z : List Event). FindsPage header task.0 (z ++ past) → EndsNext task.0 z after) same (runs task.0 next) in
     record {
       rests = rests;
-      grows = grows_goes header outside doing past log after grows goes;
+      grows = grows_goes header h outside doing past log after grows goes;
       done = subst (λ (z : Command). IsDone header z after past) (sym is) (begun_done header task what past after ends);
     }

@@ -1,5 +1,5 @@
 -- A command that is built is one of those that a kernel knows.
-use Rattle.std.proofs.Common.{◌≡◌, ℕ, ◌<◌, true, false, List, length, refl, ap, ◌∙◌, subst, arith}
+use Rattle.std.proofs.Common.{◌≡◌, ℕ, true, false, List, refl, ap, ◌∙◌, subst, ◌==◌}
 use Rattle.std.specs.Prelude.{◌≢◌}
 use Rattle.vm_base.specs.declared.ids.HostId.{HostId}
 use Rattle.vm_base.specs.declared.ids.Inherit.{Inherit}
@@ -9,12 +9,12 @@ use Rattle.vm_model.specs.declared.command.Command.{Command}
 use Rattle.vm_model.specs.declared.command.Command.TheVariants as command
 use Rattle.vm_model.specs.declared.event.Event.{Event}
 use Rattle.vm_model.specs.declared.script.Header.{Header}
-use Rattle.vm_model.specs.Ranges.{InRange}
 use Rattle.vm_shadow.specs.declared.ids.Ids.{Ids}
-use Rattle.vm_kernel.specs.Begun.{Starts}
+use Rattle.vm_kernel.specs.Begun.{Starts, acts_on}
 use Rattle.vm_kernel.specs.Built.{is_built}
-use Rattle.vm_kernel.specs.Matches.{the_host}
+use Rattle.vm_kernel.specs.Matches.{host_id}
 use Rattle.vm_kernel.specs.declared.parts.Parts.{Parts}
+use Rattle.vm_kernel.proofs.Own.{host_same}
 
 -- the command is none of those that are built
 pub record IsUnknown (c : Command) : Type 0 where
@@ -46,11 +46,7 @@ none_unknown (command.Wire host count) built unknown = unknown.wire host count r
 none_unknown (command.Unwire host count) built unknown = unknown.unwire host count refl
 none_unknown other built unknown = let bad : false ≡ true = built in cc
 
--- a command's host is the one that there is
-same_host : (hosts : ℕ) (host : HostId) → hosts ≡ 1 → host.0 < hosts → host ≡ the_host
-same_host hosts host one below = let none : host.0 ≡ 0 = omega (arith, one, below) in λ i. record { 0 = none i }
-
-pub pageout_of : (header : Header) (doing : Command) (past : List Event) (k : Parts) (ids : Ids) (events : List Event) (host : HostId) (count : ℕ) → Starts header doing past k ids events → doing ≡ command.Pageout host count → doing ≡ command.Pageout the_host count
-pageout_of header doing past k ids events host count s is =
-    let range : InRange header (command.Pageout host count) = subst (InRange header) is s.range in
-    is ∙ ap (λ z. command.Pageout z count) (same_host (length header.frames.items) host (ap length s.rests.matches.plain.hosts) range.0)
+pub pageout_of : (header : Header) (h : ℕ) (doing : Command) (past : List Event) (k : Parts) (ids : Ids) (events : List Event) (host : HostId) (count : ℕ) → Starts header h doing past k ids events → doing ≡ command.Pageout host count → doing ≡ command.Pageout (host_id h) count
+pageout_of header h doing past k ids events host count s is =
+    let acts : (host.0 == h) ≡ true = subst (λ (z : Command). acts_on h z past ≡ true) is s.acts in
+    is ∙ ap (λ z. command.Pageout z count) (host_same host h acts)

@@ -1,7 +1,7 @@
 -- Commands that change a task's entries, from their beginning to their end.
-use Rattle.std.proofs.Common.{◌≡◌, ℕ, zero, suc, ◌+◌, ◌-◌, ◌*◌, ◌<◌, ◌≤◌, true, false, List, [], ◌∷◌, length, refl, ap, sym, ◌∙◌, subst, arith, Some, None, Option, inl, inr}
+use Rattle.std.proofs.Common.{◌≡◌, ℕ, zero, suc, ◌+◌, ◌-◌, ◌*◌, ◌<◌, ◌≤◌, true, false, List, [], ◌∷◌, length, refl, ap, sym, ◌∙◌, subst, arith, Some, None, Option, inl, inr, ◌==◌, ◌||◌}
 use Rattle.std.proofs.lemmas.Bool.Decides.{eqb_tells}
-use Rattle.std.specs.Prelude.{is_none, is_some, unwrap_or}
+use Rattle.std.specs.Prelude.{is_none, is_some, unwrap_or, if◌then◌else◌}
 use Rattle.vm_base.specs.declared.code.Code.{Code}
 use Rattle.vm_base.specs.declared.code.Code.TheVariants as code
 use Rattle.vm_base.specs.declared.entry.Entry.{Entry}
@@ -17,7 +17,7 @@ use Rattle.vm_model.specs.Local.{local}
 use Rattle.vm_model.specs.Regions.{backing_of, next_object, next_region, region_of}
 use Rattle.vm_model.specs.Rows.{AllRows, rows_map}
 use Rattle.vm_model.specs.Tasks.{entries_of, has_entry, host_of}
-use Rattle.vm_model.specs.Waiting.{Access, waiting}
+use Rattle.vm_model.specs.Waiting.{Access, waiting, copy_target, fills}
 use Rattle.vm_legal.specs.Living.{tasks}
 use Rattle.vm_legal.specs.Outside.{Outside}
 use Rattle.vm_legal.specs.Refusal.{acting, where_true}
@@ -33,9 +33,9 @@ use Rattle.vm_waits.specs.declared.waiting.Waiting.{Waiting}
 use Rattle.vm_kernel.specs.Begun.{Ran, Starts}
 use Rattle.vm_kernel.specs.Changes.{inheritance, protection}
 use Rattle.vm_kernel.specs.Counts.{count_by, count_on, most_tasks}
-use Rattle.vm_kernel.specs.Matches.{AllReached, AllUsed, HasEntries, HasPages, HasRegions, HasUse, IsInside, Rests}
+use Rattle.vm_kernel.specs.Matches.{AllReached, AllUsed, HasEntries, HasPages, HasRegions, HasUse, IsInside, Rests, holds}
 use Rattle.vm_kernel.specs.Places.{entries_in_row, has_region, place_of, region_entries}
-use Rattle.vm_kernel.specs.Sweeping.{Lowered, Raised, with_entries}
+use Rattle.vm_kernel.specs.Sweeping.{Lowered, Raised}
 use Rattle.vm_kernel.specs.Waiters.{HasWaiters, waiting_in}
 use Rattle.vm_kernel.specs.declared.parts.Parts.{Parts}
 use Rattle.vm_kernel.proofs.Counts.{by_changed, by_few, most_is}
@@ -43,9 +43,10 @@ use Rattle.vm_kernel.proofs.Cutting.{Cuts, inherit_cuts, protect_cuts}
 use Rattle.vm_kernel.proofs.Growing.{suffices}
 use Rattle.vm_kernel.proofs.Heads.{grows_one, passed}
 use Rattle.vm_kernel.proofs.Recounts.{Recounts, entries_are, entries_most, has_same, lowered_recounts, raised_recounts, recounts_as, recounts_twice}
+use Rattle.vm_kernel.proofs.Regions.{region_row, tops_recounted}
 use Rattle.vm_kernel.proofs.Rewrites.{entries_changed, lives_below, on_among, recount_known, recount_pages, recount_regions, recount_used, tasks_changed}
-use Rattle.vm_kernel.proofs.Uses.{uses_same}
-use Rattle.vm_kernel.proofs.Waited.{SameTops, waits_changed}
+use Rattle.vm_kernel.proofs.Uses.{uses_same, holds_rows}
+use Rattle.vm_kernel.proofs.Waited.{waits_changed, told_changed}
 
 -- how many entries lead to a region
 
@@ -55,14 +56,6 @@ by_most (suc n) r task maps less = elim (eqb_tells n task) [
   | inl same ↦ subst (λ (z : ℕ). count_on r (rows_in z maps) ≤ count_by (suc n) r maps) same.1 (omega arith)
   | inr apart ↦ let later = by_most n r task maps (let other = apart.1 in grind arith) in omega arith
 ]
-
--- the row of a region that is there
-region_row : (cs : ChainTable) (r : ℕ) → has_region cs r ≡ true → (row : RegionRow) × (region_at cs r ≡ Some row)
-region_row cs r there = go (region_at cs r) there
-  where
-    go : (x : Option RegionRow) → is_some x ≡ true → (row : RegionRow) × (x ≡ Some row)
-    go None bad = absurd (let no : false ≡ true = bad in cc)
-    go (Some row) is = (row, refl)
 
 pub counted : (size task : ℕ) (maps : Mapped) (cs : ChainTable) (lost : List Entry) → HasEntries size maps cs lost → entries_in task maps ≡ Some (rows_in task maps) → (r : ℕ) → has_region cs r ≡ true → count_on r (rows_in task maps) ≤ region_entries cs r
 counted size task maps cs lost has lives r there =
@@ -98,36 +91,34 @@ no_row : (x : Option Waiting) → waiting_in x ≡ None → x ≡ None
 no_row None is = refl
 no_row (Some w) bad = absurd (let no : waiting_in (Some w) ≡ None = bad in cc)
 
-pub not_there : (header : Header) (past : List Event) (k : Parts) (ids : Ids) (task : ℕ) → Rests header k ids past → waiting task past ≡ None → entry k.waits.rows task ≡ None
-not_there header past k ids task rests none = no_row (entry k.waits.rows task) (sym (rests.waits.is task) ∙ none)
+pub not_there : (header : Header) (h : ℕ) (past : List Event) (k : Parts) (ids : Ids) (task : ℕ) (rows : List Entry) → Rests header h k ids past → entries_in task k.maps ≡ Some rows → waiting task past ≡ None → entry k.waits.rows task ≡ None
+not_there header h past k ids task rows rests lives none = no_row (entry k.waits.rows task) (sym (rests.waits.is task (ap is_some lives)) ∙ none)
 
 -- regions count what was made, and what was lost, in place of what there was
 
-pub record Changed (header : Header) (past : List Event) (k : Parts) (ids : Ids) (maps : Mapped) (chains : ChainTable) (lost : List Entry) : Type 0 where
-  pub regions : HasRegions chains k.objects ids (λ r. region_of header r past) (λ o. backing_of header o past) (next_region header past) (next_object header past)
+pub record Changed (header : Header) (h : ℕ) (past : List Event) (k : Parts) (ids : Ids) (maps : Mapped) (chains : ChainTable) (lost : List Entry) : Type 0 where
+  pub regions : HasRegions chains k.memory.objects ids (λ r. region_of header r past) (λ o. backing_of header o past) (next_region header past) (next_object header past)
   pub entries : HasEntries header.size maps chains lost
-  pub pages : HasPages k.frames k.resident k.objects chains (λ o p. local header.size 0 (place_of o p) past)
+  pub pages : HasPages k.memory.frames k.memory.resident k.memory.objects chains (λ o p. local header.size h (place_of o p) past)
   pub used : AllUsed chains
-  pub reached : AllReached chains k.objects
-  pub waits : HasWaiters maps chains k.resident k.objects k.waits.rows woken.Nobody (λ t. waiting t past)
+  pub reached : AllReached chains k.memory.objects
+  pub waits : HasWaiters maps chains k.memory.resident k.memory.objects k.waits.rows woken.Nobody (λ t. waiting t past)
 
-recount_tops : (count : ℕ → ℕ) (old new : ChainTable) → Recounts count old new → SameTops old new
-recount_tops count old new is = record { at = λ r row found. record { row_now = record row { entries = count r }; found = is.at r ∙ ap (with_entries (count r)) found; top = refl; shift = refl } }
-
-pub changed_by : (header : Header) (past : List Event) (k : Parts) (ids : Ids) (maps : Mapped) (chains : ChainTable) (task : ℕ) (rows : Option (List Entry)) (lost : List Entry) (count : ℕ → ℕ) → Rests header k ids past → waiting task past ≡ None
+pub changed_by : (header : Header) (h : ℕ) (past : List Event) (k : Parts) (ids : Ids) (maps : Mapped) (chains : ChainTable) (task : ℕ) (rows : Option (List Entry)) (lost : List Entry) (count : ℕ → ℕ) → Rests header h k ids past → waiting task past ≡ None
     → ChangesOnly k.maps maps task rows → entries_in task k.maps ≡ Some (rows_in task k.maps) → Cuts header.size k.chains (rows_in task k.maps) (unwrap_or rows []) lost → Recounts count k.chains chains
-    → ((r : ℕ) → has_region k.chains r ≡ true → count r + count_on r (rows_in task k.maps) ≡ region_entries k.chains r + (count_on r (unwrap_or rows []) + count_on r lost)) → Changed header past k ids maps chains lost
-changed_by header past k ids maps chains task rows lost count rests idle changes lives cuts is sums =
+    → ((r : ℕ) → has_region k.chains r ≡ true → count r + count_on r (rows_in task k.maps) ≡ region_entries k.chains r + (count_on r (unwrap_or rows []) + count_on r lost)) → Changed header h past k ids maps chains lost
+changed_by header h past k ids maps chains task rows lost count rests idle changes lives cuts is sums =
     let m = rests.matches in
     let old = rows_in task k.maps in
     let made = unwrap_or rows [] in
     record {
-      regions = recount_regions count k.chains chains k.objects ids (λ r. region_of header r past) (λ o. backing_of header o past) (next_region header past) (next_object header past) is m.regions;
+      regions = recount_regions count k.chains chains k.memory.objects ids (λ r. region_of header r past) (λ o. backing_of header o past) (next_region header past) (next_object header past) is m.regions;
       entries = entries_changed header.size task k.maps maps k.chains chains count rows lost m.entries changes lives is sums cuts.inside cuts.known cuts.few;
-      pages = recount_pages count k.frames k.resident k.objects k.chains chains (λ o p. local header.size 0 (place_of o p) past) is m.pages;
+      pages = recount_pages count k.memory.frames k.memory.resident k.memory.objects k.chains chains (λ o p. local header.size h (place_of o p) past) is m.pages;
       used = recount_used count k.chains chains is (λ r there some. let sum = sums r there in let kept = cuts.kept r in omega arith) rests.used;
       reached = λ o row found live. has_same count k.chains chains is o ∙ rests.reached o row found live;
-      waits = waits_changed k.maps maps k.chains chains k.resident k.objects k.waits.rows woken.Nobody (λ t. waiting t past) task rows rests.waits changes (not_there header past k ids task rests idle) (recount_tops count k.chains chains is);
+      waits = waits_changed k.maps maps k.chains chains k.memory.resident k.memory.objects k.waits.rows woken.Nobody (λ t. waiting t past) task rows rests.waits changes (not_there header h past k ids task old rests lives idle) (tops_recounted count k.chains chains is)
+          (told_changed k.maps maps k.waits.rows (λ t. waiting t past) task old rows rests.waits.is changes lives);
     }
 
 -- a region is in use as long as before where no entry on it is new, and after where none goes
@@ -146,13 +137,15 @@ uses_fewer size task r maps new cs rows has changes lives own some = by_count (c
         let most = by_most most_tasks r task maps below in
         omega arith
 
-pub uses_kept : (header : Header) (past : List Event) (k : Parts) (ids : Ids) (maps : Mapped) (task : ℕ) (two : List Entry) → Rests header k ids past → ChangesOnly k.maps maps task (Some two) → entries_in task k.maps ≡ Some (rows_in task k.maps)
-    → Cuts header.size k.chains (rows_in task k.maps) two [] → HasUse maps (λ r. in_use header 0 r past) (tasks past)
-uses_kept header past k ids maps task two rests changes lives cuts =
+pub uses_kept : (header : Header) (h : ℕ) (past : List Event) (k : Parts) (ids : Ids) (maps : Mapped) (task : ℕ) (two : List Entry) → Rests header h k ids past → ChangesOnly k.maps maps task (Some two) → entries_in task k.maps ≡ Some (rows_in task k.maps)
+    → Cuts header.size k.chains (rows_in task k.maps) two [] → (own : ℕ → List Entry)
+    → HasUse maps (λ r. in_use header h r past) (tasks past) (λ t r. has_entry r (if task == t then own t else entries_of header.size t past) || fills r (waiting t past) (copy_target t past)) (next_region header past)
+uses_kept header h past k ids maps task two rests changes lives cuts own =
     let m = rests.matches in
-    uses_same k.maps maps (λ r. in_use header 0 r past) (tasks past) task (Some two) m.uses changes lives
+    uses_same k.maps maps (λ r. in_use header h r past) (tasks past) (λ t r. holds header.size t r past) _ (next_region header past) task two m.uses changes lives
     (λ r some. let moved = by_changed most_tasks r task k.maps maps (Some two) (lives_below header.size task k.maps k.chains [] m.entries lives) changes in let kept = cuts.kept r in omega arith)
     (λ r some. uses_fewer header.size task r k.maps maps k.chains (Some two) m.entries changes lives cuts.own some)
+    (λ t r none. holds_rows header.size task t r k.maps (rows_in task k.maps) (own t) past lives none)
 
 -- counts that go down, and up again
 pub recounted : (rows made : List Entry) (old mid new : ChainTable) → Lowered rows old mid → Raised made mid new → Recounts (λ r. region_entries old r - count_on r rows + count_on r made) old new
@@ -175,42 +168,43 @@ raise_there size old mid rows made lost cuts down =
     recount_known (λ r. region_entries old r - count_on r rows) old mid (lowered_recounts rows old mid down) made (rows_map (IsInside size old) (λ row. has_region old row.region.0 ≡ true) (λ row is. is.region) made cuts.inside)
 
 -- counts, once the rows were taken off and what was made of them was put on
-pub changed_counts : (header : Header) (past : List Event) (k : Parts) (ids : Ids) (maps : Mapped) (mid chains : ChainTable) (task : ℕ) (one two : List Entry) → Rests header k ids past → waiting task past ≡ None
-    → ChangesOnly k.maps maps task (Some two) → entries_in task k.maps ≡ Some one → Cuts header.size k.chains (rows_in task k.maps) two [] → Lowered one k.chains mid → Raised two mid chains → Changed header past k ids maps chains []
-changed_counts header past k ids maps mid chains task one two rests idle changes value cuts down up =
+pub changed_counts : (header : Header) (h : ℕ) (past : List Event) (k : Parts) (ids : Ids) (maps : Mapped) (mid chains : ChainTable) (task : ℕ) (one two : List Entry) → Rests header h k ids past → waiting task past ≡ None
+    → ChangesOnly k.maps maps task (Some two) → entries_in task k.maps ≡ Some one → Cuts header.size k.chains (rows_in task k.maps) two [] → Lowered one k.chains mid → Raised two mid chains → Changed header h past k ids maps chains []
+changed_counts header h past k ids maps mid chains task one two rests idle changes value cuts down up =
     let live = lives_as task k.maps one value in
     let rows = rows_in task k.maps in
     let down2 = subst (λ (z : List Entry). Lowered z k.chains mid) (sym live.0) down in
-    changed_by header past k ids maps chains task (Some two) [] (λ r. region_entries k.chains r - count_on r rows + count_on r two) rests idle changes live.1 cuts (recounted rows two k.chains mid chains down2 up)
+    changed_by header h past k ids maps chains task (Some two) [] (λ r. region_entries k.chains r - count_on r rows + count_on r two) rests idle changes live.1 cuts (recounted rows two k.chains mid chains down2 up)
     (λ r there. let most = counted header.size task k.maps k.chains [] rests.matches.entries live.1 r there in omega arith)
 
-pub ran_protect : (header : Header) (outside : Outside) (task : TaskId) (address bytes : ℕ) (prot : Prot) (past events : List Event) (k : Parts) (ids : Ids) (maps : Mapped) (mid chains : ChainTable) (change : MapChange) (one two : List Entry)
-    → Starts header (command.Protect task address bytes prot) past k ids events → change ≡ protection address bytes prot
+pub ran_protect : (header : Header) (h : ℕ) (outside : Outside) (task : TaskId) (address bytes : ℕ) (prot : Prot) (past events : List Event) (k : Parts) (ids : Ids) (maps : Mapped) (mid chains : ChainTable) (change : MapChange) (one two : List Entry)
+    → Starts header h (command.Protect task address bytes prot) past k ids events → change ≡ protection address bytes prot
     → ChangesOnly k.maps maps task.0 (Some (protected k.maps.size change.address change.bytes change.prot (rows_in task.0 k.maps)))
     → entries_in task.0 k.maps ≡ Some one → entries_in task.0 maps ≡ Some two → length two ≤ most_entries → Lowered one k.chains mid → Raised two mid chains
-    → Ran header outside (command.Protect task address bytes prot) past (record k { maps = maps; chains = chains }) ids (event.Protected task address bytes prot ∷ [])
-ran_protect header outside task address bytes prot past events k ids maps mid chains change one two s is changes value now few down up =
+    → Ran header h outside (command.Protect task address bytes prot) past (record k { maps = maps; chains = chains }) ids (event.Protected task address bytes prot ∷ [])
+ran_protect header h outside task address bytes prot past events k ids maps mid chains change one two s is changes value now few down up =
     let m = s.rests.matches in
     let live = lives_as task.0 k.maps one value in
     let rows = rows_in task.0 k.maps in
     let cuts = protect_cuts header.size address bytes task.0 prot k.maps maps k.chains change two m.entries m.tasks.sized is changes now few in
     let idle = acts task.0 past _ s.accepted in
-    let c = changed_counts header past k ids maps mid chains task.0 one two s.rests idle (record { size = changes.size; changed = now; others = changes.others }) value cuts down up in
+    let c = changed_counts header h past k ids maps mid chains task.0 one two s.rests idle (record { size = changes.size; changed = now; others = changes.others }) value cuts down up in
     let same : ChangesOnly k.maps maps task.0 (Some (protected header.size address bytes prot rows)) =
     record { size = changes.size; changed = changes.changed ∙ ap Some (ap (λ z. protected k.maps.size z.address z.bytes z.prot rows) is ∙ ap (λ z. protected z address bytes prot rows) m.tasks.sized); others = changes.others } in
-    let rests : Rests header (record k { maps = maps; chains = chains }) ids (event.Protected task address bytes prot ∷ past) =
+    let rests : Rests header h (record k { maps = maps; chains = chains }) ids (event.Protected task address bytes prot ∷ past) =
     record {
       matches =
           record {
             plain = m.plain;
+            known = m.known;
             size = m.size;
             host = m.host;
             fits = record { parts = m.fits.parts; plain = m.fits.plain; buffers = m.fits.buffers };
-            tasks = tasks_changed header.size task.0 k.maps maps (λ t. host_of t past) (λ t. entries_of header.size t past) (protected header.size address bytes prot) m.tasks same live.1;
+            tasks = tasks_changed h header.size task.0 k.maps maps (λ t. host_of t past) (λ t. entries_of header.size t past) (protected header.size address bytes prot) m.tasks same live.1;
             regions = c.regions;
             entries = c.entries;
             pages = c.pages;
-            uses = uses_kept header past k ids maps task.0 two s.rests (record { size = changes.size; changed = now; others = changes.others }) live.1 cuts;
+            uses = uses_kept header h past k ids maps task.0 two s.rests (record { size = changes.size; changed = now; others = changes.others }) live.1 cuts (λ t. protected header.size address bytes prot (entries_of header.size t past));
             controls = m.controls;
             settled = refl;
             laundry = m.laundry;
@@ -224,37 +218,38 @@ ran_protect header outside task address bytes prot past events k ids maps mid ch
     } in
     record {
       rests = rests;
-      grows = grows_one header outside (command.Protect task address bytes prot) past (event.Protected task address bytes prot) refl (record { quiet = m.settled; cause = tt; own_bytes = tt; copies = tt; frames = suffices header k.frames (event.Protected task address bytes prot ∷ past) m.frames; inner = tt; said = tt });
+      grows = grows_one header h outside (command.Protect task address bytes prot) past (event.Protected task address bytes prot) refl (record { quiet = m.settled; cause = idle; own_bytes = tt; frames = suffices header h k.memory.frames (event.Protected task address bytes prot ∷ past) m.frames; inner = tt; said = tt });
       done = tt;
     }
 
-pub ran_inherit : (header : Header) (outside : Outside) (task : TaskId) (address bytes : ℕ) (inherit : Inherit) (past events : List Event) (k : Parts) (ids : Ids) (maps : Mapped) (mid chains : ChainTable) (change : MapChange) (one two : List Entry)
-    → Starts header (command.Inherit task address bytes inherit) past k ids events → change ≡ inheritance address bytes inherit
+pub ran_inherit : (header : Header) (h : ℕ) (outside : Outside) (task : TaskId) (address bytes : ℕ) (inherit : Inherit) (past events : List Event) (k : Parts) (ids : Ids) (maps : Mapped) (mid chains : ChainTable) (change : MapChange) (one two : List Entry)
+    → Starts header h (command.Inherit task address bytes inherit) past k ids events → change ≡ inheritance address bytes inherit
     → ChangesOnly k.maps maps task.0 (Some (inherited k.maps.size change.address change.bytes change.inherit (rows_in task.0 k.maps)))
     → entries_in task.0 k.maps ≡ Some one → entries_in task.0 maps ≡ Some two → length two ≤ most_entries → Lowered one k.chains mid → Raised two mid chains
-    → Ran header outside (command.Inherit task address bytes inherit) past (record k { maps = maps; chains = chains }) ids (event.Inherited task address bytes inherit ∷ [])
-ran_inherit header outside task address bytes inherit past events k ids maps mid chains change one two s is changes value now few down up =
+    → Ran header h outside (command.Inherit task address bytes inherit) past (record k { maps = maps; chains = chains }) ids (event.Inherited task address bytes inherit ∷ [])
+ran_inherit header h outside task address bytes inherit past events k ids maps mid chains change one two s is changes value now few down up =
     let m = s.rests.matches in
     let live = lives_as task.0 k.maps one value in
     let rows = rows_in task.0 k.maps in
     let cuts = inherit_cuts header.size address bytes task.0 inherit k.maps maps k.chains change two m.entries m.tasks.sized is changes now few in
     let idle = acts task.0 past _ s.accepted in
-    let c = changed_counts header past k ids maps mid chains task.0 one two s.rests idle (record { size = changes.size; changed = now; others = changes.others }) value cuts down up in
+    let c = changed_counts header h past k ids maps mid chains task.0 one two s.rests idle (record { size = changes.size; changed = now; others = changes.others }) value cuts down up in
     let same : ChangesOnly k.maps maps task.0 (Some (inherited header.size address bytes inherit rows)) =
     record { size = changes.size; changed = changes.changed ∙ ap Some (ap (λ z. inherited k.maps.size z.address z.bytes z.inherit rows) is ∙ ap (λ z. inherited z address bytes inherit rows) m.tasks.sized); others = changes.others } in
-    let rests : Rests header (record k { maps = maps; chains = chains }) ids (event.Inherited task address bytes inherit ∷ past) =
+    let rests : Rests header h (record k { maps = maps; chains = chains }) ids (event.Inherited task address bytes inherit ∷ past) =
     record {
       matches =
           record {
             plain = m.plain;
+            known = m.known;
             size = m.size;
             host = m.host;
             fits = record { parts = m.fits.parts; plain = m.fits.plain; buffers = m.fits.buffers };
-            tasks = tasks_changed header.size task.0 k.maps maps (λ t. host_of t past) (λ t. entries_of header.size t past) (inherited header.size address bytes inherit) m.tasks same live.1;
+            tasks = tasks_changed h header.size task.0 k.maps maps (λ t. host_of t past) (λ t. entries_of header.size t past) (inherited header.size address bytes inherit) m.tasks same live.1;
             regions = c.regions;
             entries = c.entries;
             pages = c.pages;
-            uses = uses_kept header past k ids maps task.0 two s.rests (record { size = changes.size; changed = now; others = changes.others }) live.1 cuts;
+            uses = uses_kept header h past k ids maps task.0 two s.rests (record { size = changes.size; changed = now; others = changes.others }) live.1 cuts (λ t. inherited header.size address bytes inherit (entries_of header.size t past));
             controls = m.controls;
             settled = refl;
             laundry = m.laundry;
@@ -268,6 +263,6 @@ ran_inherit header outside task address bytes inherit past events k ids maps mid
     } in
     record {
       rests = rests;
-      grows = grows_one header outside (command.Inherit task address bytes inherit) past (event.Inherited task address bytes inherit) refl (record { quiet = m.settled; cause = tt; own_bytes = tt; copies = tt; frames = suffices header k.frames (event.Inherited task address bytes inherit ∷ past) m.frames; inner = tt; said = tt });
+      grows = grows_one header h outside (command.Inherit task address bytes inherit) past (event.Inherited task address bytes inherit) refl (record { quiet = m.settled; cause = idle; own_bytes = tt; frames = suffices header h k.memory.frames (event.Inherited task address bytes inherit ∷ past) m.frames; inner = tt; said = tt });
       done = tt;
     }

@@ -2,7 +2,6 @@
 use Rattle.std.proofs.Common.{◌≡◌, ℕ, Bool, false, List, ◌++◌, refl, ap, sym, ◌∙◌, subst, None}
 use Rattle.std.specs.Prelude.{nat_lt}
 use Rattle.vm_base.specs.declared.entry.Entry.{Entry}
-use Rattle.vm_base.specs.declared.ids.HostId.{HostId}
 use Rattle.vm_base.specs.declared.ids.PageKey.{PageKey}
 use Rattle.vm_legal.specs.Outside.{Outside}
 use Rattle.vm_legal.specs.Used.{in_use}
@@ -18,19 +17,19 @@ use Rattle.vm_kernel.specs.declared.parts.Parts.{Parts}
 use Rattle.vm_kernel.proofs.Playing.{frames_put, here_is, plays_told, same_paging}
 use Rattle.vm_kernel.proofs.Strands.{none_left}
 
-pub lost_plays : (header : Header) (outside : Outside) (doing : Command) (past : List Event) (k k2 : Parts) (ids : Ids) (rest : List Entry) (region : ℕ) (key : PageKey) (events after : List Event)
-    → Ends header outside doing past k ids rest region events → key.object.0 ≡ region → Lost key k k2 events after → Plays header past events (paging k) after (paging k2)
-lost_plays header outside doing past k k2 ids rest region key events after ends same lost =
+pub lost_plays : (header : Header) (h : ℕ) (outside : Outside) (doing : Command) (past : List Event) (k k2 : Parts) (ids : Ids) (rest : List Entry) (region : ℕ) (key : PageKey) (events after : List Event)
+    → Ends header h outside doing past k ids rest region events → key.object.0 ≡ region → Lost key k k2 events after → Plays header past events (paging k) after (paging k2)
+lost_plays header h outside doing past k k2 ids rest region key events after ends same lost =
     plays_told lost.told
     (subst (λ (b : Bool). DepartsFrom b key.object.0 key.page.0 (paging k) (paging k2)) (sym unused)
     (record {
       frame = lost.row.frame;
-      here = here_is (row_at k.resident key.object.0 key.page.0) lost.row lost.row.frame lost.found lost.here refl;
-      is = same_paging _ _ _ _ (frames_put k.resident k2.resident key.object.0 key.page.0 None None lost.put refl) lost.lists;
+      here = here_is (row_at k.memory.resident key.object.0 key.page.0) lost.row lost.row.frame lost.page.found lost.here refl;
+      is = same_paging _ _ _ _ (frames_put k.memory.resident k2.memory.resident key.object.0 key.page.0 None None lost.page.row refl) lost.page.queues;
     }))
   where
-    none : in_use header 0 region (events ++ past) ≡ false
+    none : in_use header h region (events ++ past) ≡ false
     none = ends.runs.matches.uses.used region ∙ ap (nat_lt 0) (none_left header.size k.maps k.chains rest region ends.runs.matches.entries ends.there ends.none).0
 
     unused : in_use header k.host.0 key.object.0 (events ++ past) ≡ false
-    unused = ap (λ (z : HostId). in_use header z.0 key.object.0 (events ++ past)) ends.runs.matches.host ∙ ap (λ (z : ℕ). in_use header 0 z (events ++ past)) same ∙ none
+    unused = ap (λ z. in_use header z key.object.0 (events ++ past)) ends.runs.matches.host ∙ ap (λ (z : ℕ). in_use header h z (events ++ past)) same ∙ none

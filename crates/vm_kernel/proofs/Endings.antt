@@ -1,5 +1,5 @@
 -- Tasks end, and ranges are unmapped.
-use Rattle.std.proofs.Common.{◌≡◌, ℕ, ◌+◌, ◌-◌, ◌≤◌, ◌==◌, true, List, [], ◌∷◌, ◌++◌, length, refl, ap, sym, ◌∙◌, subst, arith, Some, None, Option, inl, inr}
+use Rattle.std.proofs.Common.{◌≡◌, ℕ, ◌+◌, ◌-◌, ◌≤◌, ◌==◌, true, List, [], ◌∷◌, ◌++◌, length, refl, ap, sym, ◌∙◌, subst, arith, Some, None, Option, inl, inr, false, Bool, is_some}
 use Rattle.std.proofs.lemmas.Bool.Decides.{eqb_tells}
 use Rattle.std.specs.Prelude.{if◌then◌else◌, unwrap_or}
 use Rattle.vm_base.specs.declared.entry.Entry.{Entry}
@@ -28,7 +28,7 @@ use Rattle.vm_waits.specs.declared.waiting.Waiting.{Waiting}
 use Rattle.vm_kernel.specs.Begun.{Ran, Starts}
 use Rattle.vm_kernel.specs.Changes.{removal}
 use Rattle.vm_kernel.specs.Counts.{count_on}
-use Rattle.vm_kernel.specs.Matches.{HasTasks, Rests, host_for}
+use Rattle.vm_kernel.specs.Matches.{HasTasks, Rests, HasUse, holds}
 use Rattle.vm_kernel.specs.Places.{has_region, region_entries}
 use Rattle.vm_kernel.specs.Sweeping.{Lowered, Raised, Sweeps}
 use Rattle.vm_kernel.specs.Waiters.{HasWaiters}
@@ -40,60 +40,72 @@ use Rattle.vm_kernel.proofs.Growing.{suffices}
 use Rattle.vm_kernel.proofs.Heads.{grows_one}
 use Rattle.vm_kernel.proofs.Recounts.{Recounts, entries_are, entries_most, lowered_recounts, raised_recounts, recounts_as, recounts_same, recounts_twice}
 use Rattle.vm_kernel.proofs.Rewrites.{recount_known, tasks_changed}
-use Rattle.vm_kernel.proofs.Uses.{uses_cut}
+use Rattle.vm_kernel.proofs.Uses.{uses_cut, ApartFrom, elsewhere, holds_rows}
+use Rattle.vm_model.specs.Local.{is_on}
+use Rattle.vm_model.specs.Regions.{next_region}
 
 -- a task ends
 
-tasks_ended : (size task : ℕ) (maps new : Mapped) (host_at : ℕ → Option ℕ) (rows_at : ℕ → List Entry) → HasTasks size maps host_at rows_at → ChangesOnly maps new task None
-    → HasTasks size new (λ t. if task == t then None else host_at t) (λ t. if task == t then [] else rows_at t)
-tasks_ended size task maps new host_at rows_at has changes =
+tasks_ended : (h : ℕ) (size task : ℕ) (maps new : Mapped) (host_at : ℕ → Option ℕ) (rows_at : ℕ → List Entry) → HasTasks h size maps host_at rows_at → ChangesOnly maps new task None
+    → HasTasks h size new (λ t. if task == t then None else host_at t) (λ t. if task == t then [] else rows_at t)
+tasks_ended h size task maps new host_at rows_at has changes =
     record {
       sized = changes.size ∙ has.sized;
       hosts = λ t. elim (eqb_tells task t) [
-        | inl same ↦ ap (λ b. if b then None else host_at t) same.0 ∙ (sym (ap host_for changes.changed) ∙ ap (λ z. host_for (entries_in z new)) same.1)
-        | inr apart ↦ ap (λ b. if b then None else host_at t) apart.0 ∙ (has.hosts t ∙ sym (ap host_for (changes.others t (λ e. apart.1 (sym e)))))
+        | inl same ↦ ap (λ b. is_on h (if b then None else host_at t)) same.0 ∙ (sym (ap is_some changes.changed) ∙ ap (λ z. is_some (entries_in z new)) same.1)
+        | inr apart ↦ ap (λ b. is_on h (if b then None else host_at t)) apart.0 ∙ (has.hosts t ∙ sym (ap is_some (changes.others t (λ e. apart.1 (sym e)))))
       ];
-      rows = λ t. elim (eqb_tells task t) [
+      rows = λ t here. elim (eqb_tells task t) [
         | inl same ↦ ap (λ b. if b then [] else rows_at t) same.0 ∙ (sym (ap (λ z. unwrap_or z []) changes.changed) ∙ ap (λ z. rows_in z new) same.1)
-        | inr apart ↦ ap (λ b. if b then [] else rows_at t) apart.0 ∙ (has.rows t ∙ sym (ap (λ z. unwrap_or z []) (changes.others t (λ e. apart.1 (sym e)))))
+        | inr apart ↦ ap (λ b. if b then [] else rows_at t) apart.0 ∙ (has.rows t (ap is_some (sym (changes.others t (λ e. apart.1 (sym e)))) ∙ here) ∙ sym (ap (λ z. unwrap_or z []) (changes.others t (λ e. apart.1 (sym e)))))
       ];
     }
 
 -- a task that ends didn't wait
-waits_ended : (maps : Mapped) (cs : ChainTable) (rs : ResidentTable) (os : ObjectTable) (rows : List Waiting) (who : Woken) (waiting_at : ℕ → Option Access) (task : ℕ) → HasWaiters maps cs rs os rows who waiting_at → waiting_at task ≡ None
+waits_ended : (maps : Mapped) (cs : ChainTable) (rs : ResidentTable) (os : ObjectTable) (rows : List Waiting) (who : Woken) (waiting_at : ℕ → Option Access) (task : ℕ) → HasWaiters maps cs rs os rows who waiting_at → entries_in task maps ≡ None
     → HasWaiters maps cs rs os rows who (λ t. if task == t then None else waiting_at t)
 waits_ended maps cs rs os rows who waiting_at task has none =
     record {
-      is = λ t. elim (eqb_tells task t) [
-        | inl same ↦ ap (λ b. if b then None else waiting_at t) same.0 ∙ (sym none ∙ (ap waiting_at same.1 ∙ has.is t))
-        | inr apart ↦ ap (λ b. if b then None else waiting_at t) apart.0 ∙ has.is t
+      is = λ t here. elim (eqb_tells task t) [
+        | inl same ↦ absurd (let bad : false ≡ true = sym (ap is_some none) ∙ (ap (λ z. is_some (entries_in z maps)) same.1 ∙ here) in cc)
+        | inr apart ↦ ap (λ b. if b then None else waiting_at t) apart.0 ∙ has.is t here
       ];
       allowed = has.allowed;
       sized = has.sized;
       reasons = has.reasons;
       aims = has.aims;
       askers = has.askers;
+      ready = has.ready;
     }
 
-pub sweeps_exit : (header : Header) (outside : Outside) (task : TaskId) (past events : List Event) (k : Parts) (ids : Ids) (maps : Mapped) (gone : List Entry) → Starts header (command.Exit task) past k ids events
-    → entries_in task.0 k.maps ≡ Some gone → ChangesOnly k.maps maps task.0 None → Sweeps header outside (command.Exit task) past (record k { maps = maps }) ids gone (event.TaskEnded task ∷ [])
-sweeps_exit header outside task past events k ids maps gone s value changes =
+-- a task that has ended holds nothing, and others hold what they held
+apart_ended : (size : ℕ) (maps new : Mapped) (used_at : ℕ → Bool) (made : List ℕ) (n : ℕ) (task : TaskId) (past : List Event) → HasUse maps used_at made (λ t r. holds size t r past) n → ChangesOnly maps new task.0 None
+    → ApartFrom new used_at (λ t r. holds size t r (event.TaskEnded task ∷ past)) n
+apart_ended size maps new used_at made n task past has changes t r none why = elim (eqb_tells task.0 t) [
+  | inl same ↦ rw same.0 refl
+  | inr apart ↦ rw apart.0 (has.apart t r (sym (changes.others t (λ e. apart.1 (sym e))) ∙ none) why)
+]
+
+pub sweeps_exit : (header : Header) (h : ℕ) (outside : Outside) (task : TaskId) (past events : List Event) (k : Parts) (ids : Ids) (maps : Mapped) (gone : List Entry) → Starts header h (command.Exit task) past k ids events
+    → entries_in task.0 k.maps ≡ Some gone → ChangesOnly k.maps maps task.0 None → Sweeps header h outside (command.Exit task) past (record k { maps = maps }) ids gone (event.TaskEnded task ∷ [])
+sweeps_exit header h outside task past events k ids maps gone s value changes =
     let m = s.rests.matches in
     let live = lives_as task.0 k.maps gone value in
     let rows = rows_in task.0 k.maps in
     let cuts = ended_cuts header.size k.chains rows gone (m.entries.inside task.0) live.0 in
     let idle = acts task.0 past None s.accepted in
-    let c = changed_by header past k ids maps k.chains task.0 None gone (region_entries k.chains) s.rests idle changes live.1 cuts (recounts_same k.chains)
+    let c = changed_by header h past k ids maps k.chains task.0 None gone (region_entries k.chains) s.rests idle changes live.1 cuts (recounts_same k.chains)
     (λ r there. let same = ap (count_on r) live.0 in omega arith) in
-    let shown_tasks : HasTasks header.size maps (λ t. host_of t (event.TaskEnded task ∷ past)) (λ t. entries_of header.size t (event.TaskEnded task ∷ past)) =
-    tasks_ended header.size task.0 k.maps maps (λ t. host_of t past) (λ t. entries_of header.size t past) m.tasks changes in
-    let shown_waits : HasWaiters maps k.chains k.resident k.objects k.waits.rows woken.Nobody (λ t. waiting t (event.TaskEnded task ∷ past)) =
-    waits_ended maps k.chains k.resident k.objects k.waits.rows woken.Nobody (λ t. waiting t past) task.0 c.waits idle in
+    let shown_tasks : HasTasks h header.size maps (λ t. host_of t (event.TaskEnded task ∷ past)) (λ t. entries_of header.size t (event.TaskEnded task ∷ past)) =
+    tasks_ended h header.size task.0 k.maps maps (λ t. host_of t past) (λ t. entries_of header.size t past) m.tasks changes in
+    let shown_waits : HasWaiters maps k.chains k.memory.resident k.memory.objects k.waits.rows woken.Nobody (λ t. waiting t (event.TaskEnded task ∷ past)) =
+    waits_ended maps k.chains k.memory.resident k.memory.objects k.waits.rows woken.Nobody (λ t. waiting t past) task.0 c.waits changes.changed in
     record {
       runs = record {
         begins = s.begins;
         matches = record {
           plain = m.plain;
+          known = m.known;
           size = m.size;
           host = m.host;
           fits = record { parts = m.fits.parts; plain = m.fits.plain; buffers = m.fits.buffers };
@@ -101,8 +113,9 @@ sweeps_exit header outside task past events k ids maps gone s value changes =
           regions = c.regions;
           entries = c.entries;
           pages = c.pages;
-          uses = uses_cut header k.maps maps (λ r. in_use header 0 r past) (event.TaskEnded task ∷ past) task.0 None m.plain m.uses changes live.1 (λ r some. uses_fewer header.size task.0 r k.maps maps k.chains None m.entries changes live.1 cuts.own some)
-              (record { rows = shown_tasks.rows; waiting = k.waits.rows; waits = record { is = shown_waits.is } }) c.entries.most;
+          uses = uses_cut header k.maps maps (λ r. in_use header h r past) _ (next_region header past) (event.TaskEnded task ∷ past) task.0 None m.plain m.uses changes live.1 (λ r some. uses_fewer header.size task.0 r k.maps maps k.chains None m.entries changes live.1 cuts.own some)
+              (record { rows = shown_tasks.rows; waiting = k.waits.rows; waits = record { is = shown_waits.is } }) c.entries.most
+              (apart_ended header.size k.maps maps (λ r. in_use header h r past) _ (next_region header past) task past m.uses changes);
           controls = m.controls;
           settled = refl;
           laundry = m.laundry;
@@ -111,7 +124,7 @@ sweeps_exit header outside task past events k ids maps gone s value changes =
         waits = shown_waits;
         order = s.rests.order;
         idle = s.rests.idle;
-        grows = grows_one header outside (command.Exit task) past (event.TaskEnded task) refl (record { quiet = m.settled; cause = tt; own_bytes = tt; copies = tt; frames = suffices header k.frames (event.TaskEnded task ∷ past) m.frames; inner = tt; said = tt });
+        grows = grows_one header h outside (command.Exit task) past (event.TaskEnded task) refl (record { quiet = m.settled; cause = idle; own_bytes = tt; frames = suffices header h k.memory.frames (event.TaskEnded task ∷ past) m.frames; inner = tt; said = tt });
       };
       used = c.used;
       reached = c.reached;
@@ -132,12 +145,12 @@ gone_there size old mid high rows made lost cuts down up =
     recount_known (λ r. region_entries mid r + count_on r made) mid high (raised_recounts made mid high up) lost
     (recount_known (λ r. region_entries old r - count_on r rows) old mid (lowered_recounts rows old mid down) lost cuts.known)
 
-pub sweeps_removed : (header : Header) (outside : Outside) (task : TaskId) (address bytes : ℕ) (past events : List Event) (k : Parts) (ids : Ids) (maps : Mapped) (mid high chains : ChainTable) (change : MapChange) (one two gone : List Entry)
-    → Starts header (command.Deallocate task address bytes) past k ids events → change ≡ removal address bytes
+pub sweeps_removed : (header : Header) (h : ℕ) (outside : Outside) (task : TaskId) (address bytes : ℕ) (past events : List Event) (k : Parts) (ids : Ids) (maps : Mapped) (mid high chains : ChainTable) (change : MapChange) (one two gone : List Entry)
+    → Starts header h (command.Deallocate task address bytes) past k ids events → change ≡ removal address bytes
     → ChangesOnly k.maps maps task.0 (Some (removed k.maps.size change.address change.bytes (rows_in task.0 k.maps))) → gone ≡ parts_for k.maps task.0 change
     → entries_in task.0 k.maps ≡ Some one → entries_in task.0 maps ≡ Some two → length two ≤ most_entries → Lowered one k.chains mid → Raised two mid high → Raised gone high chains
-    → Sweeps header outside (command.Deallocate task address bytes) past (record k { maps = maps; chains = chains }) ids gone (event.Removed task address bytes ∷ [])
-sweeps_removed header outside task address bytes past events k ids maps mid high chains change one two gone s is changes taken value now few down up more =
+    → Sweeps header h outside (command.Deallocate task address bytes) past (record k { maps = maps; chains = chains }) ids gone (event.Removed task address bytes ∷ [])
+sweeps_removed header h outside task address bytes past events k ids maps mid high chains change one two gone s is changes taken value now few down up more =
     let m = s.rests.matches in
     let live = lives_as task.0 k.maps one value in
     let rows = rows_in task.0 k.maps in
@@ -151,18 +164,19 @@ sweeps_removed header outside task address bytes past events k ids maps mid high
     (recounts_twice (λ r. region_entries old r - count_on r rows + count_on r two) (λ r. region_entries high r + count_on r gone) old high chains first (raised_recounts gone high chains more))
     (λ r there. ap (λ z. z + count_on r gone) (entries_are (λ r. region_entries old r - count_on r rows + count_on r two) old high first r there)) in
     let idle = acts task.0 past _ s.accepted in
-    let c = changed_by header past k ids maps chains task.0 (Some two) gone count s.rests idle (record { size = changes.size; changed = now; others = changes.others }) live.1 cuts counts
+    let c = changed_by header h past k ids maps chains task.0 (Some two) gone count s.rests idle (record { size = changes.size; changed = now; others = changes.others }) live.1 cuts counts
     (λ r there. let most = counted header.size task.0 k.maps old [] m.entries live.1 r there in omega arith) in
     let same : ChangesOnly k.maps maps task.0 (Some (removed header.size address bytes rows)) =
     record { size = changes.size; changed = changes.changed ∙ ap Some (ap (λ z. removed k.maps.size z.address z.bytes rows) is ∙ ap (λ z. removed z address bytes rows) m.tasks.sized); others = changes.others } in
     let cut_to : ChangesOnly k.maps maps task.0 (Some two) = record { size = changes.size; changed = now; others = changes.others } in
-    let shown_tasks : HasTasks header.size maps (λ t. host_of t (event.Removed task address bytes ∷ past)) (λ t. entries_of header.size t (event.Removed task address bytes ∷ past)) =
-    tasks_changed header.size task.0 k.maps maps (λ t. host_of t past) (λ t. entries_of header.size t past) (removed header.size address bytes) m.tasks same live.1 in
+    let shown_tasks : HasTasks h header.size maps (λ t. host_of t (event.Removed task address bytes ∷ past)) (λ t. entries_of header.size t (event.Removed task address bytes ∷ past)) =
+    tasks_changed h header.size task.0 k.maps maps (λ t. host_of t past) (λ t. entries_of header.size t past) (removed header.size address bytes) m.tasks same live.1 in
     record {
       runs = record {
         begins = s.begins;
         matches = record {
           plain = m.plain;
+          known = m.known;
           size = m.size;
           host = m.host;
           fits = record { parts = m.fits.parts; plain = m.fits.plain; buffers = m.fits.buffers };
@@ -170,8 +184,12 @@ sweeps_removed header outside task address bytes past events k ids maps mid high
           regions = c.regions;
           entries = c.entries;
           pages = c.pages;
-          uses = uses_cut header k.maps maps (λ r. in_use header 0 r past) (event.Removed task address bytes ∷ past) task.0 (Some two) m.plain m.uses cut_to live.1 (λ r some. uses_fewer header.size task.0 r k.maps maps k.chains (Some two) m.entries cut_to live.1 cuts.own some)
-              (record { rows = shown_tasks.rows; waiting = k.waits.rows; waits = record { is = c.waits.is } }) c.entries.most;
+          uses = uses_cut header k.maps maps (λ r. in_use header h r past) _ (next_region header past) (event.Removed task address bytes ∷ past) task.0 (Some two) m.plain m.uses cut_to live.1 (λ r some. uses_fewer header.size task.0 r k.maps maps k.chains (Some two) m.entries cut_to live.1 cuts.own some)
+              (record { rows = shown_tasks.rows; waiting = k.waits.rows; waits = record { is = c.waits.is } }) c.entries.most
+              (λ t r none why.
+              let other = elsewhere maps task.0 t two now none in
+              let was = sym (changes.others t (λ e. other (sym e))) ∙ none in
+              holds_rows header.size task.0 t r k.maps rows _ past live.1 was ∙ m.uses.apart t r was why);
           controls = m.controls;
           settled = refl;
           laundry = m.laundry;
@@ -180,14 +198,14 @@ sweeps_removed header outside task address bytes past events k ids maps mid high
         waits = c.waits;
         order = s.rests.order;
         idle = s.rests.idle;
-        grows = grows_one header outside (command.Deallocate task address bytes) past (event.Removed task address bytes) refl (record { quiet = m.settled; cause = tt; own_bytes = tt; copies = tt; frames = suffices header k.frames (event.Removed task address bytes ∷ past) m.frames; inner = tt; said = tt });
+        grows = grows_one header h outside (command.Deallocate task address bytes) past (event.Removed task address bytes) refl (record { quiet = m.settled; cause = idle; own_bytes = tt; frames = suffices header h k.memory.frames (event.Removed task address bytes ∷ past) m.frames; inner = tt; said = tt });
       };
       used = c.used;
       reached = c.reached;
     }
 
 -- once all that has gone is swept
-pub ran_swept : (header : Header) (outside : Outside) (doing : Command) (past events : List Event) (k : Parts) (ids : Ids) → Sweeps header outside doing past k ids [] events → IsDone header doing events past → Ran header outside doing past k ids events
-ran_swept header outside doing past events k ids s done =
-    let rests : Rests header k ids (events ++ past) = record { matches = s.runs.matches; used = s.used; reached = s.reached; waits = s.runs.waits; order = s.runs.order; idle = s.runs.idle } in
+pub ran_swept : (header : Header) (h : ℕ) (outside : Outside) (doing : Command) (past events : List Event) (k : Parts) (ids : Ids) → Sweeps header h outside doing past k ids [] events → IsDone header doing events past → Ran header h outside doing past k ids events
+ran_swept header h outside doing past events k ids s done =
+    let rests : Rests header h k ids (events ++ past) = record { matches = s.runs.matches; used = s.used; reached = s.reached; waits = s.runs.waits; order = s.runs.order; idle = s.runs.idle } in
     record { rests = rests; grows = s.runs.grows; done = done }

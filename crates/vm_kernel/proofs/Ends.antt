@@ -25,32 +25,37 @@ use Rattle.vm_supply.specs.declared.woken.Woken.TheVariants as woken
 use Rattle.vm_kernel.specs.Begun.{Runs}
 use Rattle.vm_kernel.specs.Changes.{Lost}
 use Rattle.vm_kernel.specs.Counts.{count_on}
-use Rattle.vm_kernel.specs.Matches.{AllReached, AllUsed, HasEntries, HasFrames, HasLaundry, HasPages, Matches, the_host}
+use Rattle.vm_kernel.specs.Matches.{AllReached, AllUsed, HasEntries, HasFrames, HasLaundry, HasPages, Matches, host_id}
 use Rattle.vm_kernel.specs.Places.{entries_in_row, has_region, place_of, region_entries, shown}
-use Rattle.vm_kernel.specs.Sweeping.{Ends, PutsEntries, Sweeps, with_entries}
+use Rattle.vm_kernel.specs.Sweeping.{Ends, PutsEntries, Sweeps}
 use Rattle.vm_kernel.specs.Waiters.{HasWaiters}
 use Rattle.vm_kernel.specs.declared.parts.Parts.{Parts}
-use Rattle.vm_kernel.proofs.Gone.{frames_gone, laundry_gone, pages_gone, waits_gone}
+use Rattle.vm_kernel.proofs.Pages.{frames_changed, laundry_changed, pages_moved}
+use Rattle.vm_model.specs.Local.{Drops, away}
+use Rattle.std.specs.Prelude.{not}
 use Rattle.vm_kernel.proofs.Growing.{grows_more, suffices}
 use Rattle.vm_kernel.proofs.Recounts.{Recounts, entries_are, has_same, next_row, recounts_put, row_before}
+use Rattle.vm_kernel.proofs.Regions.{region_row, tops_recounted}
 use Rattle.vm_kernel.proofs.Rewrites.{recount_inside, recount_known, recount_pages, recount_regions}
 use Rattle.vm_kernel.proofs.Rows.{region_cases}
-use Rattle.vm_kernel.proofs.Strands.{itself, none_left, row_there}
-use Rattle.vm_kernel.proofs.Waited.{SameTops, waits_kept}
+use Rattle.vm_kernel.proofs.Strands.{waiters_lost, itself, none_left}
+use Rattle.vm_kernel.proofs.Waited.{waits_kept}
 use Rattle.vm_kernel.proofs.Walking.{unreached}
+use Rattle.vm_kernel.proofs.Own.{named_host, own_host}
 
 -- a page of a region without entries goes
-pub ends_lost : (header : Header) (outside : Outside) (doing : Command) (past : List Event) (k k2 : Parts) (ids : Ids) (rest : List Entry) (region : ℕ) (key : PageKey) (events after : List Event)
-    → Ends header outside doing past k ids rest region events → key.object.0 ≡ region → ((q : ℕ) → q < key.page.0 → row_at k.resident key.object.0 q ≡ None) → Lost key k k2 events after
-    → Ends header outside doing past k2 ids rest region after
-ends_lost header outside doing past k k2 ids rest region key events after e same first lost =
-    subst (λ (z : List Event). Ends header outside doing past k2 ids rest region z) (ap (λ z. event.Dropped z key.object key.page ∷ events) (sym m.host) ∙ sym lost.told) (record {
+pub ends_lost : (header : Header) (h : ℕ) (outside : Outside) (doing : Command) (past : List Event) (k k2 : Parts) (ids : Ids) (rest : List Entry) (region : ℕ) (key : PageKey) (events after : List Event)
+    → Ends header h outside doing past k ids rest region events → key.object.0 ≡ region → ((q : ℕ) → q < key.page.0 → row_at k.memory.resident key.object.0 q ≡ None) → Lost key k k2 events after
+    → Ends header h outside doing past k2 ids rest region after
+ends_lost header h outside doing past k k2 ids rest region key events after e same first lost =
+    subst (λ (z : List Event). Ends header h outside doing past k2 ids rest region z) (ap (λ z. event.Dropped z key.object key.page ∷ events) (sym (named_host k.host h m.host)) ∙ sym lost.told) (record {
       runs = record {
         begins = e.runs.begins;
         matches = record {
           plain = m.plain;
+          known = m.known;
           size = lost.plan.size ∙ m.size;
-          host = lost.plan.host ∙ m.host;
+          host = rw lost.plan.host m.host;
           fits = lost.fits;
           tasks = rw lost.plan.maps m.tasks;
           regions = rw (lost.plan.chains, lost.plan.objects) m.regions;
@@ -65,7 +70,7 @@ ends_lost header outside doing past k k2 ids rest region key events after e same
         waits = rw (lost.plan.maps, lost.plan.chains, lost.plan.objects, lost.plan.waits) waits2;
         order = rw lost.plan.waits e.runs.order;
         idle = rw lost.plan.waits e.runs.idle;
-        grows = grows_more header outside doing past events gone e.runs.grows m.settled (record { consequence = tt; cause = cause; own_bytes = tt; copies = tt; frames = suffices header k2.frames (gone ∷ h) frames2; inner = tt; said = tt });
+        grows = grows_more header h outside doing past events gone e.runs.grows m.settled (record { consequence = tt; cause = cause; own_bytes = tt; frames = suffices header h k2.memory.frames (gone ∷ moment) frames2; inner = tt; said = tt });
       };
       there = rw lost.plan.chains e.there;
       none = rw lost.plan.chains e.none;
@@ -73,11 +78,11 @@ ends_lost header outside doing past k k2 ids rest region key events after e same
       reached = rw (lost.plan.chains, lost.plan.objects) e.reached;
     })
   where
-    m : Matches header k ids rest (events ++ past)
+    m : Matches header h k ids rest (events ++ past)
     m = e.runs.matches
 
-    h : List Event
-    h = events ++ past
+    moment : List Event
+    moment = events ++ past
 
     o : ℕ
     o = key.object.0
@@ -86,7 +91,7 @@ ends_lost header outside doing past k k2 ids rest region key events after e same
     p = key.page.0
 
     gone : Event
-    gone = event.Dropped the_host key.object key.page
+    gone = event.Dropped (host_id h) key.object key.page
 
     unused : region_entries k.chains o ≡ 0
     unused = subst (λ (z : ℕ). region_entries k.chains z ≡ 0) (sym same) e.none
@@ -94,29 +99,31 @@ ends_lost header outside doing past k k2 ids rest region key events after e same
     there : has_region k.chains o ≡ true
     there = subst (λ (z : ℕ). has_region k.chains z ≡ true) (sym same) e.there
 
-    unused_now : in_use header 0 o (events ++ past) ≡ false
+    unused_now : in_use header h o (events ++ past) ≡ false
     unused_now = m.uses.used o ∙ ap (nat_lt 0) (none_left header.size k.maps k.chains rest o m.entries there unused).0
 
-    here : (local header.size 0 (place_of o p) (events ++ past)).here ≡ true
-    here = ap (λ z. z.here) (m.pages.shown o p ∙ ap (λ z. shown k.frames z (absent_at k.objects o p)) lost.found) ∙ lost.here
+    here : (local header.size h (place_of o p) (events ++ past)).here ≡ true
+    here = ap (λ z. z.here) (m.pages.shown o p ∙ ap (λ z. shown k.memory.frames z (absent_at k.memory.objects o p)) lost.page.found) ∙ lost.here
 
-    least : (q : ℕ) → q < p → (local header.size 0 (place_of o q) (events ++ past)).here ≡ false
-    least q low = ap (λ z. z.here) (m.pages.shown o q ∙ ap (λ z. shown k.frames z (absent_at k.objects o q)) (first q low))
+    least : (q : ℕ) → q < p → (local header.size h (place_of o q) (events ++ past)).here ≡ false
+    least q low = ap (λ z. z.here) (m.pages.shown o q ∙ ap (λ z. shown k.memory.frames z (absent_at k.memory.objects o q)) (first q low))
 
-    cause : Caused header outside doing (event.Dropped the_host key.object key.page) (events ++ past)
-    cause = λ paged. record { here = here; why = Unreached (let none = ap length m.plain.objects in omega arith) (unreached header o (events ++ past) m.regions.tops m.regions.unbacked unused_now) least }
+    cause : Caused header outside doing (event.Dropped (host_id h) key.object key.page) (events ++ past)
+    cause = record { here = here; why = Unreached (let none = ap length m.plain.objects in omega arith) (unreached header h o (events ++ past) m.regions.tops m.regions.unbacked unused_now) least }
 
-    pages2 : HasPages k2.frames k2.resident k.objects k.chains (λ o2 p2. local header.size 0 (place_of o2 p2) (event.Dropped the_host key.object key.page ∷ (events ++ past)))
-    pages2 = pages_gone header.size k.frames k2.frames k.resident k2.resident k.objects k.chains (λ o2 p2. local header.size 0 (place_of o2 p2) (events ++ past)) o p lost.row lost.found lost.here m.pages lost.pages lost.put
+    pages2 : HasPages k2.memory.frames k2.memory.resident k.memory.objects k.chains (λ o2 p2. local header.size h (place_of o2 p2) (event.Dropped (host_id h) key.object key.page ∷ (events ++ past)))
+    pages2 =
+        rw (own_host h) (pages_moved header.size Drops key lost.row.frame _ _ _ _ _ k.memory k2.memory k.memory.objects k.chains (λ o2 p2. local header.size h (place_of o2 p2) (events ++ past)) m.fits.parts m.pages lost.page (λ some. absurd (let bad : false ≡ true = some in cc))
+        (ap (λ z. record away { asked = not z; absent = absent_at k.memory.objects o p }) lost.here) (λ o2 p2 apart. refl))
 
-    laundry2 : HasLaundry k2.frames k2.resident k.laundry (returns_out 0 (events ++ past))
-    laundry2 = laundry_gone k.frames k2.frames k.resident k2.resident k.laundry (returns_out 0 (events ++ past)) lost.row.frame.0 key m.laundry (m.fits.parts.owned.at o p lost.row lost.found) lost.owner lost.claim lost.count
+    laundry2 : HasLaundry k2.memory.frames k2.memory.resident k.laundry (returns_out h (events ++ past))
+    laundry2 = laundry_changed key lost.row.frame _ _ _ _ _ k.memory k2.memory k.laundry (returns_out h (events ++ past)) m.laundry lost.page
 
-    frames2 : HasFrames (slice_get (reverse header.frames.items) 0) k2.frames (frames_held header.size 0 (event.Dropped the_host key.object key.page ∷ (events ++ past))) (frames_wired 0 (event.Dropped the_host key.object key.page ∷ (events ++ past)))
-    frames2 = frames_gone (slice_get (reverse header.frames.items) 0) k.frames k2.frames (frames_held header.size 0 (events ++ past)) (frames_wired 0 (events ++ past)) m.frames lost.claims lost.wired lost.count
+    frames2 : HasFrames (slice_get (reverse header.frames.items) h) k2.memory.frames (frames_held header.size h (event.Dropped (host_id h) key.object key.page ∷ (events ++ past))) (frames_wired h (event.Dropped (host_id h) key.object key.page ∷ (events ++ past)))
+    frames2 = rw (own_host h) (frames_changed (slice_get (reverse header.frames.items) h) key lost.row.frame _ _ _ _ _ k.memory k2.memory (frames_held header.size h moment) (frames_held header.size h moment - 1) (frames_wired h moment) m.frames lost.page (λ held. let less = lost.page.claims in omega arith))
 
-    waits2 : HasWaiters k.maps k.chains k2.resident k.objects k.waits.rows woken.Nobody (λ t. waiting t (events ++ past))
-    waits2 = waits_gone k.maps k.chains k.resident k2.resident k.objects k.waits.rows woken.Nobody (λ t. waiting t (events ++ past)) o p lost.row e.runs.waits lost.found lost.here lost.put
+    waits2 : HasWaiters k.maps k.chains k2.memory.resident k.memory.objects k.waits.rows woken.Nobody (λ t. waiting t (events ++ past))
+    waits2 = waiters_lost k.maps k.chains k.memory.resident k2.memory.resident k.memory.objects k.memory.objects k.waits.rows woken.Nobody (λ t. waiting t (events ++ past)) o p lost.row e.runs.waits lost.page.found lost.here lost.page.row (λ object told. told) (λ object is. is)
 
 -- an entry leaves the counts
 
@@ -124,9 +131,9 @@ ends_lost header outside doing past k k2 ids rest region key events after e same
 abbrev pub count_less : ChainTable → ℕ → ℕ → ℕ
 count_less cs region r = if region == r then region_entries cs region - 1 else region_entries cs r
 
-pub some_left : (header : Header) (outside : Outside) (doing : Command) (past : List Event) (k : Parts) (ids : Ids) (entry : Entry) (rest : List Entry) (events : List Event) → Sweeps header outside doing past k ids (entry ∷ rest) events → 1 ≤ region_entries k.chains entry.region.0
-some_left header outside doing past k ids entry rest events s =
-    let row = row_there k.chains entry.region.0 s.runs.matches.entries.known.0 in
+pub some_left : (header : Header) (h : ℕ) (outside : Outside) (doing : Command) (past : List Event) (k : Parts) (ids : Ids) (entry : Entry) (rest : List Entry) (events : List Event) → Sweeps header h outside doing past k ids (entry ∷ rest) events → 1 ≤ region_entries k.chains entry.region.0
+some_left header h outside doing past k ids entry rest events s =
+    let row = region_row k.chains entry.region.0 s.runs.matches.entries.known.0 in
     let some = s.used entry.region.0 row.0 row.1 in
     let is = ap entries_in_row row.1 in
     omega arith
@@ -156,34 +163,32 @@ counts_less size maps cs cs2 entry rest is has =
           ];
     }
 
-tops_recounted : (count : ℕ → ℕ) (cs cs2 : ChainTable) → Recounts count cs cs2 → SameTops cs cs2
-tops_recounted count cs cs2 is = record { at = λ r row found. record { row_now = record row { entries = count r }; found = is.at r ∙ ap (with_entries (count r)) found; top = refl; shift = refl } }
-
-runs_less : (header : Header) (outside : Outside) (doing : Command) (past : List Event) (k : Parts) (ids : Ids) (entry : Entry) (rest : List Entry) (events : List Event) (chains : ChainTable) → Runs header outside doing past k ids (entry ∷ rest) events
-    → PutsEntries entry.region.0 (region_entries k.chains entry.region.0 - 1) k.chains chains → Runs header outside doing past (record k { chains = chains }) ids rest events
-runs_less header outside doing past k ids entry rest events chains s put =
+runs_less : (header : Header) (h : ℕ) (outside : Outside) (doing : Command) (past : List Event) (k : Parts) (ids : Ids) (entry : Entry) (rest : List Entry) (events : List Event) (chains : ChainTable) → Runs header h outside doing past k ids (entry ∷ rest) events
+    → PutsEntries entry.region.0 (region_entries k.chains entry.region.0 - 1) k.chains chains → Runs header h outside doing past (record k { chains = chains }) ids rest events
+runs_less header h outside doing past k ids entry rest events chains s put =
     let m = s.matches in
-    let h = events ++ past in
+    let moment = events ++ past in
     let count = count_less k.chains entry.region.0 in
     let is : Recounts count k.chains chains = recounts_put entry.region.0 (region_entries k.chains entry.region.0 - 1) k.chains chains put in
     record {
       begins = s.begins;
       matches = record {
         plain = m.plain;
+        known = m.known;
         size = m.size;
         host = m.host;
         fits = record { parts = m.fits.parts; plain = m.fits.plain; buffers = m.fits.buffers };
         tasks = m.tasks;
-        regions = recount_regions count k.chains chains k.objects ids (λ r. region_of header r h) (λ o. backing_of header o h) (next_region header h) (next_object header h) is m.regions;
+        regions = recount_regions count k.chains chains k.memory.objects ids (λ r. region_of header r moment) (λ o. backing_of header o moment) (next_region header moment) (next_object header moment) is m.regions;
         entries = counts_less header.size k.maps k.chains chains entry rest is m.entries;
-        pages = recount_pages count k.frames k.resident k.objects k.chains chains (λ o p. local header.size 0 (place_of o p) h) is m.pages;
+        pages = recount_pages count k.memory.frames k.memory.resident k.memory.objects k.chains chains (λ o p. local header.size h (place_of o p) moment) is m.pages;
         uses = m.uses;
         controls = m.controls;
         settled = m.settled;
         laundry = m.laundry;
         frames = m.frames;
       };
-      waits = waits_kept k.maps k.maps k.chains chains k.resident k.objects k.waits.rows woken.Nobody (λ t. waiting t h) s.waits (λ t w found. record { size = refl; entries = refl }) (tops_recounted count k.chains chains is);
+      waits = waits_kept k.maps k.maps k.chains chains k.memory.resident k.memory.objects k.waits.rows woken.Nobody (λ t. waiting t moment) s.waits (λ t w found. record { size = refl; entries = refl }) (tops_recounted count k.chains chains is) s.waits.is;
       order = s.order;
       idle = s.idle;
       grows = s.grows;
@@ -200,21 +205,21 @@ others_less cs cs2 region put used r row apart found = elim (region_cases region
 ]
 
 -- the region has others
-pub sweeps_less : (header : Header) (outside : Outside) (doing : Command) (past : List Event) (k : Parts) (ids : Ids) (entry : Entry) (rest : List Entry) (events : List Event) (chains : ChainTable) → Sweeps header outside doing past k ids (entry ∷ rest) events
-    → PutsEntries entry.region.0 (region_entries k.chains entry.region.0 - 1) k.chains chains → (region_entries k.chains entry.region.0 ≡ 1 → ⊥) → Sweeps header outside doing past (record k { chains = chains }) ids rest events
-sweeps_less header outside doing past k ids entry rest events chains s put more =
+pub sweeps_less : (header : Header) (h : ℕ) (outside : Outside) (doing : Command) (past : List Event) (k : Parts) (ids : Ids) (entry : Entry) (rest : List Entry) (events : List Event) (chains : ChainTable) → Sweeps header h outside doing past k ids (entry ∷ rest) events
+    → PutsEntries entry.region.0 (region_entries k.chains entry.region.0 - 1) k.chains chains → (region_entries k.chains entry.region.0 ≡ 1 → ⊥) → Sweeps header h outside doing past (record k { chains = chains }) ids rest events
+sweeps_less header h outside doing past k ids entry rest events chains s put more =
     record {
-      runs = runs_less header outside doing past k ids entry rest events chains s.runs put;
+      runs = runs_less header h outside doing past k ids entry rest events chains s.runs put;
       used = λ r row found. elim (eqb_tells r entry.region.0) [
         | inl same ↦
             let b = row_before (count_less k.chains entry.region.0) k.chains chains (recounts_put entry.region.0 (region_entries k.chains entry.region.0 - 1) k.chains chains put) r row found in
             let now = ap (λ z. z.entries) b.is in
             let less : count_less k.chains entry.region.0 r ≡ region_entries k.chains entry.region.0 - 1 = subst (λ (z : ℕ). count_less k.chains entry.region.0 z ≡ region_entries k.chains entry.region.0 - 1) (sym same.1) (rw (itself entry.region.0) refl) in
-            let some = some_left header outside doing past k ids entry rest events s in
+            let some = some_left header h outside doing past k ids entry rest events s in
             by_count (region_entries k.chains entry.region.0) row.entries more some (omega arith)
         | inr apart ↦ others_less k.chains chains entry.region.0 put s.used r row apart.1 found
       ];
-      reached = reached_less k.chains chains k.objects entry.region.0 put s.reached;
+      reached = reached_less k.chains chains k.memory.objects entry.region.0 put s.reached;
     }
   where
     by_count : (n m : ℕ) → (n ≡ 1 → ⊥) → 1 ≤ n → m ≡ n - 1 → 0 < m
@@ -223,24 +228,24 @@ sweeps_less header outside doing past k ids entry rest events chains s put more 
     by_count (suc (suc n)) m more some is = omega arith
 
 -- it was the last of its region
-pub ends_less : (header : Header) (outside : Outside) (doing : Command) (past : List Event) (k : Parts) (ids : Ids) (entry : Entry) (rest : List Entry) (events : List Event) (chains : ChainTable) → Sweeps header outside doing past k ids (entry ∷ rest) events
-    → PutsEntries entry.region.0 (region_entries k.chains entry.region.0 - 1) k.chains chains → region_entries k.chains entry.region.0 ≡ 1 → Ends header outside doing past (record k { chains = chains }) ids rest entry.region.0 events
-ends_less header outside doing past k ids entry rest events chains s put last =
+pub ends_less : (header : Header) (h : ℕ) (outside : Outside) (doing : Command) (past : List Event) (k : Parts) (ids : Ids) (entry : Entry) (rest : List Entry) (events : List Event) (chains : ChainTable) → Sweeps header h outside doing past k ids (entry ∷ rest) events
+    → PutsEntries entry.region.0 (region_entries k.chains entry.region.0 - 1) k.chains chains → region_entries k.chains entry.region.0 ≡ 1 → Ends header h outside doing past (record k { chains = chains }) ids rest entry.region.0 events
+ends_less header h outside doing past k ids entry rest events chains s put last =
     let count = count_less k.chains entry.region.0 in
     let is : Recounts count k.chains chains = recounts_put entry.region.0 (region_entries k.chains entry.region.0 - 1) k.chains chains put in
     let there = has_same count k.chains chains is entry.region.0 ∙ s.runs.matches.entries.known.0 in
     let are = entries_are count k.chains chains is entry.region.0 s.runs.matches.entries.known.0 in
     let less : count entry.region.0 ≡ region_entries k.chains entry.region.0 - 1 = rw (itself entry.region.0) refl in
     record {
-      runs = runs_less header outside doing past k ids entry rest events chains s.runs put;
+      runs = runs_less header h outside doing past k ids entry rest events chains s.runs put;
       there = there;
       none = omega arith;
       others = others_less k.chains chains entry.region.0 put s.used;
-      reached = reached_less k.chains chains k.objects entry.region.0 put s.reached;
+      reached = reached_less k.chains chains k.memory.objects entry.region.0 put s.reached;
     }
 
 -- the entry at an index is the next
-pub sweeps_next : (header : Header) (outside : Outside) (doing : Command) (past : List Event) (k : Parts) (ids : Ids) (rows rest : List Entry) (i : ℕ) (entry : Entry) (events : List Event) → slice_get rows i ≡ Some entry → rest ≡ drop (i + 1) rows
-    → Sweeps header outside doing past k ids (drop i rows) events → Sweeps header outside doing past k ids (entry ∷ rest) events
-sweeps_next header outside doing past k ids rows rest i entry events found is s =
-    subst (λ (z : List Entry). Sweeps header outside doing past k ids z events) (next_row rows i entry found ∙ ap (λ z. entry ∷ z) (sym is)) s
+pub sweeps_next : (header : Header) (h : ℕ) (outside : Outside) (doing : Command) (past : List Event) (k : Parts) (ids : Ids) (rows rest : List Entry) (i : ℕ) (entry : Entry) (events : List Event) → slice_get rows i ≡ Some entry → rest ≡ drop (i + 1) rows
+    → Sweeps header h outside doing past k ids (drop i rows) events → Sweeps header h outside doing past k ids (entry ∷ rest) events
+sweeps_next header h outside doing past k ids rows rest i entry events found is s =
+    subst (λ (z : List Entry). Sweeps header h outside doing past k ids z events) (next_row rows i entry found ∙ ap (λ z. entry ∷ z) (sym is)) s

@@ -1,7 +1,7 @@
 -- Those who wait for a page that its pager can't give are ended.
-use Rattle.std.proofs.Common.{append-nil, append_assoc, ◌≡◌, ℕ, ◌+◌, ◌<◌, ◌==◌, ◌&&◌, ◌||◌, Bool, true, false, List, [], ◌∷◌, ◌++◌, refl, ap, sym, ◌∙◌, subst, Some, None, inl, inr}
+use Rattle.std.proofs.Common.{append-nil, append_assoc, ◌≡◌, ℕ, ◌+◌, ◌<◌, ◌==◌, ◌||◌, true, false, List, [], ◌∷◌, ◌++◌, refl, ap, sym, ◌∙◌, subst, Some, None, inl, inr, is_some}
 use Rattle.std.proofs.lemmas.Bool.Decides.{eqb_tells}
-use Rattle.std.specs.Prelude.{IfSome, if◌then◌else◌, nat_lt, ◌⊎◌}
+use Rattle.std.specs.Prelude.{IfSome, if◌then◌else◌, ◌⊎◌}
 use Rattle.vm_base.specs.declared.ids.PageKey.{PageKey}
 use Rattle.vm_base.specs.declared.ids.TaskId.{TaskId}
 use Rattle.vm_base.specs.Entries.{entry_at, page_at}
@@ -16,7 +16,7 @@ use Rattle.vm_legal.specs.Licences.{Fails}
 use Rattle.vm_legal.specs.Living.{tasks as made_tasks}
 use Rattle.vm_legal.specs.Outside.{Outside}
 use Rattle.vm_legal.specs.Steps.{Asked, error_taken, fails_access, fails_task, since}
-use Rattle.vm_legal.specs.Used.{in_use, is_kept}
+use Rattle.vm_legal.specs.Used.{in_use}
 use Rattle.vm_resident.specs.Resident.{page_key}
 use Rattle.vm_shadow.specs.declared.ids.Ids.{Ids}
 use Rattle.vm_supply.specs.declared.woken.Woken.{Woken}
@@ -25,19 +25,23 @@ use Rattle.vm_waits.specs.Waits.{PutsEntry, WaitTable, entry, oldest, woken_page
 use Rattle.vm_waits.specs.declared.waiting.On.{On}
 use Rattle.vm_waits.specs.declared.waiting.On.TheVariants as on
 use Rattle.vm_waits.specs.declared.waiting.Waiting.{Waiting}
-use Rattle.vm_waits.specs.declared.waiting.Want.{Want}
-use Rattle.vm_waits.specs.declared.waiting.Want.TheVariants as want
 use Rattle.vm_waits.proofs.Entries.{puts_cases}
-use Rattle.vm_kernel.specs.Begun.{AllInner, Goes, IsInner}
-use Rattle.vm_kernel.specs.Counts.{count_by, most_tasks}
-use Rattle.vm_kernel.specs.Matches.{HasUse, Works, host_for}
+use Rattle.vm_kernel.specs.Begun.{Goes}
+use Rattle.vm_kernel.specs.Matches.{HasUse, Works, holds, Matches}
 use Rattle.vm_kernel.specs.Taking.{EndsEach, EndsNobody, FailsNow, HasEnded, HasFailed, IsAnswered, IsErrorPaid}
 use Rattle.vm_kernel.specs.Waiters.{Asker, BeganInOrder, access_in, address_in, waiting_in}
 use Rattle.vm_kernel.specs.declared.parts.Parts.{Parts}
 use Rattle.vm_kernel.proofs.Growing.{goes_more, suffices}
+use Rattle.vm_kernel.proofs.Leading.{address_is}
 use Rattle.vm_kernel.proofs.Ordering.{PutsInOrder, oldest_first}
-use Rattle.vm_kernel.proofs.Rows.{some_is}
-use Rattle.vm_kernel.proofs.Uses.{kept_is}
+use Rattle.vm_kernel.proofs.Uses.{holds_waits, uses_none}
+use Rattle.vm_parts.proofs.Rows.{some_is}
+use Rattle.vm_legal.specs.Stretches.{AllInner}
+use Rattle.vm_legal.proofs.Inside.{error_more, or_true, since_more}
+use Rattle.vm_kernel.proofs.Own.{lives_here, rows_here}
+use Rattle.vm_maps.specs.Maps.{Mapped, entries_in, rows_in}
+use Rattle.vm_kernel.proofs.Waited.{AreTold}
+use Rattle.vm_model.specs.Regions.{next_region}
 
 -- who waits for the page
 pub waits_for : (key : PageKey) (reason : On) → woken_page key reason ≡ true → reason ≡ on.Page key
@@ -61,34 +65,29 @@ itself key = elim (eqb_tells key.object.0 key.object.0) [
   | inr apart ↦ absurd (apart.1 refl)
 ]
 
--- where it leads
-aims_at : (size next : ℕ) (what : Want) → address_of size next (access_in what) ≡ address_in what
-aims_at size next (want.Load address bytes) = refl
-aims_at size next (want.Store address bytes value) = refl
-
 -- those whom the error has ended began earlier than each who still waits for the page
 abbrev pub EndsBefore : PageKey → List Waiting → List Event → Type 0
 EndsBefore key rows past = (u t : ℕ) (w : Waiting) → since (fails_task u key.object.0 key.page.0) past ≡ true → entry rows t ≡ Some w → woken_page key w.on ≡ true → begun_at u past < begun_at t past
 
-fails_cause : (header : Header) (k : Parts) (ids : Ids) (past : List Event) (key : PageKey) (w : Waiting) → Works header k ids (who.Fails key) past → FailsNow header (who.Fails key) past
+fails_cause : (header : Header) (h : ℕ) (k : Parts) (ids : Ids) (past : List Event) (key : PageKey) (w : Waiting) → Works header h k ids (who.Fails key) past → FailsNow header h (who.Fails key) past
     → entry k.waits.rows w.task.0 ≡ Some w → w.on ≡ on.Page key → EndsBefore key k.waits.rows past → Fails header w.task.0 key.object.0 key.page.0 past
-fails_cause header k ids past key w works fails found waits before =
+fails_cause header h k ids past key w works fails found waits before =
     let was = works.matches in
     let at = works.waits.aims w.task.0 w key found waits in
     let allowed = works.waits.allowed w.task.0 w found in
-    let address = aims_at header.size (next_page w.task.0 past) w.want in
+    let address = address_is header.size (next_page w.task.0 past) w.want in
     let region = was.regions.rows at.entry.region.0 at.row at.region in
     record {
       access = access_in w.want;
       waits =
           record {
-            waits = works.waits.is w.task.0 ∙ ap waiting_in found;
+            waits = works.waits.is w.task.0 (ap is_some allowed.lives) ∙ ap waiting_in found;
             at =
                 record {
-                  host = 0;
+                  host = h;
                   entry = at.entry;
-                  lives = was.tasks.hosts w.task.0 ∙ ap host_for allowed.lives;
-                  found = ap (λ z. entry_at z (entries_of header.size w.task.0 past)) address ∙ (ap (entry_at (address_in w.want)) (was.tasks.rows w.task.0) ∙ at.found);
+                  lives = lives_here was.tasks allowed.lives;
+                  found = ap (λ z. entry_at z (entries_of header.size w.task.0 past)) address ∙ (ap (entry_at (address_in w.want)) (rows_here was.tasks allowed.lives) ∙ at.found);
                 };
           };
       error = fails;
@@ -111,11 +110,11 @@ fails_cause header k ids past key w works fails found waits before =
     }
 
 -- the table without its row
-waits_less : (task : ℕ) (rows rows2 : List Waiting) (past : List Event) → ((t : ℕ) → waiting t past ≡ waiting_in (entry rows t)) → PutsEntry task None rows rows2
-    → (t : ℕ) → (if task == t then None else waiting t past) ≡ waiting_in (entry rows2 t)
-waits_less task rows rows2 past is puts t = elim (eqb_tells task t) [
+waits_less : (maps : Mapped) (task : ℕ) (rows rows2 : List Waiting) (past : List Event) → AreTold maps rows (λ t. waiting t past) → PutsEntry task None rows rows2
+    → AreTold maps rows2 (λ t. if task == t then None else waiting t past)
+waits_less maps task rows rows2 past is puts t here = elim (eqb_tells task t) [
   | inl same ↦ rw same.0 (sym (ap waiting_in (puts.at t ∙ ap (λ b. if b then None else entry rows t) same.0)))
-  | inr apart ↦ rw apart.0 (is t ∙ sym (ap waiting_in (puts.at t ∙ ap (λ b. if b then None else entry rows t) apart.0)))
+  | inr apart ↦ rw apart.0 (is t here ∙ sym (ap waiting_in (puts.at t ∙ ap (λ b. if b then None else entry rows t) apart.0)))
 ]
 
 stood : (task t : ℕ) (rows rows2 : List Waiting) (w : Waiting) → PutsEntry task None rows rows2 → entry rows2 t ≡ Some w → entry rows t ≡ Some w
@@ -147,52 +146,44 @@ ends_before key w rows rows2 past before order first puts u t v ended found pass
 pub before_none : (key : PageKey) (rows : List Waiting) (past : List Event) → EndsNobody (who.Fails key) past → EndsBefore key rows past
 before_none key rows past none u t w ended found passes = absurd (let bad : false ≡ true = sym (none u) ∙ ended in cc)
 
-uses_failed : (header : Header) (k : Parts) (ids : Ids) (past : List Event) (key : PageKey) (task : TaskId) (rows : List Waiting) → Works header k ids (who.Fails key) past
-    → ((t : ℕ) → waiting t (event.Failed task key.object key.page ∷ past) ≡ waiting_in (entry rows t))
-    → HasUse k.maps (λ r. in_use header 0 r (event.Failed task key.object key.page ∷ past)) (made_tasks past)
-uses_failed header k ids past key task rows works is =
-    let was = works.matches in
-    record {
-      used = λ r. both (is_kept header r (event.Failed task key.object key.page ∷ past)) (in_use header 0 r past) (nat_lt 0 (count_by most_tasks r k.maps))
-          (kept_is header r k.maps (event.Failed task key.object key.page ∷ past) was.plain (record { rows = was.tasks.rows; waiting = rows; waits = record { is = is } }) was.entries.most was.uses.among)
-          (was.uses.used r);
-      among = was.uses.among;
-    }
+uses_failed : (header : Header) (h : ℕ) (k : Parts) (ids : Ids) (past : List Event) (key : PageKey) (task : TaskId) (rows : List Waiting) → Works header h k ids (who.Fails key) past
+    → AreTold k.maps rows (λ t. waiting t (event.Failed task key.object key.page ∷ past)) → entries_in task.0 k.maps ≡ Some (rows_in task.0 k.maps)
+    → HasUse k.maps (λ r. in_use header h r (event.Failed task key.object key.page ∷ past)) (made_tasks past) (λ t r. holds header.size t r (event.Failed task key.object key.page ∷ past)) (next_region header past)
+uses_failed header h k ids past key task rows works is lives =
+    uses_none header k.maps (λ r. in_use header h r past) (λ t r. holds header.size t r past) (next_region header past) (event.Failed task key.object key.page ∷ past) was.plain was.uses
+    (record { rows = λ t here. was.tasks.rows t here; waiting = rows; waits = record { is = is } }) was.entries.most (λ t r none. holds_waits header.size task.0 t r k.maps (rows_in task.0 k.maps) past None lives none)
   where
-    both : (a b c : Bool) → a ≡ c → b ≡ c → (a && b) ≡ c
-    both a b c one two = rw (one, two) (self c)
-      where
-        self : (d : Bool) → (d && d) ≡ d
-        self true = refl
-        self false = refl
+    was : Matches header h k ids [] past
+    was = works.matches
 
 -- what holds while they are ended
-pub record Failing (header : Header) (outside : Outside) (doing : Command) (past old events : List Event) (key : PageKey) (k : Parts) (ids : Ids) : Type 0 where
-  pub works : Works header k ids (who.Fails key) (events ++ past)
-  pub fails : FailsNow header (who.Fails key) (events ++ past)
-  pub answered : IsAnswered (who.Fails key) k.resident
+pub record Failing (header : Header) (h : ℕ) (outside : Outside) (doing : Command) (past old events : List Event) (key : PageKey) (k : Parts) (ids : Ids) : Type 0 where
+  pub works : Works header h k ids (who.Fails key) (events ++ past)
+  pub fails : FailsNow header h (who.Fails key) (events ++ past)
+  pub answered : IsAnswered (who.Fails key) k.memory.resident
   pub before : EndsBefore key k.waits.rows (events ++ past)
-  pub goes : Goes header outside doing past old events
+  pub goes : Goes header h outside doing past old events
 
 -- one is ended
-pub failed_one : (header : Header) (outside : Outside) (doing : Command) (past old events : List Event) (key : PageKey) (k : Parts) (ids : Ids) (w : Waiting) (waits : WaitTable)
-    → Failing header outside doing past old events key k ids → entry k.waits.rows w.task.0 ≡ Some w → woken_page key w.on ≡ true → oldest (woken_page key) k.waits.rows ≡ Some w → PutsInOrder w.task.0 None k.waits.rows waits.rows
-    → Failing header outside doing past old (event.Failed w.task key.object key.page ∷ events) key (record k { waits = waits }) ids
-failed_one header outside doing past old events key k ids w waits f found passes first both =
+pub failed_one : (header : Header) (h : ℕ) (outside : Outside) (doing : Command) (past old events : List Event) (key : PageKey) (k : Parts) (ids : Ids) (w : Waiting) (waits : WaitTable)
+    → Failing header h outside doing past old events key k ids → entry k.waits.rows w.task.0 ≡ Some w → woken_page key w.on ≡ true → oldest (woken_page key) k.waits.rows ≡ Some w → PutsInOrder w.task.0 None k.waits.rows waits.rows
+    → Failing header h outside doing past old (event.Failed w.task key.object key.page ∷ events) key (record k { waits = waits }) ids
+failed_one header h outside doing past old events key k ids w waits f found passes first both =
     let puts = both.entry in
     let was = f.works.matches in
-    let h = events ++ past in
+    let moment = events ++ past in
     let e = event.Failed w.task key.object key.page in
     let rows = k.waits.rows in
     let has = f.works.waits in
-    let is : (t : ℕ) → waiting t (e ∷ h) ≡ waiting_in (entry waits.rows t) = waits_less w.task.0 rows waits.rows h has.is puts in
-    let cause = fails_cause header k ids h key w f.works f.fails found (waits_for key w.on passes) f.before in
+    let is : AreTold k.maps waits.rows (λ t. waiting t (e ∷ moment)) = waits_less k.maps w.task.0 rows waits.rows moment has.is puts in
+    let cause = fails_cause header h k ids moment key w f.works f.fails found (waits_for key w.on passes) f.before in
     record {
       works =
           record {
             matches =
                 record {
                   plain = was.plain;
+                  known = was.known;
                   size = was.size;
                   host = was.host;
                   fits = record { parts = was.fits.parts; plain = was.fits.plain; buffers = was.fits.buffers };
@@ -200,7 +191,7 @@ failed_one header outside doing past old events key k ids w waits f found passes
                   regions = was.regions;
                   entries = was.entries;
                   pages = was.pages;
-                  uses = uses_failed header k ids h key w.task waits.rows f.works is;
+                  uses = uses_failed header h k ids moment key w.task waits.rows f.works is (has.allowed w.task.0 w found).lives;
                   controls = was.controls;
                   settled = refl;
                   laundry = was.laundry;
@@ -216,14 +207,15 @@ failed_one header outside doing past old events key k ids w waits f found passes
                   reasons = λ t v at still. has.reasons t v (stood w.task.0 t rows waits.rows v puts at) still;
                   aims = λ t v other at waits_on. has.aims t v other (stood w.task.0 t rows waits.rows v puts at) waits_on;
                   askers = λ o p row at away. asker_stays o p (has.askers o p row at away) (f.answered.at o p row at away);
+                  ready = has.ready;
                 };
-            order = both.order.keeps (λ t. begun_at t h) 0 f.works.order;
+            order = both.order.keeps (λ t. begun_at t moment) 0 f.works.order;
           };
       fails = f.fails;
       answered = f.answered;
-      before = ends_before key w k.waits.rows waits.rows h f.before f.works.order first puts;
-      goes = goes_more header outside doing past old events e f.goes was.settled
-          (record { consequence = tt; cause = cause; own_bytes = tt; copies = tt; frames = suffices header k.frames (e ∷ h) was.frames; inner = tt; said = tt });
+      before = ends_before key w k.waits.rows waits.rows moment f.before f.works.order first puts;
+      goes = goes_more header h outside doing past old events e f.goes was.settled
+          (record { consequence = tt; cause = cause; own_bytes = tt; frames = suffices header h k.memory.frames (e ∷ moment) was.frames; inner = tt; said = tt });
     }
   where
     asker_stays : (o p : ℕ) → Asker k.waits.rows o p → woken_page key (on.Page (page_key o p)) ≡ false → Asker waits.rows o p
@@ -243,10 +235,6 @@ since_now key task past = ap (λ b. b || since (fails_access key.object.0 key.pa
 
 -- each who waited for the page is ended, or waits still
 
-either : (a b : Bool) → b ≡ true → (a || b) ≡ true
-either true b is = refl
-either false b is = is
-
 ends_now : (key : PageKey) (task : TaskId) (t : ℕ) (past : List Event) → task.0 ≡ t → since (fails_task t key.object.0 key.page.0) (event.Failed task key.object key.page ∷ past) ≡ true
 ends_now key task t past same = elim (eqb_tells task.0 t) [
   | inl is ↦
@@ -260,7 +248,7 @@ EndsOr key first rows past = (t : ℕ) (w : Waiting) → entry first t ≡ Some 
 
 pub ends_or : (key : PageKey) (w : Waiting) (first rows rows2 : List Waiting) (past : List Event) → EndsOr key first rows past → PutsEntry w.task.0 None rows rows2 → EndsOr key first rows2 (event.Failed w.task key.object key.page ∷ past)
 ends_or key w first rows rows2 past was puts t v found waits = elim (was t v found waits) [
-  | inl ended ↦ inl (either (fails_task t key.object.0 key.page.0 (event.Failed w.task key.object key.page)) (since (fails_task t key.object.0 key.page.0) past) ended)
+  | inl ended ↦ inl (or_true (fails_task t key.object.0 key.page.0 (event.Failed w.task key.object key.page)) (since (fails_task t key.object.0 key.page.0) past) ended)
   | inr there ↦ elim (eqb_tells w.task.0 t) [
     | inl same ↦ inl (ends_now key w.task t past same.1)
     | inr apart ↦ inr (stays w.task.0 t rows rows2 v puts apart.1 there)
@@ -277,39 +265,21 @@ ends_all key first rows past was none t w found waits = elim (was t w found wait
 
 -- the error that a step took is paid, and that stays so
 
-error_inner : (size : ℕ) (e : Event) (past : List Event) → IsInner e → error_taken size (e ∷ past) ≡ error_taken size past
-error_inner size (event.Line line) past inner = absurd inner
-error_inner size (event.Taken channel m) past inner = absurd inner
-error_inner size other past inner = refl
-
-pub error_same : (size : ℕ) (more past : List Event) → AllInner more → error_taken size (more ++ past) ≡ error_taken size past
-error_same size [] past inner = refl
-error_same size (e ∷ more) past inner = error_inner size e (more ++ past) inner.0 ∙ error_same size more past inner.1
-
-since_inner : (test : Event → Bool) (e : Event) (past : List Event) → IsInner e → since test past ≡ true → since test (e ∷ past) ≡ true
-since_inner test (event.Line line) past inner is = absurd inner
-since_inner test (event.Taken channel m) past inner is = absurd inner
-since_inner test other past inner is = either (test other) (since test past) is
-
-since_more : (test : Event → Bool) (more past : List Event) → AllInner more → since test past ≡ true → since test (more ++ past) ≡ true
-since_more test [] past inner is = is
-since_more test (e ∷ more) past inner is = since_inner test e (more ++ past) inner.0 (since_more test more past inner.1 is)
-
 paid_more : (header : Header) (more past : List Event) → AllInner more → IsErrorPaid header past → IsErrorPaid header (more ++ past)
-paid_more header more past inner paid = λ host object page is. since_more (fails_access object page) more past inner (paid host object page (sym (error_same header.size more past inner) ∙ is))
+paid_more header more past inner paid = λ host object page is. since_more (fails_access object page) more past inner (paid host object page (sym (error_more header.size more past inner) ∙ is))
 
-pub paid_goes : (header : Header) (outside : Outside) (doing : Command) (past old new : List Event) → Goes header outside doing past old new → IsErrorPaid header (old ++ past) → IsErrorPaid header (new ++ past)
-paid_goes header outside doing past old new goes paid =
+pub paid_goes : (header : Header) (h : ℕ) (outside : Outside) (doing : Command) (past old new : List Event) → Goes header h outside doing past old new → IsErrorPaid header (old ++ past) → IsErrorPaid header (new ++ past)
+paid_goes header h outside doing past old new goes paid =
     subst (λ (z : List Event). IsErrorPaid header z) (sym (append_assoc goes.more old past) ∙ ap (λ z. z ++ past) (sym goes.is)) (paid_more header goes.more (old ++ past) goes.inner paid)
 
-pub paid_failed : (header : Header) (outside : Outside) (doing : Command) (woke : Woken) (past new : List Event) → FailsNow header woke past → Goes header outside doing past [] new → HasFailed woke (new ++ past) → IsErrorPaid header (new ++ past)
-paid_failed header outside doing who.Nobody past new fails goes failed = paid_goes header outside doing past [] new goes (λ host object page is. absurd (let bad : None ≡ Some (record { host = host; object = object; page = page }) = sym fails ∙ is in cc))
-paid_failed header outside doing (who.ReadyOf object) past new fails goes failed = paid_goes header outside doing past [] new goes (λ host object page is. absurd (let bad : None ≡ Some (record { host = host; object = object; page = page }) = sym fails ∙ is in cc))
-paid_failed header outside doing (who.Page key) past new fails goes failed = paid_goes header outside doing past [] new goes (λ host object page is. absurd (let bad : None ≡ Some (record { host = host; object = object; page = page }) = sym fails ∙ is in cc))
-paid_failed header outside doing (who.Fails key) past new fails goes failed = λ host object page is.
+pub paid_failed : (header : Header) (h : ℕ) (outside : Outside) (doing : Command) (woke : Woken) (past new : List Event) → FailsNow header h woke past → Goes header h outside doing past [] new → HasFailed woke (new ++ past) → IsErrorPaid header (new ++ past)
+paid_failed header h outside doing who.Nobody past new fails goes failed = paid_goes header h outside doing past [] new goes (λ host object page is. absurd (let bad : None ≡ Some (record { host = host; object = object; page = page }) = sym fails ∙ is in cc))
+paid_failed header h outside doing (who.ReadyOf object) past new fails goes failed = paid_goes header h outside doing past [] new goes (λ host object page is. absurd (let bad : None ≡ Some (record { host = host; object = object; page = page }) = sym fails ∙ is in cc))
+paid_failed header h outside doing (who.Page key) past new fails goes failed = paid_goes header h outside doing past [] new goes (λ host object page is. absurd (let bad : None ≡ Some (record { host = host; object = object; page = page }) = sym fails ∙ is in cc))
+paid_failed header h outside doing (who.Fails key) past new fails goes failed = λ host object page is.
     let error : error_taken header.size (new ++ past) ≡ error_taken header.size past =
-    ap (error_taken header.size) (ap (λ z. z ++ past) (goes.is ∙ append-nil goes.more)) ∙ error_same header.size goes.more past goes.inner in
-    let same : record { host = 0; object = key.object.0; page = key.page.0 } ≡ record { host = host; object = object; page = page } = asked_same (sym fails ∙ (sym error ∙ is)) in
+    ap (error_taken header.size) (ap (λ z. z ++ past) (goes.is ∙ append-nil goes.more)) ∙ error_more header.size goes.more past goes.inner in
+    let same : record { host = h; object = key.object.0; page = key.page.0 } ≡ record { host = host; object = object; page = page } = asked_same (sym fails ∙ (sym error ∙ is)) in
     subst (λ (z : Asked). since (fails_access z.object z.page) (new ++ past) ≡ true) same failed
   where
     asked_same : {x y : Asked} → Some x ≡ Some y → x ≡ y
@@ -318,23 +288,23 @@ paid_failed header outside doing (who.Fails key) past new fails goes failed = λ
 -- and each who waited has ended
 
 each_more : (header : Header) (rows : List Waiting) (more past : List Event) → AllInner more → EndsEach header rows past → EndsEach header rows (more ++ past)
-each_more header rows more past inner each = λ host object page t w is found waits. since_more (fails_task t object page) more past inner (each host object page t w (sym (error_same header.size more past inner) ∙ is) found waits)
+each_more header rows more past inner each = λ host object page t w is found waits. since_more (fails_task t object page) more past inner (each host object page t w (sym (error_more header.size more past inner) ∙ is) found waits)
 
-pub each_goes : (header : Header) (outside : Outside) (doing : Command) (rows : List Waiting) (past old new : List Event) → Goes header outside doing past old new → EndsEach header rows (old ++ past) → EndsEach header rows (new ++ past)
-each_goes header outside doing rows past old new goes each =
+pub each_goes : (header : Header) (h : ℕ) (outside : Outside) (doing : Command) (rows : List Waiting) (past old new : List Event) → Goes header h outside doing past old new → EndsEach header rows (old ++ past) → EndsEach header rows (new ++ past)
+each_goes header h outside doing rows past old new goes each =
     subst (λ (z : List Event). EndsEach header rows z) (sym (append_assoc goes.more old past) ∙ ap (λ z. z ++ past) (sym goes.is)) (each_more header rows goes.more (old ++ past) goes.inner each)
 
 no_error : (header : Header) (rows : List Waiting) (past : List Event) → error_taken header.size past ≡ None → EndsEach header rows past
 no_error header rows past none = λ host object page t w is found waits. absurd (let bad : None ≡ Some (record { host = host; object = object; page = page }) = sym none ∙ is in cc)
 
-pub each_failed : (header : Header) (outside : Outside) (doing : Command) (woke : Woken) (rows : List Waiting) (past new : List Event) → FailsNow header woke past → Goes header outside doing past [] new → HasEnded woke rows (new ++ past) → EndsEach header rows (new ++ past)
-each_failed header outside doing who.Nobody rows past new fails goes ended = each_goes header outside doing rows past [] new goes (no_error header rows past fails)
-each_failed header outside doing (who.ReadyOf object) rows past new fails goes ended = each_goes header outside doing rows past [] new goes (no_error header rows past fails)
-each_failed header outside doing (who.Page key) rows past new fails goes ended = each_goes header outside doing rows past [] new goes (no_error header rows past fails)
-each_failed header outside doing (who.Fails key) rows past new fails goes ended = λ host object page t w is found waits.
+pub each_failed : (header : Header) (h : ℕ) (outside : Outside) (doing : Command) (woke : Woken) (rows : List Waiting) (past new : List Event) → FailsNow header h woke past → Goes header h outside doing past [] new → HasEnded woke rows (new ++ past) → EndsEach header rows (new ++ past)
+each_failed header h outside doing who.Nobody rows past new fails goes ended = each_goes header h outside doing rows past [] new goes (no_error header rows past fails)
+each_failed header h outside doing (who.ReadyOf object) rows past new fails goes ended = each_goes header h outside doing rows past [] new goes (no_error header rows past fails)
+each_failed header h outside doing (who.Page key) rows past new fails goes ended = each_goes header h outside doing rows past [] new goes (no_error header rows past fails)
+each_failed header h outside doing (who.Fails key) rows past new fails goes ended = λ host object page t w is found waits.
     let error : error_taken header.size (new ++ past) ≡ error_taken header.size past =
-    ap (error_taken header.size) (ap (λ z. z ++ past) (goes.is ∙ append-nil goes.more)) ∙ error_same header.size goes.more past goes.inner in
-    let same : record { host = 0; object = key.object.0; page = key.page.0 } ≡ record { host = host; object = object; page = page } = asked_same (sym fails ∙ (sym error ∙ is)) in
+    ap (error_taken header.size) (ap (λ z. z ++ past) (goes.is ∙ append-nil goes.more)) ∙ error_more header.size goes.more past goes.inner in
+    let same : record { host = h; object = key.object.0; page = key.page.0 } ≡ record { host = host; object = object; page = page } = asked_same (sym fails ∙ (sym error ∙ is)) in
     subst (λ (z : Asked). w.on ≡ on.Page (page_key z.object z.page) → since (fails_task t z.object z.page) (new ++ past) ≡ true) same (ended t w found) waits
   where
     asked_same : {x y : Asked} → Some x ≡ Some y → x ≡ y

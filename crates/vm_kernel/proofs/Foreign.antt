@@ -26,37 +26,41 @@ kept_out : (b keep : Bool) (out : ℕ) → keep ≡ true → (if b && not keep t
 kept_out true keep out is = rw is refl
 kept_out false keep out is = refl
 
-rests_kept : (header : Header) (k : Parts) (ids : Ids) (past : List Event) (host : HostId) (object : ObjectId) (control : ℕ) (page : PageNo) (dirty keep : Bool) (bytes : List ℕ) → Rests header k ids past → keep ≡ true
-    → Rests header k ids (event.Taken (Up host object) (message.Return control page dirty keep bytes) ∷ past)
-rests_kept header k ids past host object control page dirty keep bytes rests is =
-    let held : frames_held header.size 0 (event.Taken (Up host object) (message.Return control page dirty keep bytes) ∷ past) ≡ frames_held header.size 0 past = kept_frames (host.0 == 0) keep (frames_held header.size 0 past) is in
-    let out : returns_out 0 (event.Taken (Up host object) (message.Return control page dirty keep bytes) ∷ past) ≡ returns_out 0 past = kept_out (host.0 == 0) keep (returns_out 0 past) is in
-    let laundry : HasLaundry k.frames k.resident k.laundry (returns_out 0 (event.Taken (Up host object) (message.Return control page dirty keep bytes) ∷ past)) =
-    subst (λ (z : ℕ). HasLaundry k.frames k.resident k.laundry z) (sym out) rests.matches.laundry in
-    let frames : HasFrames (slice_get (reverse header.frames.items) 0) k.frames (frames_held header.size 0 (event.Taken (Up host object) (message.Return control page dirty keep bytes) ∷ past)) (frames_wired 0 past) =
-    subst (λ (z : ℕ). HasFrames (slice_get (reverse header.frames.items) 0) k.frames z (frames_wired 0 past)) (sym held) rests.matches.frames in
+rests_kept : (header : Header) (h : ℕ) (k : Parts) (ids : Ids) (past : List Event) (host : HostId) (object : ObjectId) (control : ℕ) (page : PageNo) (dirty keep : Bool) (bytes : List ℕ) → Rests header h k ids past → keep ≡ true
+    → Rests header h k ids (event.Taken (Up host object) (message.Return control page dirty keep bytes) ∷ past)
+rests_kept header h k ids past host object control page dirty keep bytes rests is =
+    let held : frames_held header.size h (event.Taken (Up host object) (message.Return control page dirty keep bytes) ∷ past) ≡ frames_held header.size h past = kept_frames (host.0 == h) keep (frames_held header.size h past) is in
+    let out : returns_out h (event.Taken (Up host object) (message.Return control page dirty keep bytes) ∷ past) ≡ returns_out h past = kept_out (host.0 == h) keep (returns_out h past) is in
+    let laundry : HasLaundry k.memory.frames k.memory.resident k.laundry (returns_out h (event.Taken (Up host object) (message.Return control page dirty keep bytes) ∷ past)) =
+    subst (λ (z : ℕ). HasLaundry k.memory.frames k.memory.resident k.laundry z) (sym out) rests.matches.laundry in
+    let frames : HasFrames (slice_get (reverse header.frames.items) h) k.memory.frames (frames_held header.size h (event.Taken (Up host object) (message.Return control page dirty keep bytes) ∷ past)) (frames_wired h past) =
+    subst (λ (z : ℕ). HasFrames (slice_get (reverse header.frames.items) h) k.memory.frames z (frames_wired h past)) (sym held) rests.matches.frames in
     search rules
 
-rests_taken : (header : Header) (k : Parts) (ids : Ids) (past : List Event) (host : HostId) (object : ObjectId) (m : Message) → Rests header k ids past → IsForeign (event.Taken (Up host object) m) → Rests header k ids (event.Taken (Up host object) m ∷ past)
-rests_taken header k ids past host object (message.Return control page dirty keep bytes) rests foreign = rests_kept header k ids past host object control page dirty keep bytes rests foreign
-rests_taken header k ids past host object other rests foreign = search rules
+rests_taken : (header : Header) (h : ℕ) (k : Parts) (ids : Ids) (past : List Event) (host : HostId) (object : ObjectId) (m : Message) → Rests header h k ids past → IsForeign (event.Taken (Up host object) m) → Rests header h k ids (event.Taken (Up host object) m ∷ past)
+rests_taken header h k ids past host object (message.Return control page dirty keep bytes) rests foreign = rests_kept header h k ids past host object control page dirty keep bytes rests foreign
+rests_taken header h k ids past host object other rests foreign = search rules
 
-rests_sent : (header : Header) (k : Parts) (ids : Ids) (past : List Event) (host : HostId) (object : ObjectId) (control : ℕ) (m : Message) → Rests header k ids past → IsForeign (event.Sent (Down host object control) m)
-    → Rests header k ids (event.Sent (Down host object control) m ∷ past)
-rests_sent header k ids past host object control (message.Create number size) rests foreign = absurd foreign
-rests_sent header k ids past host object control other rests foreign = search rules
+rests_sent : (header : Header) (h : ℕ) (k : Parts) (ids : Ids) (past : List Event) (host : HostId) (object : ObjectId) (control : ℕ) (m : Message) → Rests header h k ids past → IsForeign (event.Sent (Down host object control) m)
+    → Rests header h k ids (event.Sent (Down host object control) m ∷ past)
+rests_sent header h k ids past host object control (message.Ready cache strategy) rests foreign = search rules
+rests_sent header h k ids past host object control (message.Supply page lock precious bytes) rests foreign = search rules
+rests_sent header h k ids past host object control (message.Unavailable page) rests foreign = search rules
+rests_sent header h k ids past host object control (message.Error page reason) rests foreign = search rules
+rests_sent header h k ids past host object control (message.Lock page count returns flush lock reply) rests foreign = search rules
+rests_sent header h k ids past host object control other rests foreign = absurd foreign
 
-rests_one : (header : Header) (k : Parts) (ids : Ids) (past : List Event) (e : Event) → Rests header k ids past → IsForeign e → Rests header k ids (e ∷ past)
-rests_one header k ids past (event.Line line) rests foreign = search rules
-rests_one header k ids past (event.Taken (Up host object) m) rests foreign = rests_taken header k ids past host object m rests foreign
-rests_one header k ids past (event.Taken (Down host object control) m) rests foreign = absurd foreign
-rests_one header k ids past (event.Sent (Down host object control) m) rests foreign = rests_sent header k ids past host object control m rests foreign
-rests_one header k ids past (event.Sent (Up host object) m) rests foreign = absurd foreign
-rests_one header k ids past (event.NoSlot object page) rests foreign = search rules
-rests_one header k ids past (event.DeviceFailed device way object page) rests foreign = search rules
-rests_one header k ids past other rests foreign = absurd foreign
+rests_one : (header : Header) (h : ℕ) (k : Parts) (ids : Ids) (past : List Event) (e : Event) → Rests header h k ids past → IsForeign e → Rests header h k ids (e ∷ past)
+rests_one header h k ids past (event.Line line) rests foreign = search rules
+rests_one header h k ids past (event.Taken (Up host object) m) rests foreign = rests_taken header h k ids past host object m rests foreign
+rests_one header h k ids past (event.Taken (Down host object control) m) rests foreign = absurd foreign
+rests_one header h k ids past (event.Sent (Down host object control) m) rests foreign = rests_sent header h k ids past host object control m rests foreign
+rests_one header h k ids past (event.Sent (Up host object) m) rests foreign = absurd foreign
+rests_one header h k ids past (event.NoSlot object page) rests foreign = search rules
+rests_one header h k ids past (event.DeviceFailed device way object page) rests foreign = search rules
+rests_one header h k ids past other rests foreign = absurd foreign
 
 -- events that are nothing to the host stand behind
-pub rests_foreign : (header : Header) (k : Parts) (ids : Ids) (front past : List Event) → Rests header k ids past → EachOf IsForeign front → Rests header k ids (front ++ past)
-rests_foreign header k ids [] past rests foreign = rests
-rests_foreign header k ids (e ∷ front) past rests foreign = rests_one header k ids (front ++ past) e (rests_foreign header k ids front past rests foreign.1) foreign.0
+pub rests_foreign : (header : Header) (h : ℕ) (k : Parts) (ids : Ids) (front past : List Event) → Rests header h k ids past → EachOf IsForeign front → Rests header h k ids (front ++ past)
+rests_foreign header h k ids [] past rests foreign = rests
+rests_foreign header h k ids (e ∷ front) past rests foreign = rests_one header h k ids (front ++ past) e (rests_foreign header h k ids front past rests foreign.1) foreign.0

@@ -1,19 +1,19 @@
 -- A command whose events are those of its head.
-use Rattle.std.proofs.Common.{◌≡◌, Bool, true, false, List, [], ◌∷◌, ◌++◌, refl, Some, None, Option}
+use Rattle.std.proofs.Common.{ℕ, ◌≡◌, Bool, true, false, List, [], ◌∷◌, ◌++◌, refl, Some, None, Option}
 use Rattle.std.specs.Prelude.{reverse}
 use Rattle.vm_base.specs.declared.code.Code.{Code}
 use Rattle.vm_model.specs.declared.event.Event.{Event}
 use Rattle.vm_model.specs.declared.command.Command.{Command}
 use Rattle.vm_model.specs.declared.script.Header.{Header}
-use Rattle.vm_legal.specs.Bytes.{CopiesCurrent, OwnBytes}
+use Rattle.vm_legal.specs.Bytes.{OwnBytes}
 use Rattle.vm_legal.specs.Follows.{IsDone, head}
 use Rattle.vm_legal.specs.Frames.{Suffice}
 use Rattle.vm_legal.specs.Licences.{AllLicensed, Caused, created}
 use Rattle.vm_legal.specs.Outside.{Outside}
 use Rattle.vm_legal.specs.Refusal.{where_true}
-use Rattle.vm_legal.specs.Stretches.{EachIn, EachOf, MomentsIn}
+use Rattle.vm_legal.specs.Stretches.{AllInner, EachIn, EachOf, IsInner, MomentsIn}
 use Rattle.vm_shadow.specs.declared.ids.Ids.{Ids}
-use Rattle.vm_kernel.specs.Begun.{AllInner, Grows, IsInner, IsSaid, Ran}
+use Rattle.vm_kernel.specs.Begun.{Grows, IsOwn, Ran}
 use Rattle.vm_kernel.specs.Matches.{Rests}
 use Rattle.vm_kernel.specs.declared.parts.Parts.{Parts}
 use Rattle.vm_kernel.proofs.Growing.{licensed}
@@ -24,16 +24,15 @@ passed true why later none = absurd (let bad : Some why ≡ None = none in cc)
 passed false why later none = (refl, none)
 
 -- what holds of each event of a command's head
-pub record Heads (header : Header) (outside : Outside) (doing : Command) (past events : List Event) : Type 0 where
+pub record Heads (header : Header) (h : ℕ) (outside : Outside) (doing : Command) (past events : List Event) : Type 0 where
   pub licensed : AllLicensed header outside doing events past
   pub own_bytes : EachIn (OwnBytes header) events past
-  pub copies : EachIn (CopiesCurrent header outside) events past
-  pub frames : MomentsIn (Suffice header 0) events past
+  pub frames : MomentsIn (Suffice header h) events past
   pub inner : AllInner events
-  pub said : EachOf (IsSaid header.size) events
+  pub said : EachOf (IsOwn h header.size) events
 
-pub grows_head : (header : Header) (outside : Outside) (doing : Command) (past events first : List Event) → head header past doing ≡ Some first → events ≡ reverse first → Heads header outside doing past events → Grows header outside doing past events
-grows_head header outside doing past events first is same all =
+pub grows_head : (header : Header) (h : ℕ) (outside : Outside) (doing : Command) (past events first : List Event) → head header past doing ≡ Some first → events ≡ reverse first → Heads header h outside doing past events → Grows header h outside doing past events
+grows_head header h outside doing past events first is same all =
     record {
       first = first;
       more = [];
@@ -42,29 +41,27 @@ grows_head header outside doing past events first is same all =
       follows = tt;
       licensed = all.licensed;
       own_bytes = all.own_bytes;
-      copies = all.copies;
       frames = all.frames;
       inner = all.inner;
       said = all.said;
     }
 
 -- what holds of a command's one event
-pub record IsOne (header : Header) (outside : Outside) (doing : Command) (past : List Event) (e : Event) : Type 0 where
+pub record IsOne (header : Header) (h : ℕ) (outside : Outside) (doing : Command) (past : List Event) (e : Event) : Type 0 where
   pub quiet : created past ≡ None
   pub cause : Caused header outside doing e past
   pub own_bytes : OwnBytes header e past
-  pub copies : CopiesCurrent header outside e past
-  pub frames : Suffice header 0 (e ∷ past)
+  pub frames : Suffice header h (e ∷ past)
   pub inner : IsInner e
-  pub said : IsSaid header.size e
+  pub said : IsOwn h header.size e
 
-pub heads_one : (header : Header) (outside : Outside) (doing : Command) (past : List Event) (e : Event) → IsOne header outside doing past e → Heads header outside doing past (e ∷ [])
-heads_one header outside doing past e is =
-    record { licensed = (licensed header outside doing e past is.quiet is.cause, tt); own_bytes = (is.own_bytes, tt); copies = (is.copies, tt); frames = (is.frames, tt); inner = (is.inner, tt); said = (is.said, tt) }
+pub heads_one : (header : Header) (h : ℕ) (outside : Outside) (doing : Command) (past : List Event) (e : Event) → IsOne header h outside doing past e → Heads header h outside doing past (e ∷ [])
+heads_one header h outside doing past e is =
+    record { licensed = (licensed header outside doing e past is.quiet is.cause, tt); own_bytes = (is.own_bytes, tt); frames = (is.frames, tt); inner = (is.inner, tt); said = (is.said, tt) }
 
-pub grows_one : (header : Header) (outside : Outside) (doing : Command) (past : List Event) (e : Event) → head header past doing ≡ Some (e ∷ []) → IsOne header outside doing past e → Grows header outside doing past (e ∷ [])
-grows_one header outside doing past e first is = grows_head header outside doing past (e ∷ []) (e ∷ []) first refl (heads_one header outside doing past e is)
+pub grows_one : (header : Header) (h : ℕ) (outside : Outside) (doing : Command) (past : List Event) (e : Event) → head header past doing ≡ Some (e ∷ []) → IsOne header h outside doing past e → Grows header h outside doing past (e ∷ [])
+grows_one header h outside doing past e first is = grows_head header h outside doing past (e ∷ []) (e ∷ []) first refl (heads_one header h outside doing past e is)
 
-pub ran_head : (header : Header) (outside : Outside) (doing : Command) (past : List Event) (k : Parts) (ids : Ids) (events first : List Event) → head header past doing ≡ Some first → events ≡ reverse first
-    → Heads header outside doing past events → IsDone header doing events past → Rests header k ids (events ++ past) → Ran header outside doing past k ids events
-ran_head header outside doing past k ids events first is same all done rests = record { rests = rests; grows = grows_head header outside doing past events first is same all; done = done }
+pub ran_head : (header : Header) (h : ℕ) (outside : Outside) (doing : Command) (past : List Event) (k : Parts) (ids : Ids) (events first : List Event) → head header past doing ≡ Some first → events ≡ reverse first
+    → Heads header h outside doing past events → IsDone header doing events past → Rests header h k ids (events ++ past) → Ran header h outside doing past k ids events
+ran_head header h outside doing past k ids events first is same all done rests = record { rests = rests; grows = grows_head header h outside doing past events first is same all; done = done }

@@ -2,7 +2,6 @@
 use Rattle.std.proofs.Common.{◌≡◌, ℕ, ◌-◌, ◌^◌, ◌<◌, ◌==◌, ◌&&◌, Bool, true, false, List, [], ◌∷◌, ◌++◌, refl, ap, sym, ◌∙◌, subst, arith, Some, None, Option, inl, inr}
 use Rattle.std.proofs.lemmas.Bool.Decides.{eqb_tells}
 use Rattle.std.specs.Prelude.{if◌then◌else◌, is_some, not, reverse, slice_get, ◌⊎◌}
-use Rattle.vm_base.specs.Buffers.{BufferStore}
 use Rattle.vm_base.specs.declared.ids.HostId.{HostId}
 use Rattle.vm_base.specs.declared.ids.ObjectId.{ObjectId}
 use Rattle.vm_base.specs.declared.ids.ObjectKind.{ObjectKind}
@@ -27,26 +26,33 @@ use Rattle.vm_objects.specs.declared.row.PagerState.TheVariants as state
 use Rattle.vm_parts.specs.Fits.{Fit}
 use Rattle.vm_resident.specs.Resident.{PutsRow, ResidentTable, page_key, row_at}
 use Rattle.vm_resident.specs.declared.page_row.PageRow.{PageRow}
-use Rattle.vm_shadow.specs.Chains.{ChainTable, region_at}
+use Rattle.vm_shadow.specs.Chains.{ChainTable}
 use Rattle.vm_shadow.specs.declared.ids.Ids.{Ids}
 use Rattle.vm_shadow.specs.declared.region_row.RegionRow.{RegionRow}
-use Rattle.vm_supply.specs.Answers.{Answered, Discarded, IsAnswer, Failed, Fails, Lacked, Lacks, Outcome, Readied, Readies, Supplied, Supplies, key_of, live_outcome, outcome_of, ready_outcome, unavailable_outcome}
-use Rattle.vm_supply.specs.Pages.{Ends, HostParts, asked_row, clean_row, host_parts, lock_of}
+use Rattle.vm_supply.specs.Answers.{Answered, Discarded, IsAnswer, Failed, Fails, Lacked, Lacks, Outcome, Readied, Readies, Supplied, Supplies, key_of, live_outcome, outcome_of, ready_outcome, unavailable_outcome, lock_of}
 use Rattle.vm_supply.specs.declared.woken.Woken.{Woken}
 use Rattle.vm_supply.specs.declared.woken.Woken.TheVariants as woken
 use Rattle.vm_waits.specs.declared.waiting.On.{On}
 use Rattle.vm_waits.specs.declared.waiting.On.TheVariants as on
 use Rattle.vm_waits.specs.declared.waiting.Waiting.{Waiting}
 use Rattle.vm_waits.specs.declared.waiting.Want.{Want}
-use Rattle.vm_kernel.specs.Fits.{ArePlain, IsPlainRow}
+use Rattle.vm_kernel.specs.Fits.{ArePlain}
 use Rattle.vm_kernel.specs.Matches.{AllReached, HasControls, HasFrames, HasLaundry, HasPages, HasRegions, IsUnder, Rests, Works}
 use Rattle.vm_kernel.specs.Pagers.{has_pager, is_ready_state, last_in, live_in, ready_in}
-use Rattle.vm_kernel.specs.Places.{has_region, place_of, shown, unlocked}
+use Rattle.vm_kernel.specs.Places.{has_region, place_of, shown}
 use Rattle.vm_kernel.specs.Taking.{FailsNow, HasAsker, IsAnswered, IsTempAnswer}
 use Rattle.vm_kernel.specs.Waiters.{HasWaiters, IsAsked, IsTold, Reason, is_woken}
 use Rattle.vm_kernel.specs.declared.parts.Parts.{Parts}
-use Rattle.vm_kernel.proofs.Answers.{IsLeft, IsNothing, frames_ended, frames_with, hears, laundry_came, laundry_ended, left_failed, left_lacked, lives, nothing_dead, on_page, pages_came, pages_ended, ready_again, unfailed, unlacked, unsupplied}
-use Rattle.vm_kernel.proofs.Rows.{one_case, row_cases, some_is}
+use Rattle.vm_kernel.proofs.Answers.{IsLeft, IsNothing, asked_shows, hears, left_failed, left_lacked, lives, nothing_dead, on_page, ready_again, unfailed, unlacked, unsupplied, same_effect}
+use Rattle.vm_kernel.proofs.Brings.{plain_changed}
+use Rattle.vm_kernel.proofs.Pages.{bytes_now, effect_on, frames_changed, laundry_changed, pages_moved}
+use Rattle.vm_queues.specs.Queues.{added}
+use Rattle.vm_model.specs.Local.{away}
+use Rattle.vm_parts.specs.declared.parts.HostParts.{HostParts}
+use Rattle.vm_parts.specs.Changes.{Cancels, Changes, Fills, asked_row, clean_row, unlocked}
+use Rattle.vm_parts.proofs.Rows.{asked_is, one_case, row_cases, some_is}
+use Rattle.vm_kernel.proofs.Regions.{region_row}
+use Rattle.vm_kernel.proofs.Own.{own_host}
 
 -- who waits, where rows of pages and objects are others
 
@@ -54,9 +60,9 @@ waits_heard : (maps : Mapped) (cs : ChainTable) (rs rs2 : ResidentTable) (os os2
     → HasWaiters maps cs rs os rows woken.Nobody waiting_at
     → ((o p : ℕ) → is_woken who (on.Page (page_key o p)) ≡ false → IsAsked rs o p → IsAsked rs2 o p)
     → ((object : ObjectId) → is_woken who (on.Ready object) ≡ false → IsTold os object.0 → IsTold os2 object.0)
-    → ((o p : ℕ) (row : PageRow) → row_at rs2 o p ≡ Some row → row.here ≡ false → row_at rs o p ≡ Some row)
+    → ((o p : ℕ) (row : PageRow) → row_at rs2 o p ≡ Some row → row.here ≡ false → row_at rs o p ≡ Some row) → ((o : ℕ) → ready_in (object_at os o) ≡ true → ready_in (object_at os2 o) ≡ true)
     → HasWaiters maps cs rs2 os2 rows who waiting_at
-waits_heard maps cs rs rs2 os os2 rows who waiting_at has asked told were =
+waits_heard maps cs rs rs2 os os2 rows who waiting_at has asked told were ready =
     record {
       is = has.is;
       allowed = has.allowed;
@@ -64,6 +70,7 @@ waits_heard maps cs rs rs2 os os2 rows who waiting_at has asked told were =
       reasons = λ t w is still. by_reason t w.want w.on still (has.reasons t w is refl);
       aims = has.aims;
       askers = λ o p row found away_now. has.askers o p row (were o p row found away_now) away_now;
+      ready = λ o p row found away_now. ready o (has.ready o p row (were o p row found away_now) away_now);
     }
   where
     by_reason : (t : ℕ) (what : Want) (reason : On) → is_woken who reason ≡ false → Reason maps cs rs os t what reason → Reason maps cs rs2 os2 t what reason
@@ -72,36 +79,34 @@ waits_heard maps cs rs rs2 os os2 rows who waiting_at has asked told were =
     by_reason t what (on.Page key) still why = (why.0, asked key.object.0 key.page.0 still why.1)
     by_reason t what on.Frame still why = tt
 
--- the parts behind the message
-abbrev pub parts_of : Parts → List Event → HostParts
-parts_of k events = host_parts k.frames k.resident k.queues k.objects events
-
-abbrev pub heard : Parts → HostParts → BufferStore → Parts
-heard k new buffers = record k { frames = new.frames; resident = new.resident; queues = new.queues; objects = new.objects; buffers = buffers }
+-- the kernel behind the message
+abbrev pub heard : Parts → HostParts → Parts
+heard k new = record k { memory = new }
 
 -- what holds of the parts that may have changed
-pub record Changed (header : Header) (k : Parts) (ids : Ids) (who : Woken) (new : HostParts) (past : List Event) (e : Event) : Type 0 where
+pub record Changed (header : Header) (h : ℕ) (k : Parts) (ids : Ids) (who : Woken) (new : HostParts) (past : List Event) (e : Event) : Type 0 where
   pub plain : ArePlain new.resident
   pub regions : HasRegions k.chains new.objects ids (λ r. region_of header r past) (λ o. backing_of header o past) (next_region header past) (next_object header past)
-  pub pages : HasPages new.frames new.resident new.objects k.chains (λ o p. local header.size 0 (place_of o p) (e ∷ past))
-  pub controls : HasControls new.objects (λ o. last_control 0 o past) (λ o. live_control 0 o past) (λ o. is_ready 0 o (e ∷ past))
-  pub laundry : HasLaundry new.frames new.resident k.laundry (returns_out 0 past)
-  pub frames : HasFrames (slice_get (reverse header.frames.items) 0) new.frames (frames_held header.size 0 (e ∷ past)) (frames_wired 0 past)
+  pub pages : HasPages new.frames new.resident new.objects k.chains (λ o p. local header.size h (place_of o p) (e ∷ past))
+  pub controls : HasControls new.objects (λ o. last_control h o past) (λ o. live_control h o past) (λ o. is_ready h o (e ∷ past))
+  pub laundry : HasLaundry new.frames new.resident k.laundry (returns_out h past)
+  pub frames : HasFrames (slice_get (reverse header.frames.items) h) new.frames (frames_held header.size h (e ∷ past)) (frames_wired h past)
   pub reached : AllReached k.chains new.objects
   pub waits : HasWaiters k.maps k.chains new.resident new.objects k.waits.rows who (λ t. waiting t past)
-  pub fails : FailsNow header who (e ∷ past)
+  pub fails : FailsNow header h who (e ∷ past)
   pub asker : HasAsker who k.waits.rows
   pub answered : IsAnswered who new.resident
 
-works_of : (header : Header) (k : Parts) (ids : Ids) (who : Woken) (new : HostParts) (buffers : BufferStore) (past : List Event) (object : ObjectId) (control : ℕ) (m : Message)
-    → Rests header k ids past → Fit k.size new.frames new.resident new.queues new.objects → buffers ≡ k.buffers → Changed header k ids who new past (hears object control m)
-    → Works header (heard k new buffers) ids who (hears object control m ∷ past)
-works_of header k ids who new buffers past object control m rests fit same c =
+works_of : (header : Header) (h : ℕ) (k : Parts) (ids : Ids) (who : Woken) (new : HostParts) (past : List Event) (object : ObjectId) (control : ℕ) (m : Message)
+    → Rests header h k ids past → Fit new → new.buffers ≡ k.memory.buffers → Changed header h k ids who new past (hears h object control m)
+    → Works header h (heard k new) ids who (hears h object control m ∷ past)
+works_of header h k ids who new past object control m rests fit same c =
     let was = rests.matches in
     record {
       matches =
           record {
             plain = was.plain;
+            known = was.known;
             size = was.size;
             host = was.host;
             fits = record { parts = fit; plain = c.plain; buffers = ap (λ z. z.size) same ∙ was.fits.buffers };
@@ -160,20 +165,20 @@ told_of os os2 o same told = record { row = told.row; found = same.at o ∙ told
 itself : (os : ObjectTable) → SameObjects os os
 itself os = record { at = λ o. refl }
 
-pages_eq : (fs : FrameTable) (rs : ResidentTable) (os : ObjectTable) (cs : ChainTable) (local_at local_at2 : ℕ → ℕ → Local) → HasPages fs rs os cs local_at → ((o p : ℕ) → local_at2 o p ≡ local_at o p) → HasPages fs rs os cs local_at2
+pub pages_eq : (fs : FrameTable) (rs : ResidentTable) (os : ObjectTable) (cs : ChainTable) (local_at local_at2 : ℕ → ℕ → Local) → HasPages fs rs os cs local_at → ((o p : ℕ) → local_at2 o p ≡ local_at o p) → HasPages fs rs os cs local_at2
 pages_eq fs rs os cs local_at local_at2 has same = record { shown = λ o p. same o p ∙ has.shown o p; live = has.live }
 
-changed_none : (header : Header) (k : Parts) (ids : Ids) (events : List Event) (past : List Event) (object : ObjectId) (control : ℕ) (m : Message) → Rests header k ids past → IsNothing header object control m past
-    → Changed header k ids woken.Nobody (parts_of k events) past (hears object control m)
-changed_none header k ids events past object control m rests nothing =
+changed_none : (header : Header) (h : ℕ) (k : Parts) (ids : Ids) (past : List Event) (object : ObjectId) (control : ℕ) (m : Message) → Rests header h k ids past → IsNothing header h object control m past
+    → Changed header h k ids woken.Nobody k.memory past (hears h object control m)
+changed_none header h k ids past object control m rests nothing =
     let was = rests.matches in
     record {
       plain = was.fits.plain;
       regions = was.regions;
-      pages = pages_eq k.frames k.resident k.objects k.chains (λ o p. local header.size 0 (place_of o p) past) (λ o p. local header.size 0 (place_of o p) (hears object control m ∷ past)) was.pages nothing.pages;
-      controls = controls_of k.objects k.objects (λ o. last_control 0 o past) (λ o. live_control 0 o past) (λ o. is_ready 0 o past) (λ o. is_ready 0 o (hears object control m ∷ past)) was.controls (itself k.objects) nothing.ready;
+      pages = pages_eq k.memory.frames k.memory.resident k.memory.objects k.chains (λ o p. local header.size h (place_of o p) past) (λ o p. local header.size h (place_of o p) (hears h object control m ∷ past)) was.pages nothing.pages;
+      controls = controls_of k.memory.objects k.memory.objects (λ o. last_control h o past) (λ o. live_control h o past) (λ o. is_ready h o past) (λ o. is_ready h o (hears h object control m ∷ past)) was.controls (itself k.memory.objects) nothing.ready;
       laundry = was.laundry;
-      frames = subst (λ (z : ℕ). HasFrames (slice_get (reverse header.frames.items) 0) k.frames z (frames_wired 0 past)) (sym nothing.held) was.frames;
+      frames = subst (λ (z : ℕ). HasFrames (slice_get (reverse header.frames.items) h) k.memory.frames z (frames_wired h past)) (sym nothing.held) was.frames;
       reached = rests.reached;
       waits = rests.waits;
       fails = nothing.error;
@@ -290,52 +295,43 @@ told_ready os os2 o known object put apart told =
       sent = told.sent;
     }
 
-changed_ready : (header : Header) (k : Parts) (ids : Ids) (events past : List Event) (object : ObjectId) (control : ℕ) (cache : Bool) (strategy : ℕ) (who : Woken) (new : HostParts)
-    → Rests header k ids past → (readies : Readies object who (parts_of k events) new) → readies.known.live ≡ true → lives object control past ≡ true
-    → Changed header k ids who new past (hears object control (message.Ready cache strategy))
-changed_ready header k ids events past object control cache strategy who new rests readies live lives_now =
+ready_ready : (os os2 : ObjectTable) (o : ℕ) (known : ObjectRow) (o2 : ℕ) → PutsObject o (Some (record known { state = state.Ready })) os os2 → ready_in (object_at os o2) ≡ true → ready_in (object_at os2 o2) ≡ true
+ready_ready os os2 o known o2 put is = elim (one_case o o2 (Some (record known { state = state.Ready })) (object_at os o2) (object_at os2 o2) (put.at o2)) [ inl now ↦ ap ready_in now.1 | inr other ↦ ap ready_in other.1 ∙ is ]
+
+changed_ready : (header : Header) (h : ℕ) (k : Parts) (ids : Ids) (events after past : List Event) (object : ObjectId) (control : ℕ) (cache : Bool) (strategy : ℕ) (who : Woken) (new : HostParts)
+    → Rests header h k ids past → (readies : Readies object who k.memory new events after) → readies.known.live ≡ true → lives h object control past ≡ true
+    → Changed header h k ids who new past (hears h object control (message.Ready cache strategy))
+changed_ready header h k ids events after past object control cache strategy who new rests readies live lives_now =
     let was = rests.matches in
     let known = readies.known in
-    subst (λ (z : Woken). Changed header k ids z new past (hears object control (message.Ready cache strategy))) (sym readies.woken)
-    (subst (λ (z : HostParts). Changed header k ids (woken.ReadyOf object) z past (hears object control (message.Ready cache strategy))) (sym readies.rest)
+    subst (λ (z : Woken). Changed header h k ids z new past (hears h object control (message.Ready cache strategy))) (sym readies.woken)
+    (subst (λ (z : HostParts). Changed header h k ids (woken.ReadyOf object) z past (hears h object control (message.Ready cache strategy))) (sym readies.rest)
     (record {
       plain = was.fits.plain;
-      regions = regions_ready k.chains k.objects new.objects ids (λ r. region_of header r past) (λ o. backing_of header o past) (next_region header past) (next_object header past) object.0 known was.regions readies.found live readies.ready;
-      pages = pages_marked k.frames k.resident k.objects new.objects k.chains (λ o p. local header.size 0 (place_of o p) (hears object control (message.Ready cache strategy) ∷ past))
-          (pages_eq k.frames k.resident k.objects k.chains (λ o p. local header.size 0 (place_of o p) past) (λ o p. local header.size 0 (place_of o p) (hears object control (message.Ready cache strategy) ∷ past)) was.pages
-          (λ o p. same_effect (object.0 == o && is_control control (live_control 0 o past)) (local header.size 0 (place_of o p) past)))
+      regions = regions_ready k.chains k.memory.objects new.objects ids (λ r. region_of header r past) (λ o. backing_of header o past) (next_region header past) (next_object header past) object.0 known was.regions readies.found live readies.ready;
+      pages = pages_marked k.memory.frames k.memory.resident k.memory.objects new.objects k.chains (λ o p. local header.size h (place_of o p) (hears h object control (message.Ready cache strategy) ∷ past))
+          (pages_eq k.memory.frames k.memory.resident k.memory.objects k.chains (λ o p. local header.size h (place_of o p) past) (λ o p. local header.size h (place_of o p) (hears h object control (message.Ready cache strategy) ∷ past)) was.pages
+          (λ o p. rw (own_host h) (same_effect header.size (object.0 == o && is_control control (live_control h o past)) (local header.size h (place_of o p) past))))
           readies.marks;
-      controls = controls_ready k.objects new.objects (λ o. last_control 0 o past) (λ o. live_control 0 o past) (λ o. is_ready 0 o past) object.0 control known was.controls readies.found live lives_now readies.ready;
+      controls = rw (own_host h) (controls_ready k.memory.objects new.objects (λ o. last_control h o past) (λ o. live_control h o past) (λ o. is_ready h o past) object.0 control known was.controls readies.found live lives_now readies.ready);
       laundry = was.laundry;
       frames = was.frames;
-      reached = reached_ready k.chains k.objects new.objects object.0 known rests.reached readies.found live readies.ready;
-      waits = waits_heard k.maps k.chains k.resident k.resident k.objects new.objects k.waits.rows (woken.ReadyOf object) (λ t. waiting t past) rests.waits
+      reached = reached_ready k.chains k.memory.objects new.objects object.0 known rests.reached readies.found live readies.ready;
+      waits = waits_heard k.maps k.chains k.memory.resident k.memory.resident k.memory.objects new.objects k.waits.rows (woken.ReadyOf object) (λ t. waiting t past) rests.waits
           (λ o p still asked. asked)
-          (λ other still told. told_ready k.objects new.objects object.0 known other readies.ready still told)
-          (λ o p row found away_now. found);
+          (λ other still told. told_ready k.memory.objects new.objects object.0 known other readies.ready still told)
+          (λ o p row found away_now. found)
+          (λ o is. ready_ready k.memory.objects new.objects object.0 known o readies.ready is);
       fails = refl;
       asker = tt;
       answered = record { at = λ o p row found away_now. refl };
     }))
-  where
-    same_effect : (b : Bool) (was : Local) → moved header.size (if b then Elsewhere else Elsewhere) was ≡ was
-    same_effect true was = refl
-    same_effect false was = refl
 
 -- a page that is asked
 
-asked_where : (here : Bool) (row was : PageRow) → (if here then None else Some row) ≡ Some was → (row ≡ was) × (here ≡ false)
-asked_where true row was is = absurd (let bad : None ≡ Some was = is in cc)
-asked_where false row was is = (some_is row was is, refl)
-
--- it has this row, and isn't here
-pub asked_is : (x : Option PageRow) (was : PageRow) → asked_row x ≡ Some was → (x ≡ Some was) × (was.here ≡ false)
-asked_is None was is = absurd (let bad : None ≡ Some was = is in cc)
-asked_is (Some row) was is = let both = asked_where row.here row was is in (ap (λ z. Some z) both.0, ap (λ z. z.here) (sym both.0) ∙ both.1)
-
-asks_now : (size : ℕ) (k : Parts) (past : List Event) (o p : ℕ) (was : PageRow) → HasPages k.frames k.resident k.objects k.chains (λ o2 p2. local size 0 (place_of o2 p2) past)
-    → row_at k.resident o p ≡ Some was → was.here ≡ false → (local size 0 (place_of o p) past).asked ≡ true
-asks_now size k past o p was has found away_now = ap (λ z. z.asked) (has.shown o p) ∙ (ap (λ z. (shown k.frames z (absent_at k.objects o p)).asked) found ∙ ap not away_now)
+asks_now : (h : ℕ) (size : ℕ) (k : Parts) (past : List Event) (o p : ℕ) (was : PageRow) → HasPages k.memory.frames k.memory.resident k.memory.objects k.chains (λ o2 p2. local size h (place_of o2 p2) past)
+    → row_at k.memory.resident o p ≡ Some was → was.here ≡ false → (local size h (place_of o p) past).asked ≡ true
+asks_now h size k past o p was has found away_now = ap (λ z. z.asked) (has.shown o p) ∙ (ap (λ z. (shown k.memory.frames z (absent_at k.memory.objects o p)).asked) found ∙ ap not away_now)
 
 -- the page is another
 
@@ -368,20 +364,6 @@ asked_other rs rs2 o p o2 p2 x put apart asked =
       away = asked.away;
     }
 
--- it comes, as its pager supplied it
-
-plain_put : (rs rs2 : ResidentTable) (o p : ℕ) (row : PageRow) → ArePlain rs → PutsRow o p (Some row) rs rs2 → IsPlainRow row → ArePlain rs2
-plain_put rs rs2 o p row plain put is_plain o2 p2 r is = elim (row_cases o p (Some row) rs rs2 put o2 p2) [
-  | inl now ↦ subst IsPlainRow (some_is row r (sym now.is ∙ is)) is_plain
-  | inr other ↦ plain o2 p2 r (sym other.is ∙ is)
-]
-
-plain_gone : (rs rs2 : ResidentTable) (o p : ℕ) → ArePlain rs → PutsRow o p None rs rs2 → ArePlain rs2
-plain_gone rs rs2 o p plain put o2 p2 r is = elim (row_cases o p None rs rs2 put o2 p2) [
-  | inl now ↦ absurd (let bad : None ≡ Some r = sym now.is ∙ is in cc)
-  | inr other ↦ plain o2 p2 r (sym other.is ∙ is)
-]
-
 here_elsewhere : (rs rs2 : ResidentTable) (o p o2 p2 : ℕ) (x : Option PageRow) (r : PageRow) → PutsRow o p x rs rs2 → ((row : PageRow) → x ≡ Some row → row.here ≡ true) → row_at rs2 o2 p2 ≡ Some r → r.here ≡ false
     → (row_at rs o2 p2 ≡ Some r) × ((o2 == o && p2 == p) ≡ false)
 here_elsewhere rs rs2 o p o2 p2 x r put here is away_now = elim (row_cases o p x rs rs2 put o2 p2) [
@@ -394,50 +376,54 @@ record Waits (k : Parts) (who : Woken) (new : HostParts) (past : List Event) : T
   waits : HasWaiters k.maps k.chains new.resident new.objects k.waits.rows who (λ t. waiting t past)
   answered : IsAnswered who new.resident
 
-waits_page : (header : Header) (k : Parts) (ids : Ids) (past : List Event) (o p : ℕ) (x : Option PageRow) (who : Woken) (new : HostParts) → Rests header k ids past
-    → ((o2 p2 : ℕ) → is_woken who (on.Page (page_key o2 p2)) ≡ (o2 == o && p2 == p)) → PutsRow o p x k.resident new.resident → ((row : PageRow) → x ≡ Some row → row.here ≡ true) → SameObjects k.objects new.objects
+waits_page : (header : Header) (h : ℕ) (k : Parts) (ids : Ids) (past : List Event) (o p : ℕ) (x : Option PageRow) (who : Woken) (new : HostParts) → Rests header h k ids past
+    → ((o2 p2 : ℕ) → is_woken who (on.Page (page_key o2 p2)) ≡ (o2 == o && p2 == p)) → PutsRow o p x k.memory.resident new.resident → ((row : PageRow) → x ≡ Some row → row.here ≡ true) → SameObjects k.memory.objects new.objects
     → Waits k who new past
-waits_page header k ids past o p x who new rests test put here same =
+waits_page header h k ids past o p x who new rests test put here same =
     record {
-      waits = waits_heard k.maps k.chains k.resident new.resident k.objects new.objects k.waits.rows who (λ t. waiting t past) rests.waits
-          (λ o2 p2 still asked. asked_other k.resident new.resident o p o2 p2 x put (sym (test o2 p2) ∙ still) asked)
-          (λ other still told. told_of k.objects new.objects other.0 same told)
-          (λ o2 p2 row found away_now. (here_elsewhere k.resident new.resident o p o2 p2 x row put here found away_now).0);
-      answered = record { at = λ o2 p2 row found away_now. test o2 p2 ∙ (here_elsewhere k.resident new.resident o p o2 p2 x row put here found away_now).1 };
+      waits = waits_heard k.maps k.chains k.memory.resident new.resident k.memory.objects new.objects k.waits.rows who (λ t. waiting t past) rests.waits
+          (λ o2 p2 still asked. asked_other k.memory.resident new.resident o p o2 p2 x put (sym (test o2 p2) ∙ still) asked)
+          (λ other still told. told_of k.memory.objects new.objects other.0 same told)
+          (λ o2 p2 row found away_now. (here_elsewhere k.memory.resident new.resident o p o2 p2 x row put here found away_now).0)
+          (λ o2 is. ap ready_in (same.at o2) ∙ is);
+      answered = record { at = λ o2 p2 row found away_now. test o2 p2 ∙ (here_elsewhere k.memory.resident new.resident o p o2 p2 x row put here found away_now).1 };
     }
 
-changed_supplied : (header : Header) (k : Parts) (ids : Ids) (events past : List Event) (object : ObjectId) (control : ℕ) (page : PageNo) (lock : ℕ) (precious : Bool) (bytes : List ℕ) (who : Woken) (new : HostParts)
-    → Rests header k ids past → Supplies (key_of object page) lock precious bytes who (parts_of k events) new → lives object control past ≡ true → lock ≡ 0 → precious ≡ false
-    → Changed header k ids who new past (hears object control (message.Supply page lock precious bytes))
-changed_supplied header k ids events past object control page lock precious bytes who new rests supplies lives_now none cheap =
+changed_supplied : (header : Header) (h : ℕ) (k : Parts) (ids : Ids) (events after past : List Event) (object : ObjectId) (control : ℕ) (page : PageNo) (lock : ℕ) (precious : Bool) (bytes : List ℕ) (who : Woken) (new : HostParts)
+    → Rests header h k ids past → Supplies (key_of object page) lock precious bytes who k.memory new events after → lives h object control past ≡ true → lock ≡ 0 → precious ≡ false
+    → Changed header h k ids who new past (hears h object control (message.Supply page lock precious bytes))
+changed_supplied header h k ids events after past object control page lock precious bytes who new rests supplies lives_now none cheap =
     let was = rests.matches in
-    let comes = supplies.page in
-    let asked = asked_is (row_at k.resident object.0 page.0) comes.was comes.asked in
-    let same : SameObjects k.objects new.objects = record { at = λ o. ap (λ z. object_at z o) comes.objects } in
-    let put : PutsRow object.0 page.0 (Some (clean_row comes.was.frame unlocked false)) k.resident new.resident =
-    subst (λ (z : Bool). PutsRow object.0 page.0 (Some (clean_row comes.was.frame unlocked z)) k.resident new.resident) cheap
-    (subst (λ (z : ℕ). PutsRow object.0 page.0 (Some (clean_row comes.was.frame (lock_of z) precious)) k.resident new.resident) none comes.row) in
-    let here : (row : PageRow) → Some (clean_row comes.was.frame unlocked false) ≡ Some row → row.here ≡ true = λ row is. ap (λ z. z.here) (sym (some_is (clean_row comes.was.frame unlocked false) row is)) in
-    let waits = waits_page header k ids past object.0 page.0 (Some (clean_row comes.was.frame unlocked false)) (woken.Page (key_of object page)) new rests (λ o2 p2. refl) put here same in
-    let pages = pages_came header.size k.frames new.frames k.resident new.resident k.objects k.chains (λ o p. local header.size 0 (place_of o p) past) object.0 page.0 bytes comes.was was.pages was.fits.parts.owned
-    (was.fits.plain object.0 page.0 comes.was asked.0) asked.0 asked.1 put comes.pages in
-    let moves : (o p : ℕ) → local header.size 0 (place_of o p) (hears object control (message.Supply page lock precious bytes) ∷ past) ≡ moved header.size (if object.0 == o && page.0 == p then TakesPage 0 false bytes else Elsewhere) (local header.size 0 (place_of o p) past) =
-    λ o p. ap (λ z. moved header.size z (local header.size 0 (place_of o p) past))
-    (on_page object.0 o (lives object control past) (is_control control (live_control 0 o past)) (page.0 == p) (TakesPage lock precious bytes) Elsewhere lives_now (λ e. ap (λ z. is_control control (live_control 0 z past)) (sym e)))
-    ∙ (ap (λ z. moved header.size (if object.0 == o && page.0 == p then TakesPage z precious bytes else Elsewhere) (local header.size 0 (place_of o p) past)) none
-    ∙ ap (λ z. moved header.size (if object.0 == o && page.0 == p then TakesPage 0 z bytes else Elsewhere) (local header.size 0 (place_of o p) past)) cheap) in
-    subst (λ (z : Woken). Changed header k ids z new past (hears object control (message.Supply page lock precious bytes))) (sym supplies.woken)
+    let key = key_of object page in
+    let row = supplies.was in
+    let asked = asked_is (row_at k.memory.resident object.0 page.0) row supplies.asked in
+    let same : SameObjects k.memory.objects new.objects = record { at = λ o. ap (λ z. object_at z o) supplies.objects } in
+    let now : PageRow = clean_row row.frame unlocked false in
+    let lacked = absent_at k.memory.objects object.0 page.0 in
+    let comes : Changes key row.frame (Some row) (Some now) true bytes (added row.frame.0 k.memory.queues) k.memory new =
+    subst (λ (z : Bool). Fills key row unlocked z bytes k.memory new) cheap (subst (λ (z : ℕ). Fills key row (lock_of z) precious bytes k.memory new) none supplies.page) in
+    let here : (r : PageRow) → Some now ≡ Some r → r.here ≡ true = λ r is. ap (λ z. z.here) (sym (some_is now r is)) in
+    let waits = waits_page header h k ids past object.0 page.0 (Some now) (woken.Page key) new rests (λ o2 p2. refl) comes.row here same in
+    let shows = ap (moved header.size (TakesPage 0 false bytes)) (asked_shows k.memory.frames row lacked (was.fits.plain object.0 page.0 row asked.0) asked.1)
+    ∙ ap (λ z. record away { here = true; bytes = z; absent = lacked }) (sym (bytes_now key row.frame _ _ _ _ _ k.memory new comes)) in
+    let pages = pages_moved header.size (TakesPage 0 false bytes) key row.frame _ _ _ _ _ k.memory new k.memory.objects k.chains (λ o p. local header.size h (place_of o p) past) was.fits.parts was.pages comes
+    (λ some. was.pages.live object.0 page.0 row asked.0) shows (λ o p apart. refl) in
+    let moves : (o p : ℕ) → local header.size h (place_of o p) (hears h object control (message.Supply page lock precious bytes) ∷ past) ≡ effect_on header.size key (TakesPage 0 false bytes) (λ o2 p2. local header.size h (place_of o2 p2) past) o p =
+    λ o p. rw (own_host h) (ap (λ z. moved header.size z (local header.size h (place_of o p) past))
+    (on_page object.0 o (lives h object control past) (is_control control (live_control h o past)) (page.0 == p) (TakesPage lock precious bytes) Elsewhere lives_now (λ e. ap (λ z. is_control control (live_control h z past)) (sym e))))
+    ∙ (ap (λ z. effect_on header.size key (TakesPage z precious bytes) (λ o2 p2. local header.size h (place_of o2 p2) past) o p) none
+    ∙ ap (λ z. effect_on header.size key (TakesPage 0 z bytes) (λ o2 p2. local header.size h (place_of o2 p2) past) o p) cheap) in
+    subst (λ (z : Woken). Changed header h k ids z new past (hears h object control (message.Supply page lock precious bytes))) (sym supplies.woken)
     (record {
-      plain = plain_put k.resident new.resident object.0 page.0 (clean_row comes.was.frame unlocked false) was.fits.plain put (record { lock = refl; precious = refl; unlock_sent = refl });
-      regions = regions_of k.chains k.objects new.objects ids (λ r. region_of header r past) (λ o. backing_of header o past) (next_region header past) (next_object header past) was.regions same;
-      pages = pages_eq new.frames new.resident new.objects k.chains (λ o p. moved header.size (if object.0 == o && page.0 == p then TakesPage 0 false bytes else Elsewhere) (local header.size 0 (place_of o p) past))
-          (λ o p. local header.size 0 (place_of o p) (hears object control (message.Supply page lock precious bytes) ∷ past))
-          (subst (λ (z : ObjectTable). HasPages new.frames new.resident z k.chains (λ o p. moved header.size (if object.0 == o && page.0 == p then TakesPage 0 false bytes else Elsewhere) (local header.size 0 (place_of o p) past))) (sym comes.objects) pages) moves;
-      controls = controls_of k.objects new.objects (λ o. last_control 0 o past) (λ o. live_control 0 o past) (λ o. is_ready 0 o past) (λ o. is_ready 0 o past) was.controls same (λ o live is. refl);
-      laundry = laundry_came k.frames new.frames k.resident new.resident k.laundry (returns_out 0 past) was.laundry (ap (λ z. z.claims) comes.frames) comes.owners;
-      frames = subst (λ (z : FrameTable). HasFrames (slice_get (reverse header.frames.items) 0) z (frames_held header.size 0 past) (frames_wired 0 past)) (sym comes.frames)
-          (frames_with (slice_get (reverse header.frames.items) 0) k.frames comes.was.frame.0 bytes (frames_held header.size 0 past) (frames_wired 0 past) was.frames);
-      reached = reached_of k.chains k.objects new.objects rests.reached same;
+      plain = plain_changed key row.frame _ _ _ _ _ k.memory new was.fits.plain comes (record { lock = refl; precious = refl; unlock_sent = refl });
+      regions = regions_of k.chains k.memory.objects new.objects ids (λ r. region_of header r past) (λ o. backing_of header o past) (next_region header past) (next_object header past) was.regions same;
+      pages = pages_eq new.frames new.resident new.objects k.chains (effect_on header.size key (TakesPage 0 false bytes) (λ o2 p2. local header.size h (place_of o2 p2) past))
+          (λ o p. local header.size h (place_of o p) (hears h object control (message.Supply page lock precious bytes) ∷ past))
+          (subst (λ (z : ObjectTable). HasPages new.frames new.resident z k.chains (effect_on header.size key (TakesPage 0 false bytes) (λ o2 p2. local header.size h (place_of o2 p2) past))) (sym supplies.objects) pages) moves;
+      controls = controls_of k.memory.objects new.objects (λ o. last_control h o past) (λ o. live_control h o past) (λ o. is_ready h o past) (λ o. is_ready h o past) was.controls same (λ o live is. refl);
+      laundry = laundry_changed key row.frame _ _ _ _ _ k.memory new k.laundry (returns_out h past) was.laundry comes;
+      frames = frames_changed (slice_get (reverse header.frames.items) h) key row.frame _ _ _ _ _ k.memory new (frames_held header.size h past) (frames_held header.size h past) (frames_wired h past) was.frames comes (λ held. let kept = comes.claims in omega arith);
+      reached = reached_of k.chains k.memory.objects new.objects rests.reached same;
       waits = waits.waits;
       fails = refl;
       asker = tt;
@@ -447,39 +433,38 @@ changed_supplied header k ids events past object control page lock precious byte
 -- it is asked no more
 
 -- what the message is to the history
-record EndsPage (header : Header) (k : Parts) (who : Woken) (object : ObjectId) (control : ℕ) (page : PageNo) (m : Message) (effect : Effect) (past : List Event) : Type 0 where
-  moves : (o p : ℕ) → local header.size 0 (place_of o p) (hears object control m ∷ past)
-      ≡ moved header.size (if object.0 == o && is_control control (live_control 0 o past) then (if page.0 == p then effect else Elsewhere) else Elsewhere) (local header.size 0 (place_of o p) past)
-  held : frames_held header.size 0 (hears object control m ∷ past) ≡ frames_held header.size 0 past - 1
-  ready : (o : ℕ) → is_ready 0 o (hears object control m ∷ past) ≡ is_ready 0 o past
-  fails : FailsNow header who (hears object control m ∷ past)
+record EndsPage (header : Header) (h : ℕ) (k : Parts) (who : Woken) (object : ObjectId) (control : ℕ) (page : PageNo) (m : Message) (effect : Effect) (past : List Event) : Type 0 where
+  moves : (o p : ℕ) → local header.size h (place_of o p) (hears h object control m ∷ past)
+      ≡ moved header.size (if object.0 == o && is_control control (live_control h o past) then (if page.0 == p then effect else Elsewhere) else Elsewhere) (local header.size h (place_of o p) past)
+  held : frames_held header.size h (hears h object control m ∷ past) ≡ frames_held header.size h past - 1
+  ready : (o : ℕ) → is_ready h o (hears h object control m ∷ past) ≡ is_ready h o past
+  fails : FailsNow header h who (hears h object control m ∷ past)
   test : (o p : ℕ) → is_woken who (on.Page (page_key o p)) ≡ (o == object.0 && p == page.0)
   asker : HasAsker who k.waits.rows
 
-changed_ended : (header : Header) (k : Parts) (ids : Ids) (events past : List Event) (object : ObjectId) (control : ℕ) (page : PageNo) (m : Message) (effect : Effect) (who : Woken) (new : HostParts)
-    → Rests header k ids past → Ends (key_of object page) (parts_of k events) new → lives object control past ≡ true → SameObjects k.objects new.objects → IsLeft header.size effect k.objects new.objects object.0 page.0
-    → EndsPage header k who object control page m effect past → Changed header k ids who new past (hears object control m)
-changed_ended header k ids events past object control page m effect who new rests ends lives_now same left is =
+changed_ended : (header : Header) (h : ℕ) (k : Parts) (ids : Ids) (past : List Event) (object : ObjectId) (control : ℕ) (page : PageNo) (m : Message) (effect : Effect) (who : Woken) (row : PageRow) (new : HostParts)
+    → Rests header h k ids past → asked_row (row_at k.memory.resident object.0 page.0) ≡ Some row → Cancels (key_of object page) row k.memory new → lives h object control past ≡ true → SameObjects k.memory.objects new.objects → IsLeft header.size effect k.memory.objects new.objects object.0 page.0
+    → EndsPage header h k who object control page m effect past → Changed header h k ids who new past (hears h object control m)
+changed_ended header h k ids past object control page m effect who row new rests is_asked ends lives_now same left is =
     let was = rests.matches in
-    let asked = asked_is (row_at k.resident object.0 page.0) ends.was ends.asked in
-    let parts = was.fits.parts in
-    let waits = waits_page header k ids past object.0 page.0 None who new rests is.test ends.row (λ row bad. absurd (let no : None ≡ Some row = bad in cc)) same in
-    let pages = pages_ended header.size effect k.frames new.frames k.resident new.resident k.objects new.objects k.chains (λ o p. local header.size 0 (place_of o p) past) object.0 page.0 ends.was was.pages
-    (was.fits.plain object.0 page.0 ends.was asked.0) asked.0 asked.1 ends.row (ap (λ z. z.pages) ends.frames.is) left in
+    let key = key_of object page in
+    let asked = asked_is (row_at k.memory.resident object.0 page.0) row is_asked in
+    let waits = waits_page header h k ids past object.0 page.0 None who new rests is.test ends.row (λ r bad. absurd (let no : None ≡ Some r = bad in cc)) same in
+    let pages = pages_moved header.size effect key row.frame _ _ _ _ _ k.memory new new.objects k.chains (λ o p. local header.size h (place_of o p) past) was.fits.parts was.pages ends (λ some. absurd (let bad : false ≡ true = some in cc))
+    (ap (moved header.size effect) (asked_shows k.memory.frames row (absent_at k.memory.objects object.0 page.0) (was.fits.plain object.0 page.0 row asked.0) asked.1) ∙ left.here) left.others in
     record {
-      plain = plain_gone k.resident new.resident object.0 page.0 was.fits.plain ends.row;
-      regions = regions_of k.chains k.objects new.objects ids (λ r. region_of header r past) (λ o. backing_of header o past) (next_region header past) (next_object header past) was.regions same;
-      pages = pages_eq new.frames new.resident new.objects k.chains (λ o p. moved header.size (if object.0 == o && page.0 == p then effect else Elsewhere) (local header.size 0 (place_of o p) past))
-          (λ o p. local header.size 0 (place_of o p) (hears object control m ∷ past)) pages
+      plain = plain_changed key row.frame _ _ _ _ _ k.memory new was.fits.plain ends tt;
+      regions = regions_of k.chains k.memory.objects new.objects ids (λ r. region_of header r past) (λ o. backing_of header o past) (next_region header past) (next_object header past) was.regions same;
+      pages = pages_eq new.frames new.resident new.objects k.chains (effect_on header.size key effect (λ o p. local header.size h (place_of o p) past))
+          (λ o p. local header.size h (place_of o p) (hears h object control m ∷ past)) pages
           (λ o p. is.moves o p
-          ∙ ap (λ z. moved header.size z (local header.size 0 (place_of o p) past))
-          (on_page object.0 o (lives object control past) (is_control control (live_control 0 o past)) (page.0 == p) effect Elsewhere lives_now (λ e. ap (λ z. is_control control (live_control 0 z past)) (sym e))));
-      controls = controls_of k.objects new.objects (λ o. last_control 0 o past) (λ o. live_control 0 o past) (λ o. is_ready 0 o past) (λ o. is_ready 0 o (hears object control m ∷ past)) was.controls same (λ o live number. is.ready o);
-      laundry = laundry_ended k.frames new.frames k.resident new.resident k.laundry (returns_out 0 past) ends.was.frame.0 (key_of object page) was.laundry ends.frames ends.owners
-          (parts.owned.at object.0 page.0 ends.was asked.0) (parts.held object.0 page.0 ends.was asked.0);
-      frames = subst (λ (z : ℕ). HasFrames (slice_get (reverse header.frames.items) 0) new.frames z (frames_wired 0 past)) (sym is.held)
-          (frames_ended (slice_get (reverse header.frames.items) 0) k.frames new.frames ends.was.frame.0 (frames_held header.size 0 past) (frames_wired 0 past) was.frames ends.frames);
-      reached = reached_of k.chains k.objects new.objects rests.reached same;
+          ∙ ap (λ z. moved header.size z (local header.size h (place_of o p) past))
+          (on_page object.0 o (lives h object control past) (is_control control (live_control h o past)) (page.0 == p) effect Elsewhere lives_now (λ e. ap (λ z. is_control control (live_control h z past)) (sym e))));
+      controls = controls_of k.memory.objects new.objects (λ o. last_control h o past) (λ o. live_control h o past) (λ o. is_ready h o past) (λ o. is_ready h o (hears h object control m ∷ past)) was.controls same (λ o live number. is.ready o);
+      laundry = laundry_changed key row.frame _ _ _ _ _ k.memory new k.laundry (returns_out h past) was.laundry ends;
+      frames = subst (λ (z : ℕ). HasFrames (slice_get (reverse header.frames.items) h) new.frames z (frames_wired h past)) (sym is.held)
+          (frames_changed (slice_get (reverse header.frames.items) h) key row.frame _ _ _ _ _ k.memory new (frames_held header.size h past) (frames_held header.size h past - 1) (frames_wired h past) was.frames ends (λ held. let less = ends.claims in omega arith));
+      reached = reached_of k.chains k.memory.objects new.objects rests.reached same;
       waits = waits.waits;
       fails = is.fails;
       asker = is.asker;
@@ -489,38 +474,38 @@ changed_ended header k ids events past object control page m effect who new rest
 and_true : (a b : Bool) → a ≡ true → b ≡ true → (a && b) ≡ true
 and_true a b one two = rw (one, two) refl
 
-changed_lacked : (header : Header) (k : Parts) (ids : Ids) (events past : List Event) (object : ObjectId) (control : ℕ) (page : PageNo) (who : Woken) (new : HostParts)
-    → Rests header k ids past → Lacks (key_of object page) who (parts_of k events) new → lives object control past ≡ true → Changed header k ids who new past (hears object control (message.Unavailable page))
-changed_lacked header k ids events past object control page who new rests lacks lives_now =
-    let asked = asked_is (row_at k.resident object.0 page.0) lacks.page.was lacks.page.asked in
-    let counts_now = and_true (lives object control past) (local header.size 0 (place_of object.0 page.0) past).asked lives_now (asks_now header.size k past object.0 page.0 lacks.page.was rests.matches.pages asked.0 asked.1) in
-    changed_ended header k ids events past object control page (message.Unavailable page) TakesNothing who new rests lacks.page lives_now lacks.objects
-    (left_lacked header.size k.objects new.objects object.0 page.0 lacks.absent)
-    (subst (λ (z : Woken). EndsPage header k z object control page (message.Unavailable page) TakesNothing past) (sym lacks.woken)
+changed_lacked : (header : Header) (h : ℕ) (k : Parts) (ids : Ids) (events after past : List Event) (object : ObjectId) (control : ℕ) (page : PageNo) (who : Woken) (new : HostParts)
+    → Rests header h k ids past → Lacks (key_of object page) who k.memory new events after → lives h object control past ≡ true → Changed header h k ids who new past (hears h object control (message.Unavailable page))
+changed_lacked header h k ids events after past object control page who new rests lacks lives_now =
+    let asked = asked_is (row_at k.memory.resident object.0 page.0) lacks.was lacks.asked in
+    let counts_now = and_true (lives h object control past) (local header.size h (place_of object.0 page.0) past).asked lives_now (asks_now h header.size k past object.0 page.0 lacks.was rests.matches.pages asked.0 asked.1) in
+    changed_ended header h k ids past object control page (message.Unavailable page) TakesNothing who lacks.was new rests lacks.asked lacks.page lives_now lacks.objects
+    (left_lacked header.size k.memory.objects new.objects object.0 page.0 lacks.absent)
+    (subst (λ (z : Woken). EndsPage header h k z object control page (message.Unavailable page) TakesNothing past) (sym lacks.woken)
     (record {
-      moves = λ o p. refl;
-      held = rw counts_now refl;
+      moves = λ o p. rw (own_host h) refl;
+      held = rw (own_host h, counts_now) refl;
       ready = λ o. refl;
       fails = refl;
       test = λ o p. refl;
       asker = tt;
     }))
 
-changed_failed : (header : Header) (k : Parts) (ids : Ids) (events past : List Event) (object : ObjectId) (control : ℕ) (page : PageNo) (reason : ℕ) (who : Woken) (new : HostParts)
-    → Rests header k ids past → Fails (key_of object page) who (parts_of k events) new → lives object control past ≡ true → Changed header k ids who new past (hears object control (message.Error page reason))
-changed_failed header k ids events past object control page reason who new rests fails lives_now =
-    let asked = asked_is (row_at k.resident object.0 page.0) fails.page.was fails.page.asked in
-    let counts_now = and_true (lives object control past) (local header.size 0 (place_of object.0 page.0) past).asked lives_now (asks_now header.size k past object.0 page.0 fails.page.was rests.matches.pages asked.0 asked.1) in
-    changed_ended header k ids events past object control page (message.Error page reason) TakesError who new rests fails.page lives_now (record { at = λ o. ap (λ z. object_at z o) fails.objects })
-    (left_failed header.size k.objects new.objects object.0 page.0 fails.objects)
-    (subst (λ (z : Woken). EndsPage header k z object control page (message.Error page reason) TakesError past) (sym fails.woken)
+changed_failed : (header : Header) (h : ℕ) (k : Parts) (ids : Ids) (events after past : List Event) (object : ObjectId) (control : ℕ) (page : PageNo) (reason : ℕ) (who : Woken) (new : HostParts)
+    → Rests header h k ids past → Fails (key_of object page) who k.memory new events after → lives h object control past ≡ true → Changed header h k ids who new past (hears h object control (message.Error page reason))
+changed_failed header h k ids events after past object control page reason who new rests fails lives_now =
+    let asked = asked_is (row_at k.memory.resident object.0 page.0) fails.was fails.asked in
+    let counts_now = and_true (lives h object control past) (local header.size h (place_of object.0 page.0) past).asked lives_now (asks_now h header.size k past object.0 page.0 fails.was rests.matches.pages asked.0 asked.1) in
+    changed_ended header h k ids past object control page (message.Error page reason) TakesError who fails.was new rests fails.asked fails.page lives_now (record { at = λ o. ap (λ z. object_at z o) fails.objects })
+    (left_failed header.size k.memory.objects new.objects object.0 page.0 fails.objects)
+    (subst (λ (z : Woken). EndsPage header h k z object control page (message.Error page reason) TakesError past) (sym fails.woken)
     (record {
-      moves = λ o p. refl;
-      held = rw counts_now refl;
+      moves = λ o p. rw (own_host h) refl;
+      held = rw (own_host h, counts_now) refl;
       ready = λ o. refl;
       fails = rw counts_now refl;
       test = λ o p. refl;
-      asker = rests.waits.askers object.0 page.0 fails.page.was asked.0 asked.1;
+      asker = rests.waits.askers object.0 page.0 fails.was asked.0 asked.1;
     }))
 
 -- what an answer comes to
@@ -549,107 +534,102 @@ unasked_shows fs (Some row) lacked none = by_here row.here none
     by_here true is = refl
     by_here false is = absurd (let bad : Some row ≡ None = is in cc)
 
-region_some : (x : Option RegionRow) → is_some x ≡ true → (row : RegionRow) × (x ≡ Some row)
-region_some None some = absurd (let bad : false ≡ true = some in cc)
-region_some (Some row) some = (row, refl)
-
 -- the message has been heard
-pub record Heard (header : Header) (k : Parts) (ids : Ids) (who : Woken) (new : HostParts) (events past : List Event) (e : Event) : Type 0 where
-  pub changed : Changed header k ids who new past e
-  pub nothing : new.events ≡ events
+pub record Heard (header : Header) (h : ℕ) (k : Parts) (ids : Ids) (who : Woken) (new : HostParts) (events after past : List Event) (e : Event) : Type 0 where
+  pub changed : Changed header h k ids who new past e
+  pub nothing : after ≡ events
 
-hears_it : (header : Header) (k : Parts) (ids : Ids) (size : ℕ) (host : HostId) (events past : List Event) (object : ObjectId) (control : ℕ) (m : Message) (who : Woken) (new : HostParts)
-    → Rests header k ids past → IsTempAnswer k.size m → Answered size host object (outcome_of (object_at k.objects object.0) control (row_at k.resident object.0) m) who (parts_of k events) new
-    → Heard header k ids who new events past (hears object control m)
-hears_it header k ids size host events past object control m who new rests temp answered = by_known (object_at k.objects object.0) refl answered
+hears_it : (header : Header) (h : ℕ) (k : Parts) (ids : Ids) (host : HostId) (events after past : List Event) (object : ObjectId) (control : ℕ) (m : Message) (who : Woken) (new : HostParts)
+    → Rests header h k ids past → IsTempAnswer k.size m → Answered host object (outcome_of (object_at k.memory.objects object.0) control (row_at k.memory.resident object.0) m) who k.memory new events after
+    → Heard header h k ids who new events after past (hears h object control m)
+hears_it header h k ids host events after past object control m who new rests temp answered = by_known (object_at k.memory.objects object.0) refl answered
   where
     Answers : Outcome → Type 0
-    Answers outcome = Answered size host object outcome who (parts_of k events) new
+    Answers outcome = Answered host object outcome who k.memory new events after
 
-    discards : (said : Message) → IsNothing header object control said past → Answers Discarded → Heard header k ids who new events past (hears object control said)
+    discards : (said : Message) → IsNothing header h object control said past → Answers Discarded → Heard header h k ids who new events after past (hears h object control said)
     discards said nothing done =
-        subst (λ (z : HostParts). Heard header k ids who z events past (hears object control said)) (sym done.1)
-        (subst (λ (z : Woken). Heard header k ids z (parts_of k events) events past (hears object control said)) (sym done.0)
-        (record { changed = changed_none header k ids events past object control said rests nothing; nothing = refl }))
+        subst (λ (z : HostParts). Heard header h k ids who z events after past (hears h object control said)) (sym done.1)
+        (subst (λ (z : Woken). Heard header h k ids z k.memory events after past (hears h object control said)) (sym done.0)
+        (record { changed = changed_none header h k ids past object control said rests nothing; nothing = done.2 }))
 
-    lives_is : (known : ObjectRow) → object_at k.objects object.0 ≡ Some known → lives object control past ≡ (known.live && known.control == control)
+    lives_is : (known : ObjectRow) → object_at k.memory.objects object.0 ≡ Some known → lives h object control past ≡ (known.live && known.control == control)
     lives_is known found = ap (is_control control) (rests.matches.controls.live object.0 ∙ ap live_in found) ∙ live_test control known
 
-    ready_now : (known : ObjectRow) (cache : Bool) (strategy : ℕ) → object_at k.objects object.0 ≡ Some known → known.live ≡ true → lives object control past ≡ true
-        → Answers Readied → Heard header k ids who new events past (hears object control (message.Ready cache strategy))
+    ready_now : (known : ObjectRow) (cache : Bool) (strategy : ℕ) → object_at k.memory.objects object.0 ≡ Some known → known.live ≡ true → lives h object control past ≡ true
+        → Answers Readied → Heard header h k ids who new events after past (hears h object control (message.Ready cache strategy))
     ready_now known cache strategy found live lives_now done =
         let same : known ≡ done.known = some_is known done.known (sym found ∙ done.found) in
         record {
-          changed = changed_ready header k ids events past object control cache strategy who new rests done (sym (ap (λ z. z.live) same) ∙ live) lives_now;
-          nothing = ap (λ z. z.events) done.rest;
+          changed = changed_ready header h k ids events after past object control cache strategy who new rests done (sym (ap (λ z. z.live) same) ∙ live) lives_now;
+          nothing = done.events;
         }
 
-    by_state : (known : ObjectRow) (cache : Bool) (strategy : ℕ) (was : PagerState) → known.state ≡ was → object_at k.objects object.0 ≡ Some known → known.live ≡ true → lives object control past ≡ true
-        → live_control 0 object.0 past ≡ Some known.control → Answers (ready_outcome was) → Heard header k ids who new events past (hears object control (message.Ready cache strategy))
+    by_state : (known : ObjectRow) (cache : Bool) (strategy : ℕ) (was : PagerState) → known.state ≡ was → object_at k.memory.objects object.0 ≡ Some known → known.live ≡ true → lives h object control past ≡ true
+        → live_control h object.0 past ≡ Some known.control → Answers (ready_outcome was) → Heard header h k ids who new events after past (hears h object control (message.Ready cache strategy))
     by_state known cache strategy state.Without is found live lives_now number done = ready_now known cache strategy found live lives_now done
     by_state known cache strategy state.Sent is found live lives_now number done = ready_now known cache strategy found live lives_now done
     by_state known cache strategy state.Ready is found live lives_now number done =
         discards (message.Ready cache strategy)
-        (ready_again header object control cache strategy past (rests.matches.controls.ready object.0 known.control number ∙ (ap ready_in found ∙ ap is_ready_state is))) done
+        (ready_again header h object control cache strategy past (rests.matches.controls.ready object.0 known.control number ∙ (ap ready_in found ∙ ap is_ready_state is))) done
 
     -- a page that is asked, or not
-    by_asked : (page : PageNo) (outcome : Outcome) (said : Message) (x : Option PageRow) → asked_row (row_at k.resident object.0 page.0) ≡ x → ((local header.size 0 (place_of object.0 page.0) past).asked ≡ false → IsNothing header object control said past)
-        → ((was : PageRow) → asked_row (row_at k.resident object.0 page.0) ≡ Some was → Answers outcome → Heard header k ids who new events past (hears object control said))
-        → Answers (if is_some x then outcome else Discarded) → Heard header k ids who new events past (hears object control said)
+    by_asked : (page : PageNo) (outcome : Outcome) (said : Message) (x : Option PageRow) → asked_row (row_at k.memory.resident object.0 page.0) ≡ x → ((local header.size h (place_of object.0 page.0) past).asked ≡ false → IsNothing header h object control said past)
+        → ((was : PageRow) → asked_row (row_at k.memory.resident object.0 page.0) ≡ Some was → Answers outcome → Heard header h k ids who new events after past (hears h object control said))
+        → Answers (if is_some x then outcome else Discarded) → Heard header h k ids who new events after past (hears h object control said)
     by_asked page outcome said None is nothing counts_now done =
-        discards said (nothing (ap (λ z. z.asked) (rests.matches.pages.shown object.0 page.0) ∙ unasked_shows k.frames (row_at k.resident object.0 page.0) (absent_at k.objects object.0 page.0) is)) done
+        discards said (nothing (ap (λ z. z.asked) (rests.matches.pages.shown object.0 page.0) ∙ unasked_shows k.memory.frames (row_at k.memory.resident object.0 page.0) (absent_at k.memory.objects object.0 page.0) is)) done
     by_asked page outcome said (Some was) is nothing counts_now done = counts_now was is done
 
-    temporary : (known : ObjectRow) (page : PageNo) (was : PageRow) → object_at k.objects object.0 ≡ Some known → asked_row (row_at k.resident object.0 page.0) ≡ Some was → known.kind ≡ Temp
+    temporary : (known : ObjectRow) (page : PageNo) (was : PageRow) → object_at k.memory.objects object.0 ≡ Some known → asked_row (row_at k.memory.resident object.0 page.0) ≡ Some was → known.kind ≡ Temp
     temporary known page was found asked =
-        let region = region_some (region_at k.chains object.0) (rests.matches.pages.live object.0 page.0 was (asked_is (row_at k.resident object.0 page.0) was asked).0) in
+        let region = region_row k.chains object.0 (rests.matches.pages.live object.0 page.0 was (asked_is (row_at k.memory.resident object.0 page.0) was asked).0) in
         let under = rests.matches.regions.under object.0 region.0 region.1 in
         ap (λ z. z.kind) (some_is known under.object (sym found ∙ under.found)) ∙ under.temporary
 
-    by_message : (known : ObjectRow) (said : Message) → IsTempAnswer k.size said → object_at k.objects object.0 ≡ Some known → known.live ≡ true → lives object control past ≡ true → live_control 0 object.0 past ≡ Some known.control
-        → Answers (live_outcome known (row_at k.resident object.0) said) → Heard header k ids who new events past (hears object control said)
+    by_message : (known : ObjectRow) (said : Message) → IsTempAnswer k.size said → object_at k.memory.objects object.0 ≡ Some known → known.live ≡ true → lives h object control past ≡ true → live_control h object.0 past ≡ Some known.control
+        → Answers (live_outcome known (row_at k.memory.resident object.0) said) → Heard header h k ids who new events after past (hears h object control said)
     by_message known (message.Ready cache strategy) plain found live lives_now number done = by_state known cache strategy known.state refl found live lives_now number done
     by_message known (message.Supply page lock precious bytes) plain found live lives_now number done =
-        by_asked page (Supplied page lock precious bytes) (message.Supply page lock precious bytes) (asked_row (row_at k.resident object.0 page.0)) refl (unsupplied header object control page lock precious bytes past)
-        (λ was asked supplies. record { changed = changed_supplied header k ids events past object control page lock precious bytes who new rests supplies lives_now plain.0 plain.1; nothing = supplies.events }) done
+        by_asked page (Supplied page lock precious bytes) (message.Supply page lock precious bytes) (asked_row (row_at k.memory.resident object.0 page.0)) refl (unsupplied header h object control page lock precious bytes past)
+        (λ was asked supplies. record { changed = changed_supplied header h k ids events after past object control page lock precious bytes who new rests supplies lives_now plain.0 plain.1; nothing = supplies.events }) done
     by_message known (message.Unavailable page) plain found live lives_now number done =
-        by_asked page (unavailable_outcome known.kind page) (message.Unavailable page) (asked_row (row_at k.resident object.0 page.0)) refl (unlacked header object control page past)
+        by_asked page (unavailable_outcome known.kind page) (message.Unavailable page) (asked_row (row_at k.memory.resident object.0 page.0)) refl (unlacked header h object control page past)
         (λ was asked lacks. lacked_now page (subst (λ (z : ObjectKind). Answers (unavailable_outcome z page)) (temporary known page was found asked) lacks)) done
       where
-        lacked_now : (at : PageNo) → Answers (Lacked at) → Heard header k ids who new events past (hears object control (message.Unavailable at))
-        lacked_now at lacks = record { changed = changed_lacked header k ids events past object control at who new rests lacks lives_now; nothing = lacks.page.events }
+        lacked_now : (at : PageNo) → Answers (Lacked at) → Heard header h k ids who new events after past (hears h object control (message.Unavailable at))
+        lacked_now at lacks = record { changed = changed_lacked header h k ids events after past object control at who new rests lacks lives_now; nothing = lacks.events }
     by_message known (message.Error page reason) plain found live lives_now number done =
-        by_asked page (Failed page) (message.Error page reason) (asked_row (row_at k.resident object.0 page.0)) refl (unfailed header object control page reason past)
-        (λ was asked fails. record { changed = changed_failed header k ids events past object control page reason who new rests fails lives_now; nothing = fails.page.events }) done
+        by_asked page (Failed page) (message.Error page reason) (asked_row (row_at k.memory.resident object.0 page.0)) refl (unfailed header h object control page reason past)
+        (λ was asked fails. record { changed = changed_failed header h k ids events after past object control page reason who new rests fails lives_now; nothing = fails.events }) done
     by_message known other plain found live lives_now number done = absurd plain
 
-    by_test : (known : ObjectRow) (b : Bool) → (known.live && known.control == control) ≡ b → object_at k.objects object.0 ≡ Some known
-        → Answers (if b then live_outcome known (row_at k.resident object.0) m else Discarded) → Heard header k ids who new events past (hears object control m)
+    by_test : (known : ObjectRow) (b : Bool) → (known.live && known.control == control) ≡ b → object_at k.memory.objects object.0 ≡ Some known
+        → Answers (if b then live_outcome known (row_at k.memory.resident object.0) m else Discarded) → Heard header h k ids who new events after past (hears h object control m)
     by_test known true is found done =
         let live = and_left known.live (known.control == control) is in
         by_message known m temp found live (lives_is known found ∙ is) (rests.matches.controls.live object.0 ∙ (ap live_in found ∙ ap (λ b. if b then Some known.control else None) live)) done
-    by_test known false is found done = discards m (nothing_dead header object control m past (lives_is known found ∙ is)) done
+    by_test known false is found done = discards m (nothing_dead header h object control m past (lives_is known found ∙ is)) done
 
-    by_known : (x : Option ObjectRow) → object_at k.objects object.0 ≡ x → Answers (outcome_of x control (row_at k.resident object.0) m) → Heard header k ids who new events past (hears object control m)
-    by_known None found done = discards m (nothing_dead header object control m past (dead_none k.objects object.0 control (live_control 0 object.0 past) (rests.matches.controls.live object.0) found)) done
+    by_known : (x : Option ObjectRow) → object_at k.memory.objects object.0 ≡ x → Answers (outcome_of x control (row_at k.memory.resident object.0) m) → Heard header h k ids who new events after past (hears h object control m)
+    by_known None found done = discards m (nothing_dead header h object control m past (dead_none k.memory.objects object.0 control (live_control h object.0 past) (rests.matches.controls.live object.0) found)) done
     by_known (Some known) found done = by_test known (known.live && known.control == control) refl found done
 
 -- what the kernel stands for behind it
-pub record Hears (header : Header) (k : Parts) (ids : Ids) (who : Woken) (past : List Event) : Type 0 where
-  pub works : Works header k ids who past
-  pub fails : FailsNow header who past
+pub record Hears (header : Header) (h : ℕ) (k : Parts) (ids : Ids) (who : Woken) (past : List Event) : Type 0 where
+  pub works : Works header h k ids who past
+  pub fails : FailsNow header h who past
   pub asker : HasAsker who k.waits.rows
-  pub answered : IsAnswered who k.resident
+  pub answered : IsAnswered who k.memory.resident
 
-pub hears_done : (header : Header) (k : Parts) (ids : Ids) (size : ℕ) (host : HostId) (events past front : List Event) (object : ObjectId) (control : ℕ) (m : Message) (who : Woken) (new : HostParts) (buffers : BufferStore)
-    → Rests header k ids past → front ≡ hears object control m ∷ [] → IsTempAnswer k.size m → Fit buffers.size new.frames new.resident new.queues new.objects → buffers ≡ k.buffers
-    → Answered size host object (outcome_of (object_at k.objects object.0) control (row_at k.resident object.0) m) who (parts_of k events) new → Hears header (heard k new buffers) ids who (front ++ past) × (new.events ≡ events)
-hears_done header k ids size host events past front object control m who new buffers rests is temp fit same answered =
-    let done = hears_it header k ids size host events past object control m who new rests temp answered in
-    let fits : Fit k.size new.frames new.resident new.queues new.objects = subst (λ (z : ℕ). Fit z new.frames new.resident new.queues new.objects) (ap (λ z. z.size) same ∙ rests.matches.fits.buffers) fit in (
-      subst (λ (z : List Event). Hears header (heard k new buffers) ids who (z ++ past)) (sym is)
+pub hears_done : (header : Header) (h : ℕ) (k : Parts) (ids : Ids) (host : HostId) (events after past front : List Event) (object : ObjectId) (control : ℕ) (m : Message) (who : Woken) (new : HostParts)
+    → Rests header h k ids past → front ≡ hears h object control m ∷ [] → IsTempAnswer k.size m → Fit new → new.buffers ≡ k.memory.buffers
+    → Answered host object (outcome_of (object_at k.memory.objects object.0) control (row_at k.memory.resident object.0) m) who k.memory new events after → Hears header h (heard k new) ids who (front ++ past) × (after ≡ events)
+hears_done header h k ids host events after past front object control m who new rests is temp fit same answered =
+    let done = hears_it header h k ids host events after past object control m who new rests temp answered in (
+      subst (λ (z : List Event). Hears header h (heard k new) ids who (z ++ past)) (sym is)
           (record {
-            works = works_of header k ids who new buffers past object control m rests fits same done.changed;
+            works = works_of header h k ids who new past object control m rests fit same done.changed;
             fails = done.changed.fails;
             asker = done.changed.asker;
             answered = done.changed.answered;

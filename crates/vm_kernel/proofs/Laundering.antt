@@ -21,12 +21,15 @@ use Rattle.vm_resident.specs.Resident.{ResidentTable}
 use Rattle.vm_shadow.specs.Chains.{ChainTable}
 use Rattle.vm_shadow.specs.declared.ids.Ids.{Ids}
 use Rattle.vm_kernel.specs.Begun.{IsLaundered}
-use Rattle.vm_kernel.specs.Matches.{EachApart, HasLaundry, HasPages, IsWashed, Rests, the_host}
+use Rattle.vm_kernel.specs.Matches.{EachApart, HasLaundry, HasPages, IsWashed, Rests, host_id}
 use Rattle.vm_kernel.specs.Places.{place_of}
 use Rattle.vm_kernel.specs.declared.parts.Parts.{Parts}
-use Rattle.vm_kernel.proofs.Answers.{counts, frames_ended}
 use Rattle.vm_kernel.proofs.Foreign.{rests_foreign}
-use Rattle.vm_kernel.proofs.Rows.{claim_set, claimed_inside, one_case}
+use Rattle.vm_parts.proofs.Rows.{claimed_inside, one_case, set_cases}
+use Rattle.vm_frames.specs.Frames.{frame_count}
+use Rattle.vm_kernel.specs.Matches.{HasFrames}
+use Rattle.std.proofs.Common.{length-set, Option, Some}
+use Rattle.vm_kernel.proofs.Own.{own_host}
 
 -- no frame of the list is this one
 list_apart : (list : List FrameNo) (f : ℕ) → is_skipped list f ≡ false → (i : ℕ) (d : FrameNo) → i < length list → (get_or list i d).0 ≡ f → ⊥
@@ -40,13 +43,22 @@ list_apart (g ∷ list) f none (suc i) d below same = elim (eqb_tells g.0 f) [
   | inr apart ↦ list_apart list f (rw apart.0 at none) i d (omega arith) same
 ]
 
+count_same : (fs fs2 : FrameTable) (f : ℕ) → Releases f fs fs2 → frame_count fs2 ≡ frame_count fs
+count_same fs fs2 f releases = ap frame_count releases.is ∙ length-set fs.claims f false
+
+frames_less : (most : Option ℕ) (fs fs2 : FrameTable) (f held wired : ℕ) → HasFrames most fs held wired → Releases f fs fs2 → HasFrames most fs2 (held - 1) wired
+frames_less most fs fs2 f held wired has releases =
+    let wires : fs2.wired ≡ fs.wired = ap (λ z. z.wired) releases.is in
+    let count = count_same fs fs2 f releases in
+    record { total = has.total ∙ ap Some (sym count); held = omega (arith, has.held, releases.count); wired = has.wired ∙ sym wires; fits = omega (arith, has.fits, releases.count) }
+
 laundry_less : (fs fs2 : FrameTable) (rs : ResidentTable) (laundry laundry2 : LaundryList) (out : ℕ) (f : FrameNo) → HasLaundry fs rs laundry out → laundry.held ≡ f ∷ laundry2.held → laundry2.room ≡ laundry.room + 1
     → is_claimed fs f.0 ≡ true → Releases f.0 fs fs2 → HasLaundry fs2 rs laundry2 (out - 1)
 laundry_less fs fs2 rs laundry laundry2 out f has held room claimed releases =
     let many : length laundry.held ≡ suc (length laundry2.held) = ap length held in
     record {
       count = omega (arith, has.count, many);
-      room = omega (arith, has.room, many, room) ∙ sym (counts fs fs2 f.0 releases);
+      room = omega (arith, has.room, many, room) ∙ sym (count_same fs fs2 f.0 releases);
       washed = λ i d below. still (get_or laundry2.held i d) (list_apart laundry2.held f.0 apart.0 i d below) (washed (suc i) d (omega arith));
       apart = apart.1;
     }
@@ -62,7 +74,7 @@ laundry_less fs fs2 rs laundry laundry2 out f has held room claimed releases =
         record {
           claimed =
               ap (λ z. is_claimed z g.0) releases.is
-              ∙ elim (one_case f.0 g.0 false (is_claimed fs g.0) (get_or (set fs.claims f.0 false) g.0 false) (claim_set fs.claims f.0 false (claimed_inside fs.claims f.0 claimed) g.0)) [
+              ∙ elim (one_case f.0 g.0 false (is_claimed fs g.0) (get_or (set fs.claims f.0 false) g.0 false) (set_cases fs.claims f.0 false false (claimed_inside fs.claims f.0 claimed) g.0)) [
                 | inl same ↦ absurd (other (sym same.0))
                 | inr that ↦ that.1 ∙ was.claimed
               ];
@@ -77,28 +89,29 @@ pub washed_first : (fs : FrameTable) (rs : ResidentTable) (laundry : LaundryList
 washed_first fs rs laundry out f more has held = (subst (All (IsWashed fs rs)) held has.washed) 0 f (omega arith)
 
 -- its pager took the return
-rests_taken : (header : Header) (k : Parts) (ids : Ids) (past : List Event) (object : ObjectId) (control : ℕ) (page : PageNo) (dirty : Bool) (bytes : List ℕ) (f : FrameNo) (fs : FrameTable) (laundry : LaundryList)
-    → Rests header k ids past → k.laundry.held ≡ f ∷ laundry.held → laundry.room ≡ k.laundry.room + 1 → Releases f.0 k.frames fs
-    → Rests header (record k { frames = fs; laundry = laundry }) ids (event.Taken (Up the_host object) (message.Return control page dirty false bytes) ∷ past)
-rests_taken header k ids past object control page dirty bytes f fs laundry rests held room releases =
+rests_taken : (header : Header) (h : ℕ) (k : Parts) (ids : Ids) (past : List Event) (object : ObjectId) (control : ℕ) (page : PageNo) (dirty : Bool) (bytes : List ℕ) (f : FrameNo) (fs : FrameTable) (laundry : LaundryList)
+    → Rests header h k ids past → k.laundry.held ≡ f ∷ laundry.held → laundry.room ≡ k.laundry.room + 1 → Releases f.0 k.memory.frames fs
+    → Rests header h (record k { memory = record k.memory { frames = fs }; laundry = laundry }) ids (event.Taken (Up (host_id h) object) (message.Return control page dirty false bytes) ∷ past)
+rests_taken header h k ids past object control page dirty bytes f fs laundry rests held room releases =
     let was = rests.matches in
-    let washed = washed_first k.frames k.resident k.laundry (returns_out 0 past) f laundry.held was.laundry held in
+    let washed = washed_first k.memory.frames k.memory.resident k.laundry (returns_out h past) f laundry.held was.laundry held in
     record {
       matches =
           record {
             plain = was.plain;
+            known = was.known;
             size = was.size;
             host = was.host;
-            fits = record { parts = fit_released k.size k.frames fs k.resident k.queues k.objects f.0 was.fits.parts washed.claimed washed.unowned releases; plain = was.fits.plain; buffers = was.fits.buffers };
+            fits = record { parts = fit_released k.memory fs f.0 was.fits.parts washed.claimed washed.unowned releases; plain = was.fits.plain; buffers = was.fits.buffers };
             tasks = was.tasks;
             regions = was.regions;
             entries = was.entries;
-            pages = pages_same k.frames fs k.resident k.objects k.chains (λ o p. local header.size 0 (place_of o p) past) f.0 was.pages releases;
+            pages = pages_same k.memory.frames fs k.memory.resident k.memory.objects k.chains (λ o p. local header.size h (place_of o p) past) f.0 was.pages releases;
             uses = was.uses;
             controls = was.controls;
             settled = refl;
-            laundry = laundry_less k.frames fs k.resident k.laundry laundry (returns_out 0 past) f was.laundry held room washed.claimed releases;
-            frames = frames_ended (slice_get (reverse header.frames.items) 0) k.frames fs f.0 (frames_held header.size 0 past) (frames_wired 0 past) was.frames releases;
+            laundry = rw (own_host h) (laundry_less k.memory.frames fs k.memory.resident k.laundry laundry (returns_out h past) f was.laundry held room washed.claimed releases);
+            frames = rw (own_host h) (frames_less (slice_get (reverse header.frames.items) h) k.memory.frames fs f.0 (frames_held header.size h past) (frames_wired h past) was.frames releases);
           };
       used = rests.used;
       reached = rests.reached;
@@ -107,11 +120,11 @@ rests_taken header k ids past object control page dirty bytes f fs laundry rests
       idle = rests.idle;
     }
 
-pub rests_laundered : (header : Header) (k : Parts) (ids : Ids) (front past : List Event) (f : FrameNo) (fs : FrameTable) (laundry : LaundryList)
-    → Rests header k ids past → IsLaundered front → k.laundry.held ≡ f ∷ laundry.held → laundry.room ≡ k.laundry.room + 1 → Releases f.0 k.frames fs
-    → Rests header (record k { frames = fs; laundry = laundry }) ids (front ++ past)
-rests_laundered header k ids front past f fs laundry rests is held room releases =
-    let e = event.Taken (Up the_host is.object) (message.Return is.control is.page is.dirty false is.bytes) in
-    subst (λ (z : List Event). Rests header (record k { frames = fs; laundry = laundry }) ids z) (sym (ap (λ z. z ++ past) is.is ∙ append_assoc is.told (e ∷ []) past))
-    (rests_foreign header (record k { frames = fs; laundry = laundry }) ids is.told (e ∷ past)
-    (rests_taken header k ids past is.object is.control is.page is.dirty is.bytes f fs laundry rests held room releases) is.foreign)
+pub rests_laundered : (header : Header) (h : ℕ) (k : Parts) (ids : Ids) (front past : List Event) (f : FrameNo) (fs : FrameTable) (laundry : LaundryList)
+    → Rests header h k ids past → IsLaundered h front → k.laundry.held ≡ f ∷ laundry.held → laundry.room ≡ k.laundry.room + 1 → Releases f.0 k.memory.frames fs
+    → Rests header h (record k { memory = record k.memory { frames = fs }; laundry = laundry }) ids (front ++ past)
+rests_laundered header h k ids front past f fs laundry rests is held room releases =
+    let e = event.Taken (Up (host_id h) is.object) (message.Return is.control is.page is.dirty false is.bytes) in
+    subst (λ (z : List Event). Rests header h (record k { memory = record k.memory { frames = fs }; laundry = laundry }) ids z) (sym (ap (λ z. z ++ past) is.is ∙ append_assoc is.told (e ∷ []) past))
+    (rests_foreign header h (record k { memory = record k.memory { frames = fs }; laundry = laundry }) ids is.told (e ∷ past)
+    (rests_taken header h k ids past is.object is.control is.page is.dirty is.bytes f fs laundry rests held room releases) is.foreign)

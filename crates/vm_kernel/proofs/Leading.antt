@@ -1,9 +1,10 @@
 -- Where a waiting access leads: its entry, its region, and the page of the object under that.
-use Rattle.std.proofs.Common.{◌≡◌, ℕ, ◌+◌, ◌<◌, ◌^◌, true, false, List, [], length, refl, ap, sym, ◌∙◌, subst, arith, Some, None, Option}
+use Rattle.std.proofs.Common.{◌≡◌, ℕ, ◌+◌, ◌<◌, ◌^◌, true, false, List, [], length, refl, ap, sym, ◌∙◌, subst, arith, Some}
 use Rattle.std.specs.Prelude.{is_some}
 use Rattle.vm_base.specs.declared.entry.Entry.{Entry}
 use Rattle.vm_base.specs.declared.ids.PageKey.{PageKey}
 use Rattle.vm_base.specs.Entries.{entry_at, page_at}
+use Rattle.vm_kernel.proofs.Regions.{region_row}
 use Rattle.vm_model.specs.declared.event.Event.{Event}
 use Rattle.vm_model.specs.declared.script.Header.{Header}
 use Rattle.vm_model.specs.Named.{named}
@@ -25,79 +26,72 @@ use Rattle.vm_waits.specs.declared.waiting.Want.{Want}
 use Rattle.vm_waits.specs.declared.waiting.Want.TheVariants as want
 use Rattle.vm_supply.specs.declared.woken.Woken.{Woken}
 use Rattle.vm_kernel.specs.Faulting.{CanFault}
-use Rattle.vm_kernel.specs.Matches.{HasWaits, IsInside, IsPlain, IsUnder, Matches, host_for}
+use Rattle.vm_kernel.specs.Matches.{HasWaits, IsInside, IsPlain, IsUnder, Matches}
 use Rattle.vm_kernel.specs.Places.{has_region, pages_in, region_pages}
 use Rattle.vm_kernel.specs.Waiters.{IsAt, access_in, address_in, waiting_in}
 use Rattle.vm_kernel.specs.declared.parts.Parts.{Parts}
-
--- the row of a region that is there
-pub region_row : (cs : ChainTable) (r : ℕ) → has_region cs r ≡ true → (row : RegionRow) × (region_at cs r ≡ Some row)
-region_row cs r there = go (region_at cs r) there
-  where
-    go : (x : Option RegionRow) → is_some x ≡ true → (row : RegionRow) × (x ≡ Some row)
-    go None bad = absurd (let no : false ≡ true = bad in cc)
-    go (Some row) is = (row, refl)
+use Rattle.vm_kernel.proofs.Own.{lives_here, rows_here}
 
 pub region_is : (cs : ChainTable) (r : ℕ) (row : RegionRow) → region_at cs r ≡ Some row → has_region cs r ≡ true
 region_is cs r row is = ap is_some is
 
 -- the region is over the object with its number, from its page 0 on
-pub top_is : (header : Header) (k : Parts) (ids : Ids) (past : List Event) (lost : List Entry) (r : ℕ) (row : RegionRow) → Matches header k ids lost past → region_at k.chains r ≡ Some row → row.top.0 ≡ r
-top_is header k ids past lost r row m is = sym (ap (λ (z : Region). z.top) (m.regions.rows r row is)) ∙ (m.regions.tops r).top
+pub top_is : (header : Header) (h : ℕ) (k : Parts) (ids : Ids) (past : List Event) (lost : List Entry) (r : ℕ) (row : RegionRow) → Matches header h k ids lost past → region_at k.chains r ≡ Some row → row.top.0 ≡ r
+top_is header h k ids past lost r row m is = sym (ap (λ (z : Region). z.top) (m.regions.rows r row is)) ∙ (m.regions.tops r).top
 
-pub shift_is : (header : Header) (k : Parts) (ids : Ids) (past : List Event) (lost : List Entry) (r : ℕ) (row : RegionRow) → Matches header k ids lost past → region_at k.chains r ≡ Some row → row.shift ≡ 0
-shift_is header k ids past lost r row m is = sym (ap (λ (z : Region). z.shift) (m.regions.rows r row is)) ∙ (m.regions.tops r).shift
+pub shift_is : (header : Header) (h : ℕ) (k : Parts) (ids : Ids) (past : List Event) (lost : List Entry) (r : ℕ) (row : RegionRow) → Matches header h k ids lost past → region_at k.chains r ≡ Some row → row.shift ≡ 0
+shift_is header h k ids past lost r row m is = sym (ap (λ (z : Region). z.shift) (m.regions.rows r row is)) ∙ (m.regions.tops r).shift
 
 -- an entry that holds an address lies within its region
-pub inside_of : (header : Header) (k : Parts) (ids : Ids) (past : List Event) (lost : List Entry) (task address : ℕ) (entry : Entry) → Matches header k ids lost past → entry_at address (rows_in task k.maps) ≡ Some entry
+pub inside_of : (header : Header) (h : ℕ) (k : Parts) (ids : Ids) (past : List Event) (lost : List Entry) (task address : ℕ) (entry : Entry) → Matches header h k ids lost past → entry_at address (rows_in task k.maps) ≡ Some entry
     → FoundRow (IsInside header.size k.chains) address entry
-inside_of header k ids past lost task address entry m found = found_row (IsInside header.size k.chains) address (rows_in task k.maps) entry (m.entries.inside task) found
+inside_of header h k ids past lost task address entry m found = found_row (IsInside header.size k.chains) address (rows_in task k.maps) entry (m.entries.inside task) found
 
 -- the page is one of an object, which is under the region with its number
 pub record Lies (k : Parts) (key : PageKey) : Type 0 where
   pub row : RegionRow
   pub region : region_at k.chains key.object.0 ≡ Some row
-  pub under : IsUnder row (object_at k.objects key.object.0)
+  pub under : IsUnder row (object_at k.memory.objects key.object.0)
   pub inside : key.page.0 < row.pages
 
-pub lies_of : (header : Header) (k : Parts) (ids : Ids) (past : List Event) (lost : List Entry) (task : ℕ) (what : Want) (key : PageKey) → Matches header k ids lost past → IsAt k.maps k.chains task what key → Lies k key
-lies_of header k ids past lost task what key m at =
+pub lies_of : (header : Header) (h : ℕ) (k : Parts) (ids : Ids) (past : List Event) (lost : List Entry) (task : ℕ) (what : Want) (key : PageKey) → Matches header h k ids lost past → IsAt k.maps k.chains task what key → Lies k key
+lies_of header h k ids past lost task what key m at =
     let r = at.entry.region.0 in
     let address = address_in what in
-    let object : key.object.0 ≡ r = ap (λ (z : PageKey). z.object.0) at.is ∙ top_is header k ids past lost r at.row m at.region in
+    let object : key.object.0 ≡ r = ap (λ (z : PageKey). z.object.0) at.is ∙ top_is header h k ids past lost r at.row m at.region in
     let page : key.page.0 ≡ at.row.shift + page_at k.maps.size address at.entry = ap (λ (z : PageKey). z.page.0) at.is in
-    let none = shift_is header k ids past lost r at.row m at.region in
-    let found = inside_of header k ids past lost task address at.entry m at.found in
+    let none = shift_is header h k ids past lost r at.row m at.region in
+    let found = inside_of header h k ids past lost task address at.entry m at.found in
     let below : page_at header.size address at.entry < region_pages k.chains r = found.is.inside.each address found.from found.below in
     let pages : region_pages k.chains r ≡ at.row.pages = ap pages_in at.region in
     let sized : page_at k.maps.size address at.entry ≡ page_at header.size address at.entry = ap (λ z. page_at z address at.entry) m.tasks.sized in
     record {
       row = at.row;
       region = ap (λ z. region_at k.chains z) object ∙ at.region;
-      under = subst (λ (z : ℕ). IsUnder at.row (object_at k.objects z)) (sym object) (m.regions.under r at.row at.region);
+      under = subst (λ (z : ℕ). IsUnder at.row (object_at k.memory.objects z)) (sym object) (m.regions.under r at.row at.region);
       inside = omega (arith, page, none, below, pages, sized);
     }
 
 pub lies_there : (k : Parts) (key : PageKey) → Lies k key → has_region k.chains key.object.0 ≡ true
 lies_there k key lies = region_is k.chains key.object.0 lies.row lies.region
 
-pub lies_inside : (k : Parts) (key : PageKey) → Lies k key → key.page.0 < object_pages k.objects key.object.0
+pub lies_inside : (k : Parts) (key : PageKey) → Lies k key → key.page.0 < object_pages k.memory.objects key.object.0
 lies_inside k key lies =
-    let pages : object_pages k.objects key.object.0 ≡ lies.row.pages = ap pages_kept lies.under.found ∙ lies.under.pages in
+    let pages : object_pages k.memory.objects key.object.0 ≡ lies.row.pages = ap pages_kept lies.under.found ∙ lies.under.pages in
     omega (arith, pages, lies.inside)
 
 -- an access that waits can be run
 
-pub can_fault : (header : Header) (k : Parts) (ids : Ids) (past : List Event) (who : Woken) (task : ℕ) (w : Waiting) → Matches header k ids [] past → HasWaits k who past → entry k.waits.rows task ≡ Some w → CanFault k task w.want
-can_fault header k ids past who task w m waits is =
+pub can_fault : (header : Header) (h : ℕ) (k : Parts) (ids : Ids) (past : List Event) (who : Woken) (task : ℕ) (w : Waiting) → Matches header h k ids [] past → HasWaits k who past → entry k.waits.rows task ≡ Some w → CanFault k task w.want
+can_fault header h k ids past who task w m waits is =
     let allowed = waits.allowed task w is in
     let address = address_in w.want in
-    let found = inside_of header k ids past [] task address allowed.entry m allowed.found in
+    let found = inside_of header h k ids past [] task address allowed.entry m allowed.found in
     let region = region_row k.chains allowed.entry.region.0 found.is.region in
     let page = page_at k.maps.size address allowed.entry in
     let key : PageKey = record { object = region.0.top; page = record { 0 = region.0.shift + page } } in
     let at : IsAt k.maps k.chains task w.want key = record { entry = allowed.entry; found = allowed.found; row = region.0; region = region.1; is = refl } in
-    let none = shift_is header k ids past [] allowed.entry.region.0 region.0 m region.1 in
+    let none = shift_is header h k ids past [] allowed.entry.region.0 region.0 m region.1 in
     record {
       fits = m.fits;
       allowed = allowed;
@@ -106,25 +100,25 @@ can_fault header k ids past who task w m waits is =
       key = key;
       at = at;
       few = λ less. subst (λ (z : ℕ). z + page < 2 ^ 32) (sym none) (zero_less page less);
-      inside = lies_inside k key (lies_of header k ids past [] task w.want key m at);
+      inside = lies_inside k key (lies_of header h k ids past [] task w.want key m at);
     }
   where
     zero_less : (page : ℕ) → page < 2 ^ 32 → 0 + page < 2 ^ 32
     zero_less page less = omega arith
 
 -- where the access of a task leads, after a history
-pub record Leads (header : Header) (past : List Event) (task : ℕ) (what : Want) (key : PageKey) : Type 0 where
+pub record Leads (header : Header) (h : ℕ) (past : List Event) (task : ℕ) (what : Want) (key : PageKey) : Type 0 where
   pub entry : Entry
-  pub lives : host_of task past ≡ Some 0
+  pub lives : host_of task past ≡ Some h
   pub found : entry_at (address_in what) (entries_of header.size task past) ≡ Some entry
   pub waits : waiting task past ≡ Some (access_in what)
   pub unmarked : (region_of header entry.region.0 past).mark ≡ false
   pub top : IsTop (region_of header entry.region.0 past) (page_at header.size (address_in what) entry) key.object.0 key.page.0
   pub bare : (backing_of header key.object.0 past).backed ≡ false
 
-pub leads_of : (header : Header) (k : Parts) (ids : Ids) (past : List Event) (who : Woken) (task : ℕ) (w : Waiting) (key : PageKey) → Matches header k ids [] past → HasWaits k who past → entry k.waits.rows task ≡ Some w
-    → IsAt k.maps k.chains task w.want key → Leads header past task w.want key
-leads_of header k ids past who task w key m waits is at =
+pub leads_of : (header : Header) (h : ℕ) (k : Parts) (ids : Ids) (past : List Event) (who : Woken) (task : ℕ) (w : Waiting) (key : PageKey) → Matches header h k ids [] past → HasWaits k who past → entry k.waits.rows task ≡ Some w
+    → IsAt k.maps k.chains task w.want key → Leads header h past task w.want key
+leads_of header h k ids past who task w key m waits is at =
     let r = at.entry.region.0 in
     let address = address_in w.want in
     let row = m.regions.rows r at.row at.region in
@@ -134,9 +128,9 @@ leads_of header k ids past who task w key m waits is at =
     let sized : page_at k.maps.size address at.entry ≡ page_at header.size address at.entry = ap (λ z. page_at z address at.entry) m.tasks.sized in
     record {
       entry = at.entry;
-      lives = m.tasks.hosts task ∙ ap host_for (waits.allowed task w is).lives;
-      found = ap (entry_at address) (m.tasks.rows task) ∙ at.found;
-      waits = waits.is task ∙ ap waiting_in is;
+      lives = lives_here m.tasks (waits.allowed task w is).lives;
+      found = ap (entry_at address) (rows_here m.tasks (waits.allowed task w is).lives) ∙ at.found;
+      waits = waits.is task (ap is_some (waits.allowed task w is).lives) ∙ ap waiting_in is;
       unmarked = (m.regions.tops r).unmarked;
       top = record { object = ap (λ (z : Region). z.top) row ∙ sym object; page = omega (arith, page, shift, sized) };
       bare = m.regions.unbacked key.object.0;
@@ -148,21 +142,21 @@ address_is size next (want.Load address n) = refl
 address_is size next (want.Store address n value) = refl
 
 -- the waiting access, as licences want it
-abbrev pub it_waits : (header : Header) (past : List Event) (task : ℕ) (what : Want) (key : PageKey) → Leads header past task what key → Waits header task (access_in what) past
-it_waits header past task what key to =
+abbrev pub it_waits : (header : Header) (h : ℕ) (past : List Event) (task : ℕ) (what : Want) (key : PageKey) → Leads header h past task what key → Waits header task (access_in what) past
+it_waits header h past task what key to =
     record {
       waits = to.waits;
       at = record {
-        host = 0;
+        host = h;
         entry = to.entry;
         lives = to.lives;
         found = ap (λ z. entry_at z (entries_of header.size task past)) (address_is header.size (next_page task past) what) ∙ to.found;
       };
     }
 
-pub top_at : (header : Header) (past : List Event) (task : ℕ) (what : Want) (key : PageKey) → (to : Leads header past task what key)
+pub top_at : (header : Header) (h : ℕ) (past : List Event) (task : ℕ) (what : Want) (key : PageKey) → (to : Leads header h past task what key)
     → IsTop (region_of header to.entry.region.0 past) (page_of header task (access_in what) past to.entry) key.object.0 key.page.0
-top_at header past task what key to =
+top_at header h past task what key to =
     record {
       object = to.top.object;
       page = ap (λ z. (region_of header to.entry.region.0 past).shift + page_at header.size z to.entry) (address_is header.size (next_page task past) what) ∙ to.top.page;

@@ -18,7 +18,6 @@ pub mod First
 pub mod Fitting
 pub mod Foreign
 pub mod Forks
-pub mod Gone
 pub mod Growing
 pub mod Heads
 pub mod Hearing
@@ -29,6 +28,7 @@ pub mod Losing
 pub mod Making
 pub mod Missing
 pub mod Ordering
+pub mod Own
 pub mod Pageout
 pub mod Pages
 pub mod Playing
@@ -36,6 +36,7 @@ pub mod Prompting
 pub mod Ranges
 pub mod Reclaims
 pub mod Recounts
+pub mod Regions
 pub mod Requesting
 pub mod Returning
 pub mod Rewrites

@@ -12,7 +12,6 @@ use Rattle.vm_model.specs.declared.script.Header.{Header}
 use Rattle.vm_model.specs.Waiting.{Access, waiting}
 use Rattle.vm_legal.specs.Living.{tasks}
 use Rattle.vm_legal.specs.Outside.{Outside}
-use Rattle.vm_legal.specs.Used.{in_use}
 use Rattle.vm_maps.specs.Maps.{ChangesOnly, Mapped, entries_in, rows_in}
 use Rattle.vm_objects.specs.Objects.{ObjectTable, PutsObject, object_at}
 use Rattle.vm_objects.specs.declared.row.ObjectRow.{ObjectRow}
@@ -27,17 +26,19 @@ use Rattle.vm_waits.specs.declared.waiting.On.TheVariants as on
 use Rattle.vm_waits.specs.declared.waiting.Waiting.{Waiting}
 use Rattle.vm_waits.specs.declared.waiting.Want.{Want}
 use Rattle.vm_kernel.specs.Begun.{Ran, Starts}
-use Rattle.vm_kernel.specs.Matches.{HasControls, the_host}
+use Rattle.vm_kernel.specs.Matches.{HasControls, holds, host_id}
 use Rattle.vm_kernel.specs.Pagers.{last_in, live_in, ready_in}
 use Rattle.vm_kernel.specs.Waiters.{HasWaiters, Reason, waiting_in}
 use Rattle.vm_kernel.specs.declared.parts.Parts.{Parts}
 use Rattle.vm_kernel.proofs.Counts.{most_is}
 use Rattle.vm_kernel.proofs.Growing.{suffices}
 use Rattle.vm_kernel.proofs.Heads.{heads_one, ran_head}
-use Rattle.vm_kernel.proofs.Rows.{one_case, some_is}
 use Rattle.vm_kernel.proofs.Tasks.{can_make, entries_made, tasks_made}
 use Rattle.vm_kernel.proofs.Uses.{uses_made}
 use Rattle.vm_kernel.proofs.Waited.{tops_same, waits_changed}
+use Rattle.vm_parts.proofs.Rows.{one_case, some_is}
+use Rattle.vm_kernel.proofs.Own.{named_host}
+use Rattle.vm_model.specs.Regions.{next_region}
 
 -- who doesn't wait in the history has no row
 pub idle_of : (x : Option Waiting) (w : Option Access) → w ≡ waiting_in x → is_some w ≡ false → x ≡ None
@@ -59,42 +60,40 @@ pub waits_made : (maps new : Mapped) (cs : ChainTable) (rs : ResidentTable) (os 
     → HasWaiters new cs rs os rows who (λ t. waiting t (event.TaskMade task host ∷ past))
 waits_made maps new cs rs os rows who task host past has free changes =
     let none = no_waiter maps cs rs os rows who (λ t. waiting t past) task.0 has free in
-    let now = waits_changed maps new cs cs rs os rows who (λ t. waiting t past) task.0 (Some []) has changes none (tops_same cs) in
-    record {
-      is = λ t. elim (eqb_tells task.0 t) [
-        | inl same ↦ rw same.0 (sym (ap waiting_in (ap (entry rows) (sym same.1) ∙ none)))
-        | inr apart ↦ rw apart.0 (has.is t)
-      ];
-      allowed = now.allowed;
-      sized = now.sized;
-      reasons = now.reasons;
-      aims = now.aims;
-      askers = now.askers;
-    }
+    waits_changed maps new cs cs rs os rows who (λ t. waiting t past) task.0 (Some []) has changes none (tops_same cs)
+    (λ t here. elim (eqb_tells task.0 t) [
+      | inl same ↦ rw same.0 (sym (ap waiting_in (ap (entry rows) (sym same.1) ∙ none)))
+      | inr apart ↦ rw apart.0 (has.is t (ap is_some (sym (changes.others t (λ e. apart.1 (sym e)))) ∙ here))
+    ])
 
-pub ran_task : (header : Header) (outside : Outside) (task : TaskId) (past : List Event) (k : Parts) (ids : Ids) (before after : List Event) (maps : Mapped) → Starts header (command.Task task the_host) past k ids before
-    → ChangesOnly k.maps maps task.0 (Some []) → after ≡ event.TaskMade task k.host ∷ before → Ran header outside (command.Task task the_host) past (record k { maps = maps }) ids after
-ran_task header outside task past k ids before after maps s changes told =
+-- what others hold stays, where a task is made
+pub holds_made : (size : ℕ) (task : TaskId) (host : HostId) (past : List Event) (t r : ℕ) → (task.0 ≡ t → ⊥) → holds size t r (event.TaskMade task host ∷ past) ≡ holds size t r past
+holds_made size task host past t r apart = elim (eqb_tells task.0 t) [ inl same ↦ absurd (apart same.1) | inr other ↦ rw other.0 refl ]
+
+pub ran_task : (header : Header) (h : ℕ) (outside : Outside) (task : TaskId) (past : List Event) (k : Parts) (ids : Ids) (before after : List Event) (maps : Mapped) → Starts header h (command.Task task (host_id h)) past k ids before
+    → ChangesOnly k.maps maps task.0 (Some []) → after ≡ event.TaskMade task k.host ∷ before → Ran header h outside (command.Task task (host_id h)) past (record k { maps = maps }) ids after
+ran_task header h outside task past k ids before after maps s changes told =
     let m = s.rests.matches in
-    let e : Event = event.TaskMade task the_host in
-    let free = can_make header task past k ids before s in
-    let log : after ≡ e ∷ [] = told ∙ (ap (λ z. event.TaskMade task z ∷ before) m.host ∙ ap (λ z. e ∷ z) s.nothing) in
-    subst (λ (z : List Event). Ran header outside (command.Task task the_host) past (record k { maps = maps }) ids z) (sym log)
-    (ran_head header outside (command.Task task the_host) past (record k { maps = maps }) ids (e ∷ []) (e ∷ []) refl refl
-    (heads_one header outside (command.Task task the_host) past e (record { quiet = m.settled; cause = tt; own_bytes = tt; copies = tt; frames = suffices header k.frames past m.frames; inner = tt; said = tt }))
+    let e : Event = event.TaskMade task (host_id h) in
+    let free = can_make header h task past k ids before s in
+    let log : after ≡ e ∷ [] = told ∙ (ap (λ z. event.TaskMade task z ∷ before) (named_host k.host h m.host) ∙ ap (λ z. e ∷ z) s.nothing) in
+    subst (λ (z : List Event). Ran header h outside (command.Task task (host_id h)) past (record k { maps = maps }) ids z) (sym log)
+    (ran_head header h outside (command.Task task (host_id h)) past (record k { maps = maps }) ids (e ∷ []) (e ∷ []) refl refl
+    (heads_one header h outside (command.Task task (host_id h)) past e (record { quiet = m.settled; cause = tt; own_bytes = tt; frames = suffices header h k.memory.frames past m.frames; inner = tt; said = refl }))
     tt
     (record {
       matches =
           record {
             plain = m.plain;
+            known = m.known;
             size = m.size;
             host = m.host;
             fits = record { parts = m.fits.parts; plain = m.fits.plain; buffers = m.fits.buffers };
-            tasks = tasks_made header.size k.maps maps past task m.tasks changes;
+            tasks = tasks_made h header.size k.maps maps past task m.tasks changes;
             regions = m.regions;
             entries = entries_made header.size k.maps maps k.chains task.0 m.entries changes free s.range.0;
             pages = m.pages;
-            uses = uses_made k.maps maps (λ r. in_use header 0 r past) (tasks past) task.0 m.uses changes free (rw most_is s.range.0);
+            uses = uses_made k.maps maps _ (tasks past) _ _ (next_region header past) task.0 m.uses changes free (rw most_is s.range.0) (holds_made header.size task (host_id h) past);
             controls = m.controls;
             settled = refl;
             laundry = m.laundry;
@@ -102,7 +101,7 @@ ran_task header outside task past k ids before after maps s changes told =
           };
       used = s.rests.used;
       reached = s.rests.reached;
-      waits = waits_made k.maps maps k.chains k.resident k.objects k.waits.rows _ task the_host past s.rests.waits free changes;
+      waits = waits_made k.maps maps k.chains k.memory.resident k.memory.objects k.waits.rows _ task (host_id h) past s.rests.waits free changes;
       order = s.rests.order;
       idle = s.rests.idle;
     }))
@@ -181,4 +180,9 @@ waits_known maps cs rs os os2 rows who waiting_at has more =
       reasons = λ t w found apart. reason_known maps cs rs os os2 t w.want w.on more (has.reasons t w found apart);
       aims = has.aims;
       askers = has.askers;
+      ready = λ o p row found away. known_ready o (object_at os o) refl (has.ready o p row found away);
     }
+  where
+    known_ready : (o : ℕ) (known : Option ObjectRow) → object_at os o ≡ known → ready_in known ≡ true → ready_in (object_at os2 o) ≡ true
+    known_ready o None found is = absurd (let bad : false ≡ true = is in cc)
+    known_ready o (Some row) found is = ap ready_in (more.at o row found) ∙ is

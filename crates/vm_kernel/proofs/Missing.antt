@@ -1,6 +1,6 @@
 -- An access whose page isn't here wants a frame, or ends with a page of zeros.
-use Rattle.std.proofs.Common.{◌≡◌, ℕ, ◌%◌, ◌==◌, ◌&&◌, Bool, true, false, List, ◌∷◌, refl, ap, sym, ◌∙◌, subst, Some, None, inl, inr}
-use Rattle.std.specs.Prelude.{◌⊎◌, if◌then◌else◌}
+use Rattle.std.proofs.Common.{◌≡◌, ℕ, ◌%◌, Bool, true, false, List, ◌∷◌, refl, subst, Some, None, inl, inr}
+use Rattle.std.specs.Prelude.{◌⊎◌}
 use Rattle.vm_base.specs.declared.ids.FrameNo.{FrameNo}
 use Rattle.vm_base.specs.declared.ids.PageKey.{PageKey}
 use Rattle.vm_base.specs.declared.ids.TaskId.{TaskId}
@@ -10,13 +10,13 @@ use Rattle.vm_objects.specs.Objects.{absent_at, object_at}
 use Rattle.vm_objects.specs.declared.row.ObjectRow.{ObjectRow}
 use Rattle.vm_objects.specs.declared.row.PagerState.{PagerState}
 use Rattle.vm_objects.specs.declared.row.PagerState.TheVariants as state
-use Rattle.vm_resident.specs.Resident.{ResidentTable, owner_among, row_among, row_at}
+use Rattle.vm_resident.specs.Resident.{ResidentTable, row_at}
 use Rattle.vm_waits.specs.declared.waiting.Want.{Want}
 use Rattle.vm_kernel.specs.Changes.{Brought, zeroed}
-use Rattle.vm_kernel.specs.Faulting.{AfterZeros, Ended, Hits, IsAvailable, IsUnavailable, Stays, WantsOne}
-use Rattle.vm_kernel.specs.Places.{fresh_row}
+use Rattle.vm_kernel.specs.Faulting.{AfterZeros, Ended, Hits, IsAvailable, IsUnavailable, Stays, WantsOne, Requested}
 use Rattle.vm_kernel.specs.Waiters.{address_in}
 use Rattle.vm_kernel.specs.declared.parts.Parts.{Parts}
+use Rattle.vm_parts.proofs.Changing.{changes_roomier}
 
 -- a pager that was not told, or is ready
 state_cases : (s : PagerState) → (s ≡ state.Sent → ⊥) → (s ≡ state.Without) ⊎ (s ≡ state.Ready)
@@ -24,8 +24,8 @@ state_cases state.Without other = inl refl
 state_cases state.Sent other = absurd (other refl)
 state_cases state.Ready other = inr refl
 
-pub unavailable : (k : Parts) (key : PageKey) (known : ObjectRow) → object_at k.objects key.object.0 ≡ Some known → (known.state ≡ state.Sent → ⊥)
-    → (known.state ≡ state.Ready → ⊥) ⊎ (absent_at k.objects key.object.0 key.page.0 ≡ true) → IsUnavailable key k
+pub unavailable : (k : Parts) (key : PageKey) (known : ObjectRow) → object_at k.memory.objects key.object.0 ≡ Some known → (known.state ≡ state.Sent → ⊥)
+    → (known.state ≡ state.Ready → ⊥) ⊎ (absent_at k.memory.objects key.object.0 key.page.0 ≡ true) → IsUnavailable key k
 unavailable k key known found told lacks =
     record {
       row = known;
@@ -37,42 +37,45 @@ unavailable k key known found told lacks =
     }
 
 -- the page may be asked for, or comes as zeros
-either : (k : Parts) (key : PageKey) (known : ObjectRow) → object_at k.objects key.object.0 ≡ Some known → (known.state ≡ state.Sent → ⊥) → IsUnavailable key k ⊎ ((control : ℕ) × IsAvailable key control k)
+either : (k : Parts) (key : PageKey) (known : ObjectRow) → object_at k.memory.objects key.object.0 ≡ Some known → (known.state ≡ state.Sent → ⊥) → IsUnavailable key k ⊎ ((control : ℕ) × IsAvailable key control k)
 either k key known found told = elim (state_cases known.state told) [
   | inl without ↦ inl (record { row = known; found = found; none = inl without })
-  | inr ready ↦ go (absent_at k.objects key.object.0 key.page.0) refl ready
+  | inr ready ↦ go (absent_at k.memory.objects key.object.0 key.page.0) refl ready
 ]
   where
-    go : (b : Bool) → absent_at k.objects key.object.0 key.page.0 ≡ b → known.state ≡ state.Ready → IsUnavailable key k ⊎ ((control : ℕ) × IsAvailable key control k)
+    go : (b : Bool) → absent_at k.memory.objects key.object.0 key.page.0 ≡ b → known.state ≡ state.Ready → IsUnavailable key k ⊎ ((control : ℕ) × IsAvailable key control k)
     go true is ready = inl (record { row = known; found = found; none = inr (ready, is) })
     go false is ready = inr (known.control, record { row = known; found = found; ready = ready; number = refl; may_have = is })
 
-pub wants_one : (k : Parts) (key : PageKey) (may_claim : Bool) (known : ObjectRow) (log : List Event) → row_at k.resident key.object.0 key.page.0 ≡ None → object_at k.objects key.object.0 ≡ Some known → (known.state ≡ state.Sent → ⊥)
-    → (may_claim ≡ true → free k.frames ≡ 0) → WantsOne key may_claim k × Stays k k log log
+pub wants_one : (k : Parts) (key : PageKey) (may_claim : Bool) (known : ObjectRow) (log : List Event) → row_at k.memory.resident key.object.0 key.page.0 ≡ None → object_at k.memory.objects key.object.0 ≡ Some known → (known.state ≡ state.Sent → ⊥)
+    → (may_claim ≡ true → free k.memory.frames ≡ 0) → WantsOne key may_claim k × Stays k k log log
 wants_one k key may_claim known log absent found told none = (record { absent = absent; why = either k key known found told; none = none }, record { same = refl; told = refl })
 
--- a page comes the same where more rows have room
-brought_roomier : (k mid : Parts) (rs : ResidentTable) (key : PageKey) (frame : FrameNo) → rs.rows ≡ k.resident.rows → Brought key frame (record k { resident = rs }) mid → Brought key frame k mid
+-- a page comes, or is asked, the same where more rows have room
+
+brought_roomier : (k mid : Parts) (rs : ResidentTable) (key : PageKey) (frame : FrameNo) → rs.rows ≡ k.memory.resident.rows → Brought key frame (record k { memory = record k.memory { resident = rs } }) mid → Brought key frame k mid
 brought_roomier k mid rs key frame rows b =
     record {
       plan = record { host = b.plan.host; size = b.plan.size; maps = b.plan.maps; chains = b.plan.chains; objects = b.plan.objects; buffers = b.plan.buffers; laundry = b.plan.laundry; waits = b.plan.waits };
       fits = b.fits;
-      absent = sym (ap (row_among key.object.0 key.page.0) rows) ∙ b.absent;
-      row = record { at = λ o p. b.row.at o p ∙ ap (λ z. if key.object.0 == o && key.page.0 == p then Some (fresh_row frame) else row_among o p z) rows };
-      owner = record { at = λ g. b.owner.at g ∙ ap (λ z. if frame.0 == g then Some key else owner_among g z) rows };
-      lists = b.lists;
-      unlisted = b.unlisted;
-      page = b.page;
-      fresh = b.fresh;
-      claim = b.claim;
-      claims = b.claims;
-      wired = b.wired;
-      count = b.count;
-      room = b.room;
+      page = changes_roomier key frame _ _ _ _ _ k.memory mid.memory rs rows b.page;
+    }
+
+pub requested_roomier : (k new : Parts) (rs : ResidentTable) (key : PageKey) (access : ℕ) (before after : List Event) → rs.rows ≡ k.memory.resident.rows
+    → Requested key access (record k { memory = record k.memory { resident = rs } }) new before after → Requested key access k new before after
+requested_roomier k new rs key access before after rows r =
+    record {
+      control = r.control;
+      available = record { row = r.available.row; found = r.available.found; ready = r.available.ready; number = r.available.number; may_have = r.available.may_have };
+      frame = r.frame;
+      plan = record { host = r.plan.host; size = r.plan.size; maps = r.plan.maps; chains = r.plan.chains; objects = r.plan.objects; buffers = r.plan.buffers; laundry = r.plan.laundry; waits = r.plan.waits };
+      fits = r.fits;
+      page = changes_roomier key r.frame _ _ _ _ _ k.memory new.memory rs rows r.page;
+      told = r.told;
     }
 
 pub ended_zeroed : (task : TaskId) (what : Want) (key : PageKey) (at : ℕ) (frame : FrameNo) (old mid new : Parts) (rs : ResidentTable) (before middle after : List Event)
-    → IsUnavailable key old → rs.rows ≡ old.resident.rows → at ≡ address_in what % old.size → Brought key frame (record old { resident = rs }) mid → middle ≡ zeroed key old ∷ before → Hits task what key frame at mid new middle after
+    → IsUnavailable key old → rs.rows ≡ old.memory.resident.rows → at ≡ address_in what % old.size → Brought key frame (record old { memory = record old.memory { resident = rs } }) mid → middle ≡ zeroed key old ∷ before → Hits task what key frame at mid new middle after
     → Ended task what key (address_in what % old.size) old new before after
 ended_zeroed task what key at frame old mid new rs before middle after lacks rows at_is came told hits =
     AfterZeros frame mid lacks (brought_roomier old mid rs key frame rows came)

@@ -10,7 +10,7 @@ use Rattle.vm_waits.specs.declared.waiting.On.{On}
 use Rattle.vm_waits.specs.declared.waiting.On.TheVariants as on
 use Rattle.vm_waits.specs.declared.waiting.Waiting.{Waiting}
 use Rattle.vm_kernel.specs.Waiters.{BeganInOrder}
-use Rattle.vm_kernel.proofs.Rows.{some_is}
+use Rattle.vm_parts.proofs.Rows.{some_is}
 
 -- whatever order the rows had, they have it still
 pub record KeepsOrder (old new : List Waiting) : Type 0 where

@@ -4,7 +4,6 @@ use Rattle.std.specs.Prelude.{if◌then◌else◌}
 use Rattle.std.proofs.lemmas.Bool.Decides.{nat_tests}
 use Rattle.vm_base.specs.declared.ids.FrameNo.{FrameNo}
 use Rattle.vm_frames.specs.Frames.{page_in}
-use Rattle.vm_base.specs.declared.ids.HostId.{HostId}
 use Rattle.vm_base.specs.declared.ids.PageKey.{PageKey}
 use Rattle.vm_base.specs.declared.ids.TaskId.{TaskId}
 use Rattle.vm_model.specs.declared.event.Event.{Event}
@@ -15,7 +14,8 @@ use Rattle.vm_model.specs.declared.script.Header.{Header}
 use Rattle.vm_legal.specs.Used.{in_use}
 use Rattle.vm_objects.specs.declared.row.PagerState.{PagerState}
 use Rattle.vm_objects.specs.declared.row.PagerState.TheVariants as state
-use Rattle.vm_pageout.specs.Reclaims.{Leaves, Reclaims, controlled, searched, sends, told_from}
+use Rattle.vm_pageout.specs.Reclaims.{IsChosen, Reclaims, controlled, looked, searched, sends, told_from}
+use Rattle.vm_parts.specs.Changes.{Changes}
 use Rattle.vm_pageout.specs.declared.answer.Reclaim.{Reclaim}
 use Rattle.vm_pageout.specs.declared.answer.Reclaim.TheVariants as reclaim
 use Rattle.vm_queues.proofs.Balance.{balanced_done, none_needed, spared_done}
@@ -35,9 +35,9 @@ use Rattle.vm_kernel.specs.declared.parts.Parts.{Parts}
 use Rattle.vm_kernel.specs.declared.steps.FaultStep.{FaultStep}
 use Rattle.vm_kernel.specs.declared.steps.FaultStep.TheVariants as step
 use Rattle.vm_kernel.proofs.Accessing.{brought_here}
-use Rattle.vm_kernel.proofs.Reclaims.{parts_of}
-use Rattle.vm_kernel.proofs.Rows.{row_cases}
-use Rattle.vm_kernel.proofs.Strands.{itself, row_there}
+use Rattle.vm_kernel.proofs.Strands.{itself}
+use Rattle.vm_parts.proofs.Rows.{row_cases}
+use Rattle.vm_kernel.proofs.Regions.{region_row}
 
 -- first some events, and then some more
 pub plays_both : {header : Header} {past before mid : List Event} {old k : Paging} {after : List Event} {new : Paging} → Plays header past before old mid k → Plays header past mid k after new → Plays header past before old after new
@@ -74,7 +74,7 @@ pub plays_told : {header : Header} {past before after : List Event} {e : Event} 
 plays_told {header} {past} {before} {after} {e} {old} {new} told does = plays_one header past before after e old new told does
 
 -- the same pages, and the same lists
-pub lists_same : (k new : Parts) → new.resident ≡ k.resident → new.queues ≡ k.queues → paging new ≡ paging k
+pub lists_same : (k new : Parts) → new.memory.resident ≡ k.memory.resident → new.memory.queues ≡ k.memory.queues → paging new ≡ paging k
 lists_same k new rows lists = same_paging _ _ _ _ (λ o p. ap (λ z. frame_here (row_at z o p)) rows) lists
 
 push : (b : Bool) (x y : Option PageRow) → frame_here (if b then x else y) ≡ (if b then frame_here x else frame_here y)
@@ -103,13 +103,13 @@ marked_one : (key : PageKey) (frame : FrameNo) (k mid new : Parts) → IsHere ke
 marked_one key frame k mid new here same touches =
     record {
       frame = frame;
-      here = here_is (row_at k.resident key.object.0 key.page.0) here.row frame here.found here.here here.is;
+      here = here_is (row_at k.memory.resident key.object.0 key.page.0) here.row frame here.found here.here here.is;
       is = ap paging touches.is ∙ ap (λ q. record { frame_at = (paging mid).frame_at; queues = q }) touches.marks ∙ ap (λ (z : Paging). record { frame_at = z.frame_at; queues = touched frame.0 z.queues }) same;
     }
 
 wrote_same : (key : PageKey) (frame : FrameNo) (bytes : List ℕ) (k mid : Parts) → Wrote key frame bytes k mid → paging mid ≡ paging k
 wrote_same key frame bytes k mid wrote =
-    same_paging _ _ _ _ (frames_kept k.resident mid.resident key.object.0 key.page.0 (Some (record wrote.row { dirty = true })) wrote.put (sym (ap frame_here wrote.found))) wrote.queues
+    same_paging _ _ _ _ (frames_kept k.memory.resident mid.memory.resident key.object.0 key.page.0 (Some (record wrote.row { dirty = true })) wrote.page.row (sym (ap frame_here wrote.page.found))) wrote.page.queues
 
 hit_plays : (header : Header) (past : List Event) (task : TaskId) (what : Want) (key : PageKey) (frame : FrameNo) (at : ℕ) (k new : Parts) (before after : List Event)
     → IsHere key frame k → Hits task what key frame at k new before after → Plays header past before (paging k) after (paging new)
@@ -123,9 +123,9 @@ brought_plays header past before key frame k new brought =
     plays_one header past before (zeroed key k ∷ before) (zeroed key k) (paging k) (paging new) refl
     (record {
       frame = frame;
-      absent = ap frame_here brought.absent;
-      unlisted = brought.unlisted;
-      is = same_paging _ _ _ _ (frames_put k.resident new.resident key.object.0 key.page.0 _ (Some frame) brought.row refl) brought.lists;
+      absent = ap frame_here brought.page.found;
+      unlisted = brought.page.listed;
+      is = same_paging _ _ _ _ (frames_put k.memory.resident new.memory.resident key.object.0 key.page.0 _ (Some frame) brought.page.row refl) brought.page.queues;
     })
 
 ended_plays : (header : Header) (past : List Event) (task : TaskId) (what : Want) (key : PageKey) (at : ℕ) (k new : Parts) (before after : List Event) → Ended task what key at k new before after → Plays header past before (paging k) after (paging new)
@@ -140,7 +140,7 @@ stays_plays header past k new before after stays = plays_none header past before
 asked_plays : (header : Header) (past : List Event) (key : PageKey) (access : ℕ) (k new : Parts) (before after : List Event) → Requested key access k new before after → Plays header past before (paging k) after (paging new)
 asked_plays header past key access k new before after asked =
     plays_one header past before after (event.Sent (Up k.host key.object) (message.Request asked.control key.page access)) (paging k) (paging new) asked.told
-    (same_paging _ _ _ _ (frames_kept k.resident new.resident key.object.0 key.page.0 _ asked.row (sym (ap frame_here asked.absent))) asked.queues)
+    (same_paging _ _ _ _ (frames_kept k.memory.resident new.memory.resident key.object.0 key.page.0 _ asked.page.row (sym (ap frame_here asked.page.found))) asked.page.queues)
 
 -- an access was run once
 fault_does : (header : Header) (past : List Event) (task : TaskId) (what : Want) (may : Bool) (key : PageKey) (answer : FaultStep) (k new : Parts) (before after : List Event)
@@ -183,57 +183,57 @@ searched_none q none = go q.inactive q.active q.frames none
     go (x ∷ i) a n none = absurd (let bad : false ≡ true = none x.frame (ap (λ (b : Bool). b || has_page (i ++ a) x.frame) (itself x.frame)) in cc)
 
 -- a page that is here is one of an object in use
-pub page_used : (header : Header) (k : Parts) (ids : Ids) (past : List Event) (o p : ℕ) (row : PageRow) → Rests header k ids past → row_at k.resident o p ≡ Some row → in_use header 0 o past ≡ true
-page_used header k ids past o p row rests found =
-    let there = row_there k.chains o (rests.matches.pages.live o p row found) in
+pub page_used : (header : Header) (h : ℕ) (k : Parts) (ids : Ids) (past : List Event) (o p : ℕ) (row : PageRow) → Rests header h k ids past → row_at k.memory.resident o p ≡ Some row → in_use header h o past ≡ true
+page_used header h k ids past o p row rests found =
+    let there = region_row k.chains o (rests.matches.pages.live o p row found) in
     let some = rests.used o there.0 there.1 in
     let counts = rests.matches.entries.counts o there.0 there.1 in
     let less : 0 < count_by most_tasks o k.maps = omega arith in
     rests.matches.uses.used o ∙ grind (arith, nat_tests)
 
 -- the victim has gone
-victim_of : (frame : FrameNo) (key : PageKey) (row : PageRow) (k k2 : Parts) (q : Queues) (before after : List Event)
-    → Leaves [] frame key row (parts_of (record k { queues = searched q }) before) (parts_of k2 after) → k.queues ≡ q → IsVictim key.object.0 key.page.0 (paging k) (paging k2)
-victim_of frame key row k k2 q before after leaves is =
+victim_of : (key : PageKey) (row : PageRow) (held : Bool) (bytes : List ℕ) (k k2 : Parts) → IsChosen [] row (searched k.memory.queues)
+    → Changes key row.frame (Some row) None held bytes (removed row.frame.0 (searched (searched k.memory.queues))) (looked (record k.memory { queues = searched k.memory.queues })) k2.memory → IsVictim key.object.0 key.page.0 (paging k) (paging k2)
+victim_of key row held bytes k k2 victim page =
     let o = key.object.0 in
     let p = key.page.0 in
-    let here = here_is (row_at k.resident o p) row frame leaves.found leaves.here leaves.framed in
-    let lists : searched (searched q) ≡ searched k.queues = searched_twice q ∙ ap searched (sym is) in
+    let here = here_is (row_at k.memory.resident o p) row row.frame page.found victim.here refl in
+    let lists : searched (searched k.memory.queues) ≡ searched k.memory.queues = searched_twice k.memory.queues in
     record {
-      victim = ap (chosen []) (sym lists) ∙ leaves.victim ∙ sym here;
+      victim = ap (chosen []) (sym lists) ∙ victim.victim ∙ sym here;
       departs =
           record {
-            frame = frame;
+            frame = row.frame;
             here = here;
-            is = same_paging _ _ _ _ (frames_put k.resident k2.resident o p None None leaves.gone refl) (leaves.queues ∙ ap (removed frame.0) lists);
+            is = same_paging _ _ _ _ (frames_put k.memory.resident k2.memory.resident o p None None page.row refl) (page.queues ∙ ap (removed row.frame.0) lists);
           };
     }
 
 -- a page was reclaimed, or none is here
-pub reclaim_plays : (header : Header) (past : List Event) (ids : Ids) (size : ℕ) (answer : Reclaim) (k k2 : Parts) (before after : List Event) → Rests header k ids (before ++ past) → KeepsPages k.queues (searched k.queues)
-    → Reclaims answer k.host size [] (parts_of (record k { queues = searched k.queues }) before) (parts_of k2 after) → Plays header past before (paging k) after (paging k2)
-reclaim_plays header past ids size reclaim.Freed k k2 before after rests keeps is =
+pub reclaim_plays : (header : Header) (h : ℕ) (past : List Event) (ids : Ids) (answer : Reclaim) (k k2 : Parts) (before after : List Event) → Rests header h k ids (before ++ past) → KeepsPages k.memory.queues (searched k.memory.queues)
+    → Reclaims answer k.host [] (record k.memory { queues = searched k.memory.queues }) k2.memory k.laundry k2.laundry before after → Plays header past before (paging k) after (paging k2)
+reclaim_plays header h past ids reclaim.Freed k k2 before after rests keeps is =
     plays_one header past before after (event.Dropped k.host is.key.object is.key.page) (paging k) (paging k2) is.events
-    (subst (λ (b : Bool). DepartsFrom b is.key.object.0 is.key.page.0 (paging k) (paging k2)) (sym used) (victim_of is.frame is.key is.row k k2 k.queues before after is.leaves refl))
+    (subst (λ (b : Bool). DepartsFrom b is.key.object.0 is.key.page.0 (paging k) (paging k2)) (sym used) (victim_of is.key is.row _ _ k k2 is.victim is.page))
   where
     used : in_use header k.host.0 is.key.object.0 (before ++ past) ≡ true
-    used = ap (λ (z : HostId). in_use header z.0 is.key.object.0 (before ++ past)) rests.matches.host ∙ page_used header k ids (before ++ past) is.key.object.0 is.key.page.0 is.row rests is.leaves.found
-reclaim_plays header past ids size reclaim.Returned k k2 before after rests keeps is =
+    used = ap (λ z. in_use header z is.key.object.0 (before ++ past)) rests.matches.host ∙ page_used header h k ids (before ++ past) is.key.object.0 is.key.page.0 is.row rests is.page.found
+reclaim_plays header h past ids reclaim.Returned k k2 before after rests keeps is =
     subst (λ (z : List Event). Plays header past before (paging k) z (paging k2)) (sym is.events) (Then goes (told_from is.object.state creation before) (paging k) (paging k2) (created is.object.state) victim)
   where
     victim : IsVictim is.key.object.0 is.key.page.0 (paging k) (paging k2)
-    victim = victim_of is.frame is.key is.row k k2 k.queues before after is.leaves refl
+    victim = victim_of is.key is.row _ _ k k2 is.victim is.page
 
     goes : Event
-    goes = sends k.host is.key (message.Return (controlled is.object).control is.key.page is.row.dirty false (page_in k.frames is.frame.0))
+    goes = sends k.host is.key (message.Return (controlled is.object).control is.key.page is.row.dirty false (page_in k.memory.frames is.row.frame.0))
 
     creation : Event
-    creation = sends k.host is.key (message.Create (controlled is.object).control size)
+    creation = sends k.host is.key (message.Create (controlled is.object).control k.memory.buffers.size)
 
     created : (pager : PagerState) → Plays header past before (paging k) (told_from pager creation before) (paging k)
     created state.Without = Then creation before (paging k) (paging k) Still refl
     created state.Sent = Still
     created state.Ready = Still
-reclaim_plays header past ids size reclaim.Nothing k k2 before after rests keeps is =
+reclaim_plays header h past ids reclaim.Nothing k k2 before after rests keeps is =
     plays_none header past before after (paging k) (paging k2) is.events
-    (same_paging _ _ _ _ (λ o p. ap (λ z. frame_here (row_at z o p)) is.resident) (is.queues ∙ searched_twice k.queues ∙ searched_none k.queues (λ f on. is.skipped f (keeps f ∙ on))))
+    (same_paging _ _ _ _ (λ o p. ap (λ z. frame_here (row_at z o p)) is.resident) (is.queues ∙ searched_twice k.memory.queues ∙ searched_none k.memory.queues (λ f on. is.skipped f (keeps f ∙ on))))

@@ -1,7 +1,7 @@
 -- At the end of a step nobody waits in vain, and nothing is left behind.
-use Rattle.std.proofs.Common.{◌≡◌, ℕ, zero, suc, ◌+◌, ◌<◌, Bool, true, false, List, [], length, refl, ap, sym, ◌∙◌, subst, arith, Some, None, Option, inl, inr}
+use Rattle.std.proofs.Common.{is_some, ◌≡◌, ℕ, ◌+◌, ◌<◌, Bool, true, false, List, [], length, refl, ap, sym, ◌∙◌, subst, arith, Some, None, Option, inl, inr}
 use Rattle.std.proofs.lemmas.Bool.Decides.{nat_tests}
-use Rattle.std.specs.Prelude.{◌⊎◌, ◌≢◌, if◌then◌else◌, is_some, nat_lt, not}
+use Rattle.std.specs.Prelude.{◌⊎◌, ◌≢◌, if◌then◌else◌, nat_lt, not}
 use Rattle.vm_base.specs.declared.entry.Entry.{Entry}
 use Rattle.vm_base.specs.declared.ids.PageKey.{PageKey}
 use Rattle.vm_base.specs.Entries.{entry_at, page_at}
@@ -12,25 +12,24 @@ use Rattle.vm_model.specs.Regions.{region_of}
 use Rattle.vm_model.specs.Tasks.{entries_of}
 use Rattle.vm_model.specs.Waiting.{Access, address_of, is_store, next_page, waiting}
 use Rattle.vm_legal.specs.Accesses.{HasPlace, Waits, page_of}
-use Rattle.vm_legal.specs.Prompt.{AReady, AnAnswer, Awaits, IsFull, IsSwept, NoneInVain, Prompt, WaitsForPager}
+use Rattle.vm_legal.specs.Prompt.{AReady, AnAnswer, Awaits, IsFull, IsSwept, NoneInVain, PromptAt, WaitsForPager}
 use Rattle.vm_legal.specs.Walks.{IsTop, Reach, page_on}
 use Rattle.vm_frames.specs.Frames.{FrameTable}
-use Rattle.vm_maps.specs.Maps.{rows_in}
+use Rattle.vm_kernel.proofs.Regions.{region_row}
+use Rattle.vm_kernel.proofs.Leading.{address_is}
+use Rattle.vm_maps.specs.Maps.{rows_in, entries_in}
 use Rattle.vm_objects.specs.Objects.{absent_at, object_at}
 use Rattle.vm_objects.specs.declared.row.ObjectRow.{ObjectRow}
 use Rattle.vm_objects.specs.declared.row.PagerState.TheVariants as state
 use Rattle.vm_resident.specs.Resident.{row_at}
 use Rattle.vm_resident.specs.declared.page_row.PageRow.{PageRow}
-use Rattle.vm_shadow.specs.Chains.{ChainTable, region_at}
 use Rattle.vm_shadow.specs.declared.ids.Ids.{Ids}
-use Rattle.vm_shadow.specs.declared.region_row.RegionRow.{RegionRow}
 use Rattle.vm_supply.specs.declared.woken.Woken.TheVariants as woken
 use Rattle.vm_waits.specs.Waits.{entry, is_again, is_frame}
 use Rattle.vm_waits.specs.declared.waiting.On.{On}
 use Rattle.vm_waits.specs.declared.waiting.On.TheVariants as on
 use Rattle.vm_waits.specs.declared.waiting.Waiting.{Waiting}
 use Rattle.vm_waits.specs.declared.waiting.Want.{Want}
-use Rattle.vm_waits.specs.declared.waiting.Want.TheVariants as want
 use Rattle.vm_waits.proofs.Entries.{none_again, none_queued}
 use Rattle.vm_kernel.specs.Counts.{count_by, most_tasks}
 use Rattle.vm_kernel.specs.Matches.{HasWaits, Matches, Rests}
@@ -39,14 +38,8 @@ use Rattle.vm_kernel.specs.Places.{has_region, shown}
 use Rattle.vm_kernel.specs.Serving.{HasQueue, IsServed}
 use Rattle.vm_kernel.specs.Waiters.{IsAsked, IsAt, IsTold, Reason, access_in, address_in, waiting_in}
 use Rattle.vm_kernel.specs.declared.parts.Parts.{Parts}
-
--- the row of a region that is there
-pub region_row : (cs : ChainTable) (r : ℕ) → has_region cs r ≡ true → (row : RegionRow) × (region_at cs r ≡ Some row)
-region_row cs r there = go (region_at cs r) there
-  where
-    go : (x : Option RegionRow) → is_some x ≡ true → (row : RegionRow) × (x ≡ Some row)
-    go None bad = absurd (let no : false ≡ true = bad in cc)
-    go (Some row) is = (row, refl)
+use Rattle.vm_kernel.proofs.Own.{own_host}
+use Rattle.vm_model.specs.Local.{is_on}
 
 -- what is on the host has a row
 here_row : (fs : FrameTable) (x : Option PageRow) (lacked : Bool) → (shown fs x lacked).here ≡ true → (row : PageRow) × (x ≡ Some row)
@@ -59,27 +52,23 @@ pub record HasRow (rows : List Waiting) (task : ℕ) (access : Access) : Type 0 
   pub found : entry rows task ≡ Some row
   pub is : access ≡ access_in row.want
 
-pub has_row : (k : Parts) (past : List Event) (task : ℕ) (access : Access) → HasWaits k woken.Nobody past → waiting task past ≡ Some access → HasRow k.waits.rows task access
-has_row k past task access has waits = go (entry k.waits.rows task) refl
+pub has_row : (k : Parts) (past : List Event) (task : ℕ) (access : Access) → HasWaits k woken.Nobody past → is_some (entries_in task k.maps) ≡ true → waiting task past ≡ Some access → HasRow k.waits.rows task access
+has_row k past task access has here waits = go (entry k.waits.rows task) refl
   where
     go : (x : Option Waiting) → entry k.waits.rows task ≡ x → HasRow k.waits.rows task access
-    go None none = absurd (let bad : None ≡ Some access = sym (has.is task ∙ ap waiting_in none) ∙ waits in cc)
+    go None none = absurd (let bad : None ≡ Some access = sym (has.is task here ∙ ap waiting_in none) ∙ waits in cc)
     go (Some row) found =
-        let same : Some access ≡ Some (access_in row.want) = sym waits ∙ (has.is task ∙ ap waiting_in found) in
+        let same : Some access ≡ Some (access_in row.want) = sym waits ∙ (has.is task here ∙ ap waiting_in found) in
         record { row = row; found = found; is = cc }
 
-pub aims : (size next : ℕ) (what : Want) → address_of size next (access_in what) ≡ address_in what
-aims size next (want.Load address bytes) = refl
-aims size next (want.Store address bytes value) = refl
-
 -- the page of an access that waits is one of its places
-pub has_place : (header : Header) (k : Parts) (ids : Ids) (past : List Event) (lost : List Entry) (task : ℕ) (what : Want) (key : PageKey) → Matches header k ids lost past → IsAt k.maps k.chains task what key → (waits : Waits header task (access_in what) past)
+pub has_place : (header : Header) (h : ℕ) (k : Parts) (ids : Ids) (past : List Event) (lost : List Entry) (task : ℕ) (what : Want) (key : PageKey) → Matches header h k ids lost past → IsAt k.maps k.chains task what key → (waits : Waits header task (access_in what) past) → is_some (entries_in task k.maps) ≡ true
     → HasPlace header waits.at.entry.region.0 (page_of header task (access_in what) past waits.at.entry) key.object.0 key.page.0 past
-has_place header k ids past lost task what key m at waits =
+has_place header h k ids past lost task what key m at waits here =
     let next = next_page task past in
-    let address : address_of header.size next (access_in what) ≡ address_in what = aims header.size next what in
+    let address : address_of header.size next (access_in what) ≡ address_in what = address_is header.size next what in
     let found : entry_at (address_in what) (rows_in task k.maps) ≡ Some waits.at.entry =
-    ap (entry_at (address_in what)) (sym (m.tasks.rows task)) ∙ (ap (λ z. entry_at z (entries_of header.size task past)) (sym address) ∙ waits.at.found) in
+    ap (entry_at (address_in what)) (sym (m.tasks.rows task here)) ∙ (ap (λ z. entry_at z (entries_of header.size task past)) (sym address) ∙ waits.at.found) in
     let both : Some at.entry ≡ Some waits.at.entry = sym at.found ∙ found in
     let same : at.entry ≡ waits.at.entry = cc in
     let region : region_of header at.entry.region.0 past ≡ record { mark = at.row.marked; top = at.row.top.0; shift = at.row.shift; pages = at.row.pages } = m.regions.rows at.entry.region.0 at.row at.region in
@@ -93,59 +82,63 @@ has_place header k ids past lost task what key m at waits =
     (record { top = key.object.0; top_page = key.page.0; steps = 0; is_top = top; leads = (refl, refl) })
 
 -- a pager that was told of its object, and isn't ready
-awaits_ready : (header : Header) (k : Parts) (ids : Ids) (past : List Event) (lost : List Entry) (o p : ℕ) (store : Bool) → Matches header k ids lost past → IsTold k.objects o → Awaits header 0 store o p past
-awaits_ready header k ids past lost o p store m told =
+awaits_ready : (header : Header) (h : ℕ) (k : Parts) (ids : Ids) (past : List Event) (lost : List Entry) (o p : ℕ) (store : Bool) → Matches header h k ids lost past → IsTold k.memory.objects o → Awaits header h store o p past
+awaits_ready header h k ids past lost o p store m told =
     let apart : told.row.state ≢ state.Without = λ same. let bad : state.Sent ≡ state.Without = sym told.sent ∙ same in cc in
     let live : told.row.live ≡ true = m.controls.all_live.at o told.row told.found apart in
-    let control : live_control 0 o past ≡ Some told.row.control = m.controls.live o ∙ (ap live_in told.found ∙ ap (λ b. if b then Some told.row.control else None) live) in
+    let control : live_control h o past ≡ Some told.row.control = m.controls.live o ∙ (ap live_in told.found ∙ ap (λ b. if b then Some told.row.control else None) live) in
     AReady told.row.control control (m.controls.ready o told.row.control control ∙ (ap ready_in told.found ∙ ap is_ready_state told.sent))
 
 -- a page that is asked
-awaits_page : (header : Header) (k : Parts) (ids : Ids) (past : List Event) (lost : List Entry) (o p : ℕ) (store : Bool) → Matches header k ids lost past → IsAsked k.resident o p → Awaits header 0 store o p past
-awaits_page header k ids past lost o p store m asked =
-    AnAnswer (ap (λ z. z.asked) (m.pages.shown o p) ∙ (ap (λ z. (shown k.frames z (absent_at k.objects o p)).asked) asked.found ∙ ap not asked.away))
+awaits_page : (header : Header) (h : ℕ) (k : Parts) (ids : Ids) (past : List Event) (lost : List Entry) (o p : ℕ) (store : Bool) → Matches header h k ids lost past → IsAsked k.memory.resident o p → Awaits header h store o p past
+awaits_page header h k ids past lost o p store m asked =
+    AnAnswer (ap (λ z. z.asked) (m.pages.shown o p) ∙ (ap (λ z. (shown k.memory.frames z (absent_at k.memory.objects o p)).asked) asked.found ∙ ap not asked.away))
+
+-- a task that waits on the host is in its maps
+pub at_home : (header : Header) (h : ℕ) (k : Parts) (ids : Ids) (past : List Event) (task : ℕ) (access : Access) → Matches header h k ids [] past → (waits : Waits header task access past) → waits.at.host ≡ h → is_some (entries_in task k.maps) ≡ true
+at_home header h k ids past task access m waits home = sym (m.tasks.hosts task) ∙ (ap (is_on h) (waits.at.lives ∙ ap Some home) ∙ own_host h)
 
 -- what an access waits for that isn't to be run again
-waits_for : (header : Header) (k : Parts) (ids : Ids) (past : List Event) (task : ℕ) (what : Want) (why : On) → Matches header k ids [] past → Reason k.maps k.chains k.resident k.objects task what why → is_again why ≡ false → (is_frame why ≡ true → IsFull header 0 past)
-    → (waits : Waits header task (access_in what) past) → waits.at.host ≡ 0 → WaitsForPager header 0 task (access_in what) past ⊎ IsFull header 0 past
-waits_for header k ids past task what on.Again m reason fresh full waits home = absurd (let bad : true ≡ false = fresh in cc)
-waits_for header k ids past task what (on.Ready object) m reason fresh full waits home =
-    let told : IsTold k.objects reason.0.object.0 = subst (λ z. IsTold k.objects z.0) (sym reason.2) reason.3 in
+waits_for : (header : Header) (h : ℕ) (k : Parts) (ids : Ids) (past : List Event) (task : ℕ) (what : Want) (why : On) → Matches header h k ids [] past → Reason k.maps k.chains k.memory.resident k.memory.objects task what why → is_again why ≡ false → (is_frame why ≡ true → IsFull header h past)
+    → (waits : Waits header task (access_in what) past) → waits.at.host ≡ h → WaitsForPager header h task (access_in what) past ⊎ IsFull header h past
+waits_for header h k ids past task what on.Again m reason fresh full waits home = absurd (let bad : true ≡ false = fresh in cc)
+waits_for header h k ids past task what (on.Ready object) m reason fresh full waits home =
+    let told : IsTold k.memory.objects reason.0.object.0 = subst (λ z. IsTold k.memory.objects z.0) (sym reason.2) reason.3 in
     inl (record {
       waits = waits;
       on_host = home;
       object = reason.0.object.0;
       page = reason.0.page.0;
-      place = has_place header k ids past [] task what reason.0 m reason.1 waits;
-      what = awaits_ready header k ids past [] reason.0.object.0 reason.0.page.0 (is_store (access_in what)) m told;
+      place = has_place header h k ids past [] task what reason.0 m reason.1 waits (at_home header h k ids past task (access_in what) m waits home);
+      what = awaits_ready header h k ids past [] reason.0.object.0 reason.0.page.0 (is_store (access_in what)) m told;
     })
-waits_for header k ids past task what (on.Page key) m reason fresh full waits home =
+waits_for header h k ids past task what (on.Page key) m reason fresh full waits home =
     inl (record {
       waits = waits;
       on_host = home;
       object = key.object.0;
       page = key.page.0;
-      place = has_place header k ids past [] task what key m reason.0 waits;
-      what = awaits_page header k ids past [] key.object.0 key.page.0 (is_store (access_in what)) m reason.1;
+      place = has_place header h k ids past [] task what key m reason.0 waits (at_home header h k ids past task (access_in what) m waits home);
+      what = awaits_page header h k ids past [] key.object.0 key.page.0 (is_store (access_in what)) m reason.1;
     })
-waits_for header k ids past task what on.Frame m reason fresh full waits home = inr (full refl)
+waits_for header h k ids past task what on.Frame m reason fresh full waits home = inr (full refl)
 
 -- an access that wants a frame waits while the queue can't go on
-queue_full : (header : Header) (k : Parts) (past : List Event) (task : ℕ) (w : Waiting) → IsServed header k past → entry k.waits.rows task ≡ Some w → is_frame w.on ≡ true → IsFull header 0 past
-queue_full header k past task w (inl empty) found queues = absurd (let none = none_queued k.waits.rows task w empty found in let bad : true ≡ false = sym queues ∙ none in cc)
-queue_full header k past task w (inr full) found queues = full
+queue_full : (header : Header) (h : ℕ) (k : Parts) (past : List Event) (task : ℕ) (w : Waiting) → IsServed header h k past → entry k.waits.rows task ≡ Some w → is_frame w.on ≡ true → IsFull header h past
+queue_full header h k past task w (inl empty) found queues = absurd (let none = none_queued k.waits.rows task w empty found in let bad : true ≡ false = sym queues ∙ none in cc)
+queue_full header h k past task w (inr full) found queues = full
 
-none_in_vain : (header : Header) (k : Parts) (ids : Ids) (past : List Event) → Rests header k ids past → IsServed header k past → NoneInVain header 0 past
-none_in_vain header k ids past rests served task access waits home =
-    let row = has_row k past task access rests.waits waits.waits in
+none_in_vain : (header : Header) (h : ℕ) (k : Parts) (ids : Ids) (past : List Event) → Rests header h k ids past → IsServed header h k past → NoneInVain header h past
+none_in_vain header h k ids past rests served task access waits home =
+    let row = has_row k past task access rests.waits (at_home header h k ids past task access rests.matches waits home) waits.waits in
     let w = row.row in
-    subst (λ (z : Access). (it : Waits header task z past) → it.at.host ≡ 0 → WaitsForPager header 0 task z past ⊎ IsFull header 0 past) (sym row.is)
-    (waits_for header k ids past task w.want w.on rests.matches (rests.waits.reasons task w row.found refl) (none_again k.waits.rows task w rests.idle row.found) (queue_full header k past task w served row.found))
+    subst (λ (z : Access). (it : Waits header task z past) → it.at.host ≡ h → WaitsForPager header h task z past ⊎ IsFull header h past) (sym row.is)
+    (waits_for header h k ids past task w.want w.on rests.matches (rests.waits.reasons task w row.found refl) (none_again k.waits.rows task w rests.idle row.found) (queue_full header h k past task w served row.found))
     waits home
 
 -- a region leads to the object with its number
-reaches : (header : Header) (k : Parts) (ids : Ids) (past : List Event) (object : ℕ) → Rests header k ids past → has_region k.chains object ≡ true → Reach header 0 object past
-reaches header k ids past object rests there =
+reaches : (header : Header) (h : ℕ) (k : Parts) (ids : Ids) (past : List Event) (object : ℕ) → Rests header h k ids past → has_region k.chains object ≡ true → Reach header h object past
+reaches header h k ids past object rests there =
     let m = rests.matches in
     let region = region_row k.chains object there in
     let some = rests.used object region.0 region.1 in
@@ -153,43 +146,34 @@ reaches header k ids past object rests there =
     let test : nat_lt 0 (count_by most_tasks object k.maps) ≡ true = grind (arith, nat_tests) in
     (object, 0, m.uses.used object ∙ test, (m.regions.tops object).top)
 
-swept : (header : Header) (k : Parts) (ids : Ids) (past : List Event) → Rests header k ids past → IsSwept header 0 past
-swept header k ids past rests =
+swept : (header : Header) (h : ℕ) (k : Parts) (ids : Ids) (past : List Event) → Rests header h k ids past → IsSwept header h past
+swept header h k ids past rests =
     record {
-      pages = λ object page temporary away. gone object page away (page_on header 0 object page past).here refl;
-      controls = λ object temporary away. rests.matches.controls.live object ∙ ended object away (object_at k.objects object) refl;
+      pages = λ object page temporary away. gone object page away (page_on header h object page past).here refl;
+      controls = λ object temporary away. rests.matches.controls.live object ∙ ended object away (object_at k.memory.objects object) refl;
+      declared_pages = λ object page below unheld. absurd (let none = ap length rests.matches.plain.objects in omega arith);
+      declared_controls = λ object below unheld. absurd (let none = ap length rests.matches.plain.objects in omega arith);
     }
   where
-    gone : (object page : ℕ) → (Reach header 0 object past → ⊥) → (b : Bool) → (page_on header 0 object page past).here ≡ b → b ≡ false
+    gone : (object page : ℕ) → (Reach header h object past → ⊥) → (b : Bool) → (page_on header h object page past).here ≡ b → b ≡ false
     gone object page away false is = refl
     gone object page away true is =
         let m = rests.matches in
-        let row = here_row k.frames (row_at k.resident object page) (absent_at k.objects object page) (ap (λ z. z.here) (sym (m.pages.shown object page)) ∙ is) in
-        absurd (away (reaches header k ids past object rests (m.pages.live object page row.0 row.1)))
+        let row = here_row k.memory.frames (row_at k.memory.resident object page) (absent_at k.memory.objects object page) (ap (λ z. z.here) (sym (m.pages.shown object page)) ∙ is) in
+        absurd (away (reaches header h k ids past object rests (m.pages.live object page row.0 row.1)))
 
-    dead : (object : ℕ) → (Reach header 0 object past → ⊥) → (row : ObjectRow) → object_at k.objects object ≡ Some row → (b : Bool) → row.live ≡ b → (if b then Some row.control else None) ≡ None
+    dead : (object : ℕ) → (Reach header h object past → ⊥) → (row : ObjectRow) → object_at k.memory.objects object ≡ Some row → (b : Bool) → row.live ≡ b → (if b then Some row.control else None) ≡ None
     dead object away row found false is = refl
-    dead object away row found true is = absurd (away (reaches header k ids past object rests (rests.reached object row found is)))
+    dead object away row found true is = absurd (away (reaches header h k ids past object rests (rests.reached object row found is)))
 
-    ended : (object : ℕ) → (Reach header 0 object past → ⊥) → (x : Option ObjectRow) → object_at k.objects object ≡ x → live_in x ≡ None
+    ended : (object : ℕ) → (Reach header h object past → ⊥) → (x : Option ObjectRow) → object_at k.memory.objects object ≡ x → live_in x ≡ None
     ended object away None is = refl
     ended object away (Some row) is = dead object away row is row.live refl
 
 -- whoever stands in the frame queue, no frame is free then
-pub queue_of : (header : Header) (k : Parts) (past : List Event) → IsServed header k past → HasQueue header k past
-queue_of header k past (inl empty) = inl empty
-queue_of header k past (inr full) = inr full.none
+pub queue_of : (header : Header) (h : ℕ) (k : Parts) (past : List Event) → IsServed header h k past → HasQueue header h k past
+queue_of header h k past (inl empty) = inl empty
+queue_of header h k past (inr full) = inr full.none
 
-pub prompt_of : (header : Header) (k : Parts) (ids : Ids) (past : List Event) → Rests header k ids past → IsServed header k past → Prompt header past
-prompt_of header k ids past rests served = record { waits = λ host below. waits_at host (only host below); swept = λ host below. swept_at host (only host below) }
-  where
-    only : (host : ℕ) → host < length header.frames.items → host < 1
-    only host below = let one : length header.frames.items ≡ 1 = ap length rests.matches.plain.hosts in omega arith
-
-    waits_at : (host : ℕ) → host < 1 → NoneInVain header host past
-    waits_at zero below = none_in_vain header k ids past rests served
-    waits_at (suc host) below = absurd (omega arith)
-
-    swept_at : (host : ℕ) → host < 1 → IsSwept header host past
-    swept_at zero below = swept header k ids past rests
-    swept_at (suc host) below = absurd (omega arith)
+pub prompt_of : (header : Header) (h : ℕ) (k : Parts) (ids : Ids) (past : List Event) → Rests header h k ids past → IsServed header h k past → PromptAt header h past
+prompt_of header h k ids past rests served = record { waits = none_in_vain header h k ids past rests served; swept = swept header h k ids past rests }

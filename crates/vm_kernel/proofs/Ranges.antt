@@ -1,7 +1,7 @@
 -- A range is allocated: a region over a new object, and an entry on the whole of it.
 use Rattle.std.proofs.Common.{◌≡◌, nat_le, nat_lt, ℕ, ◌+◌, ◌-◌, ◌/◌, ◌%◌, ◌<◌, ◌≤◌, ◌^◌, ◌==◌, ◌||◌, not, Bool, true, false, List, [], ◌∷◌, ◌++◌, length, refl, ap, sym, ◌∙◌, subst, arith, Some, None, Option, inl, inr}
 use Rattle.std.proofs.lemmas.Bool.Decides.{eqb_tells, nat_tests}
-use Rattle.std.specs.Prelude.{if◌then◌else◌, is_none, is_some, IfSome, ◌≢◌}
+use Rattle.std.specs.Prelude.{if◌then◌else◌, is_none, is_some, IfSome, ◌≢◌, ◌⊎◌}
 use Rattle.vm_base.specs.declared.code.Code.TheVariants as code
 use Rattle.vm_base.specs.declared.entry.Entry.{Entry}
 use Rattle.vm_base.specs.declared.ids.ObjectId.{ObjectId}
@@ -13,13 +13,13 @@ use Rattle.vm_model.specs.declared.command.Command.TheVariants as command
 use Rattle.vm_model.specs.declared.script.Header.{Header}
 use Rattle.vm_model.specs.Controls.{last_control, live_control}
 use Rattle.vm_legal.specs.Follows.{head}
-use Rattle.vm_model.specs.Local.{Local, is_on, local}
+use Rattle.vm_model.specs.Local.{Local, local}
 use Rattle.vm_legal.specs.Refusal.{where_true}
 use Rattle.vm_model.specs.Regions as R
-use Rattle.vm_model.specs.Regions.{Region, backing_of, next_object, next_region, region_of}
+use Rattle.vm_model.specs.Regions.{Region, backing_of, marked_regions, next_object, next_region, region_of}
 use Rattle.vm_model.specs.Rows.{AllRows, page_below, rows_entered, rows_map}
 use Rattle.vm_model.specs.Tasks.{entries_of, has_entry, host_of}
-use Rattle.vm_model.specs.Waiting.{waiting}
+use Rattle.vm_model.specs.Waiting.{fills, waiting, begins_copy, copy_target}
 use Rattle.vm_legal.specs.Licences.{AllLicensed, Enters}
 use Rattle.vm_legal.specs.Accesses.{is_ready}
 use Rattle.vm_legal.specs.Living.{lives_on, tasks}
@@ -30,7 +30,6 @@ use Rattle.vm_maps.specs.declared.change.MapChange.{MapChange}
 use Rattle.vm_maps.specs.Maps.{ChangesOnly, Mapped, entries_in, rows_in}
 use Rattle.vm_objects.specs.Objects.{ObjectTable, PutsObject, object_at, SameMarks}
 use Rattle.vm_objects.specs.declared.row.ObjectRow.{ObjectRow}
-use Rattle.vm_queues.specs.Queues.{Queues}
 use Rattle.vm_resident.specs.Resident.{ResidentTable, row_at}
 use Rattle.vm_shadow.specs.Chains.{ChainTable, PutsRegion, region_at}
 use Rattle.vm_shadow.specs.declared.ids.Ids.{Ids}
@@ -40,18 +39,24 @@ use Rattle.vm_kernel.specs.Begun.{IsLined, Ran, Starts}
 use Rattle.vm_kernel.specs.Changes.{MadeRange, entering, whole_entry}
 use Rattle.vm_kernel.specs.Counts.{count_by, most_tasks}
 use Rattle.vm_kernel.specs.Forking.{got}
-use Rattle.vm_kernel.specs.Matches.{AllReached, AllUsed, HasEntries, HasPages, HasRegions, HasUse, IsInside, IsOwn, IsUnder, Rests, host_for}
+use Rattle.vm_kernel.specs.Matches.{AllReached, AllUsed, HasEntries, HasPages, HasRegions, HasUse, IsInside, IsOwn, IsUnder, Rests, holds}
 use Rattle.vm_parts.specs.Fits.{Fit, pages_kept}
 use Rattle.vm_kernel.specs.Places.{has_region, pages_in, place_of, region_pages, shown}
+use Rattle.vm_kernel.specs.Waiters.{waiting_in}
 use Rattle.vm_kernel.specs.declared.parts.Parts.{Parts}
 use Rattle.vm_kernel.proofs.Counts.{by_none, most_is, on_entered}
 use Rattle.vm_kernel.proofs.Growing.{licensed, suffices}
 use Rattle.vm_kernel.proofs.Heads.{passed, ran_head}
 use Rattle.vm_kernel.proofs.Making.{controls_made, idle_of, knows_made, new_object, waits_known}
-use Rattle.vm_kernel.proofs.Rows.{one_case, region_cases, some_is}
-use Rattle.vm_kernel.proofs.Tasks.{Keeps, entries_changed, inside_kept, length_entered, lives_of, tasks_entered}
-use Rattle.vm_kernel.proofs.Uses.{unfilled, uses_entered}
-use Rattle.vm_kernel.proofs.Waited.{SameTops, waits_changed}
+use Rattle.vm_kernel.proofs.Rows.{region_cases}
+use Rattle.vm_kernel.proofs.Tasks.{Keeps, entries_changed, inside_kept, tasks_entered}
+use Rattle.vm_kernel.proofs.Uses.{unfilled, uses_entered, ApartFrom, holds_rows}
+use Rattle.vm_kernel.proofs.Waited.{SameTops, waits_changed, told_changed}
+use Rattle.vm_parts.proofs.Rows.{one_case, some_is}
+use Rattle.vm_parts.specs.declared.parts.HostParts.{HostParts}
+use Rattle.vm_parts.proofs.Fitting.{fit_within}
+use Rattle.vm_maps.proofs.Entering.{length_entered}
+use Rattle.vm_kernel.proofs.Own.{lives_here, lives_in, rows_here}
 
 -- what an allocation that isn't refused has
 pub record MayRange (size : ℕ) (k : Parts) (ids : Ids) (task address bytes : ℕ) : Type 0 where
@@ -67,11 +72,11 @@ pub record MayRange (size : ℕ) (k : Parts) (ids : Ids) (task address bytes : �
   pub objects : ids.next_object < 8192
   pub idle : entry k.waits.rows task ≡ None
 
-pub may_range : (header : Header) (task : TaskId) (address bytes : ℕ) (past : List Event) (k : Parts) (ids : Ids) (events : List Event) → Starts header (command.Allocate task address bytes) past k ids events → MayRange header.size k ids task.0 address bytes
-may_range header task address bytes past k ids events s =
+pub may_range : (header : Header) (h : ℕ) (task : TaskId) (address bytes : ℕ) (past : List Event) (k : Parts) (ids : Ids) (events : List Event) → Starts header h (command.Allocate task address bytes) past k ids events → MayRange header.size k ids task.0 address bytes
+may_range header h task address bytes past k ids events s =
     let m = s.rests.matches in
     let rows = entries_of header.size task.0 past in
-    let full = nat_lt most_entries (length rows + 1) || (nat_le 8192 (next_region header past) || nat_le 8192 (next_object header past)) in
+    let full = nat_lt most_entries (length rows + 1) || (nat_le 8192 (next_region header past) || nat_le 8192 (next_object header past + marked_regions header past)) in
     let last = where_true full code.TableFull None in
     let next = where_true (meets_range address bytes rows) code.NoSpace last in
     let tests = not (is_range header.size address bytes) || nat_lt 4096 (bytes / header.size) in
@@ -80,19 +85,20 @@ may_range header task address bytes past k ids events s =
     let first = passed tests code.InvalidArgument next idle.1 in
     let second = passed (meets_range address bytes rows) code.NoSpace last first.1 in
     let third = passed full code.TableFull None second.1 in
-    let own : rows ≡ rows_in task.0 k.maps = m.tasks.rows task.0 in
+    let lives = lives_in task.0 m.tasks s.acts in
+    let own : rows ≡ rows_in task.0 k.maps = rows_here m.tasks lives in
     let test : tests ≡ false = first.0 in
     let range : is_range header.size address bytes ≡ true = only_true (is_range header.size address bytes) (nat_lt 4096 (bytes / header.size)) test in
     let limits : full ≡ false = third.0 in
-    let counts : (nat_lt most_entries (length rows + 1) ≡ false) × (nat_le 8192 (next_region header past) ≡ false) × (nat_le 8192 (next_object header past) ≡ false) =
-    all_false (nat_lt most_entries (length rows + 1)) (nat_le 8192 (next_region header past)) (nat_le 8192 (next_object header past)) limits in
+    let counts : (nat_lt most_entries (length rows + 1) ≡ false) × (nat_le 8192 (next_region header past) ≡ false) × (nat_le 8192 (next_object header past + marked_regions header past) ≡ false) =
+    all_false (nat_lt most_entries (length rows + 1)) (nat_le 8192 (next_region header past)) (nat_le 8192 (next_object header past + marked_regions header past)) limits in
     let short : nat_lt most_entries (length rows + 1) ≡ false = counts.0 in
     let regions : nat_le 8192 (next_region header past) ≡ false = counts.1 in
-    let objects : nat_le 8192 (next_object header past) ≡ false = counts.2 in
+    let objects : nat_le 8192 (next_object header past + marked_regions header past) ≡ false = counts.2 in
     let next_one = m.regions.region in
     let next_two = m.regions.object in
     record {
-      lives = lives_of (entries_in task.0 k.maps) (host_of task.0 past) (m.tasks.hosts task.0) acts.0;
+      lives = lives;
       whole = grind (arith, nat_tests);
       some = grind (arith, nat_tests);
       below = grind (arith, nat_tests);
@@ -102,7 +108,7 @@ may_range header task address bytes past k ids events s =
       room = subst (λ (z : List Entry). length z < most_entries) own (grind (arith, nat_tests));
       regions = grind (arith, nat_tests);
       objects = grind (arith, nat_tests);
-      idle = idle_of (entry k.waits.rows task.0) (waiting task.0 past) (s.rests.waits.is task.0) idle.0;
+      idle = idle_of (entry k.waits.rows task.0) (waiting task.0 past) (s.rests.waits.is task.0 (ap is_some lives)) idle.0;
     }
   where
     only_true : (b c : Bool) → (not b || c) ≡ false → b ≡ true
@@ -116,11 +122,11 @@ may_range header task address bytes past k ids events s =
     all_false false false false e = (refl, refl, refl)
 
 -- what is free has no number yet
-pub region_free : (header : Header) (k : Parts) (ids : Ids) (past : List Event) → Rests header k ids past → region_at k.chains ids.next_region ≡ None
-region_free header k ids past rests = let number = rests.matches.regions.region in rests.matches.regions.unmade ids.next_region (omega arith)
+pub region_free : (header : Header) (h : ℕ) (k : Parts) (ids : Ids) (past : List Event) → Rests header h k ids past → region_at k.chains ids.next_region ≡ None
+region_free header h k ids past rests = let number = rests.matches.regions.region in rests.matches.regions.unmade ids.next_region (omega arith)
 
-pub object_free : (header : Header) (k : Parts) (ids : Ids) (past : List Event) → Rests header k ids past → object_at k.objects ids.next_object ≡ None
-object_free header k ids past rests = let number = rests.matches.regions.object in rests.matches.regions.unknown ids.next_object (omega arith)
+pub object_free : (header : Header) (h : ℕ) (k : Parts) (ids : Ids) (past : List Event) → Rests header h k ids past → object_at k.memory.objects ids.next_object ≡ None
+object_free header h k ids past rests = let number = rests.matches.regions.object in rests.matches.regions.unknown ids.next_object (omega arith)
 
 -- a new region's row
 abbrev pub new_region : ObjectId → ℕ → RegionRow
@@ -277,23 +283,14 @@ tops_range chains chains2 n row none put =
       ];
     }
 
-fit_range : (size : ℕ) (fs : FrameTable) (rs : ResidentTable) (qs : Queues) (os os2 : ObjectTable) (chains : ChainTable) (local_at : ℕ → ℕ → Local) (n o : ℕ) (row : ObjectRow) → Fit size fs rs qs os → HasPages fs rs os chains local_at → region_at chains n ≡ None → o ≡ n
-    → PutsObject o (Some row) os os2 → Fit size fs rs qs os2
-fit_range size fs rs qs os os2 chains local_at n o row fit pages none is put =
-    record {
-      owned = fit.owned;
-      held = fit.held;
-      listed = fit.listed;
-      unlisted = fit.unlisted;
-      unowned = fit.unowned;
-      inside = λ o2 p r found. elim (one_case o o2 (Some row) (object_at os o2) (object_at os2 o2) (put.at o2)) [
-        | inl same ↦ absurd (not_there chains n o2 none (sym is ∙ same.0) (pages.live o2 p r found))
-        | inr apart ↦ subst (λ (z : ℕ). p < z) (sym (ap pages_kept apart.1)) (fit.inside o2 p r found)
-      ];
-      all_sized = fit.all_sized;
-      count = fit.count;
-      pages = fit.pages;
-    }
+fit_range : (parts : HostParts) (os : ObjectTable) (chains : ChainTable) (local_at : ℕ → ℕ → Local) (n o : ℕ) (row : ObjectRow) → Fit parts → HasPages parts.frames parts.resident parts.objects chains local_at → region_at chains n ≡ None → o ≡ n
+    → PutsObject o (Some row) parts.objects os → Fit (record parts { objects = os })
+fit_range parts os chains local_at n o row fit pages none is put =
+    fit_within parts os fit
+    (λ o2 p r found. elim (one_case o o2 (Some row) (object_at parts.objects o2) (object_at os o2) (put.at o2)) [
+      | inl same ↦ absurd (not_there chains n o2 none (sym is ∙ same.0) (pages.live o2 p r found))
+      | inr apart ↦ subst (λ (z : ℕ). p < z) (sym (ap pages_kept apart.1)) (fit.inside o2 p r found)
+    ])
 
 -- the entry that was entered
 pub changes_entered : (old new : Mapped) (task : ℕ) (change : MapChange) (row : Entry) → change ≡ entering row → IfSome change.entry (λ other. ChangesOnly old new task (Some (entered other (rows_in task old)))) → ChangesOnly old new task (Some (entered row (rows_in task old)))
@@ -314,44 +311,64 @@ with_range k k2 maps =
       alloc = k2.alloc;
       host = k.host;
       size = k.size;
-      frames = k.frames;
-      resident = k.resident;
-      queues = k.queues;
-      objects = k2.objects;
+      memory = record k.memory { objects = k2.memory.objects };
       maps = maps;
       chains = k2.chains;
-      buffers = k.buffers;
       laundry = k.laundry;
       waits = k.waits;
     }
 
 -- a region that was made may be used, up to its first entry
-made_use : (header : Header) (n r pages : ℕ) (object : ObjectId) (past : List Event) → IsLined past → n ≡ r → in_use header 0 r (event.RegionMade (record { 0 = n }) object pages ∷ past) ≡ true
-made_use header n r pages object past lined same = elim (eqb_tells r n) [
-  | inl is ↦ ap (λ b. if b then made_here 0 past else in_use header 0 r past) is.0 ∙ ap (made_here 0) lined.is
+made_use : (header : Header) (h : ℕ) (n r pages : ℕ) (object : ObjectId) (past : List Event) → IsLined past → n ≡ r → in_use header h r (event.RegionMade (record { 0 = n }) object pages ∷ past) ≡ true
+made_use header h n r pages object past lined same = elim (eqb_tells r n) [
+  | inl is ↦ ap (λ b. if b then made_here h past else in_use header h r past) is.0 ∙ ap (made_here h) lined.is
   | inr apart ↦ absurd (apart.1 (sym same))
 ]
 
-other_use : (header : Header) (n r pages : ℕ) (object : ObjectId) (past : List Event) → r ≢ n → in_use header 0 r (event.RegionMade (record { 0 = n }) object pages ∷ past) ≡ in_use header 0 r past
-other_use header n r pages object past apart = elim (eqb_tells r n) [
+other_use : (header : Header) (h : ℕ) (n r pages : ℕ) (object : ObjectId) (past : List Event) → r ≢ n → in_use header h r (event.RegionMade (record { 0 = n }) object pages ∷ past) ≡ in_use header h r past
+other_use header h n r pages object past apart = elim (eqb_tells r n) [
   | inl is ↦ absurd (apart is.1)
-  | inr other ↦ ap (λ b. if b then made_here 0 past else in_use header 0 r past) other.0
+  | inr other ↦ ap (λ b. if b then made_here h past else in_use header h r past) other.0
 ]
 
-range_uses : (header : Header) (task : TaskId) (address bytes : ℕ) (past : List Event) (k : Parts) (ids : Ids) (maps : Mapped) (object : ObjectId) (pages : ℕ) → IsLined past → Rests header k ids past → MayRange header.size k ids task.0 address bytes → task.0 < most_tasks
-    → ChangesOnly k.maps maps task.0 (Some (entered (whole_entry address bytes (record { 0 = ids.next_region })) (rows_in task.0 k.maps)))
-    → HasUse maps (λ r. in_use header 0 r (got task (whole_entry address bytes (record { 0 = ids.next_region })) ∷ event.RegionMade (record { 0 = ids.next_region }) object pages ∷ past)) (tasks past)
-range_uses header task address bytes past k ids maps object pages lined rests may below changes =
+-- what others hold stays, where a region is made
+holds_range : (header : Header) (task : TaskId) (past : List Event) (t r : ℕ) → IsLined past → (object : ObjectId) (n pages : ℕ) → holds header.size t r (event.RegionMade (record { 0 = n }) object pages ∷ past) ≡ holds header.size t r past
+holds_range header task past t r lined object n pages =
+    ap (λ z. has_entry r (entries_of header.size t past) || fills r (waiting t past) (if begins_copy t z then Some (record { region = n; object = object.0 }) else copy_target t past)) lined.is
+
+range_apart : (header : Header) (h : ℕ) (task : TaskId) (address bytes : ℕ) (past : List Event) (k : Parts) (ids : Ids) (maps : Mapped) (object : ObjectId) (pages : ℕ) → IsLined past → Rests header h k ids past → MayRange header.size k ids task.0 address bytes
+    → ApartFrom k.maps (λ r. in_use header h r (event.RegionMade (record { 0 = ids.next_region }) object pages ∷ past))
+    (λ t r. holds header.size t r (got task (whole_entry address bytes (record { 0 = ids.next_region })) ∷ event.RegionMade (record { 0 = ids.next_region }) object pages ∷ past)) (next_region header past + 1)
+range_apart header h task address bytes past k ids maps object pages lined rests may t r none why =
     let m = rests.matches in
     let n = ids.next_region in
     let made : Event = event.RegionMade (record { 0 = n }) object pages in
-    uses_entered k.maps maps (λ r. in_use header 0 r (made ∷ past)) (tasks past) task.0 (whole_entry address bytes (record { 0 = n })) (lives_on 0 task.0 (made ∷ past))
-    (λ r apart. other_use header n r pages object past apart ∙ m.uses.used r) (made_use header n n pages object past lined refl) m.uses.among changes may.lives below
-    (ap (is_on 0) (m.tasks.hosts task.0 ∙ ap host_for may.lives))
+    holds_rows header.size task.0 t r k.maps (rows_in task.0 k.maps) _ (made ∷ past) may.lives none
+    ∙ (holds_range header task past t r lined object n pages ∙ m.uses.apart t r none (either why))
+  where
+    either : (in_use header h r (event.RegionMade (record { 0 = ids.next_region }) object pages ∷ past) ≡ true) ⊎ (next_region header past + 1 ≤ r) → (in_use header h r past ≡ true) ⊎ (next_region header past ≤ r)
+    either (inl used) = elim (eqb_tells r ids.next_region) [
+      | inl same ↦ inr (omega (arith, same.1, rests.matches.regions.region))
+      | inr apart ↦ inl (sym (other_use header h ids.next_region r pages object past apart.1) ∙ used)
+    ]
+    either (inr high) = inr (omega (arith, high))
 
-range_licensed : (header : Header) (outside : Outside) (task : TaskId) (address bytes : ℕ) (past : List Event) (k : Parts) (ids : Ids) → IsLined past → Rests header k ids past → MayRange header.size k ids task.0 address bytes
+range_uses : (header : Header) (h : ℕ) (task : TaskId) (address bytes : ℕ) (past : List Event) (k : Parts) (ids : Ids) (maps : Mapped) (object : ObjectId) (pages : ℕ) → IsLined past → Rests header h k ids past → MayRange header.size k ids task.0 address bytes → task.0 < most_tasks
+    → ChangesOnly k.maps maps task.0 (Some (entered (whole_entry address bytes (record { 0 = ids.next_region })) (rows_in task.0 k.maps)))
+    → HasUse maps (λ r. in_use header h r (got task (whole_entry address bytes (record { 0 = ids.next_region })) ∷ event.RegionMade (record { 0 = ids.next_region }) object pages ∷ past)) (tasks past)
+    (λ t r. holds header.size t r (got task (whole_entry address bytes (record { 0 = ids.next_region })) ∷ event.RegionMade (record { 0 = ids.next_region }) object pages ∷ past)) (next_region header past + 1)
+range_uses header h task address bytes past k ids maps object pages lined rests may below changes =
+    let m = rests.matches in
+    let n = ids.next_region in
+    let made : Event = event.RegionMade (record { 0 = n }) object pages in
+    uses_entered k.maps maps (λ r. in_use header h r (made ∷ past)) (tasks past) _ _ task.0 (whole_entry address bytes (record { 0 = n })) (lives_on h task.0 (made ∷ past))
+    (λ r apart. other_use header h n r pages object past apart ∙ m.uses.used r) (made_use header h n n pages object past lined refl) m.uses.among changes may.lives below
+    (m.tasks.hosts task.0 ∙ ap is_some may.lives)
+    (range_apart header h task address bytes past k ids maps object pages lined rests may)
+
+range_licensed : (header : Header) (h : ℕ) (outside : Outside) (task : TaskId) (address bytes : ℕ) (past : List Event) (k : Parts) (ids : Ids) → IsLined past → Rests header h k ids past → MayRange header.size k ids task.0 address bytes
     → AllLicensed header outside (command.Allocate task address bytes) (ranged task ids address bytes (bytes / header.size)) past
-range_licensed header outside task address bytes past k ids lined rests may =
+range_licensed header h outside task address bytes past k ids lined rests may =
     let m = rests.matches in
     let n = ids.next_region in
     let pages = bytes / header.size in
@@ -359,82 +376,85 @@ range_licensed header outside task address bytes past k ids lined rests may =
     let made : Event = event.RegionMade (record { 0 = n }) object pages in
     let numbers : (n ≡ next_region header past) × (ids.next_object ≡ next_object header past) = (m.regions.region, m.regions.object) in
     let sized : (region_of header n (made ∷ past)).pages ≡ pages = ap (λ z. z.pages) (made_test n n ids.next_object pages (region_of header n past) refl) in
-    let own = made_use header n n pages object past lined refl in
+    let own = made_use header h n n pages object past lined refl in
     let enters : Enters header task.0 bytes n 0 (made ∷ past) =
     record {
-      host = 0;
-      lives = m.tasks.hosts task.0 ∙ ap host_for may.lives;
+      idle = rests.waits.is task.0 (ap is_some may.lives) ∙ ap waiting_in may.idle;
+      host = h;
+      lives = lives_here m.tasks may.lives;
       whole = may.whole;
       inside = omega (arith, sized);
       made = let number = m.regions.region in omega arith;
       used = λ temporary. own;
       file = λ is. own;
-      unfilled = unfilled n (tasks past) k.waits.rows (made ∷ past) (record { is = rests.waits.is });
+      unfilled = unfilled header.size n (tasks past) k.maps k.waits.rows (made ∷ past) (record { is = rests.waits.is }) (λ t none. holds_range header task past t n lined object n pages ∙ m.uses.apart t n none (inr (omega (arith, m.regions.region))));
     } in (
       licensed header outside (command.Allocate task address bytes) (got task (whole_entry address bytes (record { 0 = n }))) (made ∷ past) refl enters,
       (licensed header outside (command.Allocate task address bytes) made past m.settled numbers, tt),
     )
 
-rests_range : (header : Header) (task : TaskId) (address bytes : ℕ) (past : List Event) (k k2 : Parts) (ids : Ids) (maps : Mapped) → IsLined past → Rests header k ids past → MayRange header.size k ids task.0 address bytes → task.0 < 1024
+rests_range : (header : Header) (h : ℕ) (task : TaskId) (address bytes : ℕ) (past : List Event) (k k2 : Parts) (ids : Ids) (maps : Mapped) → IsLined past → Rests header h k ids past → MayRange header.size k ids task.0 address bytes → task.0 < 1024
     → MadeRange (record { 0 = ids.next_region }) (record { 0 = ids.next_object }) (bytes / header.size) k k2 → ChangesOnly k.maps maps task.0 (Some (entered (whole_entry address bytes (record { 0 = ids.next_region })) (rows_in task.0 k.maps)))
-    → Rests header (with_range k k2 maps) (ids_after ids) (ranged task ids address bytes (bytes / header.size) ++ past)
-rests_range header task address bytes past k k2 ids maps lined rests may below made changes =
+    → Rests header h (with_range k k2 maps) (ids_after ids) (ranged task ids address bytes (bytes / header.size) ++ past)
+rests_range header h task address bytes past k k2 ids maps lined rests may below made changes =
     let m = rests.matches in
     let pages = bytes / header.size in
     let n = ids.next_region in
     let object : ObjectId = record { 0 = ids.next_object } in
-    let none = region_free header k ids past rests in
+    let none = region_free header h k ids past rests in
     let keeps = keeps_new k.chains k2.chains n (new_region object pages) none made.region_row in
-    let local_at = λ (o p : ℕ). local header.size 0 (place_of o p) past in
+    let local_at = λ (o p : ℕ). local header.size h (place_of o p) past in
     let number : ids.next_object ≡ n = m.regions.object ∙ (m.regions.equal ∙ sym m.regions.region) in
-    let unknown = object_free header k ids past rests in
+    let unknown = object_free header h k ids past rests in
     record {
       matches =
           record {
             plain = m.plain;
+            known = m.known;
             size = m.size;
             host = m.host;
-            fits = record { parts = fit_range k.size k.frames k.resident k.queues k.objects k2.objects k.chains local_at n ids.next_object (new_object pages) m.fits.parts m.pages none number made.object_row; plain = m.fits.plain; buffers = m.fits.buffers };
-            tasks = tasks_entered header.size k.maps maps (event.RegionMade (record { 0 = n }) object pages ∷ past) task (whole_entry address bytes (record { 0 = n })) m.tasks changes may.lives;
-            regions = regions_made k.chains k2.chains k.objects k2.objects ids (λ r. region_of header r past) (λ o. backing_of header o past) (next_region header past) (next_object header past) pages m.regions made.region_row made.object_row;
+            fits = record { parts = fit_range k.memory k2.memory.objects k.chains local_at n ids.next_object (new_object pages) m.fits.parts m.pages none number made.object_row; plain = m.fits.plain; buffers = m.fits.buffers };
+            tasks = tasks_entered h header.size k.maps maps (event.RegionMade (record { 0 = n }) object pages ∷ past) task (whole_entry address bytes (record { 0 = n })) m.tasks changes may.lives;
+            regions = regions_made k.chains k2.chains k.memory.objects k2.memory.objects ids (λ r. region_of header r past) (λ o. backing_of header o past) (next_region header past) (next_object header past) pages m.regions made.region_row made.object_row;
             entries = entries_range header.size k.maps maps k.chains k2.chains task.0 n address bytes object m.entries none made.region_row changes below may.whole may.some may.below may.room;
-            pages = pages_range k.frames k.resident k.objects k2.objects k.chains k2.chains local_at m.pages made.marks keeps;
-            uses = range_uses header task address bytes past k ids maps object (bytes / header.size) lined rests may (rw most_is below) changes;
-            controls = controls_made k.objects k2.objects (λ o. last_control 0 o past) (λ o. live_control 0 o past) (λ o. is_ready 0 o past) ids.next_object pages m.controls unknown made.object_row;
+            pages = pages_range k.memory.frames k.memory.resident k.memory.objects k2.memory.objects k.chains k2.chains local_at m.pages made.marks keeps;
+            uses = range_uses header h task address bytes past k ids maps object (bytes / header.size) lined rests may (rw most_is below) changes;
+            controls = controls_made k.memory.objects k2.memory.objects (λ o. last_control h o past) (λ o. live_control h o past) (λ o. is_ready h o past) ids.next_object pages m.controls unknown made.object_row;
             settled = refl;
             laundry = m.laundry;
             frames = m.frames;
           };
       used = used_range k.chains k2.chains n object pages rests.used made.region_row;
-      reached = reached_range k.chains k2.chains k.objects k2.objects ids.next_object pages rests.reached keeps made.object_row;
+      reached = reached_range k.chains k2.chains k.memory.objects k2.memory.objects ids.next_object pages rests.reached keeps made.object_row;
       waits =
-          waits_known maps k2.chains k.resident k.objects k2.objects k.waits.rows _ (λ t. waiting t past)
-          (waits_changed k.maps maps k.chains k2.chains k.resident k.objects k.waits.rows _ (λ t. waiting t past) task.0 _ rests.waits changes may.idle (tops_range k.chains k2.chains n (new_region object pages) none made.region_row))
-          (knows_made k.objects k2.objects ids.next_object (new_object pages) unknown made.object_row);
+          waits_known maps k2.chains k.memory.resident k.memory.objects k2.memory.objects k.waits.rows _ (λ t. waiting t past)
+          (waits_changed k.maps maps k.chains k2.chains k.memory.resident k.memory.objects k.waits.rows _ (λ t. waiting t past) task.0 _ rests.waits changes may.idle (tops_range k.chains k2.chains n (new_region object pages) none made.region_row)
+          (told_changed k.maps maps k.waits.rows (λ t. waiting t past) task.0 (rows_in task.0 k.maps) _ rests.waits.is changes may.lives))
+          (knows_made k.memory.objects k2.memory.objects ids.next_object (new_object pages) unknown made.object_row);
       order = rests.order;
       idle = rests.idle;
     }
 
-pub ran_range : (header : Header) (outside : Outside) (task : TaskId) (address bytes pages : ℕ) (past : List Event) (k k2 : Parts) (ids : Ids) (before after : List Event) (maps : Mapped) → Starts header (command.Allocate task address bytes) past k ids before → pages ≡ bytes / k.size
+pub ran_range : (header : Header) (h : ℕ) (outside : Outside) (task : TaskId) (address bytes pages : ℕ) (past : List Event) (k k2 : Parts) (ids : Ids) (before after : List Event) (maps : Mapped) → Starts header h (command.Allocate task address bytes) past k ids before → pages ≡ bytes / k.size
     → MadeRange (record { 0 = ids.next_region }) (record { 0 = ids.next_object }) pages k k2
     → ChangesOnly k2.maps maps task.0 (Some (entered (whole_entry address bytes (record { 0 = ids.next_region })) (rows_in task.0 k2.maps))) → after ≡ ranged task ids address bytes pages ++ before
-    → Ran header outside (command.Allocate task address bytes) past (record k2 { maps = maps }) (ids_after ids) after
-ran_range header outside task address bytes pages past k k2 ids before after maps s count made changes told =
+    → Ran header h outside (command.Allocate task address bytes) past (record k2 { maps = maps }) (ids_after ids) after
+ran_range header h outside task address bytes pages past k k2 ids before after maps s count made changes told =
     let m = s.rests.matches in
     let whole : pages ≡ bytes / header.size = count ∙ ap (λ z. bytes / z) m.size in
     let events = ranged task ids address bytes (bytes / header.size) in
     let log : after ≡ events = told ∙ (ap (λ z. ranged task ids address bytes z ++ before) whole ∙ ap (λ z. events ++ z) s.nothing) in
     let made_whole = subst (λ (z : ℕ). MadeRange (record { 0 = ids.next_region }) (record { 0 = ids.next_object }) z k k2) whole made in
     let changed = subst (λ (z : Mapped). ChangesOnly z maps task.0 (Some (entered (whole_entry address bytes (record { 0 = ids.next_region })) (rows_in task.0 z)))) made.maps changes in
-    let rests = rests_range header task address bytes past k k2 ids maps s.begins s.rests (may_range header task address bytes past k ids before s) s.range.task made_whole changed in
+    let rests = rests_range header h task address bytes past k k2 ids maps s.begins s.rests (may_range header h task address bytes past k ids before s) s.range.task made_whole changed in
     let first = event.RegionMade (record { 0 = ids.next_region }) (record { 0 = ids.next_object }) (bytes / header.size) ∷ got task (whole_entry address bytes (record { 0 = ids.next_region })) ∷ [] in
     let is : head header past (command.Allocate task address bytes) ≡ Some first = rw (← m.regions.region, ← m.regions.object) refl in
-    let fine = suffices header k.frames past m.frames in
-    let ran : Ran header outside (command.Allocate task address bytes) past (with_range k k2 maps) (ids_after ids) events =
-    ran_head header outside (command.Allocate task address bytes) past (with_range k k2 maps) (ids_after ids) events first is refl
-    (record { licensed = range_licensed header outside task address bytes past k ids s.begins s.rests (may_range header task address bytes past k ids before s); own_bytes = (tt, (tt, tt)); copies = (tt, (tt, tt)); frames = (fine, (fine, tt)); inner = (tt, (tt, tt)); said = (tt, (tt, tt)) })
+    let fine = suffices header h k.memory.frames past m.frames in
+    let ran : Ran header h outside (command.Allocate task address bytes) past (with_range k k2 maps) (ids_after ids) events =
+    ran_head header h outside (command.Allocate task address bytes) past (with_range k k2 maps) (ids_after ids) events first is refl
+    (record { licensed = range_licensed header h outside task address bytes past k ids s.begins s.rests (may_range header h task address bytes past k ids before s); own_bytes = (tt, (tt, tt)); frames = (fine, (fine, tt)); inner = (tt, (tt, tt)); said = (tt, (tt, tt)) })
     tt rests in
     let same : record k2 { maps = maps } ≡ with_range k k2 maps =
-    λ i. record { alloc = k2.alloc; host = made.host i; size = made.size i; frames = made.frames i; resident = made.resident i; queues = made.queues i; objects = k2.objects; maps = maps; chains = k2.chains; buffers = made.buffers i; laundry = made.laundry i; waits = made.waits i } in
-    subst (λ (z : List Event). Ran header outside (command.Allocate task address bytes) past (record k2 { maps = maps }) (ids_after ids) z) (sym log)
-    (subst (λ (z : Parts). Ran header outside (command.Allocate task address bytes) past z (ids_after ids) events) (sym same) ran)
+    λ i. record { alloc = k2.alloc; host = made.host i; size = made.size i; memory = made.memory i; maps = maps; chains = k2.chains; laundry = made.laundry i; waits = made.waits i } in
+    subst (λ (z : List Event). Ran header h outside (command.Allocate task address bytes) past (record k2 { maps = maps }) (ids_after ids) z) (sym log)
+    (subst (λ (z : Parts). Ran header h outside (command.Allocate task address bytes) past z (ids_after ids) events) (sym same) ran)

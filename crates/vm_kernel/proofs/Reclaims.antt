@@ -1,7 +1,6 @@
 -- One page of a host is reclaimed, and a pageout does that over and over.
-use Rattle.std.proofs.Common.{◌≡◌, ℕ, ◌+◌, ◌≤◌, ◌<◌, ◌||◌, Bool, true, false, List, [], ◌∷◌, ◌++◌, length, refl, ap, sym, ◌∙◌, subst, arith, Some, None, Option, inl, inr}
-use Rattle.std.specs.Prelude.{◌⊎◌, if◌then◌else◌, MatchOption, reverse, slice_get}
-use Rattle.vm_base.specs.declared.ids.FrameNo.{FrameNo}
+use Rattle.std.proofs.Common.{◌≡◌, ℕ, ◌+◌, ◌-◌, ◌==◌, ◌&&◌, ◌≤◌, ◌<◌, ◌||◌, Bool, true, false, List, [], ◌∷◌, ◌++◌, length, refl, ap, sym, ◌∙◌, subst, arith, Some, None, Option, inl, inr}
+use Rattle.std.specs.Prelude.{◌⊎◌, if◌then◌else◌, not, MatchOption, reverse, slice_get}
 use Rattle.vm_base.specs.declared.ids.HostId.{HostId}
 use Rattle.vm_base.specs.declared.ids.PageKey.{PageKey}
 use Rattle.vm_frames.specs.Frames.{claimed, frame_count, free, is_claimed, page_in}
@@ -23,14 +22,14 @@ use Rattle.vm_model.specs.declared.message.Message.TheVariants as message
 use Rattle.vm_model.specs.declared.script.Declared.{Declared}
 use Rattle.vm_model.specs.declared.script.Header.{Header}
 use Rattle.vm_model.specs.Controls.{last_control, live_control}
-use Rattle.vm_model.specs.Local.{local}
+use Rattle.vm_model.specs.Local.{Drops as Leaves, Elsewhere, Returns, away, local, moved}
 use Rattle.vm_model.specs.Regions.{backing_of, next_object, next_region, region_of}
 use Rattle.vm_model.specs.Tasks.{entries_of, host_of}
 use Rattle.vm_objects.specs.Objects.{PutsObject, absent_at}
 use Rattle.vm_objects.specs.declared.row.ObjectRow.{ObjectRow}
 use Rattle.vm_objects.specs.declared.row.PagerState.{PagerState}
 use Rattle.vm_objects.specs.declared.row.PagerState.TheVariants as state
-use Rattle.vm_pageout.specs.Reclaims.{IsFreed, IsNothing, IsReturned, Parts as Some_parts, Reclaims, controlled, parts, sends, told_from, with_control}
+use Rattle.vm_pageout.specs.Reclaims.{IsFreed, IsNothing, IsReturned, Reclaims, controlled, looked, searched, sends, told_from, with_control}
 use Rattle.vm_pageout.specs.declared.answer.Reclaim.{Reclaim}
 use Rattle.vm_pageout.specs.declared.answer.Reclaim.TheVariants as reclaim
 use Rattle.vm_parts.specs.Controls.{AllLive}
@@ -43,17 +42,23 @@ use Rattle.vm_shadow.specs.declared.ids.Ids.{Ids}
 use Rattle.vm_supply.specs.declared.woken.Woken.TheVariants as woken
 use Rattle.vm_kernel.specs.Begun.{Goes}
 use Rattle.vm_kernel.specs.Fits.{ArePlain, Fits}
-use Rattle.vm_kernel.specs.Matches.{HasControls, HasFrames, HasLaundry, HasPages, HasRegions, HasTasks, HasUse, HasOrder, HasWaits, Matches, Rests, the_host}
+use Rattle.vm_kernel.specs.Matches.{HasControls, HasFrames, HasLaundry, HasPages, HasRegions, HasTasks, HasUse, HasOrder, HasWaits, Matches, Rests, host_id, holds}
 use Rattle.vm_kernel.specs.Pagers.{has_pager, last_in, live_in}
 use Rattle.vm_kernel.specs.Places.{place_of, shown}
 use Rattle.vm_kernel.specs.Serving.{Reclaimed}
 use Rattle.vm_kernel.specs.Taking.{EachGone}
 use Rattle.vm_kernel.specs.declared.parts.Parts.{Parts}
 use Rattle.vm_kernel.proofs.Growing.{Follows, free_is, goes_none, goes_one, suffices}
-use Rattle.vm_kernel.proofs.Losing.{IsSeen, frames_lost, pages_lost, plain_lost, seen_here, unnamed, waiters_lost}
-use Rattle.vm_kernel.proofs.Returning.{controls_begun, controls_same, controls_told, first_of_object, pages_created, pages_returned, reached_controlled, regions_controlled, told_controlled, unasked}
-use Rattle.vm_kernel.proofs.Rows.{claimed_inside, if_true}
-use Rattle.vm_kernel.proofs.Washing.{laundry_lost, laundry_room, laundry_returned}
+use Rattle.vm_kernel.proofs.Losing.{IsSeen, seen_here}
+use Rattle.vm_kernel.proofs.Brings.{plain_changed}
+use Rattle.vm_kernel.proofs.Hearing.{pages_eq}
+use Rattle.vm_kernel.proofs.Pages.{effect_on, frames_changed, itself, laundry_changed, pages_moved}
+use Rattle.vm_kernel.proofs.Strands.{waiters_lost}
+use Rattle.vm_kernel.proofs.Returning.{controls_begun, controls_same, controls_told, first_of_object, pages_created, ready_controlled, reached_controlled, regions_controlled, told_controlled, unasked}
+use Rattle.vm_kernel.proofs.Washing.{laundry_room, laundry_returned}
+use Rattle.vm_parts.proofs.Rows.{claimed_inside, if_true}
+use Rattle.vm_legal.proofs.LockNames.{unnamed}
+use Rattle.vm_kernel.proofs.Own.{named_host, own_host}
 
 -- all but what a reclaim changes is as it was, and what it changes fits
 pub record Beside (k k2 : Parts) : Type 0 where
@@ -62,52 +67,48 @@ pub record Beside (k k2 : Parts) : Type 0 where
   pub maps : k2.maps ≡ k.maps
   pub chains : k2.chains ≡ k.chains
   pub waits : k2.waits ≡ k.waits
-  pub buffers : k2.buffers.size ≡ k.buffers.size
-  pub fit : Fit k2.buffers.size k2.frames k2.resident k2.queues k2.objects
-  pub live : AllLive k2.objects
-
-abbrev pub parts_of : Parts → List Event → Some_parts
-parts_of k events = parts k.frames k.resident k.queues k.objects k.laundry events
+  pub buffers : k2.memory.buffers.size ≡ k.memory.buffers.size
+  pub fit : Fit k2.memory
+  pub live : AllLive k2.memory.objects
 
 -- what a reclaim owes its caller
-pub record Took (header : Header) (outside : Outside) (doing : Command) (past : List Event) (ids : Ids) (answer : Reclaim) (k k2 : Parts) (before after : List Event) : Type 0 where
-  pub rests : Rests header k2 ids (after ++ past)
-  pub goes : Goes header outside doing past before after
-  pub gone : EachGone before after
-  pub reclaimed : Reclaimed answer k k2 (before ++ past) (after ++ past)
+pub record Took (header : Header) (h : ℕ) (outside : Outside) (doing : Command) (past : List Event) (ids : Ids) (answer : Reclaim) (k k2 : Parts) (before after : List Event) : Type 0 where
+  pub rests : Rests header h k2 ids (after ++ past)
+  pub goes : Goes header h outside doing past before after
+  pub gone : EachGone h before after
+  pub reclaimed : Reclaimed h answer k k2 (before ++ past) (after ++ past)
 
 -- why a page may be reclaimed
-abbrev pub MayTake : Header → Command → List Event → Type 0
-MayTake header doing past = PagesOut doing 0 past ⊎ Starves header 0 past
+abbrev pub MayTake : Header → ℕ → Command → List Event → Type 0
+MayTake header h doing past = PagesOut doing h past ⊎ Starves header h past
 
 -- a page on which there is no lock may be reclaimed
-may_take : (header : Header) (doing : Command) (o p : ℕ) (past : List Event) → (local header.size 0 (place_of o p) past).lock ≡ 0 → MayTake header doing past → May header doing 0 o p past
-may_take header doing o p past none why = record { spared = λ waits. unnamed (local header.size 0 (place_of o p) past).lock _ none waits.named; may = why }
+may_take : (header : Header) (h : ℕ) (doing : Command) (o p : ℕ) (past : List Event) → (local header.size h (place_of o p) past).lock ≡ 0 → MayTake header h doing past → May header doing h o p past
+may_take header h doing o p past none why = record { spared = λ waits. unnamed (local header.size h (place_of o p) past).lock _ none waits.named; may = why }
 
 -- the parts fit still, with fewer rows
-fits_of : (k k2 : Parts) → Beside k k2 → Fits k → ArePlain k2.resident → Fits k2
-fits_of k k2 beside fits plain =
-    let same : k2.buffers.size ≡ k2.size = beside.buffers ∙ (fits.buffers ∙ sym beside.size) in
-    record { parts = subst (λ (z : ℕ). Fit z k2.frames k2.resident k2.queues k2.objects) same beside.fit; plain = plain; buffers = same }
+fits_of : (k k2 : Parts) → Beside k k2 → Fits k → ArePlain k2.memory.resident → Fits k2
+fits_of k k2 beside fits plain = record { parts = beside.fit; plain = plain; buffers = beside.buffers ∙ (fits.buffers ∙ sym beside.size) }
 
 no_bool : (b : Bool) → (b ≡ true → ⊥) → b ≡ false
 no_bool true never = absurd (never refl)
 no_bool false never = refl
 
 -- no page was found
-took_nothing : (header : Header) (outside : Outside) (doing : Command) (past : List Event) (ids : Ids) (k k2 : Parts) (before after : List Event)
-    → Rests header k ids (before ++ past) → Beside k k2 → IsNothing [] (parts_of k before) (parts_of k2 after) → Took header outside doing past ids reclaim.Nothing k k2 before after
-took_nothing header outside doing past ids k k2 before after rests beside is =
+took_nothing : (header : Header) (h : ℕ) (outside : Outside) (doing : Command) (past : List Event) (ids : Ids) (k k2 : Parts) (before after : List Event)
+    → Rests header h k ids (before ++ past) → Beside k k2 → IsNothing [] k.memory k2.memory k.laundry k2.laundry before after → Took header h outside doing past ids reclaim.Nothing k k2 before after
+took_nothing header h outside doing past ids k k2 before after rests beside is =
     let m = rests.matches in
-    subst (λ (z : List Event). Took header outside doing past ids reclaim.Nothing k k2 before z) (sym is.events)
+    subst (λ (z : List Event). Took header h outside doing past ids reclaim.Nothing k k2 before z) (sym is.events)
     (record {
       rests =
           record {
             matches =
                 record {
                   plain = m.plain;
+                  known = m.known;
                   size = beside.size ∙ m.size;
-                  host = beside.host ∙ m.host;
+                  host = rw beside.host m.host;
                   fits = fits_of k k2 beside m.fits (subst ArePlain (sym is.resident) m.fits.plain);
                   tasks = rw beside.maps m.tasks;
                   regions = rw (beside.chains, is.objects) m.regions;
@@ -125,7 +126,7 @@ took_nothing header outside doing past ids k k2 before after rests beside is =
             order = rw beside.waits rests.order;
             idle = rw beside.waits rests.idle;
           };
-      goes = goes_none header outside doing past before;
+      goes = goes_none header h outside doing past before;
       gone = record { more = []; is = refl; each = tt };
       reclaimed =
           record {
@@ -136,141 +137,159 @@ took_nothing header outside doing past ids k k2 before after rests beside is =
           };
     })
   where
-    away : (o p : ℕ) (row : PageRow) → row_at k.resident o p ≡ Some row → row.here ≡ false
+    away : (o p : ℕ) (row : PageRow) → row_at k.memory.resident o p ≡ Some row → row.here ≡ false
     away o p row found = no_bool row.here (λ here. let bad : false ≡ true = is.skipped row.frame.0 (rests.matches.fits.parts.listed o p row found ∙ here) in cc)
 
 -- a clean page was dropped
-took_freed : (header : Header) (outside : Outside) (doing : Command) (past : List Event) (ids : Ids) (k k2 : Parts) (before after : List Event)
-    → Rests header k ids (before ++ past) → Beside k k2 → MayTake header doing (before ++ past) → IsFreed k.host [] (parts_of k before) (parts_of k2 after) → Took header outside doing past ids reclaim.Freed k k2 before after
-took_freed header outside doing past ids k k2 before after rests beside may freed =
+took_freed : (header : Header) (h : ℕ) (outside : Outside) (doing : Command) (past : List Event) (ids : Ids) (k k2 : Parts) (before after : List Event)
+    → Rests header h k ids (before ++ past) → Beside k k2 → KeepsPages k.memory.queues (searched k.memory.queues) → MayTake header h doing (before ++ past) → IsFreed k.host [] k.memory k2.memory k.laundry k2.laundry before after → Took header h outside doing past ids reclaim.Freed k k2 before after
+took_freed header h outside doing past ids k k2 before after rests beside keeps may freed =
     let m = rests.matches in
     let key = freed.key in
     let row = freed.row in
-    let leaves = freed.leaves in
+    let page = freed.page in
+    let here = freed.victim.here in
     let o = key.object.0 in
     let p = key.page.0 in
-    let h = before ++ past in
-    let e : Event = event.Dropped the_host key.object key.page in
-    let log : after ≡ e ∷ before = freed.events ∙ ap (λ z. event.Dropped z key.object key.page ∷ before) m.host in
-    let is : local header.size 0 (place_of o p) h ≡ shown k.frames (Some row) (absent_at k.objects o p) = m.pages.shown o p ∙ ap (λ z. shown k.frames z (absent_at k.objects o p)) leaves.found in
-    let seen = seen_here k.frames row (absent_at k.objects o p) (local header.size 0 (place_of o p) h) is leaves.here (m.fits.plain o p row leaves.found) in
-    let frames : HasFrames (slice_get (reverse header.frames.items) 0) k2.frames (frames_held header.size 0 (e ∷ h)) (frames_wired 0 (e ∷ h)) =
-    frames_lost (slice_get (reverse header.frames.items) 0) k.frames k2.frames (frames_held header.size 0 h) (frames_wired 0 h) freed.frame.0 m.frames freed.frames in
-    let drops : Drops header doing 0 o p h = record { here = seen.here; why = ForFrames (seen.dirty ∙ freed.clean) seen.precious (may_take header doing o p h seen.lock may) } in
-    let follows : Follows header outside doing e h =
-    record { consequence = tt; cause = λ paged. drops; own_bytes = tt; copies = tt; frames = suffices header k2.frames (e ∷ h) frames; inner = tt; said = tt } in
-    let mine : is_claimed k.frames freed.frame.0 ≡ true = subst (λ z. is_claimed k.frames z.0 ≡ true) leaves.framed (m.fits.parts.held o p row leaves.found) in
-    subst (λ (z : List Event). Took header outside doing past ids reclaim.Freed k k2 before z) (sym log)
+    let moment = before ++ past in
+    let e : Event = event.Dropped (host_id h) key.object key.page in
+    let log : after ≡ e ∷ before = freed.events ∙ ap (λ z. event.Dropped z key.object key.page ∷ before) (named_host k.host h m.host) in
+    let is : local header.size h (place_of o p) moment ≡ shown k.memory.frames (Some row) (absent_at k.memory.objects o p) = m.pages.shown o p ∙ ap (λ z. shown k.memory.frames z (absent_at k.memory.objects o p)) page.found in
+    let seen = seen_here k.memory.frames row (absent_at k.memory.objects o p) (local header.size h (place_of o p) moment) is here (m.fits.plain o p row page.found) in
+    let frames : HasFrames (slice_get (reverse header.frames.items) h) k2.memory.frames (frames_held header.size h (e ∷ moment)) (frames_wired h (e ∷ moment)) =
+    rw (own_host h) (frames_changed (slice_get (reverse header.frames.items) h) key row.frame _ _ _ _ _ (looked k.memory) k2.memory (frames_held header.size h moment) (frames_held header.size h moment - 1) (frames_wired h moment) m.frames page (λ held. let less = page.claims in omega arith)) in
+    let drops : Drops header doing h o p moment = record { here = seen.here; why = ForFrames (seen.dirty ∙ freed.clean) seen.precious (may_take header h doing o p moment seen.lock may) } in
+    let follows : Follows header h outside doing e moment =
+    record { consequence = tt; cause = drops; own_bytes = tt; frames = suffices header h k2.memory.frames (e ∷ moment) frames; inner = tt; said = tt } in
+    let fit = fit_touched k.memory (searched k.memory.queues) m.fits.parts keeps refl in
+    subst (λ (z : List Event). Took header h outside doing past ids reclaim.Freed k k2 before z) (sym log)
     (record {
       rests =
           record {
             matches =
                 record {
                   plain = m.plain;
+                  known = m.known;
                   size = beside.size ∙ m.size;
-                  host = beside.host ∙ m.host;
-                  fits = fits_of k k2 beside m.fits (plain_lost k.resident k2.resident o p m.fits.plain leaves.gone);
+                  host = rw beside.host m.host;
+                  fits = fits_of k k2 beside m.fits (plain_changed key row.frame _ _ _ _ _ (looked k.memory) k2.memory m.fits.plain page tt);
                   tasks = rw beside.maps m.tasks;
                   regions = rw (beside.chains, freed.objects) m.regions;
                   entries = rw (beside.chains, beside.maps) m.entries;
-                  pages = rw (beside.chains, freed.objects) (pages_lost header.size k.frames k2.frames k.resident k2.resident k.objects k.chains (λ o p. local header.size 0 (place_of o p) h) o p row leaves.found leaves.here m.pages (ap (λ z. z.pages) freed.frames.is) leaves.gone);
+                  pages = rw (beside.chains, freed.objects, own_host h) (pages_moved header.size Leaves key row.frame _ _ _ _ _ (looked k.memory) k2.memory k.memory.objects k.chains (λ o p. local header.size h (place_of o p) moment) fit m.pages page (λ some. absurd (let bad : false ≡ true = some in cc))
+                      (ap (λ z. record away { asked = not z; absent = absent_at k.memory.objects o p }) here) (λ o p apart. refl));
                   uses = rw beside.maps m.uses;
                   controls = rw freed.objects m.controls;
                   settled = refl;
-                  laundry = rw freed.laundry (laundry_lost k.frames k2.frames k.resident k2.resident k.laundry (returns_out 0 h) freed.frame.0 key m.laundry leaves.page mine freed.frames leaves.unowned);
+                  laundry = rw freed.laundry (laundry_changed key row.frame _ _ _ _ _ (looked k.memory) k2.memory k.laundry (returns_out h moment) m.laundry page);
                   frames = frames;
                 };
             used = rw beside.chains rests.used;
             reached = rw (beside.chains, freed.objects) rests.reached;
-            waits = rw (beside.chains, beside.maps, beside.waits, freed.objects) (waiters_lost k.maps k.chains k.resident k2.resident k.objects k.objects k.waits.rows _ o p row rests.waits leaves.found leaves.here leaves.gone (λ object told. told));
+            waits = rw (beside.chains, beside.maps, beside.waits, freed.objects) (waiters_lost k.maps k.chains k.memory.resident k2.memory.resident k.memory.objects k.memory.objects k.waits.rows woken.Nobody _ o p row rests.waits page.found here page.row (λ object told. told) (λ object is. is));
             order = rw beside.waits rests.order;
             idle = rw beside.waits rests.idle;
           };
-      goes = goes_one header outside doing past before e m.settled follows;
+      goes = goes_one header h outside doing past before e m.settled follows;
       gone = record { more = e ∷ []; is = refl; each = (refl, tt) };
       reclaimed =
           record {
             waits = beside.waits;
-            freed = λ same. (omega (arith, freed.frames.count), refl);
+            freed = λ same. (let less = page.claims in omega arith, (rw (own_host h) refl));
             returned = λ bad. absurd (let clash : reclaim.Freed ≡ reclaim.Returned = bad in cc);
             nothing = λ bad. absurd (let clash : reclaim.Freed ≡ reclaim.Nothing = bad in cc);
           };
     })
 
 -- a page is on its way to its pager, in its frame
-on_its_way : (k k2 : Parts) (before after : List Event) → Beside k k2 → k2.frames ≡ k.frames → gone after ≡ gone before + 1 → 0 < returns_out 0 after → Reclaimed reclaim.Returned k k2 before after
-on_its_way k k2 before after beside frames less out =
+on_its_way : (h : ℕ) (k k2 : Parts) (before after : List Event) → Beside k k2 → claimed k2.memory.frames + 1 ≡ claimed k.memory.frames + 1 → free k2.memory.frames + 1 ≡ free k.memory.frames + 1 → gone h after ≡ gone h before + 1 → 0 < returns_out h after → Reclaimed h reclaim.Returned k k2 before after
+on_its_way h k k2 before after beside claims left less out =
     record {
       waits = beside.waits;
       freed = λ bad. absurd (let clash : reclaim.Returned ≡ reclaim.Freed = bad in cc);
-      returned = λ same. (ap claimed frames, less, ap free frames, out);
+      returned = λ same. (let kept : claimed k2.memory.frames ≡ claimed k.memory.frames = omega arith in kept, less, let kept : free k2.memory.frames ≡ free k.memory.frames = omega arith in kept, out);
       nothing = λ bad. absurd (let clash : reclaim.Returned ≡ reclaim.Nothing = bad in cc);
     }
 
 -- what holds of a history in front of a return, of all but the object's control
-record Before (header : Header) (k : Parts) (ids : Ids) (past : List Event) : Type 0 where
-  tasks : HasTasks header.size k.maps (λ task. host_of task past) (λ task. entries_of header.size task past)
-  regions : HasRegions k.chains k.objects ids (λ r. region_of header r past) (λ o. backing_of header o past) (next_region header past) (next_object header past)
-  pages : HasPages k.frames k.resident k.objects k.chains (λ o p. local header.size 0 (place_of o p) past)
-  uses : HasUse k.maps (λ r. in_use header 0 r past) (made_tasks past)
-  laundry : HasLaundry k.frames k.resident k.laundry (returns_out 0 past)
-  frames : HasFrames (slice_get (reverse header.frames.items) 0) k.frames (frames_held header.size 0 past) (frames_wired 0 past)
+record Before (header : Header) (h : ℕ) (k : Parts) (ids : Ids) (past : List Event) : Type 0 where
+  tasks : HasTasks h header.size k.maps (λ task. host_of task past) (λ task. entries_of header.size task past)
+  regions : HasRegions k.chains k.memory.objects ids (λ r. region_of header r past) (λ o. backing_of header o past) (next_region header past) (next_object header past)
+  pages : HasPages k.memory.frames k.memory.resident k.memory.objects k.chains (λ o p. local header.size h (place_of o p) past)
+  uses : HasUse k.maps (λ r. in_use header h r past) (made_tasks past) (λ t r. holds header.size t r past) (next_region header past)
+  laundry : HasLaundry k.memory.frames k.memory.resident k.laundry (returns_out h past)
+  frames : HasFrames (slice_get (reverse header.frames.items) h) k.memory.frames (frames_held header.size h past) (frames_wired h past)
   waits : HasWaits k woken.Nobody past
   order : HasOrder k past
 
 -- the return of a page
-abbrev returning : PageKey → ℕ → Bool → List ℕ → Event
-returning key control dirty bytes = event.Sent (Up the_host key.object) (message.Return control key.page dirty false bytes)
+abbrev returning : ℕ → PageKey → ℕ → Bool → List ℕ → Event
+returning h key control dirty bytes = event.Sent (Up (host_id h) key.object) (message.Return control key.page dirty false bytes)
 
 -- that a pager is told of an object
-abbrev creating : PageKey → ℕ → ℕ → Event
-creating key control size = event.Sent (Up the_host key.object) (message.Create control size)
+abbrev creating : ℕ → PageKey → ℕ → ℕ → Event
+creating h key control size = event.Sent (Up (host_id h) key.object) (message.Create control size)
 
 -- what a return leaves of the kernel
-returned_rests : (header : Header) (ids : Ids) (k k2 : Parts) (before after h past : List Event) (control : ℕ) → Rests header k ids past → Beside k k2 → (is : IsReturned k.host k.buffers.size [] (parts_of k before) (parts_of k2 after)) → Before header k ids h
-    → HasControls k2.objects (λ o. last_control 0 o h) (λ o. live_control 0 o h) (λ o. is_ready 0 o h)
-    → Rests header k2 ids (returning is.key control is.row.dirty (page_in k.frames is.frame.0) ∷ h)
-returned_rests header ids k k2 before after h past control rests beside is b controls =
+returned_rests : (header : Header) (h : ℕ) (ids : Ids) (k k2 : Parts) (before after moment past : List Event) (control : ℕ) → Rests header h k ids past → Beside k k2 → KeepsPages k.memory.queues (searched k.memory.queues) → (is : IsReturned k.host [] k.memory k2.memory k.laundry k2.laundry before after) → Before header h k ids moment
+    → HasControls k2.memory.objects (λ o. last_control h o moment) (λ o. live_control h o moment) (λ o. is_ready h o moment)
+    → Rests header h k2 ids (returning h is.key control is.row.dirty (page_in k.memory.frames is.row.frame.0) ∷ moment)
+returned_rests header h ids k k2 before after moment past control rests beside keeps is b controls =
     let m = rests.matches in
     let o = is.key.object.0 in
     let p = is.key.page.0 in
-    let leaves = is.leaves in
-    let mine : is_claimed k.frames is.frame.0 ≡ true = subst (λ (z : FrameNo). is_claimed k.frames z.0 ≡ true) leaves.framed (m.fits.parts.held o p is.row leaves.found) in
-    let region = m.pages.live o p is.row leaves.found in
+    let key = is.key in
+    let row = is.row in
+    let page = is.page in
+    let fit = fit_touched k.memory (searched k.memory.queues) m.fits.parts keeps refl in
+    let local_at = λ (o p : ℕ). local header.size h (place_of o p) moment in
+    let region = m.pages.live o p is.row page.found in
     record {
       matches =
           record {
             plain = m.plain;
+            known = m.known;
             size = beside.size ∙ m.size;
-            host = beside.host ∙ m.host;
-            fits = fits_of k k2 beside m.fits (plain_lost k.resident k2.resident o p m.fits.plain leaves.gone);
+            host = rw beside.host m.host;
+            fits = fits_of k k2 beside m.fits (plain_changed key row.frame _ _ _ _ _ (looked k.memory) k2.memory m.fits.plain page tt);
             tasks = rw beside.maps b.tasks;
-            regions = rw beside.chains (regions_controlled k.chains k.objects k2.objects ids _ _ _ _ o is.object b.regions is.known is.objects);
+            regions = rw beside.chains (regions_controlled k.chains k.memory.objects k2.memory.objects ids _ _ _ _ o is.object b.regions is.known is.objects);
             entries = rw (beside.chains, beside.maps) m.entries;
-            pages = rw (beside.chains, is.frames) (pages_returned header.size k.frames k.resident k2.resident k.objects k2.objects k.chains (λ o p. local header.size 0 (place_of o p) h) o p is.row leaves.found leaves.here b.pages leaves.gone is.present);
+            pages = rw (beside.chains, own_host h) (pages_eq k2.memory.frames k2.memory.resident k2.memory.objects k.chains (effect_on header.size key (Returns false) local_at) (λ o2 p2. moved header.size (if o == o2 then (if p == p2 then Returns false else Elsewhere) else Elsewhere) (local_at o2 p2))
+                (pages_moved header.size (Returns false) key row.frame _ _ _ _ _ (looked k.memory) k2.memory k2.memory.objects k.chains local_at fit b.pages page (λ some. absurd (let bad : false ≡ true = some in cc))
+                (ap (λ z. record away { asked = not z }) is.victim.here ∙ ap (λ z. record away { absent = z }) (sym (is.present.at o p ∙ rw (itself o, itself p) refl)))
+                (λ o2 p2 apart. is.present.at o2 p2 ∙ ap (λ b. if b then false else absent_at k.memory.objects o2 p2) apart))
+                (λ o2 p2. ap (λ e. moved header.size e (local_at o2 p2)) (nested (o == o2) (p == p2))));
             uses = rw beside.maps b.uses;
             controls = controls;
             settled = refl;
-            laundry = rw is.frames (laundry_returned k.frames k.resident k2.resident k.laundry k2.laundry (returns_out 0 h) is.frame is.key b.laundry leaves.page mine leaves.unowned is.held is.room);
-            frames = rw is.frames b.frames;
+            laundry = rw (own_host h) (laundry_returned key row _ _ (looked k.memory) k2.memory k.laundry k2.laundry (returns_out h moment) b.laundry page is.held is.room);
+            frames = frames_changed (slice_get (reverse header.frames.items) h) key row.frame _ _ _ _ _ (looked k.memory) k2.memory (frames_held header.size h moment) (frames_held header.size h moment) (frames_wired h moment) b.frames page (λ held. let same = page.claims in omega arith);
           };
       used = rw beside.chains rests.used;
-      reached = rw beside.chains (reached_controlled k.chains k.objects k2.objects o (controlled is.object) rests.reached region is.objects);
-      waits = rw (beside.chains, beside.maps, beside.waits) (waiters_lost k.maps k.chains k.resident k2.resident k.objects k2.objects k.waits.rows _ o p is.row b.waits leaves.found leaves.here leaves.gone (told_controlled k.objects k2.objects o is.object is.known is.objects));
+      reached = rw beside.chains (reached_controlled k.chains k.memory.objects k2.memory.objects o (controlled is.object) rests.reached region is.objects);
+      waits = rw (beside.chains, beside.maps, beside.waits) (waiters_lost k.maps k.chains k.memory.resident k2.memory.resident k.memory.objects k2.memory.objects k.waits.rows woken.Nobody _ o p is.row b.waits page.found is.victim.here page.row (told_controlled k.memory.objects k2.memory.objects o is.object is.known is.objects) (ready_controlled k.memory.objects k2.memory.objects o is.object is.known is.objects));
       order = rw beside.waits b.order;
       idle = rw beside.waits rests.idle;
     }
+  where
+    nested : (a b : Bool) → (if a then (if b then Returns false else Elsewhere) else Elsewhere) ≡ (if a && b then Returns false else Elsewhere)
+    nested true b = refl
+    nested false b = refl
+
+either : {changed : Bool} (precious : Bool) → changed ≡ true → (changed || precious) ≡ true
+either precious is = rw is refl
 
 -- a return has its cause, and its bytes are those of the page
-back_follows : (header : Header) (outside : Outside) (doing : Command) (ids : Ids) (k : Parts) (key : PageKey) (row : PageRow) (f control : ℕ) (past h : List Event) → Matches header k ids [] past → row_at k.resident key.object.0 key.page.0 ≡ Some row → row.frame.0 ≡ f
-    → IsSeen (local header.size 0 (place_of key.object.0 key.page.0) h) row (page_in k.frames row.frame.0) → row.dirty ≡ true → live_control 0 key.object.0 h ≡ Some control → Gives header doing 0 key.object.0 key.page.0 false h
-    → HasFrames (slice_get (reverse header.frames.items) 0) k.frames (frames_held header.size 0 h) (frames_wired 0 h) → Follows header outside doing (returning key control row.dirty (page_in k.frames f)) h
-back_follows header outside doing ids k key row f control past h m found framed seen dirty live why frames =
-    let back : GivesBack header doing 0 control key.object.0 key.page.0 row.dirty false (page_in k.frames f) h =
-    record { live = live; here = seen.here; dirty = seen.dirty ∙ dirty; same = ap (page_in k.frames) (sym framed) ∙ sym seen.bytes_are; flag = sym seen.dirty; why = why } in
-    let inside : f < frame_count k.frames = claimed_inside k.frames.claims f (subst (λ (z : ℕ). is_claimed k.frames z ≡ true) framed (m.fits.parts.held key.object.0 key.page.0 row found)) in
-    let long : length (page_in k.frames f) ≡ header.size = m.fits.parts.all_sized f inside ∙ m.size in
-    record { consequence = tt; cause = λ paged. back; own_bytes = tt; copies = tt; frames = suffices header k.frames (returning key control row.dirty (page_in k.frames f) ∷ h) frames; inner = tt; said = (refl, long) }
+back_follows : (header : Header) (h : ℕ) (outside : Outside) (doing : Command) (ids : Ids) (k : Parts) (key : PageKey) (row : PageRow) (f control : ℕ) (past moment : List Event) → Matches header h k ids [] past → row_at k.memory.resident key.object.0 key.page.0 ≡ Some row → row.frame.0 ≡ f
+    → IsSeen (local header.size h (place_of key.object.0 key.page.0) moment) row (page_in k.memory.frames row.frame.0) → row.dirty ≡ true → live_control h key.object.0 moment ≡ Some control → Gives header doing h key.object.0 key.page.0 false moment
+    → HasFrames (slice_get (reverse header.frames.items) h) k.memory.frames (frames_held header.size h moment) (frames_wired h moment) → Follows header h outside doing (returning h key control row.dirty (page_in k.memory.frames f)) moment
+back_follows header h outside doing ids k key row f control past moment m found framed seen dirty live why frames =
+    let back : GivesBack header doing h control key.object.0 key.page.0 row.dirty false (page_in k.memory.frames f) moment =
+    record { live = live; here = seen.here; due = either (local header.size h (place_of key.object.0 key.page.0) moment).precious (seen.dirty ∙ dirty); same = ap (page_in k.memory.frames) (sym framed) ∙ sym seen.bytes_are; flag = sym seen.dirty; why = why } in
+    let inside : f < frame_count k.memory.frames = claimed_inside k.memory.frames.claims f (subst (λ (z : ℕ). is_claimed k.memory.frames z ≡ true) framed (m.fits.parts.held key.object.0 key.page.0 row found)) in
+    let long : length (page_in k.memory.frames f) ≡ header.size = m.fits.parts.all_sized f inside ∙ (m.fits.buffers ∙ m.size) in
+    record { consequence = tt; cause = back; own_bytes = tt; frames = suffices header h k.memory.frames (returning h key control row.dirty (page_in k.memory.frames f) ∷ moment) frames; inner = tt; said = (refl, long) }
 
 -- what is said where a page goes back
 abbrev sent_back : PageKey → Bool → ObjectRow → List ℕ → List Event → ℕ → PagerState → HostId → List Event
@@ -279,129 +298,129 @@ sent_back key dirty object bytes events size pager host =
     ∷ told_from pager (sends host key (message.Create (with_control pager object).control size)) events
 
 -- a changed page was returned, to a pager that was told of the object
-took_told : (header : Header) (outside : Outside) (doing : Command) (past : List Event) (ids : Ids) (k k2 : Parts) (before after : List Event) → Rests header k ids (before ++ past) → Beside k k2 → MayTake header doing (before ++ past)
-    → (is : IsReturned k.host k.buffers.size [] (parts_of k before) (parts_of k2 after)) → is.row.dirty ≡ true → has_pager is.object.state ≡ true → controlled is.object ≡ is.object
-    → after ≡ returning is.key is.object.control is.row.dirty (page_in k.frames is.frame.0) ∷ before → Took header outside doing past ids reclaim.Returned k k2 before after
-took_told header outside doing past ids k k2 before after rests beside may is dirty paged same log =
+took_told : (header : Header) (h : ℕ) (outside : Outside) (doing : Command) (past : List Event) (ids : Ids) (k k2 : Parts) (before after : List Event) → Rests header h k ids (before ++ past) → Beside k k2 → KeepsPages k.memory.queues (searched k.memory.queues) → MayTake header h doing (before ++ past)
+    → (is : IsReturned k.host [] k.memory k2.memory k.laundry k2.laundry before after) → is.row.dirty ≡ true → has_pager is.object.state ≡ true → controlled is.object ≡ is.object
+    → after ≡ returning h is.key is.object.control is.row.dirty (page_in k.memory.frames is.row.frame.0) ∷ before → Took header h outside doing past ids reclaim.Returned k k2 before after
+took_told header h outside doing past ids k k2 before after rests beside keeps may is dirty paged same log =
     let m = rests.matches in
     let key = is.key in
     let row = is.row in
-    let leaves = is.leaves in
+    let page = is.page in
     let o = key.object.0 in
     let p = key.page.0 in
-    let h = before ++ past in
-    let e = returning key is.object.control row.dirty (page_in k.frames is.frame.0) in
-    let seen = seen_here k.frames row (absent_at k.objects o p) (local header.size 0 (place_of o p) h) (m.pages.shown o p ∙ ap (λ z. shown k.frames z (absent_at k.objects o p)) leaves.found) leaves.here (m.fits.plain o p row leaves.found) in
-    let first = first_of_object k.chains k.objects ids _ _ _ _ o is.object m.regions (m.pages.live o p row leaves.found) is.known in
-    let lives : live_control 0 o h ≡ Some is.object.control = m.controls.live o ∙ (ap live_in is.known ∙ ap (λ b. if b then Some is.object.control else None) (first.live ∙ paged)) in
-    let why : Gives header doing 0 o p false h = ForFrames refl (may_take header doing o p h seen.lock may) in
-    let follows = back_follows header outside doing ids k key row is.frame.0 is.object.control h h m leaves.found (ap (λ z. z.0) leaves.framed) seen dirty lives why m.frames in
-    let b : Before header k ids h = record { tasks = m.tasks; regions = m.regions; pages = m.pages; uses = m.uses; laundry = m.laundry; frames = m.frames; waits = rests.waits; order = rests.order } in
-    let controls = controls_same k.objects k2.objects _ _ _ m.controls (controls_told k.objects k2.objects o is.object is.known same is.objects) in
-    subst (λ (z : List Event). Took header outside doing past ids reclaim.Returned k k2 before z) (sym log)
+    let moment = before ++ past in
+    let e = returning h key is.object.control row.dirty (page_in k.memory.frames is.row.frame.0) in
+    let seen = seen_here k.memory.frames row (absent_at k.memory.objects o p) (local header.size h (place_of o p) moment) (m.pages.shown o p ∙ ap (λ z. shown k.memory.frames z (absent_at k.memory.objects o p)) page.found) is.victim.here (m.fits.plain o p row page.found) in
+    let first = first_of_object k.chains k.memory.objects ids _ _ _ _ o is.object m.regions (m.pages.live o p row page.found) is.known in
+    let lives : live_control h o moment ≡ Some is.object.control = m.controls.live o ∙ (ap live_in is.known ∙ ap (λ b. if b then Some is.object.control else None) (first.live ∙ paged)) in
+    let why : Gives header doing h o p false moment = ForFrames refl (may_take header h doing o p moment seen.lock may) in
+    let follows = back_follows header h outside doing ids k key row is.row.frame.0 is.object.control moment moment m page.found refl seen dirty lives why m.frames in
+    let b : Before header h k ids moment = record { tasks = m.tasks; regions = m.regions; pages = m.pages; uses = m.uses; laundry = m.laundry; frames = m.frames; waits = rests.waits; order = rests.order } in
+    let controls = controls_same k.memory.objects k2.memory.objects _ _ _ m.controls (controls_told k.memory.objects k2.memory.objects o is.object is.known same is.objects) in
+    subst (λ (z : List Event). Took header h outside doing past ids reclaim.Returned k k2 before z) (sym log)
     (record {
-      rests = returned_rests header ids k k2 before after h h is.object.control rests beside is b controls;
-      goes = goes_one header outside doing past before e m.settled follows;
+      rests = returned_rests header h ids k k2 before after moment moment is.object.control rests beside keeps is b controls;
+      goes = goes_one header h outside doing past before e m.settled follows;
       gone = record { more = e ∷ []; is = refl; each = (refl, tt) };
-      reclaimed = on_its_way k k2 h (e ∷ h) beside is.frames refl (omega arith);
+      reclaimed = on_its_way h k k2 moment (e ∷ moment) beside page.claims page.left (rw (own_host h) refl) (rw (own_host h) (omega arith));
     })
 
 -- a changed page was returned, and its pager told of the object first
-took_first : (header : Header) (outside : Outside) (doing : Command) (past : List Event) (ids : Ids) (k k2 : Parts) (before after : List Event) → Rests header k ids (before ++ past) → Beside k k2 → MayTake header doing (before ++ past)
-    → (is : IsReturned k.host k.buffers.size [] (parts_of k before) (parts_of k2 after)) → is.row.dirty ≡ true → is.object.state ≡ state.Without
-    → after ≡ returning is.key (is.object.control + 1) is.row.dirty (page_in k.frames is.frame.0) ∷ creating is.key (is.object.control + 1) header.size ∷ before → Took header outside doing past ids reclaim.Returned k k2 before after
-took_first header outside doing past ids k k2 before after rests beside may is dirty without log =
+took_first : (header : Header) (h : ℕ) (outside : Outside) (doing : Command) (past : List Event) (ids : Ids) (k k2 : Parts) (before after : List Event) → Rests header h k ids (before ++ past) → Beside k k2 → KeepsPages k.memory.queues (searched k.memory.queues) → MayTake header h doing (before ++ past)
+    → (is : IsReturned k.host [] k.memory k2.memory k.laundry k2.laundry before after) → is.row.dirty ≡ true → is.object.state ≡ state.Without
+    → after ≡ returning h is.key (is.object.control + 1) is.row.dirty (page_in k.memory.frames is.row.frame.0) ∷ creating h is.key (is.object.control + 1) header.size ∷ before → Took header h outside doing past ids reclaim.Returned k k2 before after
+took_first header h outside doing past ids k k2 before after rests beside keeps may is dirty without log =
     let m = rests.matches in
     let key = is.key in
     let row = is.row in
-    let leaves = is.leaves in
+    let page = is.page in
     let o = key.object.0 in
     let p = key.page.0 in
     let control = is.object.control + 1 in
     let h0 = before ++ past in
-    let e1 = creating key control header.size in
-    let e2 = returning key control row.dirty (page_in k.frames is.frame.0) in
-    let h = e1 ∷ h0 in
-    let first = first_of_object k.chains k.objects ids _ _ _ _ o is.object m.regions (m.pages.live o p row leaves.found) is.known in
+    let e1 = creating h key control header.size in
+    let e2 = returning h key control row.dirty (page_in k.memory.frames is.row.frame.0) in
+    let moment = e1 ∷ h0 in
+    let first = first_of_object k.chains k.memory.objects ids _ _ _ _ o is.object m.regions (m.pages.live o p row page.found) is.known in
     let none : is.object.control ≡ 0 = first.number ∙ ap (λ z. if has_pager z then 1 else 0) without in
-    let dead : live_control 0 o h0 ≡ None = m.controls.live o ∙ (ap live_in is.known ∙ ap (λ b. if b then Some is.object.control else None) (first.live ∙ ap has_pager without)) in
-    let pages : HasPages k.frames k.resident k.objects k.chains (λ o p. local header.size 0 (place_of o p) h) =
-    pages_created header.size k.frames k.resident k.objects k.chains (λ o p. local header.size 0 (place_of o p) h0) o m.pages (λ q. unasked header.size 0 o q h0 dead) in
-    let plain = m.fits.plain o p row leaves.found in
-    let seen0 = seen_here k.frames row (absent_at k.objects o p) (local header.size 0 (place_of o p) h0) (m.pages.shown o p ∙ ap (λ z. shown k.frames z (absent_at k.objects o p)) leaves.found) leaves.here plain in
-    let seen = seen_here k.frames row (absent_at k.objects o p) (local header.size 0 (place_of o p) h) (pages.shown o p ∙ ap (λ z. shown k.frames z (absent_at k.objects o p)) leaves.found) leaves.here plain in
-    let put : PutsObject o (Some (with_control state.Without is.object)) k.objects k2.objects = subst (λ (z : PagerState). PutsObject o (Some (with_control z is.object)) k.objects k2.objects) without is.objects in
-    let controls : HasControls k2.objects (λ o. last_control 0 o h) (λ o. live_control 0 o h) (λ o. is_ready 0 o h) = controls_begun k.objects k2.objects _ _ _ o is.object m.controls beside.live none put in
-    let lives : live_control 0 o h ≡ Some control = if_true o (Some control) (live_control 0 o h0) (live_control 0 o h) refl in
-    let why : Gives header doing 0 o p false h = Created control header.size h0 refl refl (may_take header doing o p h0 seen0.lock may) in
-    let follows = back_follows header outside doing ids k key row is.frame.0 control h0 h m leaves.found (ap (λ z. z.0) leaves.framed) seen dirty lives why m.frames in
-    let creates : Creates header 0 control o header.size h0 =
+    let dead : live_control h o h0 ≡ None = m.controls.live o ∙ (ap live_in is.known ∙ ap (λ b. if b then Some is.object.control else None) (first.live ∙ ap has_pager without)) in
+    let pages : HasPages k.memory.frames k.memory.resident k.memory.objects k.chains (λ o p. local header.size h (place_of o p) moment) =
+    rw (own_host h) (pages_created header.size k.memory.frames k.memory.resident k.memory.objects k.chains (λ o p. local header.size h (place_of o p) h0) o m.pages (λ q. unasked header.size h o q h0 dead)) in
+    let plain = m.fits.plain o p row page.found in
+    let seen0 = seen_here k.memory.frames row (absent_at k.memory.objects o p) (local header.size h (place_of o p) h0) (m.pages.shown o p ∙ ap (λ z. shown k.memory.frames z (absent_at k.memory.objects o p)) page.found) is.victim.here plain in
+    let seen = seen_here k.memory.frames row (absent_at k.memory.objects o p) (local header.size h (place_of o p) moment) (pages.shown o p ∙ ap (λ z. shown k.memory.frames z (absent_at k.memory.objects o p)) page.found) is.victim.here plain in
+    let put : PutsObject o (Some (with_control state.Without is.object)) k.memory.objects k2.memory.objects = subst (λ (z : PagerState). PutsObject o (Some (with_control z is.object)) k.memory.objects k2.memory.objects) without is.objects in
+    let controls : HasControls k2.memory.objects (λ o. last_control h o moment) (λ o. live_control h o moment) (λ o. is_ready h o moment) = rw (own_host h) (controls_begun k.memory.objects k2.memory.objects _ _ _ o is.object m.controls beside.live none put) in
+    let lives : live_control h o moment ≡ Some control = if_true o (Some control) (live_control h o h0) (live_control h o moment) (rw (own_host h) refl) in
+    let why : Gives header doing h o p false moment = Created control header.size h0 refl refl (may_take header h doing o p h0 seen0.lock may) in
+    let follows = back_follows header h outside doing ids k key row is.row.frame.0 control h0 moment m page.found refl seen dirty lives why m.frames in
+    let creates : Creates header h control o header.size h0 =
     record { number = ap (λ z. z + 1) none; sized = refl; temporary = subst (λ (z : List Declared). length z ≤ o) (sym m.plain.objects) (omega arith); never = m.controls.last o ∙ (ap last_in is.known ∙ none); page = p; here = seen0.here } in
-    let b : Before header k ids h = record { tasks = m.tasks; regions = m.regions; pages = pages; uses = m.uses; laundry = m.laundry; frames = m.frames; waits = rests.waits; order = rests.order } in
-    subst (λ (z : List Event). Took header outside doing past ids reclaim.Returned k k2 before z) (sym log)
+    let b : Before header h k ids moment = record { tasks = m.tasks; regions = m.regions; pages = pages; uses = m.uses; laundry = m.laundry; frames = m.frames; waits = rests.waits; order = rests.order } in
+    subst (λ (z : List Event). Took header h outside doing past ids reclaim.Returned k k2 before z) (sym log)
     (record {
-      rests = returned_rests header ids k k2 before after h h0 control rests beside is b controls;
+      rests = returned_rests header h ids k k2 before after moment h0 control rests beside keeps is b controls;
       goes =
           record {
             more = e2 ∷ e1 ∷ [];
             is = refl;
             follows = (tt, (tt, tt));
-            licensed = ((follows.cause, refl), (((λ paged. creates), subst (λ (z : Option Channel). MatchOption z (Unit {0}) (λ channel. ReturnsOn channel e1)) (sym m.settled) tt), tt));
+            licensed = ((follows.cause, refl), ((creates, subst (λ (z : Option Channel). MatchOption z (Unit {0}) (λ channel. ReturnsOn channel e1)) (sym m.settled) tt), tt));
             own_bytes = (tt, (tt, tt));
-            copies = (tt, (tt, tt));
-            frames = (follows.frames, (suffices header k.frames h m.frames, tt));
+            frames = (follows.frames, (suffices header h k.memory.frames moment m.frames, tt));
             inner = (tt, (tt, tt));
             said = (follows.said, (refl, tt));
           };
       gone = record { more = e2 ∷ e1 ∷ []; is = refl; each = (refl, (refl, tt)) };
-      reclaimed = on_its_way k k2 h0 (e2 ∷ h) beside is.frames refl (omega arith);
+      reclaimed = on_its_way h k k2 h0 (e2 ∷ moment) beside page.claims page.left (rw (own_host h) refl) (rw (own_host h) (omega arith));
     })
 
-took_returned : (header : Header) (outside : Outside) (doing : Command) (past : List Event) (ids : Ids) (k k2 : Parts) (before after : List Event) → Rests header k ids (before ++ past) → Beside k k2 → MayTake header doing (before ++ past)
-    → IsReturned k.host k.buffers.size [] (parts_of k before) (parts_of k2 after) → Took header outside doing past ids reclaim.Returned k k2 before after
-took_returned header outside doing past ids k k2 before after rests beside may is = go is.object.state refl
+took_returned : (header : Header) (h : ℕ) (outside : Outside) (doing : Command) (past : List Event) (ids : Ids) (k k2 : Parts) (before after : List Event) → Rests header h k ids (before ++ past) → Beside k k2 → KeepsPages k.memory.queues (searched k.memory.queues) → MayTake header h doing (before ++ past)
+    → IsReturned k.host [] k.memory k2.memory k.laundry k2.laundry before after → Took header h outside doing past ids reclaim.Returned k k2 before after
+took_returned header h outside doing past ids k k2 before after rests beside keeps may is = go is.object.state refl
   where
     bytes : List ℕ
-    bytes = page_in k.frames is.frame.0
+    bytes = page_in k.memory.frames is.row.frame.0
 
     unless : (a b : Bool) → (a || b) ≡ true → b ≡ false → a ≡ true
     unless true b either none = refl
     unless false b either none = absurd (let bad : false ≡ true = sym none ∙ either in cc)
 
     dirty : is.row.dirty ≡ true
-    dirty = unless is.row.dirty is.row.precious is.wanted (rests.matches.fits.plain is.key.object.0 is.key.page.0 is.row is.leaves.found).precious
+    dirty = unless is.row.dirty is.row.precious is.wanted (rests.matches.fits.plain is.key.object.0 is.key.page.0 is.row is.page.found).precious
 
-    log : (pager : PagerState) → is.object.state ≡ pager → after ≡ sent_back is.key is.row.dirty is.object bytes before header.size pager the_host
+    log : (pager : PagerState) → is.object.state ≡ pager → after ≡ sent_back is.key is.row.dirty is.object bytes before header.size pager (host_id h)
     log pager same =
         is.events
         ∙ (ap (λ z. sent_back is.key is.row.dirty is.object bytes before z is.object.state k.host) (rests.matches.fits.buffers ∙ rests.matches.size)
-        ∙ (ap (sent_back is.key is.row.dirty is.object bytes before header.size is.object.state) rests.matches.host
-        ∙ ap (λ z. sent_back is.key is.row.dirty is.object bytes before header.size z the_host) same))
+        ∙ (ap (sent_back is.key is.row.dirty is.object bytes before header.size is.object.state) (named_host k.host h rests.matches.host)
+        ∙ ap (λ z. sent_back is.key is.row.dirty is.object bytes before header.size z (host_id h)) same))
 
-    go : (pager : PagerState) → is.object.state ≡ pager → Took header outside doing past ids reclaim.Returned k k2 before after
-    go state.Without same = took_first header outside doing past ids k k2 before after rests beside may is dirty same (log state.Without same)
-    go state.Sent same = took_told header outside doing past ids k k2 before after rests beside may is dirty (ap has_pager same) (ap (λ z. with_control z is.object) same) (log state.Sent same)
-    go state.Ready same = took_told header outside doing past ids k k2 before after rests beside may is dirty (ap has_pager same) (ap (λ z. with_control z is.object) same) (log state.Ready same)
+    go : (pager : PagerState) → is.object.state ≡ pager → Took header h outside doing past ids reclaim.Returned k k2 before after
+    go state.Without same = took_first header h outside doing past ids k k2 before after rests beside keeps may is dirty same (log state.Without same)
+    go state.Sent same = took_told header h outside doing past ids k k2 before after rests beside keeps may is dirty (ap has_pager same) (ap (λ z. with_control z is.object) same) (log state.Sent same)
+    go state.Ready same = took_told header h outside doing past ids k k2 before after rests beside keeps may is dirty (ap has_pager same) (ap (λ z. with_control z is.object) same) (log state.Ready same)
 
 -- a page was reclaimed, or none is here
-pub took : (header : Header) (outside : Outside) (doing : Command) (past : List Event) (ids : Ids) (answer : Reclaim) (k k2 : Parts) (before after : List Event) → Rests header k ids (before ++ past) → Beside k k2 → MayTake header doing (before ++ past)
-    → Reclaims answer k.host k.buffers.size [] (parts_of k before) (parts_of k2 after) → Took header outside doing past ids answer k k2 before after
-took header outside doing past ids reclaim.Freed k k2 before after rests beside may is = took_freed header outside doing past ids k k2 before after rests beside may is
-took header outside doing past ids reclaim.Returned k k2 before after rests beside may is = took_returned header outside doing past ids k k2 before after rests beside may is
-took header outside doing past ids reclaim.Nothing k k2 before after rests beside may is = took_nothing header outside doing past ids k k2 before after rests beside is
+pub took : (header : Header) (h : ℕ) (outside : Outside) (doing : Command) (past : List Event) (ids : Ids) (answer : Reclaim) (k k2 : Parts) (before after : List Event) → Rests header h k ids (before ++ past) → Beside k k2 → KeepsPages k.memory.queues (searched k.memory.queues) → MayTake header h doing (before ++ past)
+    → Reclaims answer k.host [] k.memory k2.memory k.laundry k2.laundry before after → Took header h outside doing past ids answer k k2 before after
+took header h outside doing past ids reclaim.Freed k k2 before after rests beside keeps may is = took_freed header h outside doing past ids k k2 before after rests beside keeps may is
+took header h outside doing past ids reclaim.Returned k k2 before after rests beside keeps may is = took_returned header h outside doing past ids k k2 before after rests beside keeps may is
+took header h outside doing past ids reclaim.Nothing k k2 before after rests beside keeps may is = took_nothing header h outside doing past ids k k2 before after rests beside is
 
 -- the lists of pages have another order
 
-pub rests_touched : (header : Header) (ids : Ids) (k : Parts) (queues : Queues) (past : List Event) → Rests header k ids past → KeepsPages k.queues queues → queues.frames ≡ k.queues.frames → Rests header (record k { queues = queues }) ids past
-rests_touched header ids k queues past rests keeps count =
+pub rests_touched : (header : Header) (h : ℕ) (ids : Ids) (k : Parts) (queues : Queues) (past : List Event) → Rests header h k ids past → KeepsPages k.memory.queues queues → queues.frames ≡ k.memory.queues.frames → Rests header h (record k { memory = record k.memory { queues = queues } }) ids past
+rests_touched header h ids k queues past rests keeps count =
     let m = rests.matches in
     record {
       matches =
           record {
             plain = m.plain;
+            known = m.known;
             size = m.size;
             host = m.host;
-            fits = record { parts = fit_touched k.size k.frames k.resident k.queues queues k.objects m.fits.parts keeps count; plain = m.fits.plain; buffers = m.fits.buffers };
+            fits = record { parts = fit_touched k.memory queues m.fits.parts keeps count; plain = m.fits.plain; buffers = m.fits.buffers };
             tasks = m.tasks;
             regions = m.regions;
             entries = m.entries;
@@ -419,12 +438,12 @@ rests_touched header ids k queues past rests keeps count =
       idle = rests.idle;
     }
 
-pub reclaimed_touched : (answer : Reclaim) (k k2 : Parts) (queues : Queues) (before after : List Event) → Reclaimed answer (record k { queues = queues }) k2 before after → Reclaimed answer k k2 before after
-reclaimed_touched answer k k2 queues before after r = record { waits = r.waits; freed = r.freed; returned = r.returned; nothing = r.nothing }
+pub reclaimed_touched : (h : ℕ) (answer : Reclaim) (k k2 : Parts) (queues : Queues) (before after : List Event) → Reclaimed h answer (record k { memory = record k.memory { queues = queues } }) k2 before after → Reclaimed h answer k k2 before after
+reclaimed_touched h answer k k2 queues before after r = record { waits = r.waits; freed = r.freed; returned = r.returned; nothing = r.nothing }
 
 -- no page is on a list, so none is here
-pub none_queued : (header : Header) (k : Parts) (queues : Queues) (ids : Ids) (past : List Event) → Rests header k ids past → AllSkipped [] k.queues → Reclaimed reclaim.Nothing k (record k { queues = queues }) past past
-none_queued header k queues ids past rests none =
+pub none_queued : (header : Header) (h : ℕ) (k : Parts) (queues : Queues) (ids : Ids) (past : List Event) → Rests header h k ids past → AllSkipped [] k.memory.queues → Reclaimed h reclaim.Nothing k (record k { memory = record k.memory { queues = queues } }) past past
+none_queued header h k queues ids past rests none =
     record {
       waits = refl;
       freed = λ bad. absurd (let clash : reclaim.Nothing ≡ reclaim.Freed = bad in cc);
@@ -433,36 +452,36 @@ none_queued header k queues ids past rests none =
     }
 
 -- a page is on a list, so a frame is not held by a return
-pub room_for : (header : Header) (k : Parts) (ids : Ids) (past : List Event) (f : ℕ) → Rests header k ids past → is_queued k.queues f ≡ true → 0 < k.laundry.room
-room_for header k ids past f rests listed = go (owner_of k.resident f) refl
+pub room_for : (header : Header) (h : ℕ) (k : Parts) (ids : Ids) (past : List Event) (f : ℕ) → Rests header h k ids past → is_queued k.memory.queues f ≡ true → 0 < k.laundry.room
+room_for header h k ids past f rests listed = go (owner_of k.memory.resident f) refl
   where
-    m : Matches header k ids [] past
+    m : Matches header h k ids [] past
     m = rests.matches
 
-    mine : (b : Bool) (key : PageKey) → is_claimed k.frames f ≡ b → owner_of k.resident f ≡ Some key → is_claimed k.frames f ≡ true
+    mine : (b : Bool) (key : PageKey) → is_claimed k.memory.frames f ≡ b → owner_of k.memory.resident f ≡ Some key → is_claimed k.memory.frames f ≡ true
     mine true key is owner = is
     mine false key is owner = absurd (let bad : None ≡ Some key = sym (m.fits.parts.unowned f is) ∙ owner in cc)
 
-    go : (x : Option PageKey) → owner_of k.resident f ≡ x → 0 < k.laundry.room
+    go : (x : Option PageKey) → owner_of k.memory.resident f ≡ x → 0 < k.laundry.room
     go None none = absurd (let bad : false ≡ true = sym (m.fits.parts.unlisted f none) ∙ listed in cc)
-    go (Some key) owner = laundry_room k.frames k.resident k.laundry (returns_out 0 past) f key m.laundry (omega (arith, m.frames.fits)) (mine (is_claimed k.frames f) key refl owner) owner
+    go (Some key) owner = laundry_room k.memory.frames k.memory.resident k.laundry (returns_out h past) f key m.laundry (omega (arith, m.frames.fits)) (mine (is_claimed k.memory.frames f) key refl owner) owner
 
 -- the front of the frame queue has to wait
 
 -- no page is here, so nothing can be reclaimed
-pub exhausted : (header : Header) (k : Parts) (ids : Ids) (moment past : List Event) → Matches header k ids [] past → ((o p : ℕ) (row : PageRow) → row_at k.resident o p ≡ Some row → row.here ≡ false) → IsExhausted header 0 moment past
-exhausted header k ids moment past m none = record { held = λ o p here. never o p here; one = λ o p q u here here2 spared spared2. never o p here }
+pub exhausted : (header : Header) (h : ℕ) (k : Parts) (ids : Ids) (moment past : List Event) → Matches header h k ids [] past → ((o p : ℕ) (row : PageRow) → row_at k.memory.resident o p ≡ Some row → row.here ≡ false) → IsExhausted header h moment past
+exhausted header h k ids moment past m none = record { held = λ o p here. never o p here; one = λ o p q u here here2 spared spared2. never o p here }
   where
-    away : (o p : ℕ) (x : Option PageRow) → row_at k.resident o p ≡ x → (local header.size 0 (place_of o p) past).here ≡ false
-    away o p None found = ap (λ z. z.here) (m.pages.shown o p ∙ ap (λ z. shown k.frames z (absent_at k.objects o p)) found)
-    away o p (Some row) found = ap (λ z. z.here) (m.pages.shown o p ∙ ap (λ z. shown k.frames z (absent_at k.objects o p)) found) ∙ none o p row found
+    away : (o p : ℕ) (x : Option PageRow) → row_at k.memory.resident o p ≡ x → (local header.size h (place_of o p) past).here ≡ false
+    away o p None found = ap (λ z. z.here) (m.pages.shown o p ∙ ap (λ z. shown k.memory.frames z (absent_at k.memory.objects o p)) found)
+    away o p (Some row) found = ap (λ z. z.here) (m.pages.shown o p ∙ ap (λ z. shown k.memory.frames z (absent_at k.memory.objects o p)) found) ∙ none o p row found
 
-    never : {B : Type 0} (o p : ℕ) → (local header.size 0 (place_of o p) past).here ≡ true → B
-    never o p here = absurd (let bad : false ≡ true = sym (away o p (row_at k.resident o p) refl) ∙ here in cc)
+    never : {B : Type 0} (o p : ℕ) → (local header.size h (place_of o p) past).here ≡ true → B
+    never o p here = absurd (let bad : false ≡ true = sym (away o p (row_at k.memory.resident o p) refl) ∙ here in cc)
 
 -- nothing was freed
-pub full_after : (header : Header) (k k2 : Parts) (ids : Ids) (answer : Reclaim) (past after : List Event) → Rests header k2 ids after → free k.frames ≡ 0 → Reclaimed answer k k2 past after → (answer ≡ reclaim.Returned) ⊎ (answer ≡ reclaim.Nothing) → IsFull header 0 after
-full_after header k k2 ids answer past after rests none r (inl returned) =
-    record { none = free_is header k2.frames after rests.matches.frames ∙ ((r.returned returned).2 ∙ none); why = inl (r.returned returned).3 }
-full_after header k k2 ids answer past after rests none r (inr nothing) =
-    record { none = free_is header k2.frames after rests.matches.frames ∙ ((r.nothing nothing).2 ∙ none); why = inr (exhausted header k2 ids after after rests.matches (r.nothing nothing).1) }
+pub full_after : (header : Header) (h : ℕ) (k k2 : Parts) (ids : Ids) (answer : Reclaim) (past after : List Event) → Rests header h k2 ids after → free k.memory.frames ≡ 0 → Reclaimed h answer k k2 past after → (answer ≡ reclaim.Returned) ⊎ (answer ≡ reclaim.Nothing) → IsFull header h after
+full_after header h k k2 ids answer past after rests none r (inl returned) =
+    record { none = free_is header h k2.memory.frames after rests.matches.frames ∙ ((r.returned returned).2 ∙ none); why = inl (r.returned returned).3 }
+full_after header h k k2 ids answer past after rests none r (inr nothing) =
+    record { none = free_is header h k2.memory.frames after rests.matches.frames ∙ ((r.nothing nothing).2 ∙ none); why = inr (exhausted header h k2 ids after after rests.matches (r.nothing nothing).1) }

@@ -13,7 +13,7 @@ use Rattle.vm_kernel.specs.Counts.{count_on}
 use Rattle.vm_kernel.specs.Places.{entries_in_row, has_region, pages_in, region_entries, region_pages}
 use Rattle.vm_kernel.specs.Sweeping.{Lowered, PutsEntries, Raised, with_entries}
 use Rattle.vm_kernel.proofs.Counts.{on_append, on_few}
-use Rattle.vm_kernel.proofs.Rows.{some_is}
+use Rattle.vm_parts.proofs.Rows.{some_is}
 
 -- each region counts so many entries now
 pub record Recounts (count : ℕ → ℕ) (old new : ChainTable) : Type 0 where

@@ -1,5 +1,5 @@
 -- A page is asked for, for an access that waits.
-use Rattle.std.proofs.Common.{◌≡◌, ℕ, Bool, List, ◌∷◌, refl, ◌∙◌, Some}
+use Rattle.std.proofs.Common.{◌≡◌, ◌==◌, ◌&&◌, ◌+◌, ap, arith, true, ℕ, Bool, List, ◌∷◌, refl, ◌∙◌, Some}
 use Rattle.std.specs.Prelude.{reverse, slice_get}
 use Rattle.vm_base.specs.declared.entry.Entry.{Entry}
 use Rattle.vm_base.specs.declared.ids.PageKey.{PageKey}
@@ -17,31 +17,34 @@ use Rattle.vm_legal.specs.Outside.{Outside}
 use Rattle.vm_shadow.specs.declared.ids.Ids.{Ids}
 use Rattle.vm_waits.specs.declared.waiting.Want.{Want}
 use Rattle.vm_kernel.specs.Faulting.{Requested}
-use Rattle.vm_kernel.specs.Matches.{Matches, the_host}
+use Rattle.vm_kernel.specs.Matches.{Matches, host_id}
 use Rattle.vm_kernel.specs.Places.{place_of}
 use Rattle.vm_kernel.specs.Waiters.{access_in}
 use Rattle.vm_kernel.specs.declared.parts.Parts.{Parts}
 use Rattle.vm_kernel.proofs.Growing.{Follows}
 use Rattle.vm_kernel.proofs.Leading.{Leads, Lies, it_waits, lies_there, top_at}
-use Rattle.vm_kernel.proofs.Pages.{frames_claimed, laundry_claimed, pages_asked}
+use Rattle.vm_kernel.proofs.Pages.{asking, asking_it, asking_other, frames_changed, itself, laundry_changed, pages_changed}
+use Rattle.vm_model.specs.Controls.{is_control}
+use Rattle.vm_model.specs.Local.{Asks, moved}
 use Rattle.vm_kernel.proofs.Standing.{MayAnswer, Misses}
+use Rattle.vm_kernel.proofs.Own.{own_host}
 
 -- a request of the host for the page
-abbrev pub requesting : PageKey → ℕ → ℕ → Event
-requesting key control access = event.Sent (Up the_host key.object) (message.Request control key.page access)
+abbrev pub requesting : ℕ → PageKey → ℕ → ℕ → Event
+requesting h key control access = event.Sent (Up (host_id h) key.object) (message.Request control key.page access)
 
-pub request_follows : (header : Header) (outside : Outside) (doing : Command) (past : List Event) (task : ℕ) (what : Want) (key : PageKey) (control access : ℕ) (lacked : Bool) → Leads header past task what key → Misses header past key lacked → MayAnswer header past key control
-    → access ≡ access_number (access_in what) 0 → Suffice header 0 (requesting key control access ∷ past) → Follows header outside doing (requesting key control access) past
-request_follows header outside doing past task what key control access lacked to misses may number frames =
+pub request_follows : (header : Header) (h : ℕ) (outside : Outside) (doing : Command) (past : List Event) (task : ℕ) (what : Want) (key : PageKey) (control access : ℕ) (lacked : Bool) → Leads header h past task what key → Misses header h past key lacked → MayAnswer header h past key control
+    → access ≡ access_number (access_in what) 0 → Suffice header h (requesting h key control access ∷ past) → Follows header h outside doing (requesting h key control access) past
+request_follows header h outside doing past task what key control access lacked to misses may number frames =
     record {
       consequence = tt;
-      cause = λ paged. record {
+      cause = record {
         task = task;
         access = access_in what;
-        waits = it_waits header past task what key to;
+        waits = it_waits header h past task what key to;
         on_host = refl;
         unmarked = λ store. to.unmarked;
-        comes = record { top = key.object.0; top_page = key.page.0; steps = 0; is_top = top_at header past task what key to; walks = (refl, refl) };
+        comes = record { top = key.object.0; top_page = key.page.0; steps = 0; is_top = top_at header h past task what key to; walks = (refl, refl) };
         number = number;
         live = may.live;
         ready = may.ready;
@@ -50,29 +53,34 @@ request_follows header outside doing past task what key control access lacked to
         known = may.known;
       };
       own_bytes = tt;
-      copies = tt;
       frames = frames;
       inner = tt;
       said = refl;
     }
 
-pub matches_asked : (header : Header) (k new : Parts) (ids : Ids) (lost : List Entry) (past before after : List Event) (key : PageKey) (access : ℕ) → Matches header k ids lost past → (asked : Requested key access k new before after) → Lies k key
-    → live_control 0 key.object.0 past ≡ Some asked.control → Matches header new ids lost (requesting key asked.control access ∷ past)
-matches_asked header k new ids lost past before after key access m a lies live =
-    let pages2 = pages_asked header.size k.frames new.frames k.resident new.resident k.objects k.chains (λ o p. local header.size 0 (place_of o p) past) (λ o. live_control 0 o past) a.frame key.object.0 key.page.0 a.control
-    m.pages a.absent a.row a.pages (lies_there k key lies) live in
+pub matches_asked : (header : Header) (h : ℕ) (k new : Parts) (ids : Ids) (lost : List Entry) (past before after : List Event) (key : PageKey) (access : ℕ) → Matches header h k ids lost past → (asked : Requested key access k new before after) → Lies k key
+    → live_control h key.object.0 past ≡ Some asked.control → Matches header h new ids lost (requesting h key asked.control access ∷ past)
+matches_asked header h k new ids lost past before after key access m a lies live =
+    let moment = λ (o p : ℕ). local header.size h (place_of o p) past in
+    let now = λ (o p : ℕ). moved header.size (asking (key.object.0 == o) (key.page.0 == p) (is_control a.control (live_control h o past))) (moment o p) in
+    let lives : is_control a.control (live_control h key.object.0 past) ≡ true = ap (is_control a.control) live ∙ itself a.control in
+    let both : (key.object.0 == key.object.0 && key.page.0 == key.page.0) ≡ true = rw (itself key.object.0, itself key.page.0) refl in
+    let pages2 = pages_changed key a.frame _ _ _ _ _ k.memory new.memory k.memory.objects k.chains moment now m.fits.parts m.pages a.page (λ some. lies_there k key lies)
+    (λ shows. ap (λ z. moved header.size z (moment key.object.0 key.page.0)) (asking_it _ _ _ both lives) ∙ ap (moved header.size Asks) shows)
+    (λ o p apart. (ap (λ z. moved header.size z (moment o p)) (asking_other _ _ (is_control a.control (live_control h o past)) apart), refl)) in
     record {
       plain = m.plain;
+      known = m.known;
       size = a.plan.size ∙ m.size;
-      host = a.plan.host ∙ m.host;
+      host = rw a.plan.host m.host;
       fits = a.fits;
       tasks = rw a.plan.maps m.tasks;
       regions = rw (a.plan.chains, a.plan.objects) m.regions;
       entries = rw (a.plan.chains, a.plan.maps) m.entries;
-      pages = rw (a.plan.chains, a.plan.objects) pages2;
+      pages = rw (a.plan.chains, a.plan.objects, own_host h) pages2;
       uses = rw a.plan.maps m.uses;
       controls = rw a.plan.objects m.controls;
       settled = refl;
-      laundry = rw a.plan.laundry (laundry_claimed k.frames new.frames k.resident new.resident k.laundry (returns_out 0 past) a.frame (Some key) m.laundry a.fresh a.claim a.owner a.count);
-      frames = frames_claimed (slice_get (reverse header.frames.items) 0) k.frames new.frames (frames_held header.size 0 past) (frames_wired 0 past) m.frames a.claims a.wired a.count a.room;
+      laundry = rw a.plan.laundry (laundry_changed key a.frame _ _ _ _ _ k.memory new.memory k.laundry (returns_out h past) m.laundry a.page);
+      frames = rw (own_host h) (frames_changed (slice_get (reverse header.frames.items) h) key a.frame _ _ _ _ _ k.memory new.memory (frames_held header.size h past) (frames_held header.size h past + 1) (frames_wired h past) m.frames a.page (λ held. let more = a.page.claims in omega arith));
     }

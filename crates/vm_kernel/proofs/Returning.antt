@@ -1,7 +1,7 @@
 -- A page goes back to its pager, which is told of its object first where it wasn't.
 use Rattle.std.proofs.Common.{◌≡◌, ℕ, ◌+◌, ◌==◌, ◌&&◌, Bool, true, false, List, [], ◌∷◌, refl, ap, sym, ◌∙◌, subst, arith, Some, None, Option, inl, inr}
 use Rattle.std.proofs.lemmas.Bool.Decides.{eqb_tells}
-use Rattle.std.specs.Prelude.{if◌then◌else◌, is_some, not, ◌||◌}
+use Rattle.std.specs.Prelude.{if◌then◌else◌, is_some, ◌||◌}
 use Rattle.vm_base.specs.declared.ids.ObjectKind.TheVariants.{Temp}
 use Rattle.vm_frames.specs.Frames.{FrameTable}
 use Rattle.vm_model.specs.declared.event.Event.{Event}
@@ -10,24 +10,23 @@ use Rattle.vm_model.specs.declared.message.Channel.TheVariants.{Up, Down}
 use Rattle.vm_model.specs.declared.message.Message.{Message}
 use Rattle.vm_model.specs.declared.message.Message.TheVariants as message
 use Rattle.vm_model.specs.Controls.{is_control, live_control, without_control}
-use Rattle.vm_model.specs.Local.{Asks, Begins, Drops, Effect, Elsewhere, Ends, Local, Raises, Returns, Stores, TakesError, TakesLock, TakesNothing, TakesPage, Unlocks, Zeroes, away, came, local, moved, taken_effect}
+use Rattle.vm_model.specs.Local.{Asks, Begins, Drops, Effect, Elsewhere, Ends, Local, Raises, Returns, Stores, TakesError, TakesLock, TakesNothing, TakesPage, Unlocks, Zeroes, came, local, moved, taken_effect}
 use Rattle.vm_model.specs.Regions.{Backing, Region}
-use Rattle.vm_objects.specs.Objects.{ObjectTable, PutsAbsent, PutsObject, absent_at, object_at}
+use Rattle.vm_objects.specs.Objects.{ObjectTable, PutsObject, object_at}
 use Rattle.vm_objects.specs.declared.row.ObjectRow.{ObjectRow}
 use Rattle.vm_objects.specs.declared.row.PagerState.{PagerState}
 use Rattle.vm_objects.specs.declared.row.PagerState.TheVariants as state
 use Rattle.vm_pageout.specs.Reclaims.{with_control}
 use Rattle.vm_parts.specs.Controls.{AllLive}
-use Rattle.vm_resident.specs.Resident.{PutsRow, ResidentTable, row_at}
-use Rattle.vm_resident.specs.declared.page_row.PageRow.{PageRow}
+use Rattle.vm_resident.specs.Resident.{ResidentTable}
 use Rattle.vm_shadow.specs.Chains.{ChainTable, region_at}
 use Rattle.vm_shadow.specs.declared.ids.Ids.{Ids}
 use Rattle.vm_shadow.specs.declared.region_row.RegionRow.{RegionRow}
 use Rattle.vm_kernel.specs.Matches.{AllReached, HasControls, HasPages, HasRegions, IsUnder}
-use Rattle.vm_kernel.specs.Pagers.{has_pager, last_in, live_in, ready_in}
-use Rattle.vm_kernel.specs.Places.{has_region, place_of, shown}
+use Rattle.vm_kernel.specs.Pagers.{has_pager, is_ready_state, last_in, live_in, ready_in}
+use Rattle.vm_kernel.specs.Places.{has_region, place_of}
 use Rattle.vm_kernel.specs.Waiters.{IsTold}
-use Rattle.vm_kernel.proofs.Rows.{one_case, row_cases, some_is}
+use Rattle.vm_parts.proofs.Rows.{one_case, some_is}
 
 -- nothing is asked of an object without a live control
 
@@ -122,35 +121,6 @@ pages_created size fs rs os cs local_at o has none =
       live = has.live;
     }
 
--- a page goes to its pager, which has it then
-pub pages_returned : (size : ℕ) (fs : FrameTable) (rs rs2 : ResidentTable) (os os2 : ObjectTable) (cs : ChainTable) (local_at : ℕ → ℕ → Local) (o p : ℕ) (row : PageRow)
-    → row_at rs o p ≡ Some row → row.here ≡ true → HasPages fs rs os cs local_at → PutsRow o p None rs rs2 → PutsAbsent o p false os os2
-    → HasPages fs rs2 os2 cs (λ o2 p2. moved size (if o == o2 then (if p == p2 then Returns false else Elsewhere) else Elsewhere) (local_at o2 p2))
-pages_returned size fs rs rs2 os os2 cs local_at o p row found here has put present =
-    record {
-      shown = λ o2 p2. ap (λ e. moved size e (local_at o2 p2)) (nested (o == o2) (p == p2)) ∙ elim (row_cases o p None rs rs2 put o2 p2) [
-        | inl now ↦
-            let was : row_at rs o2 p2 ≡ Some row = subst (λ (z : ℕ). row_at rs o2 z ≡ Some row) now.page (subst (λ (z : ℕ). row_at rs z p ≡ Some row) now.object found) in
-            let had : local_at o2 p2 ≡ shown fs (Some row) (absent_at os o2 p2) = has.shown o2 p2 ∙ ap (λ z. shown fs z (absent_at os o2 p2)) was in
-            let known : absent_at os2 o2 p2 ≡ false = present.at o2 p2 ∙ ap (λ b. if b then false else absent_at os o2 p2) now.test in
-            ap (λ b. moved size (if b then Returns false else Elsewhere) (local_at o2 p2)) now.test
-            ∙ (ap (moved size (Returns false)) had
-            ∙ (ap (λ z. record away { asked = not z }) here ∙ (sym (ap (λ z. shown fs None z) known) ∙ sym (ap (λ z. shown fs z (absent_at os2 o2 p2)) now.is))))
-        | inr other ↦
-            let known : absent_at os2 o2 p2 ≡ absent_at os o2 p2 = present.at o2 p2 ∙ ap (λ b. if b then false else absent_at os o2 p2) other.test in
-            ap (λ b. moved size (if b then Returns false else Elsewhere) (local_at o2 p2)) other.test
-            ∙ (has.shown o2 p2 ∙ (sym (ap (λ z. shown fs (row_at rs o2 p2) z) known) ∙ sym (ap (λ z. shown fs z (absent_at os2 o2 p2)) other.is)))
-      ];
-      live = λ o2 p2 r is. elim (row_cases o p None rs rs2 put o2 p2) [
-        | inl now ↦ absurd (let bad : None ≡ Some r = sym now.is ∙ is in cc)
-        | inr other ↦ has.live o2 p2 r (sym other.is ∙ is)
-      ];
-    }
-  where
-    nested : (a b : Bool) → (if a then (if b then Returns false else Elsewhere) else Elsewhere) ≡ (if a && b then Returns false else Elsewhere)
-    nested true b = refl
-    nested false b = refl
-
 -- an object with a pager, which begins where it had none
 
 under_controlled : (pager : PagerState) (row : ObjectRow) (x : RegionRow) → row.state ≡ pager → IsUnder x (Some row) → IsUnder x (Some (with_control pager row))
@@ -201,6 +171,18 @@ told_controlled os os2 o row found put object told = elim (one_case o object (So
       record { row = row; found = same.1 ∙ ap (λ z. Some (with_control z row)) sent; sent = sent }
   | inr other ↦ record { row = told.row; found = other.1 ∙ told.found; sent = told.sent }
 ]
+
+-- those that were ready are ready still
+pub ready_controlled : (os os2 : ObjectTable) (o : ℕ) (row : ObjectRow) → object_at os o ≡ Some row → PutsObject o (Some (with_control row.state row)) os os2 → (object : ℕ) → ready_in (object_at os object) ≡ true → ready_in (object_at os2 object) ≡ true
+ready_controlled os os2 o row found put object is = elim (one_case o object (Some (with_control row.state row)) (object_at os object) (object_at os2 object) (put.at object)) [
+  | inl same ↦ ap ready_in same.1 ∙ (still row.state refl (sym (ap ready_in (sym (ap (object_at os) same.0) ∙ found)) ∙ is))
+  | inr other ↦ ap ready_in other.1 ∙ is
+]
+  where
+    still : (s : PagerState) → row.state ≡ s → is_ready_state row.state ≡ true → ready_in (Some (with_control row.state row)) ≡ true
+    still state.Ready at ready = ap (λ z. ready_in (Some (with_control z row))) at ∙ ready
+    still state.Sent at ready = ap (λ z. ready_in (Some (with_control z row))) at ∙ ready
+    still state.Without at ready = absurd (let bad : false ≡ true = sym (ap is_ready_state at) ∙ ready in cc)
 
 -- the objects are as they were, as the pager was told of this one
 

@@ -5,7 +5,7 @@ use Rattle.std.specs.List.{flat_map}
 use Rattle.std.specs.Prelude.{if◌then◌else◌, unwrap_or, is_some, nat_lt, max, min, ◌≢◌}
 use Rattle.vm_base.specs.declared.entry.Entry.{Entry}
 use Rattle.vm_base.specs.Entries.{cut, most_entries, parts_in, removed, rewritten}
-use Rattle.vm_model.specs.Local.{Local}
+use Rattle.vm_model.specs.Local.{Local, is_on}
 use Rattle.vm_model.specs.Regions.{Backing, Region}
 use Rattle.vm_model.specs.Rows.{AllRows, Inside, part, rows_map}
 use Rattle.vm_model.specs.Tasks.{has_entry}
@@ -17,11 +17,12 @@ use Rattle.vm_shadow.specs.Chains.{ChainTable}
 use Rattle.vm_shadow.specs.declared.ids.Ids.{Ids}
 use Rattle.vm_shadow.specs.declared.region_row.RegionRow.{RegionRow}
 use Rattle.vm_kernel.specs.Counts.{count_on, most_tasks}
-use Rattle.vm_kernel.specs.Matches.{AllInside, AllUsed, HasEntries, HasPages, HasRegions, HasTasks, IsInside, host_for}
+use Rattle.vm_kernel.specs.Matches.{AllInside, AllUsed, HasEntries, HasPages, HasRegions, HasTasks, IsInside}
 use Rattle.vm_kernel.specs.Places.{entries_in_row, has_region, region_entries}
 use Rattle.vm_kernel.specs.Sweeping.{with_entries}
 use Rattle.vm_kernel.proofs.Counts.{by_changed, on_append, on_zero}
 use Rattle.vm_kernel.proofs.Recounts.{Recounts, has_same, pages_same, row_before}
+use Rattle.vm_kernel.proofs.Own.{rows_here}
 
 -- regions that count anew are as they were else
 
@@ -112,18 +113,18 @@ entries_changed size task maps new cs cs2 count rows lost has changes lives is c
     other : (t : ℕ) → t ≢ task → rows_in t new ≡ rows_in t maps
     other t apart = ap (λ z. unwrap_or z []) (changes.others t apart)
 
-pub tasks_changed : (size task : ℕ) (maps new : Mapped) (host_at : ℕ → Option ℕ) (rows_at : ℕ → List Entry) (f : List Entry → List Entry) → HasTasks size maps host_at rows_at
-    → ChangesOnly maps new task (Some (f (rows_in task maps))) → entries_in task maps ≡ Some (rows_in task maps) → HasTasks size new host_at (λ t. if task == t then f (rows_at t) else rows_at t)
-tasks_changed size task maps new host_at rows_at f has changes lives =
+pub tasks_changed : (h : ℕ) (size task : ℕ) (maps new : Mapped) (host_at : ℕ → Option ℕ) (rows_at : ℕ → List Entry) (f : List Entry → List Entry) → HasTasks h size maps host_at rows_at
+    → ChangesOnly maps new task (Some (f (rows_in task maps))) → entries_in task maps ≡ Some (rows_in task maps) → HasTasks h size new host_at (λ t. if task == t then f (rows_at t) else rows_at t)
+tasks_changed h size task maps new host_at rows_at f has changes lives =
     record {
       sized = changes.size ∙ has.sized;
       hosts = λ t. elim (eqb_tells task t) [
-        | inl same ↦ subst (λ (z : ℕ). host_at z ≡ host_for (entries_in z new)) same.1 (has.hosts task ∙ (ap host_for lives ∙ sym (ap host_for changes.changed)))
-        | inr apart ↦ has.hosts t ∙ sym (ap host_for (changes.others t (λ e. apart.1 (sym e))))
+        | inl same ↦ subst (λ (z : ℕ). is_on h (host_at z) ≡ is_some (entries_in z new)) same.1 (has.hosts task ∙ (ap is_some lives ∙ sym (ap is_some changes.changed)))
+        | inr apart ↦ has.hosts t ∙ sym (ap is_some (changes.others t (λ e. apart.1 (sym e))))
       ];
-      rows = λ t. elim (eqb_tells task t) [
-        | inl same ↦ ap (λ b. if b then f (rows_at t) else rows_at t) same.0 ∙ subst (λ (z : ℕ). f (rows_at z) ≡ rows_in z new) same.1 (ap f (has.rows task) ∙ sym (ap (λ z. unwrap_or z []) changes.changed))
-        | inr apart ↦ ap (λ b. if b then f (rows_at t) else rows_at t) apart.0 ∙ (has.rows t ∙ sym (ap (λ z. unwrap_or z []) (changes.others t (λ e. apart.1 (sym e)))))
+      rows = λ t here. elim (eqb_tells task t) [
+        | inl same ↦ ap (λ b. if b then f (rows_at t) else rows_at t) same.0 ∙ subst (λ (z : ℕ). f (rows_at z) ≡ rows_in z new) same.1 (ap f (rows_here has lives) ∙ sym (ap (λ z. unwrap_or z []) changes.changed))
+        | inr apart ↦ ap (λ b. if b then f (rows_at t) else rows_at t) apart.0 ∙ (has.rows t (ap is_some (sym (changes.others t (λ e. apart.1 (sym e)))) ∙ here) ∙ sym (ap (λ z. unwrap_or z []) (changes.others t (λ e. apart.1 (sym e)))))
       ];
     }
 

@@ -1,79 +1,9 @@
--- What an edit of the table of resident pages, of the frames and of the regions leaves, case by case.
-use Rattle.std.proofs.Common.{◌≡◌, ℕ, zero, suc, ◌<◌, ◌==◌, ◌&&◌, Bool, true, false, List, [], ◌∷◌, length, get_or, set, refl, ap, sym, ◌∙◌, subst, arith, Some, Option, inl, inr, length-set}
-use Rattle.std.proofs.lemmas.Bool.Decides.{eqb_tells}
-use Rattle.std.proofs.lemmas.List.{get_or-set_same, get_or-set_other}
-use Rattle.std.specs.Prelude.{if◌then◌else◌, ◌⊎◌}
-use Rattle.vm_frames.specs.Frames.{FrameTable, page_in}
-use Rattle.vm_frames.specs.Lending.{with_page}
-use Rattle.vm_resident.specs.Resident.{PutsRow, ResidentTable, row_at}
-use Rattle.vm_resident.specs.declared.page_row.PageRow.{PageRow}
+-- What an edit of the regions leaves, case by case.
+use Rattle.std.proofs.Common.{◌≡◌, ℕ, Option}
+use Rattle.std.specs.Prelude.{◌⊎◌}
+use Rattle.vm_parts.proofs.Rows.{one_case}
 use Rattle.vm_shadow.specs.Chains.{ChainTable, PutsRegion, region_at}
 use Rattle.vm_shadow.specs.declared.region_row.RegionRow.{RegionRow}
-
-pub some_is : {A : Type 0} (x y : A) → Some x ≡ Some y → x ≡ y
-some_is x y e = cc
-
--- the page is the one that was put
-pub record IsPut (o p : ℕ) (x : Option PageRow) (o2 p2 : ℕ) (found : Option PageRow) : Type 0 where
-  pub object : o ≡ o2
-  pub page : p ≡ p2
-  pub test : (o == o2 && p == p2) ≡ true
-  pub is : found ≡ x
-
--- the page is another
-pub record IsOther (o p : ℕ) (was : Option PageRow) (o2 p2 : ℕ) (found : Option PageRow) : Type 0 where
-  pub apart : o ≡ o2 → p ≡ p2 → ⊥
-  pub test : (o == o2 && p == p2) ≡ false
-  pub is : found ≡ was
-
-pub row_cases : (o p : ℕ) (x : Option PageRow) (old new : ResidentTable) → PutsRow o p x old new → (o2 p2 : ℕ)
-    → IsPut o p x o2 p2 (row_at new o2 p2) ⊎ IsOther o p (row_at old o2 p2) o2 p2 (row_at new o2 p2)
-row_cases o p x old new put o2 p2 = elim (eqb_tells o o2) [
-  | inl same ↦ elim (eqb_tells p p2) [
-    | inl also ↦
-        let test : (o == o2 && p == p2) ≡ true = rw (same.0, also.0) refl in
-        inl (record { object = same.1; page = also.1; test = test; is = put.at o2 p2 ∙ ap (λ b. if b then x else row_at old o2 p2) test })
-    | inr apart ↦
-        let test : (o == o2 && p == p2) ≡ false = rw (same.0, apart.0) refl in
-        inr (record { apart = λ e f. apart.1 f; test = test; is = put.at o2 p2 ∙ ap (λ b. if b then x else row_at old o2 p2) test })
-  ]
-  | inr apart ↦
-      let test : (o == o2 && p == p2) ≡ false = rw apart.0 refl in
-      inr (record { apart = λ e f. apart.1 e; test = test; is = put.at o2 p2 ∙ ap (λ b. if b then x else row_at old o2 p2) test })
-]
-
--- a test of one number
-pub one_case : {A : Type 0} (f g : ℕ) (x y z : A) → z ≡ (if f == g then x else y) → ((f ≡ g) × (z ≡ x)) ⊎ ((f ≡ g → ⊥) × (z ≡ y))
-one_case f g x y z is = elim (eqb_tells f g) [
-  | inl same ↦ inl (same.1, is ∙ ap (λ b. if b then x else y) same.0)
-  | inr apart ↦ inr (apart.1, is ∙ ap (λ b. if b then x else y) apart.0)
-]
-
-pub if_true : {A : Type 0} (f : ℕ) (x y z : A) → z ≡ (if f == f then x else y) → z ≡ x
-if_true f x y z is = elim (one_case f f x y z is) [ inl same ↦ same.1 | inr apart ↦ absurd (apart.0 refl) ]
-
--- the frames with other bytes in one
-pub page_with : (t : FrameTable) (f : ℕ) (bytes : List ℕ) → f < length t.pages → (g : ℕ) → page_in (with_page t f bytes) g ≡ (if f == g then bytes else page_in t g)
-page_with t f bytes inside g = elim (eqb_tells f g) [
-  | inl same ↦ rw same.0 (subst (λ (z : ℕ). get_or (set t.pages f bytes) z [] ≡ bytes) same.1 (get_or-set_same t.pages f bytes [] inside))
-  | inr apart ↦ rw apart.0 (get_or-set_other t.pages f g bytes [] (λ e. apart.1 (sym e)))
-]
-
-pub pages_with : (t : FrameTable) (f : ℕ) (bytes : List ℕ) → length (with_page t f bytes).pages ≡ length t.pages
-pages_with t f bytes = length-set t.pages f bytes
-
--- the frames with one claimed, or not
-pub claim_set : (claims : List Bool) (f : ℕ) (b : Bool) → f < length claims → (g : ℕ) → get_or (set claims f b) g false ≡ (if f == g then b else get_or claims g false)
-claim_set claims f b inside g = elim (eqb_tells f g) [
-  | inl same ↦ rw same.0 (subst (λ (z : ℕ). get_or (set claims f b) z false ≡ b) same.1 (get_or-set_same claims f b false inside))
-  | inr apart ↦ rw apart.0 (get_or-set_other claims f g b false (λ e. apart.1 (sym e)))
-]
-
--- a claimed frame is one of them
-pub claimed_inside : (claims : List Bool) (f : ℕ) → get_or claims f false ≡ true → f < length claims
-claimed_inside [] f is = absurd (let bad : false ≡ true = is in cc)
-claimed_inside (b ∷ claims) zero is = omega arith
-claimed_inside (b ∷ claims) (suc f) is = let later = claimed_inside claims f is in omega arith
 
 -- the regions with another row for one
 pub region_cases : (r : ℕ) (x : Option RegionRow) (old new : ChainTable) → PutsRegion r x old new → (r2 : ℕ)

@@ -1,5 +1,5 @@
 -- Accesses are run again, and the frame queue is served.
-use Rattle.std.proofs.Common.{◌≡◌, Bool, true, false, List, arith}
+use Rattle.std.proofs.Common.{ℕ, ◌≡◌, Bool, true, false, List, arith}
 use Rattle.std.specs.Prelude.{OnOk, Result, Ok, Err}
 use Rattle.vm_model.specs.declared.event.Event.{Event}
 use Rattle.vm_model.specs.declared.script.Header.{Header}
@@ -22,10 +22,10 @@ three_ok (Ok x) P Q R S f p q s = f p q s
 three_ok (Err e) P Q R S f p q s = tt
 
 -- nothing is left that is to be run again
-pub rests_of : (header : Header) (k : Parts) (ids : Ids) (past : List Event) → Works header k ids woken.Nobody past → again k.waits.rows ≡ 0 → Rests header k ids past
-rests_of header k ids past works idle = record { matches = works.matches; used = works.used; reached = works.reached; waits = works.waits; order = works.order; idle = idle }
+pub rests_of : (header : Header) (h : ℕ) (k : Parts) (ids : Ids) (past : List Event) → Works header h k ids woken.Nobody past → again k.waits.rows ≡ 0 → Rests header h k ids past
+rests_of header h k ids past works idle = record { matches = works.matches; used = works.used; reached = works.reached; waits = works.waits; order = works.order; idle = idle }
 
 -- running an access leaves no other to be run again
-pub attempts_idle : (header : Header) (was : Waiting) (may_claim needs : Bool) (old new : Parts) (before after : List Event) → Attempts header was may_claim needs old new before after → again old.waits.rows ≡ 0 → again new.waits.rows ≡ 0
-attempts_idle header was may_claim true old new before after attempts idle = let step = attempts.again in omega arith
-attempts_idle header was may_claim false old new before after attempts idle = let step = attempts.again in omega arith
+pub attempts_idle : (header : Header) (h : ℕ) (was : Waiting) (may_claim needs : Bool) (old new : Parts) (before after : List Event) → Attempts header h was may_claim needs old new before after → again old.waits.rows ≡ 0 → again new.waits.rows ≡ 0
+attempts_idle header h was may_claim true old new before after attempts idle = let step = attempts.again in omega arith
+attempts_idle header h was may_claim false old new before after attempts idle = let step = attempts.again in omega arith

@@ -14,13 +14,13 @@ use Rattle.vm_model.specs.declared.command.Command.TheVariants as command
 use Rattle.vm_model.specs.declared.script.Header.{Header}
 use Rattle.vm_legal.specs.Follows.{gets, head}
 use Rattle.vm_legal.specs.Frames.{Suffice, frames_used}
-use Rattle.vm_model.specs.Local.{is_on, local}
+use Rattle.vm_model.specs.Local.{local}
 use Rattle.vm_legal.specs.Refusal.{is_fork_full, where_true}
 use Rattle.vm_model.specs.Regions.{backing_of, next_object, next_region, region_of}
 use Rattle.vm_model.specs.Rows.{AllRows, rows_entered}
 use Rattle.vm_model.specs.Tasks.{copies, entries_of, host_of, is_shared, shared}
 use Rattle.vm_model.specs.Waiting.{Access, waiting}
-use Rattle.vm_legal.specs.Bytes.{CopiesCurrent, OwnBytes}
+use Rattle.vm_legal.specs.Bytes.{OwnBytes}
 use Rattle.vm_legal.specs.Licences.{AllLicensed, Enters}
 use Rattle.vm_legal.specs.Living.{lives_on, tasks}
 use Rattle.vm_legal.specs.Outside.{Outside}
@@ -29,28 +29,32 @@ use Rattle.vm_maps.specs.Maps.{ChangesOnly, Mapped, entries_in, rows_in}
 use Rattle.vm_objects.specs.Objects.{object_at}
 use Rattle.vm_shadow.specs.Chains.{ChainTable, region_at}
 use Rattle.vm_shadow.specs.declared.ids.Ids.{Ids}
-use Rattle.vm_shadow.specs.declared.region_row.RegionRow.{RegionRow}
 use Rattle.vm_supply.specs.declared.woken.Woken.TheVariants as woken
 use Rattle.vm_waits.specs.Waits.{again, entry}
-use Rattle.vm_kernel.specs.Begun.{IsInner, IsSaid, Ran, Starts}
+use Rattle.vm_kernel.specs.Begun.{IsOwn, Ran, Starts}
 use Rattle.vm_kernel.specs.Counts.{count_by, most_tasks}
 use Rattle.vm_kernel.specs.Fits.{ArePlain}
 use Rattle.vm_kernel.specs.Forking.{CanShare, HasForked, Shares, got, with_child}
-use Rattle.vm_kernel.specs.Matches.{HasEntries, HasOrder, HasWaits, IsInside, Matches, host_for, the_host}
+use Rattle.vm_kernel.specs.Matches.{HasEntries, HasOrder, HasWaits, IsInside, Matches, host_id}
 use Rattle.vm_kernel.specs.Waiters.{HasWaiters}
 use Rattle.vm_kernel.specs.Places.{entries_in_row, has_region, pages_in, place_of, region_entries, region_pages}
-use Rattle.vm_kernel.specs.Sweeping.{with_entries}
 use Rattle.vm_kernel.specs.declared.parts.Parts.{Parts}
 use Rattle.vm_kernel.proofs.Counts.{by_few, most_is, on_entered}
 use Rattle.vm_kernel.proofs.Forks.{behind, entered_behind, few_shared, free_behind, gets_more, row_among, rows_shared, shared_more, shared_one, shared_other, split_at, take_all, whole_among}
 use Rattle.vm_kernel.proofs.Growing.{licensed, suffices}
 use Rattle.vm_kernel.proofs.Heads.{Heads, passed, ran_head}
-use Rattle.vm_kernel.proofs.Making.{idle_of, waits_made}
+use Rattle.vm_kernel.proofs.Making.{holds_made, idle_of, waits_made}
 use Rattle.vm_kernel.proofs.Recounts.{Recounts, has_same, more_taken, recounts_put}
+use Rattle.vm_kernel.proofs.Regions.{region_row, tops_recounted}
 use Rattle.vm_kernel.proofs.Rewrites.{entries_changed, lives_below, recount_pages, recount_regions, recount_used}
-use Rattle.vm_kernel.proofs.Tasks.{entries_made, free_task, length_entered, lives_of, tasks_entered, tasks_made}
-use Rattle.vm_kernel.proofs.Uses.{unfilled, uses_entered, uses_made}
-use Rattle.vm_kernel.proofs.Waited.{SameTops, waits_changed}
+use Rattle.vm_kernel.proofs.Tasks.{entries_made, tasks_entered, tasks_made}
+use Rattle.vm_kernel.proofs.Uses.{unfilled, uses_entered, uses_made, holds_rows}
+use Rattle.vm_kernel.proofs.Waited.{waits_changed, told_changed}
+use Rattle.vm_parts.specs.Fits.{Fit}
+use Rattle.vm_parts.specs.declared.parts.HostParts.{HostParts}
+use Rattle.vm_legal.specs.Stretches.{IsInner}
+use Rattle.vm_maps.proofs.Entering.{length_entered}
+use Rattle.vm_kernel.proofs.Own.{free_in, lives_here, lives_in, named_host, rows_here}
 
 -- a task that can be forked lives, its child doesn't, and nothing is copied
 pub record MayFork (k : Parts) (task child : ℕ) : Type 0 where
@@ -58,18 +62,19 @@ pub record MayFork (k : Parts) (task child : ℕ) : Type 0 where
   pub free : entries_in child k.maps ≡ None
   pub shares : (copies (rows_in task k.maps) == 0) ≡ true
 
-pub may_fork : (header : Header) (task child : TaskId) (past : List Event) (k : Parts) (ids : Ids) (events : List Event) → Starts header (command.Fork task child) past k ids events → MayFork k task.0 child.0
-may_fork header task child past k ids events s =
+pub may_fork : (header : Header) (h : ℕ) (task child : TaskId) (past : List Event) (k : Parts) (ids : Ids) (events : List Event) → Starts header h (command.Fork task child) past k ids events → MayFork k task.0 child.0
+may_fork header h task child past k ids events s =
     let m = s.rests.matches in
     let rows = entries_of header.size task.0 past in
     let last = where_true (is_fork_full header rows past) code.TableFull None in
     let next = where_true (is_some (waiting task.0 past)) code.Blocked last in
     let first = passed (is_none (host_of task.0 past)) code.NoSuchName (where_true (is_some (host_of child.0 past)) code.NameTaken next) s.accepted in
     let second = passed (is_some (host_of child.0 past)) code.NameTaken next first.1 in
+    let lives = lives_in task.0 m.tasks s.acts in
     record {
-      lives = lives_of (entries_in task.0 k.maps) (host_of task.0 past) (m.tasks.hosts task.0) first.0;
-      free = free_task (entries_in child.0 k.maps) (host_of child.0 past) (m.tasks.hosts child.0) second.0;
-      shares = turned (copies (rows_in task.0 k.maps) == 0) (ap (λ z. not (copies z == 0)) (sym (m.tasks.rows task.0)) ∙ s.enough);
+      lives = lives;
+      free = free_in child.0 m.tasks second.0;
+      shares = turned (copies (rows_in task.0 k.maps) == 0) (ap (λ z. not (copies z == 0)) (sym (rows_here m.tasks lives)) ∙ s.enough);
     }
   where
     turned : (b : Bool) → not b ≡ false → b ≡ true
@@ -84,27 +89,28 @@ pub same_rows : (a b : List Entry) (o : Option (List Entry)) → o ≡ Some a �
 same_rows a b o one two = let both : ◌≡◌ {A = Option (List Entry)} (Some a) (Some b) = sym one ∙ two in cc
 
 -- nothing has been shared yet
-pub fork_start : (header : Header) (outside : Outside) (task child : TaskId) (past : List Event) (k : Parts) (ids : Ids) (before after : List Event) (maps : Mapped) → Starts header (command.Fork task child) past k ids before
-    → ChangesOnly k.maps maps child.0 (Some []) → after ≡ event.TaskMade child k.host ∷ before → HasForked header outside task child (rows_in task.0 k.maps) 0 past (record k { maps = maps }) ids after
-fork_start header outside task child past k ids before after maps s changes told =
+pub fork_start : (header : Header) (h : ℕ) (outside : Outside) (task child : TaskId) (past : List Event) (k : Parts) (ids : Ids) (before after : List Event) (maps : Mapped) → Starts header h (command.Fork task child) past k ids before
+    → ChangesOnly k.maps maps child.0 (Some []) → after ≡ event.TaskMade child k.host ∷ before → HasForked header h outside task child (rows_in task.0 k.maps) 0 past (record k { maps = maps }) ids after
+fork_start header h outside task child past k ids before after maps s changes told =
     let m = s.rests.matches in
-    let may = may_fork header task child past k ids before s in
+    let may = may_fork header h task child past k ids before s in
     let apart : task.0 ≢ child.0 = λ e. (let bad : None ≡ Some (rows_in task.0 k.maps) = sym may.free ∙ (ap (λ z. entries_in z k.maps) (sym e) ∙ may.lives) in cc) in
-    let log : after ≡ event.TaskMade child the_host ∷ [] = told ∙ (ap (λ z. event.TaskMade child z ∷ before) m.host ∙ ap (λ z. event.TaskMade child the_host ∷ z) s.nothing) in
+    let log : after ≡ event.TaskMade child (host_id h) ∷ [] = told ∙ (ap (λ z. event.TaskMade child z ∷ before) (named_host k.host h m.host) ∙ ap (λ z. event.TaskMade child (host_id h) ∷ z) s.nothing) in
     record {
       apart = apart;
       matches =
-          subst (λ (z : List Event). Matches header (record k { maps = maps }) ids [] (z ++ past)) (sym log)
+          subst (λ (z : List Event). Matches header h (record k { maps = maps }) ids [] (z ++ past)) (sym log)
           (record {
             plain = m.plain;
+            known = m.known;
             size = m.size;
             host = m.host;
             fits = record { parts = m.fits.parts; plain = m.fits.plain; buffers = m.fits.buffers };
-            tasks = tasks_made header.size k.maps maps past child m.tasks changes;
+            tasks = tasks_made h header.size k.maps maps past child m.tasks changes;
             regions = m.regions;
             entries = entries_made header.size k.maps maps k.chains child.0 m.entries changes may.free s.range.1;
             pages = m.pages;
-            uses = uses_made k.maps maps (λ r. in_use header 0 r past) (tasks past) child.0 m.uses changes may.free (rw most_is s.range.1);
+            uses = uses_made k.maps maps (λ r. in_use header h r past) (tasks past) _ _ (next_region header past) child.0 m.uses changes may.free (rw most_is s.range.1) (holds_made header.size child (host_id h) past);
             controls = m.controls;
             settled = refl;
             laundry = m.laundry;
@@ -114,26 +120,14 @@ fork_start header outside task child past k ids before after maps s changes told
       reached = s.rests.reached;
       waits =
           subst (λ (z : List Event). HasWaits (record k { maps = maps }) woken.Nobody (z ++ past)) (sym log)
-          (waits_made k.maps maps k.chains k.resident k.objects k.waits.rows woken.Nobody child the_host past s.rests.waits may.free changes);
+          (waits_made k.maps maps k.chains k.memory.resident k.memory.objects k.waits.rows woken.Nobody child (host_id h) past s.rests.waits may.free changes);
       order = subst (λ (z : List Event). HasOrder (record k { maps = maps }) (z ++ past)) (sym log) s.rests.order;
       idle = s.rests.idle;
       others = changes.others task.0 apart ∙ may.lives;
       own = changes.changed;
       told = log;
-      licensed = subst (λ (z : List Event). AllLicensed header outside (command.Fork task child) z past) (sym log) (licensed header outside (command.Fork task child) (event.TaskMade child the_host) past m.settled tt, tt);
+      licensed = subst (λ (z : List Event). AllLicensed header outside (command.Fork task child) z past) (sym log) (licensed header outside (command.Fork task child) (event.TaskMade child (host_id h)) past m.settled tt, tt);
     }
-
--- the row of a region that is there
-region_row : (cs : ChainTable) (r : ℕ) → has_region cs r ≡ true → (row : RegionRow) × (region_at cs r ≡ Some row)
-region_row cs r there = go (region_at cs r) there
-  where
-    go : (x : Option RegionRow) → is_some x ≡ true → (row : RegionRow) × (x ≡ Some row)
-    go None bad = absurd (let no : false ≡ true = bad in cc)
-    go (Some row) is = (row, refl)
-
--- regions that count anew are over the same pages
-pub tops_recounted : (count : ℕ → ℕ) (old new : ChainTable) → Recounts count old new → SameTops old new
-tops_recounted count old new is = record { at = λ r row found. record { row_now = record row { entries = count r }; found = is.at r ∙ ap (with_entries (count r)) found; top = refl; shift = refl } }
 
 -- the child doesn't wait
 
@@ -143,10 +137,10 @@ gets_idle task child (row ∷ rows) past =
     ap (λ z. waiting task (z ++ past)) (reverse-append (got child row ∷ []) (gets child rows))
     ∙ (ap (waiting task) (append_assoc (reverse (gets child rows)) (got child row ∷ []) past) ∙ gets_idle task child rows (got child row ∷ past))
 
-child_idle : (child : TaskId) (rows : List Entry) (past : List Event) → waiting child.0 (with_child child rows ++ past) ≡ None
-child_idle child rows past =
-    ap (waiting child.0) (append_assoc (reverse (gets child rows)) (event.TaskMade child the_host ∷ []) past)
-    ∙ (gets_idle child.0 child rows (event.TaskMade child the_host ∷ past) ∙ made child.0 (waiting child.0 past))
+child_idle : (h : ℕ) (child : TaskId) (rows : List Entry) (past : List Event) → waiting child.0 (with_child h child rows ++ past) ≡ None
+child_idle h child rows past =
+    ap (waiting child.0) (append_assoc (reverse (gets child rows)) (event.TaskMade child (host_id h) ∷ []) past)
+    ∙ (gets_idle child.0 child rows (event.TaskMade child (host_id h) ∷ past) ∙ made child.0 (waiting child.0 past))
   where
     made : (n : ℕ) (other : Option Access) → ◌≡◌ {A = Option Access} (if n == n then None else other) None
     made n other = elim (eqb_tells n n) [ inl same ↦ ap (λ b. if b then None else other) same.0 | inr apart ↦ absurd (apart.1 refl) ]
@@ -160,9 +154,9 @@ few_entries size maps chains r has there =
     omega (arith, same, has.counts r row.0 row.1, most)
 
 -- an entry of the task can be shared
-pub can_share : (header : Header) (outside : Outside) (task child : TaskId) (rows : List Entry) (i : ℕ) (row : Entry) (past : List Event) (k : Parts) (ids : Ids) (events : List Event) → HasForked header outside task child rows i past k ids events → AreEntries k.maps.size rows → slice_get rows i ≡ Some row
+pub can_share : (header : Header) (h : ℕ) (outside : Outside) (task child : TaskId) (rows : List Entry) (i : ℕ) (row : Entry) (past : List Event) (k : Parts) (ids : Ids) (events : List Event) → HasForked header h outside task child rows i past k ids events → AreEntries k.maps.size rows → slice_get rows i ≡ Some row
     → CanShare child.0 row k
-can_share header outside task child rows i row past k ids events f sound found =
+can_share header h outside task child rows i row past k ids events f sound found =
     let front = take i rows in
     let left = drop (i + 1) rows in
     let is = split_at rows i row found in
@@ -192,9 +186,9 @@ can_share header outside task child rows i row past k ids events f sound found =
     }
 
 -- an entry more was shared
-pub fork_shared : (header : Header) (outside : Outside) (task child : TaskId) (rows : List Entry) (i : ℕ) (row : Entry) (past : List Event) (k k2 : Parts) (ids : Ids) (events after : List Event) → HasForked header outside task child rows i past k ids events → AreEntries k.maps.size rows → slice_get rows i ≡ Some row
-    → is_shared row.inherit ≡ true → Shares child row k k2 events after → HasForked header outside task child rows (i + 1) past k2 ids after
-fork_shared header outside task child rows i row past k k2 ids events after f sound found is_here s =
+pub fork_shared : (header : Header) (h : ℕ) (outside : Outside) (task child : TaskId) (rows : List Entry) (i : ℕ) (row : Entry) (past : List Event) (k k2 : Parts) (ids : Ids) (events after : List Event) → HasForked header h outside task child rows i past k ids events → AreEntries k.maps.size rows → slice_get rows i ≡ Some row
+    → is_shared row.inherit ≡ true → Shares child row k k2 events after → HasForked header h outside task child rows (i + 1) past k2 ids after
+fork_shared header h outside task child rows i row past k k2 ids events after f sound found is_here s =
     let m = f.matches in
     let front = take i rows in
     let left = drop (i + 1) rows in
@@ -221,56 +215,60 @@ fork_shared header outside task child rows i row past k k2 ids events after f so
     (λ q there. omega (arith, on_entered q row (rows_in child.0 k.maps), step q)) entered_all tt (omega (arith, length_entered row (rows_in child.0 k.maps), ap length own, count, fewer, most)) in
     let e = got child row in
     let below = lives_below size child.0 k.maps k.chains [] m.entries lives in
-    let home : host_of child.0 (events ++ past) ≡ Some 0 = m.tasks.hosts child.0 ∙ ap host_for lives in
-    let lives_here : lives_on 0 child.0 (events ++ past) ≡ true = ap (is_on 0) home in
+    let home : host_of child.0 (events ++ past) ≡ Some h = lives_here m.tasks lives in
+    let on_host : lives_on h child.0 (events ++ past) ≡ true = m.tasks.hosts child.0 ∙ ap is_some lives in
     let there = region_row k.chains r one.region in
-    let used : in_use header 0 r (events ++ past) ≡ true = m.uses.used r ∙ some_use (count_by most_tasks r k.maps) (let counts = m.entries.counts r there.0 there.1 in let some = f.used r there.0 there.1 in omega arith) in
+    let used : in_use header h r (events ++ past) ≡ true = m.uses.used r ∙ some_use (count_by most_tasks r k.maps) (let counts = m.entries.counts r there.0 there.1 in let some = f.used r there.0 there.1 in omega arith) in
     let pages : (region_of header r (events ++ past)).pages ≡ region_pages k.chains r = ap (λ z. z.pages) (m.regions.rows r there.0 there.1) ∙ sym (ap pages_in there.1) in
     let inside = one.inside.whole in
     let whole_pages = whole_among k.maps.size front row left order.whole in
     let enters : Enters header child.0 row.bytes r row.offset (events ++ past) =
     record {
-      host = 0;
+      idle = ap (λ z. waiting child.0 (z ++ past)) f.told ∙ child_idle h child (shared front) past;
+      host = h;
       lives = home;
       whole = subst (λ (z : ℕ). row.bytes % z ≡ 0) m.tasks.sized whole_pages.bytes;
       inside = omega (arith, inside, pages);
       made = by_number (nat_lt r (next_region header (events ++ past))) refl;
       used = λ temporary. used;
       file = λ is. used;
-      unfilled = unfilled r (tasks (events ++ past)) k.waits.rows (events ++ past) (record { is = f.waits.is });
+      unfilled = unfilled header.size r (tasks (events ++ past)) k.maps k.waits.rows (events ++ past) (record { is = f.waits.is }) (λ t none. m.uses.apart t r none (inl used));
     } in
     let waits_at = λ (t : ℕ). waiting t (events ++ past) in
     let idle : entry k.waits.rows child.0 ≡ None =
-    idle_of (entry k.waits.rows child.0) (waiting child.0 (events ++ past)) (f.waits.is child.0) (ap is_some (ap (λ z. waiting child.0 (z ++ past)) f.told ∙ child_idle child (shared front) past)) in
-    let now_waits : HasWaiters k2.maps k2.chains k.resident k.objects k.waits.rows woken.Nobody waits_at =
-    waits_changed k.maps k2.maps k.chains k2.chains k.resident k.objects k.waits.rows woken.Nobody waits_at child.0 (Some (entered row (rows_in child.0 k.maps))) f.waits s.maps idle (tops_recounted count_at k.chains k2.chains recounts) in
+    idle_of (entry k.waits.rows child.0) (waiting child.0 (events ++ past)) (f.waits.is child.0 (ap is_some lives)) (ap is_some (ap (λ z. waiting child.0 (z ++ past)) f.told ∙ child_idle h child (shared front) past)) in
+    let now_waits : HasWaiters k2.maps k2.chains k.memory.resident k.memory.objects k.waits.rows woken.Nobody waits_at =
+    waits_changed k.maps k2.maps k.chains k2.chains k.memory.resident k.memory.objects k.waits.rows woken.Nobody waits_at child.0 (Some (entered row (rows_in child.0 k.maps))) f.waits s.maps idle (tops_recounted count_at k.chains k2.chains recounts)
+    (told_changed k.maps k2.maps k.waits.rows waits_at child.0 (rows_in child.0 k.maps) _ f.waits.is s.maps lives) in
     record {
       apart = f.apart;
       matches =
-          subst (λ (z : List Event). Matches header k2 ids [] (z ++ past)) (sym s.told)
+          subst (λ (z : List Event). Matches header h k2 ids [] (z ++ past)) (sym s.told)
           (record {
             plain = m.plain;
+            known = m.known;
             size = s.size ∙ m.size;
-            host = s.host ∙ m.host;
+            host = rw s.host m.host;
             fits =
                 record {
-                  parts = rw (s.size, s.frames, s.resident, s.queues, s.objects) m.fits.parts;
-                  plain = subst ArePlain (sym s.resident) m.fits.plain;
-                  buffers = ap (λ z. z.size) s.buffers ∙ (m.fits.buffers ∙ sym s.size);
+                  parts = subst Fit (sym s.memory) m.fits.parts;
+                  plain = subst (λ (z : HostParts). ArePlain z.resident) (sym s.memory) m.fits.plain;
+                  buffers = ap (λ (z : HostParts). z.buffers.size) s.memory ∙ (m.fits.buffers ∙ sym s.size);
                 };
-            tasks = tasks_entered size k.maps k2.maps (events ++ past) child row m.tasks s.maps lives;
-            regions = rw s.objects (recount_regions count_at k.chains k2.chains k.objects ids (λ q. region_of header q (events ++ past)) (λ o. backing_of header o (events ++ past)) (next_region header (events ++ past)) (next_object header (events ++ past)) recounts m.regions);
+            tasks = tasks_entered h size k.maps k2.maps (events ++ past) child row m.tasks s.maps lives;
+            regions = rw s.memory (recount_regions count_at k.chains k2.chains k.memory.objects ids (λ q. region_of header q (events ++ past)) (λ o. backing_of header o (events ++ past)) (next_region header (events ++ past)) (next_object header (events ++ past)) recounts m.regions);
             entries = entries;
-            pages = rw (s.frames, s.resident, s.objects) (recount_pages count_at k.frames k.resident k.objects k.chains k2.chains (λ o p. local size 0 (place_of o p) (events ++ past)) recounts m.pages);
-            uses = uses_entered k.maps k2.maps (λ q. in_use header 0 q (events ++ past)) (tasks (events ++ past)) child.0 row (lives_on 0 child.0 (events ++ past)) (λ q apart. m.uses.used q) used m.uses.among s.maps lives below lives_here;
-            controls = rw s.objects m.controls;
+            pages = rw s.memory (recount_pages count_at k.memory.frames k.memory.resident k.memory.objects k.chains k2.chains (λ o p. local size h (place_of o p) (events ++ past)) recounts m.pages);
+            uses = uses_entered k.maps k2.maps (λ q. in_use header h q (events ++ past)) (tasks (events ++ past)) _ (next_region header (events ++ past)) child.0 row (lives_on h child.0 (events ++ past)) (λ q apart. m.uses.used q) used m.uses.among s.maps lives below on_host
+                (λ t q none why. holds_rows header.size child.0 t q k.maps (rows_in child.0 k.maps) _ (events ++ past) lives none ∙ m.uses.apart t q none why);
+            controls = rw s.memory m.controls;
             settled = refl;
-            laundry = rw (s.frames, s.resident, s.laundry) m.laundry;
-            frames = rw s.frames m.frames;
+            laundry = rw (s.memory, s.laundry) m.laundry;
+            frames = rw s.memory m.frames;
           });
       used = recount_used count_at k.chains k2.chains recounts (λ q there some. omega (arith, step q)) f.used;
-      reached = λ o known found live. has_same count_at k.chains k2.chains recounts o ∙ f.reached o known (ap (λ z. object_at z o) (sym s.objects) ∙ found) live;
-      waits = subst (λ (z : List Event). HasWaits k2 woken.Nobody (z ++ past)) (sym s.told) (rw (s.resident, s.objects, s.waits) now_waits);
+      reached = λ o known found live. has_same count_at k.chains k2.chains recounts o ∙ f.reached o known (ap (λ (z : HostParts). object_at z.objects o) (sym s.memory) ∙ found) live;
+      waits = subst (λ (z : List Event). HasWaits k2 woken.Nobody (z ++ past)) (sym s.told) (rw (s.memory, s.waits) now_waits);
       order = subst (λ (z : List Event). HasOrder k2 (z ++ past)) (sym s.told) (rw s.waits f.order);
       idle = ap (λ z. again z.rows) s.waits ∙ f.idle;
       others = s.maps.others task.0 f.apart ∙ f.others;
@@ -292,10 +290,10 @@ fork_shared header outside task child rows i row past k k2 ids events after f so
         let inside : IsInside header.size k.chains row = row_among (IsInside header.size k.chains) (take i rows) row (drop (i + 1) rows) all in
         absurd (let bad : false ≡ true = sym (ap is_some none) ∙ inside.region in cc)
 
-    with_one : (before now : List Entry) → now ≡ before ++ row ∷ [] → with_child child now ≡ got child row ∷ with_child child before
-    with_one before now is = ap (with_child child) is
-        ∙ (ap (λ z. reverse z ++ event.TaskMade child the_host ∷ []) (gets_more child before (row ∷ []))
-        ∙ ap (λ z. z ++ event.TaskMade child the_host ∷ []) (reverse-append (gets child before) (got child row ∷ [])))
+    with_one : (before now : List Entry) → now ≡ before ++ row ∷ [] → with_child h child now ≡ got child row ∷ with_child h child before
+    with_one before now is = ap (with_child h child) is
+        ∙ (ap (λ z. reverse z ++ event.TaskMade child (host_id h) ∷ []) (gets_more child before (row ∷ []))
+        ∙ ap (λ z. z ++ event.TaskMade child (host_id h) ∷ []) (reverse-append (gets child before) (got child row ∷ [])))
 
     step : (q : ℕ) → (if row.region.0 == q then region_entries k.chains row.region.0 + 1 else region_entries k.chains q) ≡ (if row.region.0 == q then 1 else 0) + region_entries k.chains q
     step q = elim (eqb_tells row.region.0 q) [
@@ -304,9 +302,9 @@ fork_shared header outside task child rows i row past k k2 ids events after f so
     ]
 
 -- an entry isn't shared
-pub fork_other : (header : Header) (outside : Outside) (task child : TaskId) (rows : List Entry) (i : ℕ) (row : Entry) (past : List Event) (k : Parts) (ids : Ids) (events : List Event) → HasForked header outside task child rows i past k ids events → slice_get rows i ≡ Some row → is_shared row.inherit ≡ false
-    → HasForked header outside task child rows (i + 1) past k ids events
-fork_other header outside task child rows i row past k ids events f found isnt =
+pub fork_other : (header : Header) (h : ℕ) (outside : Outside) (task child : TaskId) (rows : List Entry) (i : ℕ) (row : Entry) (past : List Event) (k : Parts) (ids : Ids) (events : List Event) → HasForked header h outside task child rows i past k ids events → slice_get rows i ≡ Some row → is_shared row.inherit ≡ false
+    → HasForked header h outside task child rows (i + 1) past k ids events
+fork_other header h outside task child rows i row past k ids events f found isnt =
     let none : shared (take i rows) ++ shared (row ∷ []) ≡ shared (take i rows) = ap (λ z. shared (take i rows) ++ z) (shared_other row isnt) ∙ nothing (shared (take i rows)) in
     let same : shared (take (i + 1) rows) ≡ shared (take i rows) = ap shared (more_taken rows i row found) ∙ (shared_more (take i rows) (row ∷ []) ∙ none) in
     record {
@@ -319,7 +317,7 @@ fork_other header outside task child rows i row past k ids events f found isnt =
       idle = f.idle;
       others = f.others;
       own = f.own ∙ ap Some (sym same);
-      told = f.told ∙ ap (with_child child) (sym same);
+      told = f.told ∙ ap (with_child h child) (sym same);
       licensed = f.licensed;
     }
   where
@@ -328,59 +326,57 @@ fork_other header outside task child rows i row past k ids events f found isnt =
     nothing (row ∷ rows) = ap (λ z. row ∷ z) (nothing rows)
 
 -- an event that carries no bytes, and takes no frame
-record Quiet (header : Header) (e : Event) : Type 0 where
+record Quiet (header : Header) (h : ℕ) (e : Event) : Type 0 where
   own : (past : List Event) → OwnBytes header e past
-  copies : (outside : Outside) (past : List Event) → CopiesCurrent header outside e past
-  frames : (past : List Event) → frames_used header.size 0 (e ∷ past) ≡ frames_used header.size 0 past
+  frames : (past : List Event) → frames_used header.size h (e ∷ past) ≡ frames_used header.size h past
   inner : IsInner e
-  said : (size : ℕ) → IsSaid size e
+  said : (size : ℕ) → IsOwn h size e
 
-abbrev AllQuiet : Header → List Event → Type 0
-AllQuiet header [] = Unit {0}
-AllQuiet header (e ∷ events) = Quiet header e × AllQuiet header events
+abbrev AllQuiet : Header → ℕ → List Event → Type 0
+AllQuiet header h [] = Unit {0}
+AllQuiet header h (e ∷ events) = Quiet header h e × AllQuiet header h events
 
-quiet_made : (header : Header) (child : TaskId) → Quiet header (event.TaskMade child the_host)
-quiet_made header child = record { own = λ past. tt; copies = λ outside past. tt; frames = λ past. refl; inner = tt; said = λ size. tt }
+quiet_made : (header : Header) (h : ℕ) (child : TaskId) → Quiet header h (event.TaskMade child (host_id h))
+quiet_made header h child = record { own = λ past. tt; frames = λ past. refl; inner = tt; said = λ size. refl }
 
-quiet_got : (header : Header) (child : TaskId) (row : Entry) → Quiet header (got child row)
-quiet_got header child row = record { own = λ past. tt; copies = λ outside past. tt; frames = λ past. refl; inner = tt; said = λ size. tt }
+quiet_got : (header : Header) (h : ℕ) (child : TaskId) (row : Entry) → Quiet header h (got child row)
+quiet_got header h child row = record { own = λ past. tt; frames = λ past. refl; inner = tt; said = λ size. tt }
 
-quiet_append : (header : Header) (group more : List Event) → AllQuiet header group → AllQuiet header more → AllQuiet header (group ++ more)
-quiet_append header [] more one two = two
-quiet_append header (e ∷ group) more one two = (one.0, quiet_append header group more one.1 two)
+quiet_append : (header : Header) (h : ℕ) (group more : List Event) → AllQuiet header h group → AllQuiet header h more → AllQuiet header h (group ++ more)
+quiet_append header h [] more one two = two
+quiet_append header h (e ∷ group) more one two = (one.0, quiet_append header h group more one.1 two)
 
-quiet_gets : (header : Header) (child : TaskId) (rows : List Entry) → AllQuiet header (reverse (gets child rows))
-quiet_gets header child [] = tt
-quiet_gets header child (row ∷ rows) = subst (AllQuiet header) (sym (reverse-append (got child row ∷ []) (gets child rows)))
-    (quiet_append header (reverse (gets child rows)) (got child row ∷ []) (quiet_gets header child rows) (quiet_got header child row, tt))
+quiet_gets : (header : Header) (h : ℕ) (child : TaskId) (rows : List Entry) → AllQuiet header h (reverse (gets child rows))
+quiet_gets header h child [] = tt
+quiet_gets header h child (row ∷ rows) = subst (AllQuiet header h) (sym (reverse-append (got child row ∷ []) (gets child rows)))
+    (quiet_append header h (reverse (gets child rows)) (got child row ∷ []) (quiet_gets header h child rows) (quiet_got header h child row, tt))
 
-quiet_used : (header : Header) (events past : List Event) → AllQuiet header events → frames_used header.size 0 (events ++ past) ≡ frames_used header.size 0 past
-quiet_used header [] past all = refl
-quiet_used header (e ∷ events) past all = all.0.frames (events ++ past) ∙ quiet_used header events past all.1
+quiet_used : (header : Header) (h : ℕ) (events past : List Event) → AllQuiet header h events → frames_used header.size h (events ++ past) ≡ frames_used header.size h past
+quiet_used header h [] past all = refl
+quiet_used header h (e ∷ events) past all = all.0.frames (events ++ past) ∙ quiet_used header h events past all.1
 
-heads_quiet : (header : Header) (outside : Outside) (doing : Command) (events past : List Event) → AllLicensed header outside doing events past → AllQuiet header events → Suffice header 0 past → Heads header outside doing past events
-heads_quiet header outside doing [] past causes all fine = record { licensed = tt; own_bytes = tt; copies = tt; frames = tt; inner = tt; said = tt }
-heads_quiet header outside doing (e ∷ events) past causes all fine =
-    let later = heads_quiet header outside doing events past causes.1 all.1 fine in
+heads_quiet : (header : Header) (h : ℕ) (outside : Outside) (doing : Command) (events past : List Event) → AllLicensed header outside doing events past → AllQuiet header h events → Suffice header h past → Heads header h outside doing past events
+heads_quiet header h outside doing [] past causes all fine = record { licensed = tt; own_bytes = tt; frames = tt; inner = tt; said = tt }
+heads_quiet header h outside doing (e ∷ events) past causes all fine =
+    let later = heads_quiet header h outside doing events past causes.1 all.1 fine in
     record {
       licensed = causes;
       own_bytes = (all.0.own (events ++ past), later.own_bytes);
-      copies = (all.0.copies outside (events ++ past), later.copies);
-      frames = (subst (λ (z : ℕ). IfSome (slice_get (reverse header.frames.items) 0) (λ frames. z ≤ frames)) (sym (quiet_used header (e ∷ events) past all)) fine, later.frames);
+      frames = (subst (λ (z : ℕ). IfSome (slice_get (reverse header.frames.items) h) (λ frames. z ≤ frames)) (sym (quiet_used header h (e ∷ events) past all)) fine, later.frames);
       inner = (all.0.inner, later.inner);
       said = (all.0.said header.size, later.said);
     }
 
 -- all that is shared was given
-pub ran_fork : (header : Header) (outside : Outside) (task child : TaskId) (i : ℕ) (past : List Event) (k k2 : Parts) (ids : Ids) (before events : List Event) → Starts header (command.Fork task child) past k ids before → HasForked header outside task child (rows_in task.0 k.maps) i past k2 ids events → length (rows_in task.0 k.maps) ≤ i
-    → Ran header outside (command.Fork task child) past k2 ids events
-ran_fork header outside task child i past k k2 ids before events s f end =
+pub ran_fork : (header : Header) (h : ℕ) (outside : Outside) (task child : TaskId) (i : ℕ) (past : List Event) (k k2 : Parts) (ids : Ids) (before events : List Event) → Starts header h (command.Fork task child) past k ids before → HasForked header h outside task child (rows_in task.0 k.maps) i past k2 ids events → length (rows_in task.0 k.maps) ≤ i
+    → Ran header h outside (command.Fork task child) past k2 ids events
+ran_fork header h outside task child i past k k2 ids before events s f end =
     let m = s.rests.matches in
-    let may = may_fork header task child past k ids before s in
+    let may = may_fork header h task child past k ids before s in
     let rows = rows_in task.0 k.maps in
-    let first = event.TaskMade child the_host ∷ gets child (shared rows) in
-    let turned : reverse first ≡ with_child child (shared rows) = reverse-append (event.TaskMade child the_host ∷ []) (gets child (shared rows)) in
-    let whole : events ≡ reverse first = f.told ∙ (ap (λ z. with_child child (shared z)) (take_all rows i end) ∙ sym turned) in
-    let quiet : AllQuiet header events = subst (AllQuiet header) (sym (whole ∙ turned)) (quiet_append header (reverse (gets child (shared rows))) (event.TaskMade child the_host ∷ []) (quiet_gets header child (shared rows)) (quiet_made header child, tt)) in
-    let is : head header past (command.Fork task child) ≡ Some first = rw (m.tasks.hosts task.0, m.tasks.rows task.0, ap host_for may.lives, may.shares) refl in
-    ran_head header outside (command.Fork task child) past k2 ids events first is whole (heads_quiet header outside (command.Fork task child) events past f.licensed quiet (suffices header k.frames past m.frames)) tt (record { matches = f.matches; used = f.used; reached = f.reached; waits = f.waits; order = f.order; idle = f.idle })
+    let first = event.TaskMade child (host_id h) ∷ gets child (shared rows) in
+    let turned : reverse first ≡ with_child h child (shared rows) = reverse-append (event.TaskMade child (host_id h) ∷ []) (gets child (shared rows)) in
+    let whole : events ≡ reverse first = f.told ∙ (ap (λ z. with_child h child (shared z)) (take_all rows i end) ∙ sym turned) in
+    let quiet : AllQuiet header h events = subst (AllQuiet header h) (sym (whole ∙ turned)) (quiet_append header h (reverse (gets child (shared rows))) (event.TaskMade child (host_id h) ∷ []) (quiet_gets header h child (shared rows)) (quiet_made header h child, tt)) in
+    let is : head header past (command.Fork task child) ≡ Some first = rw (lives_here m.tasks may.lives, rows_here m.tasks may.lives, may.shares) refl in
+    ran_head header h outside (command.Fork task child) past k2 ids events first is whole (heads_quiet header h outside (command.Fork task child) events past f.licensed quiet (suffices header h k.memory.frames past m.frames)) tt (record { matches = f.matches; used = f.used; reached = f.reached; waits = f.waits; order = f.order; idle = f.idle })

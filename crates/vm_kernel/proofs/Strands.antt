@@ -19,7 +19,7 @@ use Rattle.vm_maps.specs.Maps.{Mapped, rows_in}
 use Rattle.vm_objects.specs.Objects.{ObjectTable, PutsObject, SameMarks, object_at}
 use Rattle.vm_objects.specs.declared.row.ObjectRow.{ObjectRow}
 use Rattle.vm_parts.proofs.Fitting.{fit_objects, same_pages}
-use Rattle.vm_resident.specs.Resident.{ResidentTable, page_key, row_at}
+use Rattle.vm_resident.specs.Resident.{PutsRow, ResidentTable, page_key, row_at}
 use Rattle.vm_resident.specs.declared.page_row.PageRow.{PageRow}
 use Rattle.vm_shadow.specs.Chains.{ChainTable, PutsRegion, region_at}
 use Rattle.vm_shadow.specs.declared.ids.Ids.{Ids}
@@ -38,21 +38,16 @@ use Rattle.vm_kernel.specs.Sweeping.{Ends, Strands}
 use Rattle.vm_kernel.specs.Waiters.{Asker, HasWaiters, IsAt, IsTold, Reason, address_in}
 use Rattle.vm_kernel.specs.declared.parts.Parts.{Parts}
 use Rattle.vm_kernel.proofs.Counts.{by_zero, on_zero}
-use Rattle.vm_kernel.proofs.Rows.{one_case, region_cases, some_is}
-
--- the row of a region that is there
-pub row_there : (cs : ChainTable) (r : ℕ) → has_region cs r ≡ true → (row : RegionRow) × (region_at cs r ≡ Some row)
-row_there cs r there = go (region_at cs r) there
-  where
-    go : (x : Option RegionRow) → is_some x ≡ true → (row : RegionRow) × (x ≡ Some row)
-    go None bad = absurd (let no : false ≡ true = bad in cc)
-    go (Some row) is = (row, refl)
+use Rattle.vm_kernel.proofs.Rows.{region_cases}
+use Rattle.vm_parts.proofs.Rows.{one_case, some_is}
+use Rattle.vm_kernel.proofs.Waiting.{here_not_asked, none_not_asked, waiters_page}
+use Rattle.vm_kernel.proofs.Regions.{region_row}
 
 -- no entry leads to a region that counts none
 
 pub none_left : (size : ℕ) (maps : Mapped) (cs : ChainTable) (rest : List Entry) (r : ℕ) → HasEntries size maps cs rest → has_region cs r ≡ true → region_entries cs r ≡ 0 → (count_by most_tasks r maps ≡ 0) × (count_on r rest ≡ 0)
 none_left size maps cs rest r has there none =
-    let row = row_there cs r there in
+    let row = region_row cs r there in
     let counts = has.counts r row.0 row.1 in
     let is = ap entries_in_row row.1 in
     (omega arith, omega arith)
@@ -97,9 +92,9 @@ at_region maps cs os ids region_from backing_from regions_made objects_made task
     ap (λ z. z.object.0) at.is ∙ top_is cs os ids region_from backing_from regions_made objects_made at.entry.region.0 at.row has at.region
 
 -- each page of such a region is here: nobody asked for one
-pub here_there : (header : Header) (outside : Outside) (doing : Command) (past : List Event) (k : Parts) (ids : Ids) (rest : List Entry) (r : ℕ) (events : List Event) (p : ℕ) (row : PageRow)
-    → Ends header outside doing past k ids rest r events → row_at k.resident r p ≡ Some row → row.here ≡ true
-here_there header outside doing past k ids rest r events p row e found = by_test row.here refl
+pub here_there : (header : Header) (h : ℕ) (outside : Outside) (doing : Command) (past : List Event) (k : Parts) (ids : Ids) (rest : List Entry) (r : ℕ) (events : List Event) (p : ℕ) (row : PageRow)
+    → Ends header h outside doing past k ids rest r events → row_at k.memory.resident r p ≡ Some row → row.here ≡ true
+here_there header h outside doing past k ids rest r events p row e found = by_test row.here refl
   where
     by_test : (b : Bool) → row.here ≡ b → b ≡ true
     by_test true here = refl
@@ -107,11 +102,11 @@ here_there header outside doing past k ids rest r events p row e found = by_test
         let asker : Asker k.waits.rows r p = e.runs.waits.askers r p row found away in
         let at : IsAt k.maps k.chains asker.task asker.row.want (page_key r p) = e.runs.waits.aims asker.task asker.row (page_key r p) asker.is asker.waits in
         absurd (apart_at k.maps k.chains asker.task asker.row.want (page_key r p) r (no_entry header.size k.maps k.chains rest r e.runs.matches.entries e.there e.none asker.task) at
-        (at_region k.maps k.chains k.objects ids _ _ _ _ asker.task asker.row.want (page_key r p) e.runs.matches.regions at))
+        (at_region k.maps k.chains k.memory.objects ids _ _ _ _ asker.task asker.row.want (page_key r p) e.runs.matches.regions at))
 
-pub all_here : (header : Header) (outside : Outside) (doing : Command) (past : List Event) (k : Parts) (ids : Ids) (rest : List Entry) (r : ℕ) (events : List Event) (p : ℕ)
-    → Ends header outside doing past k ids rest r events → IsSome (row_at k.resident r p) → IsSomeAnd (row_at k.resident r p) (λ row. row.here ≡ true)
-all_here header outside doing past k ids rest r events p e there = go (row_at k.resident r p) there (λ row found. here_there header outside doing past k ids rest r events p row e found)
+pub all_here : (header : Header) (h : ℕ) (outside : Outside) (doing : Command) (past : List Event) (k : Parts) (ids : Ids) (rest : List Entry) (r : ℕ) (events : List Event) (p : ℕ)
+    → Ends header h outside doing past k ids rest r events → IsSome (row_at k.memory.resident r p) → IsSomeAnd (row_at k.memory.resident r p) (λ row. row.here ≡ true)
+all_here header h outside doing past k ids rest r events p e there = go (row_at k.memory.resident r p) there (λ row found. here_there header h outside doing past k ids rest r events p row e found)
   where
     go : (x : Option PageRow) → IsSome x → ((row : PageRow) → x ≡ Some row → row.here ≡ true) → IsSomeAnd x (λ row. row.here ≡ true)
     go None there all = absurd (let bad : false ≡ true = there in cc)
@@ -178,6 +173,7 @@ waits_without maps cs cs2 rs os rows who waiting_at r has put none =
       reasons = λ t w found apart. reason_without maps cs cs2 rs os t w.want w.on r put (none t) (has.reasons t w found apart);
       aims = λ t w key found is. at_without maps cs cs2 t w.want key r put (none t) (has.aims t w key found is);
       askers = has.askers;
+      ready = has.ready;
     }
 
 -- the pagers that were told of objects in use are told still
@@ -196,9 +192,26 @@ reason_told maps cs rs os os2 task what (on.Page key) told reason = reason
 reason_told maps cs rs os os2 task what on.Frame told reason = reason
 
 pub waits_told : (maps : Mapped) (cs : ChainTable) (rs : ResidentTable) (os os2 : ObjectTable) (rows : List Waiting) (who : Woken) (waiting_at : ℕ → Option Access)
-    → HasWaiters maps cs rs os rows who waiting_at → StillTold maps cs os os2 → HasWaiters maps cs rs os2 rows who waiting_at
-waits_told maps cs rs os os2 rows who waiting_at has told =
-    record { is = has.is; allowed = has.allowed; sized = has.sized; reasons = λ t w found apart. reason_told maps cs rs os os2 t w.want w.on told (has.reasons t w found apart); aims = has.aims; askers = has.askers }
+    → HasWaiters maps cs rs os rows who waiting_at → StillTold maps cs os os2
+    → ((o p : ℕ) (row : PageRow) → row_at rs o p ≡ Some row → ready_in (object_at os o) ≡ true → ready_in (object_at os2 o) ≡ true) → HasWaiters maps cs rs os2 rows who waiting_at
+waits_told maps cs rs os os2 rows who waiting_at has told ready =
+    record {
+      is = has.is;
+      allowed = has.allowed;
+      sized = has.sized;
+      reasons = λ t w found apart. reason_told maps cs rs os os2 t w.want w.on told (has.reasons t w found apart);
+      aims = has.aims;
+      askers = has.askers;
+      ready = λ o p row found away. ready o p row found (has.ready o p row found away);
+    }
+
+-- a page that is here has gone, and its pager may have been told
+pub waiters_lost : (maps : Mapped) (cs : ChainTable) (rs rs2 : ResidentTable) (os os2 : ObjectTable) (rows : List Waiting) (who : Woken) (waiting_at : ℕ → Option Access) (o p : ℕ) (row : PageRow)
+    → HasWaiters maps cs rs os rows who waiting_at → row_at rs o p ≡ Some row → row.here ≡ true → PutsRow o p None rs rs2 → ((object : ℕ) → IsTold os object → IsTold os2 object)
+    → ((object : ℕ) → ready_in (object_at os object) ≡ true → ready_in (object_at os2 object) ≡ true) → HasWaiters maps cs rs2 os2 rows who waiting_at
+waiters_lost maps cs rs rs2 os os2 rows who waiting_at o p row has found here put told ready =
+    waits_told maps cs rs2 os os2 rows who waiting_at (waiters_page maps cs rs rs2 os rows who waiting_at o p None has put (here_not_asked (row_at rs o p) row found here) (none_not_asked None refl))
+    (record { at = λ task what key at is. told key.object.0 is }) (λ o2 p2 r there is. ready o2 is)
 
 -- an object has another number of references
 
@@ -274,20 +287,21 @@ regions_without r left row was cs cs2 os os2 ids region_from backing_from region
       ];
     }
 
-pub strands_ended : (header : Header) (outside : Outside) (doing : Command) (past : List Event) (k : Parts) (ids : Ids) (rest : List Entry) (r left : ℕ) (events : List Event) (chains : ChainTable) (objects : ObjectTable) (was : ObjectRow) (row : RegionRow)
-    → Ends header outside doing past k ids rest r events → ((p : ℕ) → row_at k.resident r p ≡ None) → region_at k.chains r ≡ Some row → PutsRegion r None k.chains chains → object_at k.objects r ≡ Some was
-    → PutsObject r (Some (record was { references = left })) k.objects objects → SameMarks k.objects objects → Strands header outside doing past (record k { chains = chains; objects = objects }) ids rest r events
-strands_ended header outside doing past k ids rest r left events chains objects was row e bare there put found put_object marks =
+pub strands_ended : (header : Header) (h : ℕ) (outside : Outside) (doing : Command) (past : List Event) (k : Parts) (ids : Ids) (rest : List Entry) (r left : ℕ) (events : List Event) (chains : ChainTable) (objects : ObjectTable) (was : ObjectRow) (row : RegionRow)
+    → Ends header h outside doing past k ids rest r events → ((p : ℕ) → row_at k.memory.resident r p ≡ None) → region_at k.chains r ≡ Some row → PutsRegion r None k.chains chains → object_at k.memory.objects r ≡ Some was
+    → PutsObject r (Some (record was { references = left })) k.memory.objects objects → SameMarks k.memory.objects objects → Strands header h outside doing past (record k { chains = chains; memory = record k.memory { objects = objects } }) ids rest r events
+strands_ended header h outside doing past k ids rest r left events chains objects was row e bare there put found put_object marks =
     record {
       runs = record {
         begins = e.runs.begins;
         matches = record {
           plain = m.plain;
+          known = m.known;
           size = m.size;
           host = m.host;
-          fits = record { parts = fit_objects k.size k.frames k.resident k.queues k.objects objects m.fits.parts (same_pages k.objects objects r was (record was { references = left }) found refl put_object); plain = m.fits.plain; buffers = m.fits.buffers };
+          fits = record { parts = fit_objects k.memory objects m.fits.parts (same_pages k.memory.objects objects r was (record was { references = left }) found refl put_object); plain = m.fits.plain; buffers = m.fits.buffers };
           tasks = m.tasks;
-          regions = regions_without r left row was k.chains chains k.objects objects ids _ _ _ _ there put found put_object m.regions;
+          regions = regions_without r left row was k.chains chains k.memory.objects objects ids _ _ _ _ there put found put_object m.regions;
           entries = record {
             inside = λ task. inside_without header.size r k.chains chains put (rows_in task k.maps) (m.entries.inside task) (none task);
             known = known_without r k.chains chains put rest m.entries.known (on_zero r rest (none_left header.size k.maps k.chains rest r m.entries e.there e.none).1);
@@ -296,25 +310,26 @@ strands_ended header outside doing past k ids rest r left events chains objects 
             counts = λ r2 row2 found2. m.entries.counts r2 row2 (other_row r k.chains chains put r2 row2 found2).1;
           };
           pages = record {
-            shown = λ o p. m.pages.shown o p ∙ ap (shown k.frames (row_at k.resident o p)) (sym (marks.at o p));
+            shown = λ o p. m.pages.shown o p ∙ ap (shown k.memory.frames (row_at k.memory.resident o p)) (sym (marks.at o p));
             live = λ o p page is. elim (region_cases r None k.chains chains put o) [
-              | inl this ↦ absurd (let bad : None ≡ Some page = sym (subst (λ (z : ℕ). row_at k.resident z p ≡ None) this.0 (bare p)) ∙ is in cc)
+              | inl this ↦ absurd (let bad : None ≡ Some page = sym (subst (λ (z : ℕ). row_at k.memory.resident z p ≡ None) this.0 (bare p)) ∙ is in cc)
               | inr other ↦ ap is_some other.1 ∙ m.pages.live o p page is
             ];
           };
           uses = m.uses;
-          controls = controls_referred r left was k.objects objects _ _ _ found put_object m.controls;
+          controls = controls_referred r left was k.memory.objects objects _ _ _ found put_object m.controls;
           settled = m.settled;
           laundry = m.laundry;
           frames = m.frames;
         };
-        waits = waits_told k.maps chains k.resident k.objects objects k.waits.rows woken.Nobody (λ t. waiting t h) (waits_without k.maps k.chains chains k.resident k.objects k.waits.rows woken.Nobody (λ t. waiting t h) r e.runs.waits put none) (told_referred k.maps chains r left was k.objects objects found put_object);
+        waits = waits_told k.maps chains k.memory.resident k.memory.objects objects k.waits.rows woken.Nobody (λ t. waiting t moment) (waits_without k.maps k.chains chains k.memory.resident k.memory.objects k.waits.rows woken.Nobody (λ t. waiting t moment) r e.runs.waits put none) (told_referred k.maps chains r left was k.memory.objects objects found put_object)
+            (λ o p page there is. sym (same_but ready_in (λ row n. refl) r left was k.memory.objects objects found put_object o) ∙ is);
         order = e.runs.order;
         idle = e.runs.idle;
         grows = e.runs.grows;
       };
       used = λ r2 row2 found2. let before = other_row r k.chains chains put r2 row2 found2 in e.others r2 row2 (λ same. before.0 (sym same)) before.1;
-      others = λ o row2 apart found2 live. elim (one_case r o (Some (record was { references = left })) (object_at k.objects o) (object_at objects o) (put_object.at o)) [
+      others = λ o row2 apart found2 live. elim (one_case r o (Some (record was { references = left })) (object_at k.memory.objects o) (object_at objects o) (put_object.at o)) [
         | inl this ↦ absurd (apart (sym this.0))
         | inr other ↦ elim (region_cases r None k.chains chains put o) [
           | inl this ↦ absurd (apart (sym this.0))
@@ -327,17 +342,17 @@ strands_ended header outside doing past k ids rest r left events chains objects 
       unused = m.uses.used r ∙ ap (nat_lt 0) (none_left header.size k.maps k.chains rest r m.entries e.there e.none).0;
     }
   where
-    h : List Event
-    h = events ++ past
+    moment : List Event
+    moment = events ++ past
 
-    m : Matches header k ids rest (events ++ past)
+    m : Matches header h k ids rest (events ++ past)
     m = e.runs.matches
 
     none : (task : ℕ) → has_entry r (rows_in task k.maps) ≡ false
     none = no_entry header.size k.maps k.chains rest r m.entries e.there e.none
 
     is_there : object_at objects r ≡ Some (record was { references = left })
-    is_there = elim (one_case r r (Some (record was { references = left })) (object_at k.objects r) (object_at objects r) (put_object.at r)) [ inl this ↦ this.1 | inr other ↦ absurd (other.0 refl) ]
+    is_there = elim (one_case r r (Some (record was { references = left })) (object_at k.memory.objects r) (object_at objects r) (put_object.at r)) [ inl this ↦ this.1 | inr other ↦ absurd (other.0 refl) ]
 
     gone : region_at chains r ≡ None
     gone = elim (region_cases r None k.chains chains put r) [ inl this ↦ this.1 | inr other ↦ absurd (other.0 refl) ]
@@ -346,36 +361,36 @@ if_some : {A : Type 0} (x : Option A) (P : A → Type 0) (v : A) → x ≡ Some 
 if_some x P v is holds = subst (λ z. IfSome z P) is holds
 
 -- the same, with what the region's object was told to lose
-pub strands_region : (header : Header) (outside : Outside) (doing : Command) (past : List Event) (k : Parts) (ids : Ids) (rest : List Entry) (r left : ℕ) (events : List Event) (chains : ChainTable) (objects : ObjectTable) (object : ObjectId)
-    → Ends header outside doing past k ids rest r events → ((p : ℕ) → row_at k.resident r p ≡ None) → IfSome (region_at k.chains r) (λ row. object ≡ row.top) → PutsRegion r None k.chains chains
-    → IfSome (object_at k.objects object.0) (λ row. PutsObject object.0 (Some (record row { references = left })) k.objects objects) → SameMarks k.objects objects
-    → Strands header outside doing past (record k { chains = chains; objects = objects }) ids rest object.0 events
-strands_region header outside doing past k ids rest r left events chains objects object e bare top put put_object marks =
-    let row = row_there k.chains r e.there in
+pub strands_region : (header : Header) (h : ℕ) (outside : Outside) (doing : Command) (past : List Event) (k : Parts) (ids : Ids) (rest : List Entry) (r left : ℕ) (events : List Event) (chains : ChainTable) (objects : ObjectTable) (object : ObjectId)
+    → Ends header h outside doing past k ids rest r events → ((p : ℕ) → row_at k.memory.resident r p ≡ None) → IfSome (region_at k.chains r) (λ row. object ≡ row.top) → PutsRegion r None k.chains chains
+    → IfSome (object_at k.memory.objects object.0) (λ row. PutsObject object.0 (Some (record row { references = left })) k.memory.objects objects) → SameMarks k.memory.objects objects
+    → Strands header h outside doing past (record k { chains = chains; memory = record k.memory { objects = objects } }) ids rest object.0 events
+strands_region header h outside doing past k ids rest r left events chains objects object e bare top put put_object marks =
+    let row = region_row k.chains r e.there in
     let m = e.runs.matches in
     let under = m.regions.under r row.0 row.1 in
     let is : object ≡ row.0.top = if_some (region_at k.chains r) (λ row. object ≡ row.top) row.0 row.1 top in
-    let same : object.0 ≡ r = ap (λ z. z.0) is ∙ top_is k.chains k.objects ids _ _ _ _ r row.0 m.regions row.1 in
-    let found : object_at k.objects object.0 ≡ Some under.object = ap (object_at k.objects) same ∙ under.found in
-    let now = if_some (object_at k.objects object.0) (λ row. PutsObject object.0 (Some (record row { references = left })) k.objects objects) under.object found put_object in
-    subst (λ (z : ℕ). Strands header outside doing past (record k { chains = chains; objects = objects }) ids rest z events) (sym same)
-    (strands_ended header outside doing past k ids rest r left events chains objects under.object row.0 e bare row.1 put under.found
-    (subst (λ (z : ℕ). PutsObject z (Some (record under.object { references = left })) k.objects objects) same now) marks)
+    let same : object.0 ≡ r = ap (λ z. z.0) is ∙ top_is k.chains k.memory.objects ids _ _ _ _ r row.0 m.regions row.1 in
+    let found : object_at k.memory.objects object.0 ≡ Some under.object = ap (object_at k.memory.objects) same ∙ under.found in
+    let now = if_some (object_at k.memory.objects object.0) (λ row. PutsObject object.0 (Some (record row { references = left })) k.memory.objects objects) under.object found put_object in
+    subst (λ (z : ℕ). Strands header h outside doing past (record k { chains = chains; memory = record k.memory { objects = objects } }) ids rest z events) (sym same)
+    (strands_ended header h outside doing past k ids rest r left events chains objects under.object row.0 e bare row.1 put under.found
+    (subst (λ (z : ℕ). PutsObject z (Some (record under.object { references = left })) k.memory.objects objects) same now) marks)
 
 -- the object of a region is known, and is referred to
 pub record IsReferred (known : Option ObjectRow) : Type 0 where
   pub there : IsSome known
   pub some : IfSome known (λ row. 0 < row.references)
 
-pub top_referred : (header : Header) (outside : Outside) (doing : Command) (past : List Event) (k : Parts) (ids : Ids) (rest : List Entry) (r : ℕ) (events : List Event) (object : ObjectId)
-    → Ends header outside doing past k ids rest r events → IfSome (region_at k.chains r) (λ row. object ≡ row.top) → IsReferred (object_at k.objects object.0)
-top_referred header outside doing past k ids rest r events object e top =
-    let row = row_there k.chains r e.there in
+pub top_referred : (header : Header) (h : ℕ) (outside : Outside) (doing : Command) (past : List Event) (k : Parts) (ids : Ids) (rest : List Entry) (r : ℕ) (events : List Event) (object : ObjectId)
+    → Ends header h outside doing past k ids rest r events → IfSome (region_at k.chains r) (λ row. object ≡ row.top) → IsReferred (object_at k.memory.objects object.0)
+top_referred header h outside doing past k ids rest r events object e top =
+    let row = region_row k.chains r e.there in
     let m = e.runs.matches in
     let under = m.regions.under r row.0 row.1 in
     let is : object ≡ row.0.top = if_some (region_at k.chains r) (λ row. object ≡ row.top) row.0 row.1 top in
-    let same : object.0 ≡ r = ap (λ z. z.0) is ∙ top_is k.chains k.objects ids _ _ _ _ r row.0 m.regions row.1 in
-    let found : object_at k.objects object.0 ≡ Some under.object = ap (object_at k.objects) same ∙ under.found in
+    let same : object.0 ≡ r = ap (λ z. z.0) is ∙ top_is k.chains k.memory.objects ids _ _ _ _ r row.0 m.regions row.1 in
+    let found : object_at k.memory.objects object.0 ≡ Some under.object = ap (object_at k.memory.objects) same ∙ under.found in
     let one = under.references in
     let some : 0 < under.object.references = omega arith in
     record { there = ap is_some found; some = subst (λ (z : Option ObjectRow). IfSome z (λ row. 0 < row.references)) (sym found) some }

@@ -7,18 +7,18 @@ use Rattle.vm_model.specs.declared.event.Event.{Event}
 use Rattle.vm_resident.specs.Resident.{row_at}
 use Rattle.vm_resident.specs.declared.page_row.PageRow.{PageRow}
 use Rattle.vm_supply.specs.Answers.{Answered, Discarded, Failed, Lacked, Outcome, Readied, Supplied, Zeroed, outcome_of}
-use Rattle.vm_supply.specs.Pages.{Ends, HostParts, asked_row}
 use Rattle.vm_supply.specs.declared.woken.Woken.{Woken}
 use Rattle.vm_base.specs.declared.ids.PageKey.{PageKey}
-use Rattle.vm_base.specs.Buffers.{BufferStore}
-use Rattle.vm_kernel.specs.Fits.{Fits}
 use Rattle.vm_model.specs.declared.message.Message.{Message}
 use Rattle.vm_model.specs.declared.script.Header.{Header}
 use Rattle.vm_objects.specs.Objects.{object_at}
 use Rattle.vm_kernel.specs.Plays.{AnswerBrings, Paging, Plays, PlaysAnswer, frame_here, paging}
 use Rattle.vm_kernel.specs.declared.parts.Parts.{Parts}
-use Rattle.vm_kernel.proofs.Hearing.{asked_is, heard, parts_of}
+use Rattle.vm_kernel.proofs.Hearing.{heard}
 use Rattle.vm_kernel.proofs.Playing.{frames_kept, frames_put, plays_both, same_paging}
+use Rattle.vm_parts.specs.declared.parts.HostParts.{HostParts}
+use Rattle.vm_parts.specs.Changes.{Cancels, asked_row}
+use Rattle.vm_parts.proofs.Rows.{asked_is}
 
 asked_away : (x : Option PageRow) (was : PageRow) → asked_row x ≡ Some was → frame_here x ≡ None
 asked_away x was asked =
@@ -29,31 +29,29 @@ not_longer : (e : Event) (events : List Event) → events ≡ e ∷ events → �
 not_longer e events same = let longer = ap length same in omega arith
 
 -- a page that is asked no more is nowhere, as before
-ended_same : (key : PageKey) (k : Parts) (events : List Event) (new : HostParts) (buffers : BufferStore) → Ends key (parts_of k events) new → paging (heard k new buffers) ≡ paging k
-ended_same key k events new buffers ends =
-    same_paging _ _ _ _ (frames_kept k.resident new.resident key.object.0 key.page.0 None ends.row (sym (asked_away _ ends.was ends.asked))) ends.queues
+ended_same : (key : PageKey) (k : Parts) (row : PageRow) (new : HostParts) → asked_row (row_at k.memory.resident key.object.0 key.page.0) ≡ Some row → Cancels key row k.memory new → paging (heard k new) ≡ paging k
+ended_same key k row new asked ends =
+    same_paging _ _ _ _ (frames_kept k.memory.resident new.resident key.object.0 key.page.0 None ends.row (sym (asked_away _ row asked))) ends.queues
 
-pub answer_brings : (size : ℕ) (host : HostId) (object : ObjectId) (outcome : Outcome) (who : Woken) (k : Parts) (events : List Event) (new : HostParts) (buffers : BufferStore)
-    → Fits k → Answered size host object outcome who (parts_of k events) new → new.events ≡ events → AnswerBrings object outcome (paging k) (paging (heard k new buffers))
-answer_brings size host object Discarded who k events new buffers fits is none = ap (λ z. paging (heard k z buffers)) is.1
-answer_brings size host object Readied who k events new buffers fits is none = ap (λ z. paging (heard k z buffers)) is.rest
-answer_brings size host object (Supplied page lock precious bytes) who k events new buffers fits is none =
-    let came = is.page in
-    let asked = asked_is (row_at k.resident object.0 page.0) came.was came.asked in
+pub answer_brings : (host : HostId) (object : ObjectId) (outcome : Outcome) (who : Woken) (k : Parts) (events after : List Event) (new : HostParts)
+    → Answered host object outcome who k.memory new events after → after ≡ events → AnswerBrings object outcome (paging k) (paging (heard k new))
+answer_brings host object Discarded who k events after new is none = ap (λ z. paging (heard k z)) is.1
+answer_brings host object Readied who k events after new is none = ap (λ z. paging (heard k z)) is.rest
+answer_brings host object (Supplied page lock precious bytes) who k events after new is none =
     record {
-      frame = came.was.frame;
-      absent = asked_away (row_at k.resident object.0 page.0) came.was came.asked;
-      unlisted = fits.parts.listed object.0 page.0 came.was asked.0 ∙ asked.1;
-      is = same_paging _ _ _ _ (frames_put k.resident new.resident object.0 page.0 _ (Some came.was.frame) came.row refl) came.queues;
+      frame = is.was.frame;
+      absent = asked_away (row_at k.memory.resident object.0 page.0) is.was is.asked;
+      unlisted = is.page.listed ∙ (asked_is (row_at k.memory.resident object.0 page.0) is.was is.asked).1;
+      is = same_paging _ _ _ _ (frames_put k.memory.resident new.resident object.0 page.0 _ (Some is.was.frame) is.page.row refl) is.page.queues;
     }
-answer_brings size host object (Zeroed page) who k events new buffers fits is none = absurd (not_longer _ events (sym none ∙ is.events))
-answer_brings size host object (Lacked page) who k events new buffers fits is none = ended_same _ k events new buffers is.page
-answer_brings size host object (Failed page) who k events new buffers fits is none = ended_same _ k events new buffers is.page
+answer_brings host object (Zeroed page) who k events after new is none = absurd (not_longer _ events (sym none ∙ is.events))
+answer_brings host object (Lacked page) who k events after new is none = ended_same _ k is.was new is.asked is.page
+answer_brings host object (Failed page) who k events after new is none = ended_same _ k is.was new is.asked is.page
 
 -- what stands in front of the events of a call
 pub taken_plays : {header : Header} {past : List Event} (object : ObjectId) (control : ℕ) (m : Message) {k now : Parts} {events : List Event} {mid : Paging} {after : List Event} {new : Paging} → k ≡ now
-    → PlaysAnswer header past object (outcome_of (object_at k.objects object.0) control (row_at k.resident object.0) m) (paging k) events mid → Plays header past events mid after new
-    → PlaysAnswer header past object (outcome_of (object_at now.objects object.0) control (row_at now.resident object.0) m) (paging now) after new
+    → PlaysAnswer header past object (outcome_of (object_at k.memory.objects object.0) control (row_at k.memory.resident object.0) m) (paging k) events mid → Plays header past events mid after new
+    → PlaysAnswer header past object (outcome_of (object_at now.memory.objects object.0) control (row_at now.memory.resident object.0) m) (paging now) after new
 taken_plays {header} {past} object control m {k} {now} {events} {mid} {after} {new} same taken more =
-    subst (λ (z : Parts). PlaysAnswer header past object (outcome_of (object_at z.objects object.0) control (row_at z.resident object.0) m) (paging z) after new) same
+    subst (λ (z : Parts). PlaysAnswer header past object (outcome_of (object_at z.memory.objects object.0) control (row_at z.memory.resident object.0) m) (paging z) after new) same
     (record { heard = taken.heard; brings = taken.brings; plays = plays_both taken.plays more })

@@ -1,7 +1,7 @@
 -- A task is made, or its entries become others.
-use Rattle.std.proofs.Common.{◌≡◌, nat_lt, ℕ, suc, ◌+◌, ◌<◌, ◌≤◌, Bool, true, false, List, [], ◌∷◌, length, refl, ap, sym, ◌∙◌, subst, arith, Some, None, Option, inl, inr}
+use Rattle.std.proofs.Common.{◌≡◌, ℕ, ◌+◌, ◌<◌, ◌≤◌, true, List, [], ◌∷◌, length, refl, ap, sym, ◌∙◌, subst, arith, Some, None, inl, inr}
 use Rattle.std.proofs.lemmas.Bool.Decides.{eqb_tells}
-use Rattle.std.specs.Prelude.{if◌then◌else◌, is_none, is_some, unwrap_or}
+use Rattle.std.specs.Prelude.{is_some, unwrap_or}
 use Rattle.vm_base.specs.declared.code.Code.TheVariants as code
 use Rattle.vm_base.specs.declared.entry.Entry.{Entry}
 use Rattle.vm_base.specs.declared.ids.TaskId.{TaskId}
@@ -19,52 +19,44 @@ use Rattle.vm_shadow.specs.declared.region_row.RegionRow.{RegionRow}
 use Rattle.vm_kernel.specs.Begun.{Starts}
 use Rattle.vm_kernel.specs.Counts.{count_by, count_on, most_tasks}
 use Rattle.vm_kernel.specs.Forking.{got}
-use Rattle.vm_kernel.specs.Matches.{AllInside, HasEntries, HasTasks, IsInside, host_for, the_host}
+use Rattle.vm_kernel.specs.Matches.{AllInside, HasEntries, HasTasks, IsInside, host_id}
 use Rattle.vm_kernel.specs.Places.{has_region, region_pages}
 use Rattle.vm_kernel.specs.declared.parts.Parts.{Parts}
 use Rattle.vm_kernel.proofs.Counts.{by_changed, most_is}
 use Rattle.vm_kernel.proofs.Heads.{passed}
-
--- a task with a host has its entries
-pub lives_of : (o : Option (List Entry)) (host : Option ℕ) → host ≡ host_for o → is_none host ≡ false → o ≡ Some (unwrap_or o [])
-lives_of None host is none = absurd (let bad : true ≡ false = sym (ap is_none is) ∙ none in cc)
-lives_of (Some rows) host is none = refl
-
--- a host that isn't told is that of no task
-pub free_task : (o : Option (List Entry)) (host : Option ℕ) → host ≡ host_for o → is_some host ≡ false → o ≡ None
-free_task None host is none = refl
-free_task (Some rows) host is none = absurd (let bad : true ≡ false = sym (ap is_some is) ∙ none in cc)
+use Rattle.vm_kernel.proofs.Own.{free_in, own_host, rows_here}
+use Rattle.vm_model.specs.Local.{is_on}
 
 -- a task has no entries yet
-pub tasks_made : (size : ℕ) (maps new : Mapped) (past : List Event) (task : TaskId) → HasTasks size maps (λ t. host_of t past) (λ t. entries_of size t past) → ChangesOnly maps new task.0 (Some [])
-    → HasTasks size new (λ t. host_of t (event.TaskMade task the_host ∷ past)) (λ t. entries_of size t (event.TaskMade task the_host ∷ past))
-tasks_made size maps new past task has changes =
+pub tasks_made : (h : ℕ) (size : ℕ) (maps new : Mapped) (past : List Event) (task : TaskId) → HasTasks h size maps (λ t. host_of t past) (λ t. entries_of size t past) → ChangesOnly maps new task.0 (Some [])
+    → HasTasks h size new (λ t. host_of t (event.TaskMade task (host_id h) ∷ past)) (λ t. entries_of size t (event.TaskMade task (host_id h) ∷ past))
+tasks_made h size maps new past task has changes =
     record {
       sized = changes.size ∙ has.sized;
       hosts = λ t. elim (eqb_tells task.0 t) [
-        | inl same ↦ rw (same.0, ← same.1, changes.changed) refl
+        | inl same ↦ rw (same.0, ← same.1, changes.changed) (own_host h)
         | inr apart ↦ rw (apart.0, changes.others t (λ e. apart.1 (sym e))) (has.hosts t)
       ];
-      rows = λ t. elim (eqb_tells task.0 t) [
+      rows = λ t here. elim (eqb_tells task.0 t) [
         | inl same ↦ rw (same.0, ← same.1, changes.changed) refl
-        | inr apart ↦ rw (apart.0, changes.others t (λ e. apart.1 (sym e))) (has.rows t)
+        | inr apart ↦ rw (apart.0, changes.others t (λ e. apart.1 (sym e))) (has.rows t (ap is_some (sym (changes.others t (λ e. apart.1 (sym e)))) ∙ here))
       ];
     }
 
 -- a living task has an entry more
-pub tasks_entered : (size : ℕ) (maps new : Mapped) (past : List Event) (task : TaskId) (entry : Entry) → HasTasks size maps (λ t. host_of t past) (λ t. entries_of size t past)
+pub tasks_entered : (h : ℕ) (size : ℕ) (maps new : Mapped) (past : List Event) (task : TaskId) (entry : Entry) → HasTasks h size maps (λ t. host_of t past) (λ t. entries_of size t past)
     → ChangesOnly maps new task.0 (Some (entered entry (rows_in task.0 maps))) → entries_in task.0 maps ≡ Some (rows_in task.0 maps)
-    → HasTasks size new (λ t. host_of t (got task entry ∷ past)) (λ t. entries_of size t (got task entry ∷ past))
-tasks_entered size maps new past task entry has changes lives =
+    → HasTasks h size new (λ t. host_of t (got task entry ∷ past)) (λ t. entries_of size t (got task entry ∷ past))
+tasks_entered h size maps new past task entry has changes lives =
     record {
       sized = changes.size ∙ has.sized;
       hosts = λ t. elim (eqb_tells task.0 t) [
-        | inl same ↦ subst (λ (z : ℕ). host_of z past ≡ host_for (entries_in z new)) same.1 (rw changes.changed (has.hosts task.0 ∙ ap host_for lives))
+        | inl same ↦ subst (λ (z : ℕ). is_on h (host_of z past) ≡ is_some (entries_in z new)) same.1 (rw changes.changed (has.hosts task.0 ∙ ap is_some lives))
         | inr apart ↦ rw (changes.others t (λ e. apart.1 (sym e))) (has.hosts t)
       ];
-      rows = λ t. elim (eqb_tells task.0 t) [
-        | inl same ↦ rw same.0 (subst (λ (z : ℕ). entered entry (entries_of size z past) ≡ rows_in z new) same.1 (rw (changes.changed, has.rows task.0) refl))
-        | inr apart ↦ rw (apart.0, changes.others t (λ e. apart.1 (sym e))) (has.rows t)
+      rows = λ t here. elim (eqb_tells task.0 t) [
+        | inl same ↦ rw same.0 (subst (λ (z : ℕ). entered entry (entries_of size z past) ≡ rows_in z new) same.1 (rw (changes.changed, rows_here has lives) refl))
+        | inr apart ↦ rw (apart.0, changes.others t (λ e. apart.1 (sym e))) (has.rows t (ap is_some (sym (changes.others t (λ e. apart.1 (sym e)))) ∙ here))
       ];
     }
 
@@ -103,17 +95,9 @@ entries_changed size maps new old chains task rows has keeps changes below all s
     others : (t : ℕ) → (task ≡ t → ⊥) → rows_in t new ≡ rows_in t maps
     others t apart = ap (λ z. unwrap_or z []) (changes.others t (λ e. apart (sym e)))
 
-pub length_entered : (entry : Entry) (rows : List Entry) → length (entered entry rows) ≡ length rows + 1
-length_entered entry [] = refl
-length_entered entry (first ∷ rows) = by_test (nat_lt entry.address first.address) (length_entered entry rows)
-  where
-    by_test : (b : Bool) → length (entered entry rows) ≡ length rows + 1 → length (if b then entry ∷ first ∷ rows else first ∷ entered entry rows) ≡ suc (length rows) + 1
-    by_test true later = omega arith
-    by_test false later = omega arith
-
 -- a task that can be made isn't there yet
-pub can_make : (header : Header) (task : TaskId) (past : List Event) (k : Parts) (ids : Ids) (events : List Event) → Starts header (command.Task task the_host) past k ids events → entries_in task.0 k.maps ≡ None
-can_make header task past k ids events s = free_task (entries_in task.0 k.maps) (host_of task.0 past) (s.rests.matches.tasks.hosts task.0) (passed (is_some (host_of task.0 past)) code.NameTaken None s.accepted).0
+pub can_make : (header : Header) (h : ℕ) (task : TaskId) (past : List Event) (k : Parts) (ids : Ids) (events : List Event) → Starts header h (command.Task task (host_id h)) past k ids events → entries_in task.0 k.maps ≡ None
+can_make header h task past k ids events s = free_in task.0 s.rests.matches.tasks (passed (is_some (host_of task.0 past)) code.NameTaken None s.accepted).0
 
 -- a new task has no entries among the counts
 pub entries_made : (size : ℕ) (maps new : Mapped) (chains : ChainTable) (task : ℕ) → HasEntries size maps chains [] → ChangesOnly maps new task (Some []) → entries_in task maps ≡ None → task < 1024 → HasEntries size new chains []

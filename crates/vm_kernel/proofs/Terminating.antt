@@ -26,15 +26,16 @@ use Rattle.vm_resident.specs.Resident.{ResidentTable, row_at}
 use Rattle.vm_shadow.specs.Chains.{ChainTable, region_at}
 use Rattle.vm_shadow.specs.declared.ids.Ids.{Ids}
 use Rattle.vm_supply.specs.declared.woken.Woken.TheVariants as woken
-use Rattle.vm_kernel.specs.Matches.{HasControls, HasPages, HasRegions, IsUnder, Matches, the_host}
+use Rattle.vm_kernel.specs.Matches.{HasControls, HasPages, HasRegions, IsUnder, Matches, host_id}
 use Rattle.vm_kernel.specs.Pagers.{last_in, live_in, ready_in}
 use Rattle.vm_kernel.specs.Places.{place_of, shown}
 use Rattle.vm_kernel.specs.Sweeping.{Strands, Sweeps}
 use Rattle.vm_kernel.specs.declared.parts.Parts.{Parts}
 use Rattle.vm_kernel.proofs.Growing.{grows_more, suffices}
-use Rattle.vm_kernel.proofs.Rows.{one_case, some_is}
 use Rattle.vm_kernel.proofs.Strands.{StillTold, at_region, itself, waits_told}
 use Rattle.vm_kernel.proofs.Walking.{unreached}
+use Rattle.vm_parts.proofs.Rows.{one_case, some_is}
+use Rattle.vm_kernel.proofs.Own.{named_host, own_host}
 
 -- a control ends
 
@@ -119,13 +120,13 @@ controls_quiet control o row os os2 last_at live_at ready_at has found live put 
     ended : without_control control (Some control) ≡ None
     ended = ap (λ b. if b then None else Some control) (itself control)
 
-told_quiet : (header : Header) (k : Parts) (ids : Ids) (rest : List Entry) (h : List Event) (o : ℕ) (row : ObjectRow) (os2 : ObjectTable) → Matches header k ids rest h → region_at k.chains o ≡ None
-    → PutsObject o (Some (quiet_row row)) k.objects os2 → StillTold k.maps k.chains k.objects os2
-told_quiet header k ids rest h o row os2 m none put =
+told_quiet : (header : Header) (h : ℕ) (k : Parts) (ids : Ids) (rest : List Entry) (moment : List Event) (o : ℕ) (row : ObjectRow) (os2 : ObjectTable) → Matches header h k ids rest moment → region_at k.chains o ≡ None
+    → PutsObject o (Some (quiet_row row)) k.memory.objects os2 → StillTold k.maps k.chains k.memory.objects os2
+told_quiet header h k ids rest moment o row os2 m none put =
     record {
-      at = λ task what key at told. elim (one_case o key.object.0 (Some (quiet_row row)) (object_at k.objects key.object.0) (object_at os2 key.object.0) (put.at key.object.0)) [
+      at = λ task what key at told. elim (one_case o key.object.0 (Some (quiet_row row)) (object_at k.memory.objects key.object.0) (object_at os2 key.object.0) (put.at key.object.0)) [
         | inl this ↦
-            let region : o ≡ at.entry.region.0 = this.0 ∙ at_region k.maps k.chains k.objects ids _ _ _ _ task what key m.regions at in
+            let region : o ≡ at.entry.region.0 = this.0 ∙ at_region k.maps k.chains k.memory.objects ids _ _ _ _ task what key m.regions at in
             absurd (let bad : None ≡ Some at.row = sym none ∙ (ap (region_at k.chains) region ∙ at.region) in cc)
         | inr other ↦ record { row = told.row; found = other.1 ∙ told.found; sent = told.sent }
       ];
@@ -155,63 +156,68 @@ regions_quiet o row cs os os2 ids region_from backing_from regions_made objects_
     }
 
 -- the control ends, and its pager is told
-pub sweeps_told : (header : Header) (outside : Outside) (doing : Command) (past : List Event) (k : Parts) (ids : Ids) (rest : List Entry) (object : ObjectId) (events after : List Event) (row : ObjectRow) (objects : ObjectTable)
-    → Strands header outside doing past k ids rest object.0 events → object_at k.objects object.0 ≡ Some row → row.live ≡ true → PutsObject object.0 (Some (record row { live = false; state = state.Without })) k.objects objects → SameMarks k.objects objects
-    → after ≡ event.Sent (Up k.host object) (message.Terminate row.control) ∷ events → Sweeps header outside doing past (record k { objects = objects }) ids rest after
-sweeps_told header outside doing past k ids rest object events after row objects s found live put marks told =
-    subst (λ (z : List Event). Sweeps header outside doing past (record k { objects = objects }) ids rest z) (ap (λ z. event.Sent (Up z object) (message.Terminate row.control) ∷ events) (sym m.host) ∙ sym told) (record {
+pub sweeps_told : (header : Header) (h : ℕ) (outside : Outside) (doing : Command) (past : List Event) (k : Parts) (ids : Ids) (rest : List Entry) (object : ObjectId) (events after : List Event) (row : ObjectRow) (objects : ObjectTable)
+    → Strands header h outside doing past k ids rest object.0 events → object_at k.memory.objects object.0 ≡ Some row → row.live ≡ true → PutsObject object.0 (Some (record row { live = false; state = state.Without })) k.memory.objects objects → SameMarks k.memory.objects objects
+    → after ≡ event.Sent (Up k.host object) (message.Terminate row.control) ∷ events → Sweeps header h outside doing past (record k { memory = record k.memory { objects = objects } }) ids rest after
+sweeps_told header h outside doing past k ids rest object events after row objects s found live put marks told =
+    subst (λ (z : List Event). Sweeps header h outside doing past (record k { memory = record k.memory { objects = objects } }) ids rest z) (ap (λ z. event.Sent (Up z object) (message.Terminate row.control) ∷ events) (sym (named_host k.host h m.host)) ∙ sym told) (record {
       runs = record {
         begins = s.runs.begins;
         matches = record {
           plain = m.plain;
+          known = m.known;
           size = m.size;
           host = m.host;
-          fits = record { parts = fit_objects k.size k.frames k.resident k.queues k.objects objects m.fits.parts (same_pages k.objects objects o row (quiet_row row) found refl put); plain = m.fits.plain; buffers = m.fits.buffers };
+          fits = record { parts = fit_objects k.memory objects m.fits.parts (same_pages k.memory.objects objects o row (quiet_row row) found refl put); plain = m.fits.plain; buffers = m.fits.buffers };
           tasks = m.tasks;
-          regions = regions_quiet o row k.chains k.objects objects ids _ _ _ _ s.none found put m.regions;
+          regions = regions_quiet o row k.chains k.memory.objects objects ids _ _ _ _ s.none found put m.regions;
           entries = m.entries;
-          pages = pages_quiet header.size row.control o k.frames k.resident k.objects objects k.chains (λ o2 p. local header.size 0 (place_of o2 p) h) (λ o2. live_control 0 o2 h) m.pages alive s.pages marks;
+          pages = rw (own_host h) (pages_quiet header.size row.control o k.memory.frames k.memory.resident k.memory.objects objects k.chains (λ o2 p. local header.size h (place_of o2 p) moment) (λ o2. live_control h o2 moment) m.pages alive s.pages marks);
           uses = m.uses;
-          controls = controls_quiet row.control o row k.objects objects (λ o2. last_control 0 o2 h) (λ o2. live_control 0 o2 h) (λ o2. is_ready 0 o2 h) m.controls found alive put;
+          controls = rw (own_host h) (controls_quiet row.control o row k.memory.objects objects (λ o2. last_control h o2 moment) (λ o2. live_control h o2 moment) (λ o2. is_ready h o2 moment) m.controls found alive put);
           settled = refl;
           laundry = m.laundry;
           frames = m.frames;
         };
-        waits = waits_told k.maps k.chains k.resident k.objects objects k.waits.rows woken.Nobody (λ t. waiting t h) s.runs.waits (told_quiet header k ids rest h o row objects m s.none put);
+        waits = waits_told k.maps k.chains k.memory.resident k.memory.objects objects k.waits.rows woken.Nobody (λ t. waiting t moment) s.runs.waits (told_quiet header h k ids rest moment o row objects m s.none put)
+            (λ o2 p page there is. elim (one_case o o2 (Some (quiet_row row)) (object_at k.memory.objects o2) (object_at objects o2) (put.at o2)) [
+              | inl this ↦ absurd (let bad : None ≡ Some page = sym (subst (λ (z : ℕ). row_at k.memory.resident z p ≡ None) this.0 (s.pages p)) ∙ there in cc)
+              | inr other ↦ ap ready_in other.1 ∙ is
+            ]);
         order = s.runs.order;
         idle = s.runs.idle;
-        grows = grows_more header outside doing past events ending s.runs.grows m.settled (record { consequence = tt; cause = cause; own_bytes = tt; copies = tt; frames = suffices header k.frames (ending ∷ h) m.frames; inner = tt; said = refl });
+        grows = grows_more header h outside doing past events ending s.runs.grows m.settled (record { consequence = tt; cause = cause; own_bytes = tt; frames = suffices header h k.memory.frames (ending ∷ moment) m.frames; inner = tt; said = refl });
       };
       used = s.used;
-      reached = λ o2 row2 found2 lives. elim (one_case o o2 (Some (quiet_row row)) (object_at k.objects o2) (object_at objects o2) (put.at o2)) [
+      reached = λ o2 row2 found2 lives. elim (one_case o o2 (Some (quiet_row row)) (object_at k.memory.objects o2) (object_at objects o2) (put.at o2)) [
         | inl this ↦ absurd (let bad : true ≡ false = sym lives ∙ ap (λ z. z.live) (some_is row2 (quiet_row row) (sym found2 ∙ this.1)) in cc)
         | inr other ↦ s.others o2 row2 (λ same. other.0 (sym same)) (sym other.1 ∙ found2) lives
       ];
     })
   where
-    h : List Event
-    h = events ++ past
+    moment : List Event
+    moment = events ++ past
 
     o : ℕ
     o = object.0
 
-    m : Matches header k ids rest (events ++ past)
+    m : Matches header h k ids rest (events ++ past)
     m = s.runs.matches
 
     ending : Event
-    ending = event.Sent (Up the_host object) (message.Terminate row.control)
+    ending = event.Sent (Up (host_id h) object) (message.Terminate row.control)
 
-    alive : live_control 0 object.0 (events ++ past) ≡ Some row.control
+    alive : live_control h object.0 (events ++ past) ≡ Some row.control
     alive = m.controls.live object.0 ∙ (ap live_in found ∙ ap (λ b. if b then Some row.control else None) live)
 
-    bare : (p : ℕ) → local header.size 0 (place_of object.0 p) (events ++ past) ≡ shown k.frames None (absent_at k.objects object.0 p)
-    bare p = m.pages.shown object.0 p ∙ ap (λ z. shown k.frames z (absent_at k.objects object.0 p)) (s.pages p)
+    bare : (p : ℕ) → local header.size h (place_of object.0 p) (events ++ past) ≡ shown k.memory.frames None (absent_at k.memory.objects object.0 p)
+    bare p = m.pages.shown object.0 p ∙ ap (λ z. shown k.memory.frames z (absent_at k.memory.objects object.0 p)) (s.pages p)
 
-    cause : Caused header outside doing (event.Sent (Up the_host object) (message.Terminate row.control)) (events ++ past)
-    cause = λ paged. record {
+    cause : Caused header outside doing (event.Sent (Up (host_id h) object) (message.Terminate row.control)) (events ++ past)
+    cause = record {
       live = alive;
-      unreached = λ le. unreached header object.0 (events ++ past) m.regions.tops m.regions.unbacked s.unused;
-      unmapped = λ less. absurd (let none = ap length m.plain.objects in omega arith);
+      unreached = λ le. unreached header h object.0 (events ++ past) m.regions.tops m.regions.unbacked s.unused;
+      unheld = λ less. absurd (let none = ap length m.plain.objects in omega arith);
       away = λ p. ap (λ z. z.here) (bare p);
       unasked = λ p. ap (λ z. z.asked) (bare p);
     }

@@ -1,32 +1,36 @@
 -- Frames in turn: how a queue changes where an access was run, and which frames were claimed.
 use Rattle.std.proofs.Common.{◌≡◌, ℕ, suc, ◌==◌, Bool, true, false, List, [], ◌∷◌, ◌++◌, length, refl, ap, sym, ◌∙◌, subst, arith, append_assoc, Some, None, inl, inr}
 use Rattle.std.proofs.lemmas.Bool.Decides.{eqb_tells, nat_tests}
-use Rattle.std.proofs.lemmas.List.{append-nil, reverse-append}
-use Rattle.std.specs.Prelude.{◌≢◌, ◌⊎◌, ◌||◌, if◌then◌else◌, not, nat_lt, reverse}
-use Rattle.vm_base.specs.declared.ids.PageKey.{PageKey}
+use Rattle.std.proofs.lemmas.List.{reverse-append}
+use Rattle.std.specs.Prelude.{◌<◌, ◌≤◌, ◌≢◌, ◌⊎◌, ◌||◌, if◌then◌else◌, not, nat_lt, reverse}
 use Rattle.vm_base.specs.declared.ids.TaskId.{TaskId}
 use Rattle.vm_model.specs.declared.event.Event.{Event}
 use Rattle.vm_model.specs.declared.event.Event.TheVariants as event
 use Rattle.vm_model.specs.declared.message.Channel.TheVariants.{Up}
 use Rattle.vm_model.specs.declared.message.Message.TheVariants as message
+use Rattle.vm_legal.specs.Accesses.{Wants, begun_at}
+use Rattle.vm_legal.specs.Follows.{IsEnd}
 use Rattle.vm_legal.specs.Reclaims.{IsReclaim}
 use Rattle.vm_legal.specs.Stretches.{EachOf}
 use Rattle.vm_waits.specs.Kept.{AreQueued, EachListedOnce}
-use Rattle.vm_waits.specs.Waits.{WaitTable, entry, first, is_again, is_frame, is_listed, others, queued, waits_for_frame, woken_page}
+use Rattle.vm_waits.specs.Waits.{WaitTable, entry, first, is_again, is_frame, is_listed, oldest, others, queued, waits_for_frame}
 use Rattle.vm_waits.specs.declared.waiting.On.{On}
 use Rattle.vm_waits.specs.declared.waiting.On.TheVariants as on
 use Rattle.vm_waits.specs.declared.waiting.Waiting.{Waiting}
 use Rattle.vm_kernel.specs.Matches.{Works}
 use Rattle.vm_kernel.specs.Serving.{Attempts}
 use Rattle.vm_kernel.specs.Taking.{EachGone}
+use Rattle.vm_kernel.specs.Waiters.{BeganInOrder}
 use Rattle.vm_kernel.specs.declared.parts.Parts.{Parts}
 use Rattle.vm_shadow.specs.declared.ids.Ids.{Ids}
 use Rattle.vm_supply.specs.declared.woken.Woken.TheVariants as woken
-use Rattle.vm_frames.specs.Frames.{free}
 use Rattle.vm_legal.specs.Frames.{frames_free}
 use Rattle.vm_model.specs.declared.script.Header.{Header}
-use Rattle.vm_kernel.specs.Turns.{ClaimsInTurn, ClaimsNone, ClaimsOne, ForAsked, ForZeros, Joins, InTurn, Leaves, NoFrame, QueueAfter, Quiet, RunsOnce}
-use Rattle.vm_kernel.proofs.Growing.{free_is, of_both}
+use Rattle.vm_kernel.specs.Turns.{ClaimsInTurn, Did, ForAsked, ForZeros, Found, Goes, InTurn, Joins, KeepsOthers, Leaves, Nothing, Quiet, Restarted, Restarts, RunsNone, RunsOnce, Start}
+use Rattle.vm_kernel.proofs.Growing.{free_is}
+use Rattle.vm_kernel.proofs.Ordering.{oldest_first}
+use Rattle.vm_legal.proofs.Stretched.{of_both}
+use Rattle.vm_waits.proofs.Lines.{same_others}
 
 -- the queue
 
@@ -45,16 +49,8 @@ or_turned true true c = refl
 or_turned true false c = refl
 or_turned false b c = refl
 
--- who isn't listed leaves no gap
-pub others_none : (t : ℕ) (queue : List TaskId) → is_listed t queue ≡ false → others t queue ≡ queue
-others_none t [] none = refl
-others_none t (x ∷ xs) none = elim (eqb_tells x.0 t) [
-  | inl same ↦ absurd (let bad : true ≡ false = sym (or_left (x.0 == t) (is_listed t xs) same.0) ∙ none in cc)
-  | inr apart ↦ rw apart.0 (ap (λ z. x ∷ z) (others_none t xs (rw apart.0 at none)))
-]
-
 others_first : (task : TaskId) (queue : List TaskId) → EachListedOnce (task ∷ queue) → others task.0 (task ∷ queue) ≡ queue
-others_first task queue once = rw (itself task.0) (others_none task.0 queue once.0)
+others_first task queue once = rw (itself task.0) (same_others task.0 queue once.0)
 
 -- the first and those behind it
 record Split (task : TaskId) (queue : List TaskId) : Type 0 where
@@ -94,39 +90,42 @@ apart_left task left rest t once there same =
 
 -- claims
 
-one_kept : (rows rows2 : List Waiting) (task : TaskId) (events : List Event) → entry rows2 task.0 ≡ entry rows task.0 → ClaimsOne rows task events → ClaimsOne rows2 task events
-one_kept rows rows2 task events same (NoFrame none) = NoFrame none
-one_kept rows rows2 task events same (ForZeros end host key is ends) = ForZeros end host key is ends
-one_kept rows rows2 task events same (ForAsked host key control access row is found waits) = ForAsked host key control access row is (same ∙ found) waits
+pub did_kept : {rows rows2 : List Waiting} {earlier earlier2 : ℕ → Type 0} {task : TaskId} {claims : Bool} {own : List Event} → (claims ≡ true → entry rows2 task.0 ≡ entry rows task.0)
+    → (claims ≡ true → (t : ℕ) → earlier2 t → earlier t × (entry rows2 t ≡ entry rows t)) → Did rows earlier task claims own → Did rows2 earlier2 task claims own
+did_kept mine others Nothing = Nothing
+did_kept mine others (Found end ends) = Found end ends
+did_kept mine others (ForZeros end host key ends) = ForZeros end host key ends
+did_kept mine others (ForAsked host key control row found waits none) = ForAsked host key control row (mine refl ∙ found) waits (λ t w early is. let one = others refl t early in none t w one.0 (sym one.1 ∙ is))
 
 -- the rows of those who left are as they were
 claims_kept : (rows rows2 : List Waiting) (left : List TaskId) (events : List Event) → ((t : ℕ) → is_listed t left ≡ true → entry rows2 t ≡ entry rows t) → ClaimsInTurn rows left events → ClaimsInTurn rows2 left events
 claims_kept rows rows2 [] events same claims = claims
-claims_kept rows rows2 (task ∷ left) events same (late, own, early, is, none, one, before) = (
+claims_kept rows rows2 (task ∷ left) events same (claims, late, own, early, is, none, did, before) = (
+  claims,
   late,
   own,
   early,
   is,
   none,
-  one_kept rows rows2 task own (same task.0 (or_left (task.0 == task.0) (is_listed task.0 left) (itself task.0))) one,
+  did_kept (λ claiming. same task.0 (or_left (task.0 == task.0) (is_listed task.0 left) (itself task.0))) (λ claiming t there. (there, same t (or_right (task.0 == t) (is_listed t left) there))) did,
   claims_kept rows rows2 left early (λ t there. same t (or_right (task.0 == t) (is_listed t left) there)) before,
 )
 
--- more happens, but no frame is claimed
-claims_late : (rows : List Waiting) (left : List TaskId) (more events : List Event) → EachOf ClaimsNone more → ClaimsInTurn rows left events → ClaimsInTurn rows left (more ++ events)
-claims_late rows [] more events none claims = of_both ClaimsNone more events none claims
-claims_late rows (task ∷ left) more events quiet (late, own, early, is, none, one, before) =
-    (more ++ late, own, early, ap (λ z. more ++ z) is ∙ sym (append_assoc more late (own ++ early)), of_both ClaimsNone more late quiet none, one, before)
+-- more happens, but no access is run
+claims_late : (rows : List Waiting) (left : List TaskId) (more events : List Event) → EachOf RunsNone more → ClaimsInTurn rows left events → ClaimsInTurn rows left (more ++ events)
+claims_late rows [] more events none claims = of_both RunsNone more events none claims
+claims_late rows (task ∷ left) more events quiet (claims, late, own, early, is, none, one, before) =
+    (claims, more ++ late, own, early, ap (λ z. more ++ z) is ∙ sym (append_assoc more late (own ++ early)), of_both RunsNone more late quiet none, one, before)
 
-gone_quiet : (e : Event) → IsReclaim 0 e → ClaimsNone e
-gone_quiet (event.Dropped at object page) is = tt
-gone_quiet (event.Sent (Up at object) (message.Create control size)) is = tt
-gone_quiet (event.Sent (Up at object) (message.Return control page dirty keep bytes)) is = tt
-gone_quiet other is = absurd is
+gone_quiet : (h : ℕ) (e : Event) → IsReclaim h e → RunsNone e
+gone_quiet h (event.Dropped at object page) is = tt
+gone_quiet h (event.Sent (Up at object) (message.Create control size)) is = tt
+gone_quiet h (event.Sent (Up at object) (message.Return control page dirty keep bytes)) is = tt
+gone_quiet h other is = absurd is
 
-each_quiet : (events : List Event) → EachOf (IsReclaim 0) events → EachOf ClaimsNone events
-each_quiet [] all = tt
-each_quiet (e ∷ events) all = (gone_quiet e all.0, each_quiet events all.1)
+each_quiet : (h : ℕ) (events : List Event) → EachOf (IsReclaim h) events → EachOf RunsNone events
+each_quiet h [] all = tt
+each_quiet h (e ∷ events) all = (gone_quiet h e all.0, each_quiet h events all.1)
 
 -- nobody joins or leaves
 
@@ -136,71 +135,81 @@ quiet_none queue events = record { queue = refl; none = λ all. all }
 pub quiet_both : (a b c : List TaskId) (before events after : List Event) → Quiet a b before events → Quiet b c events after → Quiet a c before after
 quiet_both a b c before events after one two = record { queue = two.queue ∙ one.queue; none = λ all. two.none (one.none all) }
 
-pub quiet_more : (old new : List TaskId) (before after : List Event) (e : Event) → new ≡ old → after ≡ e ∷ before → ClaimsNone e → Quiet old new before after
-quiet_more old new before after e queue told none = record { queue = queue; none = λ all. subst (EachOf ClaimsNone) (sym told) (none, all) }
+pub quiet_more : (old new : List TaskId) (before after : List Event) (e : Event) → new ≡ old → after ≡ e ∷ before → RunsNone e → Quiet old new before after
+quiet_more old new before after e queue told none = record { queue = queue; none = λ all. subst (EachOf RunsNone) (sym told) (none, all) }
 
-pub quiet_gone : (old new : WaitTable) (before after : List Event) → new ≡ old → EachGone before after → Quiet old.queue new.queue before after
-quiet_gone old new before after same gone =
-    record { queue = ap (λ z. z.queue) same; none = λ all. subst (EachOf ClaimsNone) (sym gone.is) (of_both ClaimsNone gone.more before (each_quiet gone.more gone.each) all) }
+pub quiet_gone : (h : ℕ) (old new : WaitTable) (before after : List Event) → new ≡ old → EachGone h before after → Quiet old.queue new.queue before after
+quiet_gone h old new before after same gone =
+    record { queue = ap (λ z. z.queue) same; none = λ all. subst (EachOf RunsNone) (sym gone.is) (of_both RunsNone gone.more before (each_quiet h gone.more gone.each) all) }
 
 -- who waits for a page leaves no gap in the queue
-pub quiet_unlisted : (rows : List Waiting) (old new : List TaskId) (w : Waiting) (before after : List Event) (e : Event) → AreQueued rows old → entry rows w.task.0 ≡ Some w → is_frame w.on ≡ false → new ≡ others w.task.0 old → after ≡ e ∷ before → ClaimsNone e
+pub quiet_unlisted : (rows : List Waiting) (old new : List TaskId) (w : Waiting) (before after : List Event) (e : Event) → AreQueued rows old → entry rows w.task.0 ≡ Some w → is_frame w.on ≡ false → new ≡ others w.task.0 old → after ≡ e ∷ before → RunsNone e
     → Quiet old new before after
 quiet_unlisted rows old new w before after e line is other queue told none =
-    quiet_more old new before after e (queue ∙ others_none w.task.0 old (line.listed w.task.0 ∙ (ap waits_for_frame is ∙ other))) told none
+    quiet_more old new before after e (queue ∙ same_others w.task.0 old (line.listed w.task.0 ∙ (ap waits_for_frame is ∙ other))) told none
 
 -- nothing was done before
 pub quiet_behind : (old mid new : List TaskId) (before events after : List Event) → mid ≡ old → before ≡ [] → events ≡ [] → Quiet mid new events after → Quiet old new before after
-quiet_behind old mid new before events after same nothing none quiet = record { queue = quiet.queue ∙ same; none = λ all. quiet.none (subst (EachOf ClaimsNone) (sym none) tt) }
+quiet_behind old mid new before events after same nothing none quiet = record { queue = quiet.queue ∙ same; none = λ all. quiet.none (subst (EachOf RunsNone) (sym none) tt) }
 
-pub page_other : (key : PageKey) (reason : On) → woken_page key reason ≡ true → is_frame reason ≡ false
-page_other key on.Again is = refl
-page_other key (on.Ready object) is = refl
-page_other key (on.Page other) is = refl
-page_other key on.Frame is = absurd (let bad : false ≡ true = is in cc)
+-- running again
 
--- joining
+pub restarts_quiet : (header : Header) (h : ℕ) (rows : List Waiting) (past : List Event) (old new : List TaskId) (before after : List Event) → before ≡ [] → Quiet old new before after → Restarted header h rows past old new after
+restarts_quiet header h rows past old new before after nothing quiet =
+    subst (λ (z : List TaskId). Restarted header h rows past old z after) (sym quiet.queue) (0, Start after (quiet.none (subst (EachOf RunsNone) (sym nothing) tt)))
 
-pub joins_none : (header : Header) (past : List Event) (queue : List TaskId) (events : List Event) → Joins header past queue queue events events
-joins_none header past queue events = record { joined = []; queue = sym (append-nil queue); run = []; told = refl; behind = inr tt; full = λ empty some. absurd (some refl) }
+-- what was done before ran nobody
+pub restarts_behind : (header : Header) (h : ℕ) (rows : List Waiting) (past : List Event) (old mid new : List TaskId) (before events after : List Event) → before ≡ [] → Quiet old mid before events → (EachOf RunsNone events → Restarted header h rows past mid new after)
+    → Restarted header h rows past old new after
+restarts_behind header h rows past old mid new before events after nothing quiet restarts =
+    subst (λ (z : List TaskId). Restarted header h rows past z new after) quiet.queue (restarts (quiet.none (subst (EachOf RunsNone) (sym nothing) tt)))
 
-pub joins_quiet : (header : Header) (past : List Event) (old new : List TaskId) (before after : List Event) → before ≡ [] → Quiet old new before after → Joins header past old new before after
-joins_quiet header past old new before after nothing quiet =
-    record {
-      joined = [];
-      queue = quiet.queue ∙ sym (append-nil old);
-      run = after;
-      told = sym (append-nil after) ∙ ap (λ z. after ++ z) (sym nothing);
-      behind = inr (quiet.none (subst (EachOf ClaimsNone) (sym nothing) tt));
-      full = λ empty some. absurd (some refl);
-    }
+-- running an access begins none
+end_begun : (t task : ℕ) (end : Event) (past : List Event) → IsEnd task end → begun_at t (end ∷ past) ≡ begun_at t past
+end_begun t task (event.Loaded owner object page value) past is = refl
+end_begun t task (event.Stored owner object page at bytes value) past is = refl
+end_begun t task other past is = absurd is
 
--- what was done before claimed none
-pub joins_behind : (header : Header) (past : List Event) (old mid new : List TaskId) (before events after : List Event) → before ≡ [] → Quiet old mid before events → Joins header past mid new events after → Joins header past old new before after
-joins_behind header past old mid new before events after nothing quiet joins =
-    record {
-      joined = joins.joined;
-      queue = joins.queue ∙ ap (λ z. z ++ joins.joined) quiet.queue;
-      run = joins.run ++ events;
-      told = joins.told ∙ (sym (append-nil (joins.run ++ events)) ∙ ap (λ z. (joins.run ++ events) ++ z) (sym nothing));
-      behind = elim joins.behind [
-        | inl empty ↦ inl (sym quiet.queue ∙ empty)
-        | inr none ↦ inr (of_both ClaimsNone joins.run events none (quiet.none (subst (EachOf ClaimsNone) (sym nothing) tt)))
-      ];
-      full = λ empty some. joins.full (quiet.queue ∙ empty) some;
-    }
+did_begun : {rows : List Waiting} {earlier : ℕ → Type 0} {task : TaskId} {claims : Bool} {own : List Event} (t : ℕ) (events past : List Event) → Did rows earlier task claims own → begun_at t ((own ++ events) ++ past) ≡ begun_at t (events ++ past)
+did_begun t events past Nothing = refl
+did_begun {task = task} t events past (Found end ends) = end_begun t task.0 end (events ++ past) ends
+did_begun {task = task} t events past (ForZeros end host key ends) = end_begun t task.0 end (event.Zeroed host key.object key.page ∷ (events ++ past)) ends
+did_begun t events past (ForAsked host key control row found waits none) = refl
 
-record Joined (wants : Bool) (old new : List TaskId) : Type 0 where
-  more : List TaskId
-  is : new ≡ old ++ more
-  none : wants ≡ false → more ≡ []
+unlisted : (t : ℕ) (task : TaskId) (queue : List TaskId) → (task.0 ≡ t → ⊥) → is_listed t queue ≡ false → is_listed t (queue ++ task ∷ []) ≡ false
+unlisted t task queue apart out = elim (eqb_tells task.0 t) [
+  | inl same ↦ absurd (apart same.1)
+  | inr other ↦ listed_push t task queue ∙ (rw other.0 out)
+]
 
--- where an access was run that isn't in the queue, it joins, or nothing changes there
-joined : (w : Waiting) (wants : Bool) (rows : List Waiting) (old new : List TaskId) → AreQueued rows old → entry rows w.task.0 ≡ Some w → is_frame w.on ≡ false → QueueAfter w wants old new → Joined wants old new
-joined w true rows old new line is other after =
-    record { more = w.task ∷ []; is = subst (λ (z : Bool). new ≡ (if z then old else old ++ w.task ∷ [])) other after; none = λ bad. absurd (let clash : true ≡ false = bad in cc) }
-joined w false rows old new line is other after =
-    record { more = []; is = after ∙ (others_none w.task.0 old (line.listed w.task.0 ∙ (ap waits_for_frame is ∙ other)) ∙ sym (append-nil old)); none = λ same. refl }
+-- the rows of those who were run and don't queue are as they were
+restarts_kept : (h : ℕ) → {header : Header} {rows rows2 : List Waiting} {past : List Event} {q : List TaskId} {from : ℕ} {queue : List TaskId} {events : List Event} → ((t : ℕ) → begun_at t (events ++ past) < from → is_listed t queue ≡ false → entry rows2 t ≡ entry rows t)
+    → Restarts header h rows past q from queue events → Restarts header h rows2 past q from queue events
+restarts_kept h same (Start events none) = Start events none
+restarts_kept h {past = past} same (Joins task from queue events was le wants mine why) =
+    Joins task from queue events
+    (restarts_kept h (λ t low out. same t (omega arith) (unlisted t task queue (λ is. (let even : begun_at task.0 (events ++ past) ≡ begun_at t (events ++ past) = ap (λ z. begun_at z (events ++ past)) is in omega arith)) out)) was)
+    le
+    wants
+    mine
+    why
+restarts_kept h {rows = rows} {rows2 = rows2} {past = past} same (Goes task from queue claims own events was le did none) =
+    let low = λ (t : ℕ) (below : begun_at t (events ++ past) < suc (begun_at task.0 (events ++ past))). subst (λ (z : ℕ). z < suc (begun_at task.0 (events ++ past))) (sym (did_begun t events past did)) below in
+    let out = λ (t : ℕ) (claiming : claims ≡ true). (let empty : is_listed t queue ≡ false = ap (is_listed t) (none claiming) in empty) in
+    Goes task from queue claims own events
+    (restarts_kept h (λ t below gone. same t (low t (omega arith)) gone) was)
+    le
+    (did_kept (λ claiming. same task.0 (low task.0 (omega arith)) (out task.0 claiming)) (λ claiming t early. (early, same t (low t (omega arith)) (out t claiming))) did)
+    none
+
+-- so far; and whoever is still to be run again began later
+pub record Restarting (header : Header) (h : ℕ) (past : List Event) (q : List TaskId) (now : WaitTable) (events : List Event) : Type 0 where
+  pub from : ℕ
+  pub runs : Restarts header h now.rows past q from now.queue events
+  pub later : (t : ℕ) (v : Waiting) → entry now.rows t ≡ Some v → is_again v.on ≡ true → from ≤ begun_at t (events ++ past)
+
+pub restarts_none : (header : Header) (h : ℕ) (past : List Event) (now : WaitTable) (events : List Event) → EachOf RunsNone events → Restarting header h past now.queue now events
+restarts_none header h past now events none = record { from = 0; runs = Start events none; later = λ t v is again. omega arith }
 
 again_other : (reason : On) → is_again reason ≡ true → is_frame reason ≡ false
 again_other on.Again is = refl
@@ -208,56 +217,77 @@ again_other (on.Ready object) is = refl
 again_other (on.Page key) is = refl
 again_other on.Frame is = absurd (let bad : false ≡ true = is in cc)
 
--- while somebody queues, who is run may claim none
-may_none : (x : TaskId) (xs more queue : List TaskId) (rows : List Waiting) (may : Bool) → queue ≡ (x ∷ xs) ++ more → AreQueued rows queue → may ≡ not (nat_lt 0 (queued rows)) → may ≡ false
-may_none x xs more queue rows may is line may_is =
-    let long : length queue ≡ suc (length (xs ++ more)) = ap length is in
-    let some : nat_lt 0 (queued rows) ≡ true = let even = line.even in grind (arith, nat_tests) in
-    may_is ∙ ap not some
-
--- nobody queues: who is run may claim one
-may_some : (queue : List TaskId) (rows : List Waiting) (may : Bool) → queue ≡ [] → AreQueued rows queue → may ≡ not (nat_lt 0 (queued rows)) → may ≡ true
-may_some queue rows may is line may_is =
-    let long : length queue ≡ 0 = ap length is in
+-- who may claim none is run behind a queue, and who may behind none
+queue_some : (queue : List TaskId) (rows : List Waiting) (may : Bool) → may ≡ false → AreQueued rows queue → may ≡ not (nat_lt 0 (queued rows)) → queue ≢ []
+queue_some queue rows may is line may_is empty =
+    let long : length queue ≡ 0 = ap length empty in
     let none : nat_lt 0 (queued rows) ≡ false = let even = line.even in grind (arith, nat_tests) in
-    may_is ∙ ap not none
+    absurd (let bad : false ≡ true = sym is ∙ (may_is ∙ ap not none) in cc)
 
--- an access was run once: if it may claim a frame and wants one still, none is free; if it may not, as many are free as were
-pub record Fills (header : Header) (may wants : Bool) (before after : List Event) : Type 0 where
-  pub none : may ≡ true → wants ≡ true → frames_free header 0 after ≡ 0
-  pub still : may ≡ false → frames_free header 0 after ≡ frames_free header 0 before
+queue_none : (queue : List TaskId) (rows : List Waiting) (may : Bool) → may ≡ true → AreQueued rows queue → may ≡ not (nat_lt 0 (queued rows)) → queue ≡ []
+queue_none [] rows may is line may_is = refl
+queue_none (x ∷ xs) rows may is line may_is =
+    let some : nat_lt 0 (queued rows) ≡ true = let even = line.even in grind (arith, nat_tests) in
+    absurd (let bad : true ≡ false = sym is ∙ (may_is ∙ ap not some) in cc)
 
-pub fills_of : (header : Header) (w : Waiting) (may wants : Bool) (old new : Parts) (ids : Ids) (before after : List Event) → Works header old ids woken.Nobody before → Works header new ids woken.Nobody after → Attempts header w may wants old new before after
-    → (may ≡ false → free new.frames ≡ free old.frames) → Fills header may wants before after
-fills_of header w may true old new ids before after was now attempts same =
-    record { none = λ may wants. free_is header new.frames after now.matches.frames ∙ attempts.none may; still = λ may. free_is header new.frames after now.matches.frames ∙ (same may ∙ sym (free_is header old.frames before was.matches.frames)) }
-fills_of header w may false old new ids before after was now attempts same =
-    record { none = λ may wants. absurd (let clash : false ≡ true = wants in cc); still = λ may. free_is header new.frames after now.matches.frames ∙ (same may ∙ sym (free_is header old.frames before was.matches.frames)) }
+-- an access wants a frame still: where it may claim one, none is free
+pub record Wanting (header : Header) (h : ℕ) (w : Waiting) (may : Bool) (past : List Event) : Type 0 where
+  pub wants : Wants header h past
+  pub mine : wants.task ≡ w.task.0
+  pub none : may ≡ true → frames_free header h past ≡ 0
 
-filled : (header : Header) (q joined more queue : List TaskId) (rows : List Waiting) (may wants : Bool) (before after : List Event) → queue ≡ q ++ joined → AreQueued rows queue → may ≡ not (nat_lt 0 (queued rows)) → Fills header may wants before after
-    → (wants ≡ false → more ≡ []) → (q ≡ [] → joined ≢ [] → frames_free header 0 before ≡ 0) → q ≡ [] → joined ++ more ≢ [] → frames_free header 0 after ≡ 0
-filled header q [] more queue rows may true before after is line may_is fills none full empty some = fills.none (may_some queue rows may (is ∙ (append-nil q ∙ empty)) line may_is) refl
-filled header q [] more queue rows may false before after is line may_is fills none full empty some = absurd (some (none refl))
-filled header q (x ∷ xs) more queue rows may wants before after is line may_is fills none full empty some =
-    fills.still (may_none x xs [] queue rows may (is ∙ (ap (λ z. z ++ x ∷ xs) empty ∙ sym (append-nil (x ∷ xs)))) line may_is) ∙ full empty (λ bad. (let clash : x ∷ xs ≡ [] = bad in cc))
+pub wanting_of : (header : Header) (h : ℕ) (w : Waiting) (may wants : Bool) (old new : Parts) (ids : Ids) (before after : List Event) → Works header h new ids woken.Nobody after → Attempts header h w may wants old new before after → wants ≡ true → Wanting header h w may after
+wanting_of header h w may true old new ids before after now attempts wants = record { wants = attempts.wants; mine = attempts.mine; none = λ can. free_is header h new.memory.frames after now.matches.frames ∙ attempts.none can }
+wanting_of header h w may false old new ids before after now attempts wants = absurd (let clash : false ≡ true = wants in cc)
 
-pub joins_more : (header : Header) (past : List Event) (q : List TaskId) (w : Waiting) (may wants : Bool) (old new : WaitTable) (first before after : List Event) → Joins header past q old.queue first before → AreQueued old.rows old.queue → entry old.rows w.task.0 ≡ Some w → is_again w.on ≡ true
-    → may ≡ not (nat_lt 0 (queued old.rows)) → RunsOnce w may wants old new before after → Fills header may wants (before ++ past) (after ++ past) → Joins header past q new.queue first after
-joins_more header past q w may wants old new first before after was line is again may_is run fills =
-    let j = joined w wants old.rows old.queue new.queue line is (again_other w.on again) run.queue in
-    record {
-      joined = was.joined ++ j.more;
-      queue = j.is ∙ (ap (λ z. z ++ j.more) was.queue ∙ append_assoc q was.joined j.more);
-      run = run.more ++ was.run;
-      told = run.told ∙ (ap (λ z. run.more ++ z) was.told ∙ sym (append_assoc run.more was.run first));
-      behind = behind q was.queue was.behind;
-      full = filled header q was.joined j.more old.queue old.rows may wants (before ++ past) (after ++ past) was.queue line may_is fills j.none was.full;
-    }
+-- what stands in front of a run of the oldest
+pub record Next (past : List Event) (w : Waiting) (may_claim : Bool) (now : WaitTable) (events : List Event) : Type 0 where
+  pub order : BeganInOrder (λ task. begun_at task (events ++ past)) 0 now.rows
+  pub oldest : oldest is_again now.rows ≡ Some w
+  pub line : AreQueued now.rows now.queue
+  pub row : entry now.rows w.task.0 ≡ Some w
+  pub again : is_again w.on ≡ true
+  pub may : may_claim ≡ not (nat_lt 0 (queued now.rows))
+
+goes_on : (header : Header) (h : ℕ) (past : List Event) (q : List TaskId) (w : Waiting) (may wants : Bool) (old new : WaitTable) (before after : List Event) (from : ℕ) → Restarts header h new.rows past q from old.queue before → from ≤ begun_at w.task.0 (before ++ past) → Next past w may old before
+    → (run : RunsOnce w may wants old new before after) → (wants ≡ true → Wanting header h w may (after ++ past)) → Restarts header h new.rows past q (suc (begun_at w.task.0 (before ++ past))) new.queue after
+goes_on header h past q w may true old new before after from was le next run wanting =
+    let same : after ≡ before = run.told ∙ ap (λ z. z ++ before) (run.nothing refl) in
+    let queue : new.queue ≡ old.queue ++ w.task ∷ [] = subst (λ (z : Bool). new.queue ≡ (if z then old.queue else old.queue ++ w.task ∷ [])) (again_other w.on next.again) run.queue in
+    let now : Wanting header h w may (before ++ past) = subst (λ (z : List Event). Wanting header h w may (z ++ past)) same (wanting refl) in
+    subst (λ (z : List TaskId). Restarts header h new.rows past q (suc (begun_at w.task.0 (before ++ past))) z after) (sym queue)
+    (subst (λ (z : List Event). Restarts header h new.rows past q (suc (begun_at w.task.0 (before ++ past))) (old.queue ++ w.task ∷ []) z) (sym same) (Joins w.task from old.queue before was le now.wants now.mine (why may refl now.none)))
   where
-    behind : (q : List TaskId) → old.queue ≡ q ++ was.joined → (q ≡ []) ⊎ EachOf ClaimsNone was.run → (q ≡ []) ⊎ EachOf ClaimsNone (run.more ++ was.run)
-    behind [] queue none = inl refl
-    behind (x ∷ xs) queue (inl bad) = absurd (let clash : x ∷ xs ≡ [] = bad in cc)
-    behind (x ∷ xs) queue (inr none) = inr (of_both ClaimsNone run.more was.run (run.none (may_none x xs was.joined old.queue old.rows may queue line may_is)) none)
+    why : (b : Bool) → may ≡ b → (may ≡ true → frames_free header h (before ++ past) ≡ 0) → (old.queue ≢ []) ⊎ (frames_free header h (before ++ past) ≡ 0)
+    why true is none = inr (none is)
+    why false is none = inl (queue_some old.queue old.rows may is next.line next.may)
+goes_on header h past q w may false old new before after from was le next run wanting =
+    let queue : new.queue ≡ old.queue = run.queue ∙ same_others w.task.0 old.queue (next.line.listed w.task.0 ∙ (ap waits_for_frame next.row ∙ again_other w.on next.again)) in
+    let apart = λ (t : ℕ) (early : begun_at t (before ++ past) < begun_at w.task.0 (before ++ past)) (same : t ≡ w.task.0). (let even : begun_at t (before ++ past) ≡ begun_at w.task.0 (before ++ past) = ap (λ z. begun_at z (before ++ past)) same in let bad : ⊥ = omega (arith, early, even) in bad) in
+    let did = did_kept (λ claiming. refl) (λ claiming t early. (apart t early, refl)) run.did in
+    subst (λ (z : List TaskId). Restarts header h new.rows past q (suc (begun_at w.task.0 (before ++ past))) z after) (sym queue)
+    (subst (λ (z : List Event). Restarts header h new.rows past q (suc (begun_at w.task.0 (before ++ past))) old.queue z) (sym run.told)
+    (Goes w.task from old.queue run.claims run.more before was le did (λ claiming. empty may refl claiming)))
+  where
+    empty : (b : Bool) → may ≡ b → run.claims ≡ true → old.queue ≡ []
+    empty true is claiming = queue_none old.queue old.rows may is next.line next.may
+    empty false is claiming = absurd (let bad : true ≡ false = sym claiming ∙ run.none is in cc)
+
+pub restarts_more : (header : Header) (h : ℕ) (past : List Event) (q : List TaskId) (w : Waiting) (may wants : Bool) (old new : WaitTable) (before after : List Event) → Restarting header h past q old before → Next past w may old before → RunsOnce w may wants old new before after
+    → (wants ≡ true → Wanting header h w may (after ++ past)) → Restarting header h past q new after
+restarts_more header h past q w may wants old new before after was next run wanting =
+    let le = was.later w.task.0 w next.row next.again in
+    let kept = restarts_kept h (λ t low out. run.rest t (λ same. (let even : begun_at t (before ++ past) ≡ begun_at w.task.0 (before ++ past) = ap (λ z. begun_at z (before ++ past)) same in omega arith))) was.runs in
+    record {
+      from = suc (begun_at w.task.0 (before ++ past));
+      runs = goes_on header h past q w may wants old new before after was.from kept le next run wanting;
+      later = λ t v is again.
+          let apart : w.task.0 ≡ t → ⊥ = λ same. let bad : true ≡ false = sym again ∙ run.done v (ap (entry new.rows) same ∙ is) in cc in
+          let there : entry old.rows t ≡ Some v = sym (run.rest t (λ same. apart (sym same))) ∙ is in
+          let less = oldest_first (λ task. begun_at task (before ++ past)) is_again 0 t old.rows w v next.order next.oldest there again apart in
+          let same : begun_at t (after ++ past) ≡ begun_at t (before ++ past) = ap (λ z. begun_at t (z ++ past)) run.told ∙ did_begun t before past run.did in
+          omega arith;
+    }
 
 -- leaving
 
@@ -295,12 +325,21 @@ leaves_ran q w may false old new start before after was line front frame run =
       once = was.once;
       served = run.more ++ was.served;
       told = run.told ∙ (ap (λ z. run.more ++ z) was.told ∙ sym (append_assoc run.more was.served start));
-      turns = ([], run.more, was.served, refl, tt, run.claims, claims_kept old.rows new.rows was.left was.served (λ t there. run.rest t (apart_left w.task was.left s.rest t once there)) was.turns);
+      turns = (
+        run.claims,
+        [],
+        run.more,
+        was.served,
+        refl,
+        tt,
+        did_kept (λ claiming. refl) (λ claiming t there. (apart_left w.task was.left s.rest t once there, refl)) run.did,
+        claims_kept old.rows new.rows was.left was.served (λ t there. run.rest t (apart_left w.task was.left s.rest t once there)) was.turns,
+      );
     }
 
 -- pages were reclaimed
-pub leaves_gone : (q : List TaskId) (old new : WaitTable) (start before after : List Event) → Leaves q old start before → new ≡ old → EachGone before after → Leaves q new start after
-leaves_gone q old new start before after was same gone =
+pub leaves_gone : (h : ℕ) (q : List TaskId) (old new : WaitTable) (start before after : List Event) → Leaves q old start before → new ≡ old → EachGone h before after → Leaves q new start after
+leaves_gone h q old new start before after was same gone =
     subst (λ (z : WaitTable). Leaves q z start after) (sym same)
     (record {
       left = was.left;
@@ -308,14 +347,31 @@ leaves_gone q old new start before after was same gone =
       once = was.once;
       served = gone.more ++ was.served;
       told = gone.is ∙ (ap (λ z. gone.more ++ z) was.told ∙ sym (append_assoc gone.more was.served start));
-      turns = claims_late old.rows was.left gone.more was.served (each_quiet gone.more gone.each) was.turns;
+      turns = claims_late old.rows was.left gone.more was.served (each_quiet h gone.more gone.each) was.turns;
     })
+
+-- the row of the front alone is another
+pub others_ran : (q : List TaskId) (w : Waiting) (may wants : Bool) (first_rows : List Waiting) (old new : WaitTable) (start before after : List Event) → Leaves q old start before → first old.queue ≡ Some w.task → RunsOnce w may wants old new before after
+    → KeepsOthers q first_rows old.rows → KeepsOthers q first_rows new.rows
+others_ran q w may wants first_rows old new start before after was front run kept = λ t out.
+    let s = split w.task old.queue front in
+    let there : is_listed w.task.0 q ≡ true = ap (is_listed w.task.0) (was.queue ∙ ap (λ z. reverse was.left ++ z) s.is) ∙ listed_mid w.task (reverse was.left) s.rest in
+    run.rest t (λ same. (let bad : true ≡ false = sym there ∙ (ap (λ z. is_listed z q) (sym same) ∙ out) in cc)) ∙ kept t out
+
+pub others_gone : (q : List TaskId) (first_rows : List Waiting) (old new : WaitTable) → new ≡ old → KeepsOthers q first_rows old.rows → KeepsOthers q first_rows new.rows
+others_gone q first_rows old new same kept = subst (λ (z : WaitTable). KeepsOthers q first_rows z.rows) (sym same) kept
 
 -- both
 
-pub turns_of : (header : Header) (past : List Event) (old mid new : WaitTable) (before events after : List Event) → before ≡ [] → Joins header past old.queue mid.queue before events → Leaves mid.queue new events after → InTurn header past old new after
-turns_of header past old mid new before events after nothing joins leaves = record { queue = mid.queue; run = events; joins = subst (λ (z : List Event). Joins header past old.queue mid.queue z events) nothing joins; leaves = leaves }
+pub turns_of : (header : Header) (h : ℕ) (past : List Event) (old mid new : WaitTable) (events after : List Event) → Restarted header h mid.rows past old.queue mid.queue events → KeepsOthers mid.queue mid.rows new.rows → Leaves mid.queue new events after → InTurn header h past old new after
+turns_of header h past old mid new events after (from, restarts) kept leaves = record { queue = mid.queue; run = events; restarts = (from, restarts_kept h (λ t low out. kept t out) restarts); leaves = leaves }
 
 -- nobody was run before
-pub turns_served : (header : Header) (past : List Event) (old mid new : WaitTable) (before events : List Event) → mid ≡ old → before ≡ [] → Leaves mid.queue new before events → InTurn header past old new events
-turns_served header past old mid new before events same nothing leaves = turns_of header past old old new before before events nothing (joins_none header past old.queue before) (subst (λ (z : WaitTable). Leaves z.queue new before events) same leaves)
+pub turns_served : (header : Header) (h : ℕ) (past : List Event) (old mid new : WaitTable) (before events : List Event) → mid ≡ old → before ≡ [] → Leaves mid.queue new before events → InTurn header h past old new events
+turns_served header h past old mid new before events same nothing leaves =
+    record {
+      queue = mid.queue;
+      run = before;
+      restarts = subst (λ (z : WaitTable). Restarted header h new.rows past z.queue mid.queue before) same (0, Start before (subst (EachOf RunsNone) (sym nothing) tt));
+      leaves = leaves;
+    }

@@ -1,19 +1,19 @@
 -- Which regions are in use.
 use Rattle.std.proofs.Common.{◌≡◌, ℕ, zero, suc, ◌+◌, ◌<◌, ◌≤◌, ◌==◌, ◌&&◌, ◌||◌, not, Bool, true, false, List, [], ◌∷◌, length, refl, ap, sym, ◌∙◌, subst, arith, Some, None, Option, inl, inr}
 use Rattle.std.proofs.lemmas.Bool.Decides.{eqb_tells, nat_tests}
-use Rattle.std.specs.Prelude.{if◌then◌else◌, nat_lt, unwrap_or, ◌≢◌}
+use Rattle.std.specs.Prelude.{if◌then◌else◌, is_some, nat_lt, unwrap_or, ◌≢◌, ◌⊎◌}
 use Rattle.vm_base.specs.declared.entry.Entry.{Entry}
 use Rattle.vm_base.specs.Entries.{entered}
 use Rattle.vm_model.specs.declared.event.Event.{Event}
 use Rattle.vm_model.specs.declared.script.Header.{Header}
 use Rattle.vm_model.specs.Named.{named}
 use Rattle.vm_model.specs.Tasks.{entries_of, has_entry}
-use Rattle.vm_model.specs.Waiting.{Target, copy_target, fills, waiting}
+use Rattle.vm_model.specs.Waiting.{Access, Target, copy_target, fills, waiting}
 use Rattle.vm_legal.specs.Living.{tasks}
 use Rattle.vm_legal.specs.Used.{is_filled, is_held, is_kept}
 use Rattle.vm_maps.specs.Maps.{ChangesOnly, Mapped, entries_in, rows_in}
 use Rattle.vm_kernel.specs.Counts.{count_by, count_on, most_tasks}
-use Rattle.vm_kernel.specs.Matches.{HasUse, IsPlain, is_among}
+use Rattle.vm_kernel.specs.Matches.{HasUse, IsPlain, holds, is_among}
 use Rattle.vm_kernel.specs.Waiters.{access_in, waiting_in}
 use Rattle.vm_waits.specs.Waits.{entry}
 use Rattle.vm_waits.specs.declared.waiting.Waiting.{Waiting}
@@ -33,39 +33,57 @@ fills_nothing region (Some w) target = by_want w.want
     by_want (want.Load address size) = refl
     by_want (want.Store address size value) = refl
 
--- the accesses that wait are loads and stores
-pub record WaitsHere (rows : List Waiting) (past : List Event) : Type 0 where
-  pub is : (task : ℕ) → waiting task past ≡ waiting_in (entry rows task)
+-- the accesses of tasks here that wait are loads and stores
+pub record WaitsHere (maps : Mapped) (rows : List Waiting) (past : List Event) : Type 0 where
+  pub is : (task : ℕ) → is_some (entries_in task maps) ≡ true → waiting task past ≡ waiting_in (entry rows task)
 
-unfilled_one : (region task : ℕ) (rows : List Waiting) (past : List Event) → WaitsHere rows past → fills region (waiting task past) (copy_target task past) ≡ false
-unfilled_one region task rows past waits = ap (λ z. fills region z (copy_target task past)) (waits.is task) ∙ fills_nothing region (entry rows task) (copy_target task past)
+-- no task elsewhere holds the region
+abbrev pub NoneElsewhere : ℕ → ℕ → Mapped → List Event → Type 0
+NoneElsewhere size region maps past = (task : ℕ) → entries_in task maps ≡ None → holds size task region past ≡ false
 
-pub unfilled : (region : ℕ) (list : List ℕ) (rows : List Waiting) (past : List Event) → WaitsHere rows past → is_filled region list past ≡ false
-unfilled region [] rows past waits = refl
-unfilled region (task ∷ others) rows past waits = rw (unfilled_one region task rows past waits) (unfilled region others rows past waits)
+unfilled_one : (size region task : ℕ) (maps : Mapped) (rows : List Waiting) (past : List Event) → WaitsHere maps rows past → NoneElsewhere size region maps past → fills region (waiting task past) (copy_target task past) ≡ false
+unfilled_one size region task maps rows past waits apart = by_maps (entries_in task maps) refl
+  where
+    second : (a b : Bool) → (a || b) ≡ false → b ≡ false
+    second true b e = absurd (let bad : true ≡ false = e in cc)
+    second false b e = e
 
--- the history's entries of tasks are these, and no region is filled
+    by_maps : (x : Option (List Entry)) → entries_in task maps ≡ x → fills region (waiting task past) (copy_target task past) ≡ false
+    by_maps None is = second (has_entry region (entries_of size task past)) (fills region (waiting task past) (copy_target task past)) (apart task is)
+    by_maps (Some own) is = ap (λ z. fills region z (copy_target task past)) (waits.is task (ap is_some is)) ∙ fills_nothing region (entry rows task) (copy_target task past)
+
+pub unfilled : (size region : ℕ) (list : List ℕ) (maps : Mapped) (rows : List Waiting) (past : List Event) → WaitsHere maps rows past → NoneElsewhere size region maps past → is_filled region list past ≡ false
+unfilled size region [] maps rows past waits apart = refl
+unfilled size region (task ∷ others) maps rows past waits apart = rw (unfilled_one size region task maps rows past waits apart) (unfilled size region others maps rows past waits apart)
+
+-- the history's entries of tasks here are these, and no region is filled by one of them
 pub record Shows (size : ℕ) (maps : Mapped) (past : List Event) : Type 0 where
-  pub rows : (task : ℕ) → entries_of size task past ≡ rows_in task maps
+  pub rows : (task : ℕ) → is_some (entries_in task maps) ≡ true → entries_of size task past ≡ rows_in task maps
   pub waiting : List Waiting
-  pub waits : WaitsHere waiting past
+  pub waits : WaitsHere maps waiting past
 
-held_one : (size region task : ℕ) (maps : Mapped) (past : List Event) → Shows size maps past → (has_entry region (entries_of size task past) || fills region (waiting task past) (copy_target task past)) ≡ has_entry region (rows_in task maps)
-held_one size region task maps past shows = rw (shows.rows task, unfilled_one region task shows.waiting past shows.waits) (alone (has_entry region (rows_in task maps)))
+held_one : (size region task : ℕ) (maps : Mapped) (past : List Event) → Shows size maps past → NoneElsewhere size region maps past → holds size task region past ≡ has_entry region (rows_in task maps)
+held_one size region task maps past shows apart = by_maps (entries_in task maps) refl
   where
     alone : (b : Bool) → (b || false) ≡ b
     alone true = refl
     alone false = refl
 
-held_none : (size region : ℕ) (list : List ℕ) (maps : Mapped) (past : List Event) → Shows size maps past → ((task : ℕ) → has_entry region (rows_in task maps) ≡ false) → is_held size region list past ≡ false
-held_none size region [] maps past shows none = refl
-held_none size region (task ∷ others) maps past shows none = rw (held_one size region task maps past shows ∙ none task) (held_none size region others maps past shows none)
+    by_maps : (x : Option (List Entry)) → entries_in task maps ≡ x → holds size task region past ≡ has_entry region (unwrap_or x [])
+    by_maps None is = apart task is
+    by_maps (Some own) is =
+        ap (λ z. has_entry region z || fills region (waiting task past) (copy_target task past)) (shows.rows task (ap is_some is) ∙ ap (λ z. unwrap_or z []) is)
+        ∙ (ap (λ z. has_entry region own || z) (unfilled_one size region task maps shows.waiting past shows.waits apart) ∙ alone (has_entry region own))
 
-held_some : (size region task : ℕ) (list : List ℕ) (maps : Mapped) (past : List Event) → Shows size maps past → is_among task list ≡ true → has_entry region (rows_in task maps) ≡ true → is_held size region list past ≡ true
-held_some size region task [] maps past shows among has = absurd (let bad : false ≡ true = among in cc)
-held_some size region task (first ∷ others) maps past shows among has = elim (eqb_tells first task) [
-  | inl same ↦ rw (held_one size region first maps past shows ∙ (ap (λ z. has_entry region (rows_in z maps)) same.1 ∙ has)) refl
-  | inr apart ↦ either (has_entry region (entries_of size first past) || fills region (waiting first past) (copy_target first past)) (held_some size region task others maps past shows (rw apart.0 at among) has)
+held_none : (size region : ℕ) (list : List ℕ) (maps : Mapped) (past : List Event) → Shows size maps past → NoneElsewhere size region maps past → ((task : ℕ) → has_entry region (rows_in task maps) ≡ false) → is_held size region list past ≡ false
+held_none size region [] maps past shows apart none = refl
+held_none size region (task ∷ others) maps past shows apart none = rw (held_one size region task maps past shows apart ∙ none task) (held_none size region others maps past shows apart none)
+
+held_some : (size region task : ℕ) (list : List ℕ) (maps : Mapped) (past : List Event) → Shows size maps past → NoneElsewhere size region maps past → is_among task list ≡ true → has_entry region (rows_in task maps) ≡ true → is_held size region list past ≡ true
+held_some size region task [] maps past shows apart among has = absurd (let bad : false ≡ true = among in cc)
+held_some size region task (first ∷ others) maps past shows apart among has = elim (eqb_tells first task) [
+  | inl same ↦ rw (held_one size region first maps past shows apart ∙ (ap (λ z. has_entry region (rows_in z maps)) same.1 ∙ has)) refl
+  | inr other ↦ either (has_entry region (entries_of size first past) || fills region (waiting first past) (copy_target first past)) (held_some size region task others maps past shows apart (rw other.0 at among) has)
 ]
   where
     either : (b : Bool) → is_held size region others past ≡ true → (b || is_held size region others past) ≡ true
@@ -86,39 +104,72 @@ none_high region maps most nothing task = by_test (nat_lt task most_tasks) refl
     by_test false less = ap (λ z. has_entry region (unwrap_or z [])) (most task (grind (arith, nat_tests)))
 
 -- some task holds the region exactly where entries lead to it
-held_is : (size region : ℕ) (list : List ℕ) (maps : Mapped) (past : List Event) → Shows size maps past → ((task : ℕ) → most_tasks ≤ task → entries_in task maps ≡ None)
+held_is : (size region : ℕ) (list : List ℕ) (maps : Mapped) (past : List Event) → Shows size maps past → NoneElsewhere size region maps past → ((task : ℕ) → most_tasks ≤ task → entries_in task maps ≡ None)
     → ((task : ℕ) (rows : List Entry) → entries_in task maps ≡ Some rows → is_among task list ≡ true) → is_held size region list past ≡ nat_lt 0 (count_by most_tasks region maps)
-held_is size region list maps past shows most among = by_count (count_by most_tasks region maps) refl
+held_is size region list maps past shows apart most among = by_count (count_by most_tasks region maps) refl
   where
     by_count : (n : ℕ) → count_by most_tasks region maps ≡ n → is_held size region list past ≡ nat_lt 0 n
-    by_count zero is = held_none size region list maps past shows (none_high region maps most is)
+    by_count zero is = held_none size region list maps past shows apart (none_high region maps most is)
     by_count (suc n) is =
         let task = by_some most_tasks region maps (omega arith) in
         let rows = rows_some region (entries_in task.0 maps) task.1 in
-        held_some size region task.0 list maps past shows (among task.0 rows.0 rows.1) task.1 ∙ sym (test_some n)
+        held_some size region task.0 list maps past shows apart (among task.0 rows.0 rows.1) task.1 ∙ sym (test_some n)
 
-pub kept_is : (header : Header) (region : ℕ) (maps : Mapped) (past : List Event) → IsPlain header → Shows header.size maps past → ((task : ℕ) → most_tasks ≤ task → entries_in task maps ≡ None)
+pub kept_is : (header : Header) (region : ℕ) (maps : Mapped) (past : List Event) → IsPlain header → Shows header.size maps past → NoneElsewhere header.size region maps past → ((task : ℕ) → most_tasks ≤ task → entries_in task maps ≡ None)
     → ((task : ℕ) (rows : List Entry) → entries_in task maps ≡ Some rows → is_among task (tasks past) ≡ true) → is_kept header region past ≡ nat_lt 0 (count_by most_tasks region maps)
-kept_is header region maps past plain shows most among =
+kept_is header region maps past plain shows apart most among =
     let none : named header ≡ 0 = ap length plain.objects in
     let new : nat_lt region (named header) ≡ false = grind (arith, nat_tests) in
-    rw new (held_is header.size region (tasks past) maps past shows most among)
+    rw new (held_is header.size region (tasks past) maps past shows apart most among)
 
 -- over each change
 
-pub uses_made : (maps new : Mapped) (used_at : ℕ → Bool) (made : List ℕ) (task : ℕ) → HasUse maps used_at made → ChangesOnly maps new task (Some []) → entries_in task maps ≡ None → task < most_tasks → HasUse new used_at (task ∷ made)
-uses_made maps new used_at made task has changes free below =
+-- a task elsewhere holds what it held
+abbrev pub SameElsewhere : Mapped → (ℕ → ℕ → Bool) → (ℕ → ℕ → Bool) → Type 0
+SameElsewhere maps old new = (task r : ℕ) → entries_in task maps ≡ None → new task r ≡ old task r
+
+-- nothing that is in use here, or isn't made yet, is held elsewhere
+abbrev pub ApartFrom : Mapped → (ℕ → Bool) → (ℕ → ℕ → Bool) → ℕ → Type 0
+ApartFrom maps used_at held_at regions_made = (task r : ℕ) → entries_in task maps ≡ None → (used_at r ≡ true) ⊎ (regions_made ≤ r) → held_at task r ≡ false
+
+-- one that isn't here is another than one that is
+pub elsewhere : (maps : Mapped) (task t : ℕ) (rows : List Entry) → entries_in task maps ≡ Some rows → entries_in t maps ≡ None → task ≡ t → ⊥
+elsewhere maps task t rows lives none same = let bad : None ≡ Some rows = sym none ∙ (ap (λ z. entries_in z maps) (sym same) ∙ lives) in cc
+
+-- what a change of one task leaves of another
+pub other_task : {A : Type 0} (maps : Mapped) (task t : ℕ) (rows : List Entry) (x y : A) → entries_in task maps ≡ Some rows → entries_in t maps ≡ None → (if task == t then x else y) ≡ y
+other_task maps task t rows x y lives none = elim (eqb_tells task t) [ inl same ↦ absurd (elsewhere maps task t rows lives none same.1) | inr apart ↦ rw apart.0 refl ]
+
+-- where a task here waits for something else, or has other entries, others hold what they held
+pub holds_waits : (size task t r : ℕ) (maps : Mapped) (rows : List Entry) (past : List Event) (x : Option Access) → entries_in task maps ≡ Some rows → entries_in t maps ≡ None
+    → (has_entry r (entries_of size t past) || fills r (if task == t then x else waiting t past) (copy_target t past)) ≡ holds size t r past
+holds_waits size task t r maps rows past x lives none = ap (λ z. has_entry r (entries_of size t past) || fills r z (copy_target t past)) (other_task maps task t rows x (waiting t past) lives none)
+
+pub holds_rows : (size task t r : ℕ) (maps : Mapped) (rows own : List Entry) (past : List Event) → entries_in task maps ≡ Some rows → entries_in t maps ≡ None
+    → (has_entry r (if task == t then own else entries_of size t past) || fills r (waiting t past) (copy_target t past)) ≡ holds size t r past
+holds_rows size task t r maps rows own past lives none = ap (λ z. has_entry r z || fills r (waiting t past) (copy_target t past)) (other_task maps task t rows own (entries_of size t past) lives none)
+
+-- nothing has changed here
+pub uses_still : (maps : Mapped) (used_at : ℕ → Bool) (made : List ℕ) (held_at held2 : ℕ → ℕ → Bool) (n : ℕ) → HasUse maps used_at made held_at n → SameElsewhere maps held_at held2 → HasUse maps used_at made held2 n
+uses_still maps used_at made held_at held2 n has same = record { used = has.used; among = has.among; apart = λ t r none why. same t r none ∙ has.apart t r none why }
+
+pub uses_made : (maps new : Mapped) (used_at : ℕ → Bool) (made : List ℕ) (held_at held2 : ℕ → ℕ → Bool) (n task : ℕ) → HasUse maps used_at made held_at n → ChangesOnly maps new task (Some []) → entries_in task maps ≡ None → task < most_tasks
+    → ((t r : ℕ) → (task ≡ t → ⊥) → held2 t r ≡ held_at t r) → HasUse new used_at (task ∷ made) held2 n
+uses_made maps new used_at made held_at held2 n task has changes free below same =
     record {
       used = λ r. has.used r ∙ ap (nat_lt 0) (let moved = by_changed most_tasks r task maps new (Some []) below changes in let none = ap (λ z. count_on r (unwrap_or z [])) free in omega arith);
       among = λ t rows is. elim (eqb_tells task t) [
         | inl same ↦ rw same.0 refl
         | inr apart ↦ rw apart.0 (has.among t rows (sym (changes.others t (λ e. apart.1 (sym e))) ∙ is))
       ];
+      apart = λ t r none why.
+          let other = elsewhere new task t [] changes.changed none in
+          same t r other ∙ has.apart t r (sym (changes.others t (λ e. other (sym e))) ∙ none) why;
     }
 
-among_kept : (maps new : Mapped) (used_at : ℕ → Bool) (made : List ℕ) (task : ℕ) (made_rows : Option (List Entry)) → HasUse maps used_at made → ChangesOnly maps new task made_rows → entries_in task maps ≡ Some (rows_in task maps)
+among_kept : (maps new : Mapped) (used_at : ℕ → Bool) (made : List ℕ) (held_at : ℕ → ℕ → Bool) (n task : ℕ) (made_rows : Option (List Entry)) → HasUse maps used_at made held_at n → ChangesOnly maps new task made_rows → entries_in task maps ≡ Some (rows_in task maps)
     → (t : ℕ) (rows : List Entry) → entries_in t new ≡ Some rows → is_among t made ≡ true
-among_kept maps new used_at made task made_rows has changes lives t rows is = elim (eqb_tells task t) [
+among_kept maps new used_at made held_at n task made_rows has changes lives t rows is = elim (eqb_tells task t) [
   | inl same ↦ subst (λ (z : ℕ). is_among z made ≡ true) same.1 (has.among task (rows_in task maps) lives)
   | inr apart ↦ has.among t rows (sym (changes.others t (λ e. apart.1 (sym e))) ∙ is)
 ]
@@ -129,34 +180,76 @@ test_same zero (suc b) one two = absurd (let bad = two (omega arith) in omega ar
 test_same (suc a) zero one two = absurd (let bad = one (omega arith) in omega arith)
 test_same (suc a) (suc b) one two = test_some a ∙ sym (test_some b)
 
+test_none : (a b : ℕ) → (0 < a → 0 < b) → nat_lt 0 b ≡ false → nat_lt 0 a ≡ false
+test_none zero b one none = refl
+test_none (suc a) zero one none = absurd (let bad = one (omega arith) in omega arith)
+test_none (suc a) (suc b) one none = absurd (let bad : true ≡ false = sym (test_some b) ∙ none in cc)
+
 test_both : (a b : ℕ) → (0 < a → 0 < b) → (nat_lt 0 a && nat_lt 0 b) ≡ nat_lt 0 a
 test_both zero b one = refl
 test_both (suc a) zero one = absurd (let bad = one (omega arith) in omega arith)
 test_both (suc a) (suc b) one = rw (test_some a, test_some b) refl
 
 -- entries are others, but on the same regions
-pub uses_same : (maps new : Mapped) (used_at : ℕ → Bool) (made : List ℕ) (task : ℕ) (rows : Option (List Entry)) → HasUse maps used_at made → ChangesOnly maps new task rows → entries_in task maps ≡ Some (rows_in task maps)
-    → ((r : ℕ) → 0 < count_by most_tasks r maps → 0 < count_by most_tasks r new) → ((r : ℕ) → 0 < count_by most_tasks r new → 0 < count_by most_tasks r maps) → HasUse new used_at made
-uses_same maps new used_at made task rows has changes lives one two =
-    record { used = λ r. has.used r ∙ test_same (count_by most_tasks r maps) (count_by most_tasks r new) (one r) (two r); among = among_kept maps new used_at made task rows has changes lives }
-
--- entries have gone, and in use is what is kept
-pub uses_cut : (header : Header) (maps new : Mapped) (used_at : ℕ → Bool) (past : List Event) (task : ℕ) (rows : Option (List Entry)) → IsPlain header → HasUse maps used_at (tasks past) → ChangesOnly maps new task rows → entries_in task maps ≡ Some (rows_in task maps)
-    → ((r : ℕ) → 0 < count_by most_tasks r new → 0 < count_by most_tasks r maps) → Shows header.size new past → ((t : ℕ) → most_tasks ≤ t → entries_in t new ≡ None) → HasUse new (λ r. is_kept header r past && used_at r) (tasks past)
-uses_cut header maps new used_at past task rows plain has changes lives two shows most =
+pub uses_same : (maps new : Mapped) (used_at : ℕ → Bool) (made : List ℕ) (held_at held2 : ℕ → ℕ → Bool) (n task : ℕ) (rows : List Entry) → HasUse maps used_at made held_at n → ChangesOnly maps new task (Some rows) → entries_in task maps ≡ Some (rows_in task maps)
+    → ((r : ℕ) → 0 < count_by most_tasks r maps → 0 < count_by most_tasks r new) → ((r : ℕ) → 0 < count_by most_tasks r new → 0 < count_by most_tasks r maps) → SameElsewhere maps held_at held2 → HasUse new used_at made held2 n
+uses_same maps new used_at made held_at held2 n task rows has changes lives one two same =
     record {
-      used = λ r. rw (kept_is header r new past plain shows most among, has.used r) (test_both (count_by most_tasks r new) (count_by most_tasks r maps) (two r));
+      used = λ r. has.used r ∙ test_same (count_by most_tasks r maps) (count_by most_tasks r new) (one r) (two r);
+      among = among_kept maps new used_at made held_at n task (Some rows) has changes lives;
+      apart = λ t r none why.
+          let other = elsewhere new task t rows changes.changed none in
+          let was = sym (changes.others t (λ e. other (sym e))) ∙ none in
+          same t r was ∙ has.apart t r was why;
+    }
+
+-- in use is what is kept
+kept_uses : (header : Header) (maps new : Mapped) (used_at : ℕ → Bool) (n : ℕ) (past : List Event) → IsPlain header → ((r : ℕ) → used_at r ≡ nat_lt 0 (count_by most_tasks r maps))
+    → ((t : ℕ) (rows : List Entry) → entries_in t new ≡ Some rows → is_among t (tasks past) ≡ true) → ((r : ℕ) → 0 < count_by most_tasks r new → 0 < count_by most_tasks r maps) → Shows header.size new past
+    → ((t : ℕ) → most_tasks ≤ t → entries_in t new ≡ None) → ApartFrom new used_at (λ t r. holds header.size t r past) n → HasUse new (λ r. is_kept header r past && used_at r) (tasks past) (λ t r. holds header.size t r past) n
+kept_uses header maps new used_at n past plain used among two shows most others =
+    record {
+      used = λ r. by_use r (used_at r) refl;
       among = among;
+      apart = λ t r none why. others t r none (either r why);
     }
   where
-    among : (t : ℕ) (rows : List Entry) → entries_in t new ≡ Some rows → is_among t (tasks past) ≡ true
-    among = among_kept maps new used_at (tasks past) task rows has changes lives
+    both : (a b : Bool) → (a && b) ≡ true → b ≡ true
+    both true b e = e
+    both false b e = absurd (let bad : false ≡ true = e in cc)
+
+    neither : (b : Bool) → (b && false) ≡ false
+    neither true = refl
+    neither false = refl
+
+    either : (r : ℕ) → ((is_kept header r past && used_at r) ≡ true) ⊎ (n ≤ r) → (used_at r ≡ true) ⊎ (n ≤ r)
+    either r (inl is) = inl (both (is_kept header r past) (used_at r) is)
+    either r (inr high) = inr high
+
+    by_use : (r : ℕ) (b : Bool) → used_at r ≡ b → (is_kept header r past && used_at r) ≡ nat_lt 0 (count_by most_tasks r new)
+    by_use r true is = rw (kept_is header r new past plain shows (λ t none. others t r none (inl is)) most among, used r) (test_both (count_by most_tasks r new) (count_by most_tasks r maps) (two r))
+    by_use r false is =
+        ap (λ b. is_kept header r past && b) is
+        ∙ (neither (is_kept header r past) ∙ sym (test_none (count_by most_tasks r new) (count_by most_tasks r maps) (two r) (sym (used r) ∙ is)))
+
+-- entries have gone, and in use is what is kept
+pub uses_cut : (header : Header) (maps new : Mapped) (used_at : ℕ → Bool) (held_at : ℕ → ℕ → Bool) (n : ℕ) (past : List Event) (task : ℕ) (rows : Option (List Entry)) → IsPlain header → HasUse maps used_at (tasks past) held_at n → ChangesOnly maps new task rows
+    → entries_in task maps ≡ Some (rows_in task maps) → ((r : ℕ) → 0 < count_by most_tasks r new → 0 < count_by most_tasks r maps) → Shows header.size new past → ((t : ℕ) → most_tasks ≤ t → entries_in t new ≡ None)
+    → ApartFrom new used_at (λ t r. holds header.size t r past) n → HasUse new (λ r. is_kept header r past && used_at r) (tasks past) (λ t r. holds header.size t r past) n
+uses_cut header maps new used_at held_at n past task rows plain has changes lives two shows most others =
+    kept_uses header maps new used_at n past plain has.used (among_kept maps new used_at (tasks past) held_at n task rows has changes lives) two shows most others
+
+-- no entries have gone, and in use is what is kept
+pub uses_none : (header : Header) (maps : Mapped) (used_at : ℕ → Bool) (held_at : ℕ → ℕ → Bool) (n : ℕ) (past : List Event) → IsPlain header → HasUse maps used_at (tasks past) held_at n → Shows header.size maps past
+    → ((t : ℕ) → most_tasks ≤ t → entries_in t maps ≡ None) → SameElsewhere maps held_at (λ t r. holds header.size t r past) → HasUse maps (λ r. is_kept header r past && used_at r) (tasks past) (λ t r. holds header.size t r past) n
+uses_none header maps used_at held_at n past plain has shows most same =
+    kept_uses header maps maps used_at n past plain has.used has.among (λ r some. some) shows most (λ t r none why. same t r none ∙ has.apart t r none why)
 
 -- a task has an entry more, on the host where its region is in use
-pub uses_entered : (maps new : Mapped) (used_at : ℕ → Bool) (made : List ℕ) (task : ℕ) (row : Entry) (here : Bool) → ((r : ℕ) → r ≢ row.region.0 → used_at r ≡ nat_lt 0 (count_by most_tasks r maps)) → used_at row.region.0 ≡ true
+pub uses_entered : (maps new : Mapped) (used_at : ℕ → Bool) (made : List ℕ) (held2 : ℕ → ℕ → Bool) (n task : ℕ) (row : Entry) (here : Bool) → ((r : ℕ) → r ≢ row.region.0 → used_at r ≡ nat_lt 0 (count_by most_tasks r maps)) → used_at row.region.0 ≡ true
     → ((t : ℕ) (rows : List Entry) → entries_in t maps ≡ Some rows → is_among t made ≡ true) → ChangesOnly maps new task (Some (entered row (rows_in task maps))) → entries_in task maps ≡ Some (rows_in task maps) → task < most_tasks → here ≡ true
-    → HasUse new (λ r. (not (r == row.region.0) || here) && used_at r) made
-uses_entered maps new used_at made task row here others own among changes lives below is =
+    → ApartFrom maps used_at held2 n → HasUse new (λ r. (not (r == row.region.0) || here) && used_at r) made held2 n
+uses_entered maps new used_at made held2 n task row here others own among changes lives below is apart =
     record {
       used = λ r. simple (r == row.region.0) (used_at r) ∙ elim (eqb_tells r row.region.0) [
         | inl same ↦
@@ -174,13 +267,20 @@ uses_entered maps new used_at made task row here others own among changes lives 
       ];
       among = λ t rows found. elim (eqb_tells task t) [
         | inl same ↦ subst (λ (z : ℕ). is_among z made ≡ true) same.1 (among task (rows_in task maps) lives)
-        | inr apart ↦ among t rows (sym (changes.others t (λ e. apart.1 (sym e))) ∙ found)
+        | inr other ↦ among t rows (sym (changes.others t (λ e. other.1 (sym e))) ∙ found)
       ];
+      apart = λ t r none why.
+          let other = elsewhere new task t _ changes.changed none in
+          apart t r (sym (changes.others t (λ e. other (sym e))) ∙ none) (either r why);
     }
   where
     simple : (b used : Bool) → ((not b || here) && used) ≡ used
     simple true used = rw is refl
     simple false used = refl
+
+    either : (r : ℕ) → (((not (r == row.region.0) || here) && used_at r) ≡ true) ⊎ (n ≤ r) → (used_at r ≡ true) ⊎ (n ≤ r)
+    either r (inl used) = inl (sym (simple (r == row.region.0) (used_at r)) ∙ used)
+    either r (inr high) = inr high
 
     self : (n : ℕ) → (if n == n then 1 else 0) + count_on n (rows_in task maps) ≡ 1 + count_on n (rows_in task maps)
     self n = elim (eqb_tells n n) [ inl same ↦ rw same.0 refl | inr apart ↦ absurd (apart.1 refl) ]

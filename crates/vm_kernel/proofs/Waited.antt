@@ -1,5 +1,5 @@
 -- Who waits, while the maps of tasks that don't wait change, and regions count their entries anew.
-use Rattle.std.proofs.Common.{◌≡◌, ℕ, List, [], refl, ap, sym, ◌∙◌, Some, None, Option}
+use Rattle.std.proofs.Common.{◌≡◌, ℕ, List, [], refl, ap, sym, ◌∙◌, Some, None, Option, is_some, true, inl, inr}
 use Rattle.std.specs.Prelude.{unwrap_or}
 use Rattle.vm_base.specs.declared.entry.Entry.{Entry}
 use Rattle.vm_base.specs.declared.ids.Access.{Access as Need}
@@ -17,7 +17,8 @@ use Rattle.vm_waits.specs.declared.waiting.On.TheVariants as on
 use Rattle.vm_waits.specs.declared.waiting.Waiting.{Waiting}
 use Rattle.vm_waits.specs.declared.waiting.Want.{Want}
 use Rattle.vm_kernel.specs.Changes.{IsAllowed}
-use Rattle.vm_kernel.specs.Waiters.{HasWaiters, IsAt, Reason}
+use Rattle.vm_kernel.specs.Waiters.{HasWaiters, IsAt, Reason, waiting_in}
+use Rattle.std.proofs.lemmas.Bool.Decides.{eqb_tells}
 
 -- a region is still over the same pages of its object
 pub record SameTop (row : RegionRow) (now : Option RegionRow) : Type 0 where
@@ -66,26 +67,40 @@ reason_kept maps maps2 cs cs2 rs os task what (on.Ready object) same tops reason
 reason_kept maps maps2 cs cs2 rs os task what (on.Page key) same tops reason = (at_kept maps maps2 cs cs2 task what key same tops reason.0, reason.1)
 reason_kept maps maps2 cs cs2 rs os task what on.Frame same tops reason = reason
 
+-- the rows of tasks here say who waits
+abbrev pub AreTold : Mapped → List Waiting → (ℕ → Option Access) → Type 0
+AreTold maps rows waiting_at = (t : ℕ) → is_some (entries_in t maps) ≡ true → waiting_at t ≡ waiting_in (entry rows t)
+
+-- who has other entries now was here before
+pub told_changed : (maps maps2 : Mapped) (rows : List Waiting) (waiting_at : ℕ → Option Access) (task : ℕ) (was : List Entry) (made : Option (List Entry)) → AreTold maps rows waiting_at → ChangesOnly maps maps2 task made → entries_in task maps ≡ Some was → AreTold maps2 rows waiting_at
+told_changed maps maps2 rows waiting_at task was made told changes lives t here = elim (eqb_tells task t) [
+  | inl same ↦ told t (ap (λ z. is_some (entries_in z maps)) (sym same.1) ∙ ap is_some lives)
+  | inr apart ↦ told t (ap is_some (sym (changes.others t (λ e. apart.1 (sym e)))) ∙ here)
+]
+
 -- who waits has the entries that it had
-pub waits_kept : (maps maps2 : Mapped) (cs cs2 : ChainTable) (rs : ResidentTable) (os : ObjectTable) (rows : List Waiting) (who : Woken) (waiting_at : ℕ → Option Access)
-    → HasWaiters maps cs rs os rows who waiting_at → ((t : ℕ) (w : Waiting) → entry rows t ≡ Some w → SameOf t maps maps2) → SameTops cs cs2 → HasWaiters maps2 cs2 rs os rows who waiting_at
-waits_kept maps maps2 cs cs2 rs os rows who waiting_at has same tops =
+pub waits_kept : {waiting2 : ℕ → Option Access} (maps maps2 : Mapped) (cs cs2 : ChainTable) (rs : ResidentTable) (os : ObjectTable) (rows : List Waiting) (who : Woken) (waiting_at : ℕ → Option Access)
+    → HasWaiters maps cs rs os rows who waiting_at → ((t : ℕ) (w : Waiting) → entry rows t ≡ Some w → SameOf t maps maps2) → SameTops cs cs2 → AreTold maps2 rows waiting2
+    → HasWaiters maps2 cs2 rs os rows who waiting2
+waits_kept maps maps2 cs cs2 rs os rows who waiting_at has same tops told =
     record {
-      is = has.is;
+      is = told;
       allowed = λ t w found. allowed_kept maps maps2 t _ _ (same t w found) (has.allowed t w found);
       sized = has.sized;
       reasons = λ t w found apart. reason_kept maps maps2 cs cs2 rs os t w.want w.on (same t w found) tops (has.reasons t w found apart);
       aims = λ t w key found is. at_kept maps maps2 cs cs2 t w.want key (same t w found) tops (has.aims t w key found is);
       askers = has.askers;
+      ready = has.ready;
     }
 
 -- one task's entries change, which doesn't wait
-pub waits_changed : (maps maps2 : Mapped) (cs cs2 : ChainTable) (rs : ResidentTable) (os : ObjectTable) (rows : List Waiting) (who : Woken) (waiting_at : ℕ → Option Access) (task : ℕ) (made : Option (List Entry))
-    → HasWaiters maps cs rs os rows who waiting_at → ChangesOnly maps maps2 task made → entry rows task ≡ None → SameTops cs cs2 → HasWaiters maps2 cs2 rs os rows who waiting_at
-waits_changed maps maps2 cs cs2 rs os rows who waiting_at task made has changes none tops =
+pub waits_changed : {waiting2 : ℕ → Option Access} (maps maps2 : Mapped) (cs cs2 : ChainTable) (rs : ResidentTable) (os : ObjectTable) (rows : List Waiting) (who : Woken) (waiting_at : ℕ → Option Access) (task : ℕ) (made : Option (List Entry))
+    → HasWaiters maps cs rs os rows who waiting_at → ChangesOnly maps maps2 task made → entry rows task ≡ None → SameTops cs cs2 → AreTold maps2 rows waiting2
+    → HasWaiters maps2 cs2 rs os rows who waiting2
+waits_changed maps maps2 cs cs2 rs os rows who waiting_at task made has changes none tops told =
     waits_kept maps maps2 cs cs2 rs os rows who waiting_at has
     (λ t w found. record {
       size = changes.size;
       entries = changes.others t (λ same. let bad : None ≡ Some w = sym none ∙ (ap (entry rows) (sym same) ∙ found) in cc);
     })
-    tops
+    tops told

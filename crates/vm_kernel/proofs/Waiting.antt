@@ -7,7 +7,7 @@ use Rattle.vm_base.specs.declared.ids.PageKey.{PageKey}
 use Rattle.vm_base.specs.Entries.{page_at}
 use Rattle.vm_maps.specs.Maps.{Mapped}
 use Rattle.vm_model.specs.Waiting.{Access}
-use Rattle.vm_objects.specs.Objects.{ObjectTable}
+use Rattle.vm_objects.specs.Objects.{ObjectTable, object_at}
 use Rattle.vm_resident.specs.Resident.{PutsRow, ResidentTable, page_key, row_at}
 use Rattle.vm_resident.specs.declared.page_row.PageRow.{PageRow}
 use Rattle.vm_shadow.specs.Chains.{ChainTable, region_at}
@@ -21,8 +21,10 @@ use Rattle.vm_waits.specs.declared.waiting.Waiting.{Waiting}
 use Rattle.vm_waits.specs.declared.waiting.Want.{Want}
 use Rattle.vm_waits.proofs.Entries.{puts_cases, puts_elsewhere, puts_here}
 use Rattle.vm_kernel.specs.Changes.{IsAllowed}
+use Rattle.vm_kernel.specs.Pagers.{ready_in}
 use Rattle.vm_kernel.specs.Waiters.{Asker, HasWaiters, IsAsked, IsAt, IsSizedWant, Reason, address_in, need_in, waiting_in}
-use Rattle.vm_kernel.proofs.Rows.{row_cases, some_is}
+use Rattle.vm_parts.proofs.Rows.{row_cases, some_is}
+use Rattle.vm_kernel.proofs.Waited.{AreTold}
 
 -- the access waits for no page that is asked
 pub record AsksNone (resident : ResidentTable) (reason : On) : Type 0 where
@@ -97,6 +99,10 @@ waiters_page maps chains rs rs2 os rows who at o p x has put before now =
         | inl here ↦ asked_apart x row now (sym here.is ∙ found) away
         | inr other ↦ has.askers o2 p2 row (sym other.is ∙ found) away
       ];
+      ready = λ o2 p2 row found away. elim (row_cases o p x rs rs2 put o2 p2) [
+        | inl here ↦ asked_apart x row now (sym here.is ∙ found) away
+        | inr other ↦ has.ready o2 p2 row (sym other.is ∙ found) away
+      ];
     }
 
 -- what the row of an access has to be, but for its reason
@@ -116,11 +122,11 @@ asker_kept rows rows2 t was x o p put is not asker = elim (eqb_tells t asker.tas
 -- one access is over, or waits for something else, and pages that were asked are so still
 pub waiters_put : (maps : Mapped) (chains : ChainTable) (rs rs2 : ResidentTable) (os : ObjectTable) (rows rows2 : List Waiting) (at at2 : ℕ → Option Access) (t : ℕ) (x : Option Waiting)
     → HasWaiters maps chains rs os rows woken.Nobody at → PutsEntry t x rows rows2
-    → ((u : ℕ) → at2 u ≡ waiting_in (entry rows2 u))
+    → AreTold maps rows2 at2
     → ((w : Waiting) → x ≡ Some w → Suits maps t w) → ((w : Waiting) → x ≡ Some w → Reason maps chains rs2 os t w.want w.on)
     → ((o p : ℕ) → IsAsked rs o p → IsAsked rs2 o p) → ((o p : ℕ) (row : PageRow) → row_at rs2 o p ≡ Some row → row.here ≡ false → Asker rows2 o p)
-    → HasWaiters maps chains rs2 os rows2 woken.Nobody at2
-waiters_put maps chains rs rs2 os rows rows2 at at2 t x has put told suits reason kept askers =
+    → ((o p : ℕ) (row : PageRow) → row_at rs2 o p ≡ Some row → row.here ≡ false → ready_in (object_at os o) ≡ true) → HasWaiters maps chains rs2 os rows2 woken.Nobody at2
+waiters_put maps chains rs rs2 os rows rows2 at at2 t x has put told suits reason kept askers ready =
     record {
       is = told;
       allowed = λ u w is. puts_cases {P = IsAllowed maps u (address_in w.want) (need_in w.want)} t u x rows rows2 w put is
@@ -134,16 +140,16 @@ waiters_put maps chains rs rs2 os rows rows2 at at2 t x has put told suits reaso
           (λ same it. subst (λ (z : ℕ). IsAt maps chains z w.want key) same (aimed t w.want w.on key waits (reason w it)))
           (λ apart was. has.aims u w key was waits);
       askers = askers;
+      ready = ready;
     }
   where
     aimed : (u : ℕ) (what : Want) (why : On) (key : PageKey) → why ≡ on.Page key → Reason maps chains rs2 os u what why → IsAt maps chains u what key
     aimed u what why key same is = let so : Reason maps chains rs2 os u what (on.Page key) = subst (λ (z : On). Reason maps chains rs2 os u what z) same is in so.0
 
-pub over_is : (rows rows2 : List Waiting) (t : ℕ) (at at2 : ℕ → Option Access) → ((u : ℕ) → at u ≡ waiting_in (entry rows u)) → PutsEntry t None rows rows2 → ((u : ℕ) → at2 u ≡ (if t == u then None else at u)) → (u : ℕ)
-    → at2 u ≡ waiting_in (entry rows2 u)
-over_is rows rows2 t at at2 is put ends u = elim (eqb_tells t u) [
+pub over_is : (maps : Mapped) (rows rows2 : List Waiting) (t : ℕ) (at at2 : ℕ → Option Access) → AreTold maps rows at → PutsEntry t None rows rows2 → ((u : ℕ) → at2 u ≡ (if t == u then None else at u)) → AreTold maps rows2 at2
+over_is maps rows rows2 t at at2 is put ends u here = elim (eqb_tells t u) [
   | inl same ↦ ends u ∙ (ap (λ b. if b then None else at u) same.0 ∙ sym (ap waiting_in (put.at u ∙ ap (λ b. if b then None else entry rows u) same.0)))
-  | inr apart ↦ ends u ∙ (ap (λ b. if b then None else at u) apart.0 ∙ (is u ∙ sym (ap waiting_in (put.at u ∙ ap (λ b. if b then None else entry rows u) apart.0))))
+  | inr apart ↦ ends u ∙ (ap (λ b. if b then None else at u) apart.0 ∙ (is u here ∙ sym (ap waiting_in (put.at u ∙ ap (λ b. if b then None else entry rows u) apart.0))))
 ]
 
 -- an access is over that waits for no page that is asked
@@ -151,19 +157,19 @@ pub waiters_over : (maps : Mapped) (chains : ChainTable) (rs : ResidentTable) (o
     → HasWaiters maps chains rs os rows woken.Nobody at → entry rows t ≡ Some was → AsksNone rs was.on → PutsEntry t None rows rows2 → ((u : ℕ) → at2 u ≡ (if t == u then None else at u))
     → HasWaiters maps chains rs os rows2 woken.Nobody at2
 waiters_over maps chains rs os rows rows2 at at2 t was has is none put ends =
-    waiters_put maps chains rs rs os rows rows2 at at2 t None has put (over_is rows rows2 t at at2 has.is put ends)
+    waiters_put maps chains rs rs os rows rows2 at at2 t None has put (over_is maps rows rows2 t at at2 has.is put ends)
     (λ w it. absurd (let bad : None ≡ Some w = it in cc))
     (λ w it. absurd (let bad : None ≡ Some w = it in cc))
     (λ o p asked. asked)
     (λ o p row found away. asker_kept rows rows2 t was None o p put is (λ reason. none.at o p row found away reason) (has.askers o p row found away))
+    has.ready
 
-pub turned_is : (rows rows2 : List Waiting) (t : ℕ) (was : Waiting) (reason : On) (at : ℕ → Option Access) → ((u : ℕ) → at u ≡ waiting_in (entry rows u)) → entry rows t ≡ Some was → PutsEntry t (Some (with_on was reason)) rows rows2 → (u : ℕ)
-    → at u ≡ waiting_in (entry rows2 u)
-turned_is rows rows2 t was reason at is there put u = elim (eqb_tells t u) [
+pub turned_is : (maps : Mapped) (rows rows2 : List Waiting) (t : ℕ) (was : Waiting) (reason : On) (at : ℕ → Option Access) → AreTold maps rows at → entry rows t ≡ Some was → PutsEntry t (Some (with_on was reason)) rows rows2 → AreTold maps rows2 at
+turned_is maps rows rows2 t was reason at is there put u here = elim (eqb_tells t u) [
   | inl same ↦
       let it : entry rows u ≡ Some was = ap (λ z. entry rows z) (sym same.1) ∙ there in
-      is u ∙ (ap waiting_in it ∙ sym (ap waiting_in (put.at u ∙ ap (λ b. if b then Some (with_on was reason) else entry rows u) same.0)))
-  | inr apart ↦ is u ∙ sym (ap waiting_in (put.at u ∙ ap (λ b. if b then Some (with_on was reason) else entry rows u) apart.0))
+      is u here ∙ (ap waiting_in it ∙ sym (ap waiting_in (put.at u ∙ ap (λ b. if b then Some (with_on was reason) else entry rows u) same.0)))
+  | inr apart ↦ is u here ∙ sym (ap waiting_in (put.at u ∙ ap (λ b. if b then Some (with_on was reason) else entry rows u) apart.0))
 ]
 
 turned_suits : (maps : Mapped) (chains : ChainTable) (rs : ResidentTable) (os : ObjectTable) (rows : List Waiting) (who : Woken) (at : ℕ → Option Access) (t : ℕ) (was w : Waiting) (reason : On)
@@ -181,11 +187,12 @@ pub waiters_turned : (maps : Mapped) (chains : ChainTable) (rs : ResidentTable) 
     → HasWaiters maps chains rs os rows woken.Nobody at → entry rows t ≡ Some was → AsksNone rs was.on → PutsEntry t (Some (with_on was reason)) rows rows2 → Reason maps chains rs os t was.want reason
     → HasWaiters maps chains rs os rows2 woken.Nobody at
 waiters_turned maps chains rs os rows rows2 at t was reason has is none put holds =
-    waiters_put maps chains rs rs os rows rows2 at at t (Some (with_on was reason)) has put (turned_is rows rows2 t was reason at has.is is put)
+    waiters_put maps chains rs rs os rows rows2 at at t (Some (with_on was reason)) has put (turned_is maps rows rows2 t was reason at has.is is put)
     (λ w it. turned_suits maps chains rs os rows woken.Nobody at t was w reason has is it)
     (λ w it. turned_reason maps chains rs os t was w reason holds it)
     (λ o p asked. asked)
     (λ o p row found away. asker_kept rows rows2 t was (Some (with_on was reason)) o p put is (λ why. none.at o p row found away why) (has.askers o p row found away))
+    has.ready
 
 -- an access waits for a page that is asked
 pub its_asker : (rows rows2 : List Waiting) (t : ℕ) (was : Waiting) (key : PageKey) (o p : ℕ) → PutsEntry t (Some (with_on was (on.Page key))) rows rows2 → key.object.0 ≡ o → key.page.0 ≡ p → Asker rows2 o p
@@ -202,7 +209,7 @@ pub waiters_joined : (maps : Mapped) (chains : ChainTable) (rs : ResidentTable) 
     → HasWaiters maps chains rs os rows woken.Nobody at → entry rows t ≡ Some was → IsAt maps chains t was.want key → IsAsked rs key.object.0 key.page.0 → PutsEntry t (Some (with_on was (on.Page key))) rows rows2
     → HasWaiters maps chains rs os rows2 woken.Nobody at
 waiters_joined maps chains rs os rows rows2 at t was key has is aims asked put =
-    waiters_put maps chains rs rs os rows rows2 at at t (Some (with_on was (on.Page key))) has put (turned_is rows rows2 t was (on.Page key) at has.is is put)
+    waiters_put maps chains rs rs os rows rows2 at at t (Some (with_on was (on.Page key))) has put (turned_is maps rows rows2 t was (on.Page key) at has.is is put)
     (λ w it. turned_suits maps chains rs os rows woken.Nobody at t was w (on.Page key) has is it)
     (λ w it. turned_reason maps chains rs os t was w (on.Page key) (aims, asked) it)
     (λ o p other. other)
@@ -213,6 +220,7 @@ waiters_joined maps chains rs os rows rows2 at t was key has is aims asked put =
       ]
       | inr apart ↦ other_asker o p row found away (λ reason. apart.1 (ap (λ (z : PageKey). z.object.0) (same_page o p reason)))
     ])
+    has.ready
   where
     same_page : (o p : ℕ) → was.on ≡ on.Page (page_key o p) → key ≡ page_key o p
     same_page o p reason = at_same maps chains t was.want key (page_key o p) aims (has.aims t was (page_key o p) is reason)
@@ -223,10 +231,10 @@ waiters_joined maps chains rs os rows rows2 at t was key has is aims asked put =
 -- a page is asked for that had no row, for an access that waits for it now
 pub waiters_asked : (maps : Mapped) (chains : ChainTable) (rs rs2 : ResidentTable) (os : ObjectTable) (rows rows2 : List Waiting) (at : ℕ → Option Access) (t : ℕ) (was : Waiting) (key : PageKey) (row : PageRow)
     → HasWaiters maps chains rs os rows woken.Nobody at → entry rows t ≡ Some was → IsAt maps chains t was.want key → row_at rs key.object.0 key.page.0 ≡ None
-    → PutsRow key.object.0 key.page.0 (Some row) rs rs2 → row.here ≡ false → PutsEntry t (Some (with_on was (on.Page key))) rows rows2
+    → PutsRow key.object.0 key.page.0 (Some row) rs rs2 → row.here ≡ false → PutsEntry t (Some (with_on was (on.Page key))) rows rows2 → ready_in (object_at os key.object.0) ≡ true
     → HasWaiters maps chains rs2 os rows2 woken.Nobody at
-waiters_asked maps chains rs rs2 os rows rows2 at t was key row has is aims absent put away turns =
-    waiters_put maps chains rs rs2 os rows rows2 at at t (Some (with_on was (on.Page key))) has turns (turned_is rows rows2 t was (on.Page key) at has.is is turns)
+waiters_asked maps chains rs rs2 os rows rows2 at t was key row has is aims absent put away turns ready =
+    waiters_put maps chains rs rs2 os rows rows2 at at t (Some (with_on was (on.Page key))) has turns (turned_is maps rows rows2 t was (on.Page key) at has.is is turns)
     (λ w it. turned_suits maps chains rs os rows woken.Nobody at t was w (on.Page key) has is it)
     (λ w it. turned_reason maps chains rs2 os t was w (on.Page key) (aims, asked) it)
     (λ o p other. asked_kept key.object.0 key.page.0 (Some row) rs rs2 o p put fresh other)
@@ -235,6 +243,10 @@ waiters_asked maps chains rs rs2 os rows rows2 at t was key row has is aims abse
       | inr other ↦
           let was_found = sym other.is ∙ found in
           asker_kept rows rows2 t was (Some (with_on was (on.Page key))) o p turns is (λ reason. none.at o p r was_found gone reason) (has.askers o p r was_found gone)
+    ])
+    (λ o p r found gone. elim (row_cases key.object.0 key.page.0 (Some row) rs rs2 put o p) [
+      | inl now ↦ subst (λ (z : ℕ). ready_in (object_at os z) ≡ true) now.object ready
+      | inr other ↦ has.ready o p r (sym other.is ∙ found) gone
     ])
   where
     fresh : IsNotAsked (row_at rs key.object.0 key.page.0)

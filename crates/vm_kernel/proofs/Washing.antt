@@ -1,17 +1,24 @@
 -- The frames that returns hold, once a page has left its frame.
-use Rattle.std.proofs.Common.{◌≡◌, ℕ, zero, suc, ◌+◌, ◌<◌, ◌≤◌, ◌==◌, Bool, true, false, List, [], ◌∷◌, ◌++◌, length, get_or, set, refl, ap, sym, ◌∙◌, subst, arith, Some, None, inl, inr, length-append, length-set}
+use Rattle.std.proofs.Common.{◌≡◌, ℕ, ◌+◌, ◌<◌, ◌≤◌, ◌==◌, Bool, true, false, List, [], ◌∷◌, ◌++◌, length, get_or, set, refl, ap, sym, ◌∙◌, subst, arith, Some, None, inl, inr, length-append}
 use Rattle.std.proofs.lemmas.Bool.Decides.{eqb_tells, nat_tests}
 use Rattle.std.proofs.lemmas.List.{get_or-set_other}
 use Rattle.std.proofs.lemmas.List.Elements.{All-append, All-cons, All-head, All-nil, All-tail}
 use Rattle.std.specs.Prelude.{All, ◌||◌}
 use Rattle.vm_base.specs.declared.ids.FrameNo.{FrameNo}
 use Rattle.vm_base.specs.declared.ids.PageKey.{PageKey}
-use Rattle.vm_frames.specs.Frames.{FrameTable, Releases, claimed, count_claims, frame_count, is_claimed}
+use Rattle.vm_frames.proofs.Spares.{count_released}
+use Rattle.vm_frames.specs.Frames.{FrameTable, claimed, count_claims, frame_count, is_claimed}
 use Rattle.vm_pageout.specs.Laundry.{LaundryList}
 use Rattle.vm_queues.specs.Queues.{is_skipped}
-use Rattle.vm_resident.specs.Resident.{PutsOwner, ResidentTable, owner_of}
+use Rattle.vm_resident.specs.Resident.{ResidentTable, owner_of}
 use Rattle.vm_kernel.specs.Matches.{EachApart, HasLaundry, IsWashed}
-use Rattle.vm_kernel.proofs.Rows.{one_case}
+use Rattle.vm_frames.proofs.Spares.{count_released}
+use Rattle.vm_kernel.proofs.Pages.{laundry_changed}
+use Rattle.vm_parts.specs.Changes.{Changes}
+use Rattle.vm_parts.specs.declared.parts.HostParts.{HostParts}
+use Rattle.vm_queues.specs.Queues.{Queues}
+use Rattle.vm_resident.specs.declared.page_row.PageRow.{PageRow}
+use Rattle.vm_parts.proofs.Rows.{if_true}
 
 -- a frame that is held is one of those that are claimed, and no page's
 pub washed_at : (fs : FrameTable) (rs : ResidentTable) (held : List FrameNo) (g : ℕ) → All (IsWashed fs rs) held → is_skipped held g ≡ true → IsWashed fs rs (record { 0 = g })
@@ -29,20 +36,13 @@ unheld fs rs held f key all owner = go (is_skipped held f) refl
     go true is = absurd (let bad : None ≡ Some key = sym (washed_at fs rs held f all is).unowned ∙ owner in cc)
     go false is = is
 
-count_unset : (claims : List Bool) (f : ℕ) → get_or claims f false ≡ true → count_claims claims ≡ suc (count_claims (set claims f false))
-count_unset [] f is = absurd (let bad : false ≡ true = is in cc)
-count_unset (true ∷ claims) zero is = refl
-count_unset (false ∷ claims) zero is = absurd (let bad : false ≡ true = is in cc)
-count_unset (true ∷ claims) (suc f) is = ap suc (count_unset claims f is)
-count_unset (false ∷ claims) (suc f) is = count_unset claims f is
-
 -- frames that stand there once each, and are claimed, are no more than there are claims
 each_counted : (claims : List Bool) (fs : List FrameNo) → ((g : ℕ) → is_skipped fs g ≡ true → get_or claims g false ≡ true) → EachApart fs → length fs ≤ count_claims claims
 each_counted claims [] all apart = omega arith
 each_counted claims (f ∷ fs) all apart =
     let mine : get_or claims f.0 false ≡ true = all f.0 (first (f.0 == f.0) (is_skipped fs f.0) (itself f.0)) in
     let fewer = each_counted (set claims f.0 false) fs others apart.1 in
-    let count = count_unset claims f.0 mine in
+    let count = count_released claims f.0 mine in
     omega (arith, fewer, count)
   where
     itself : (n : ℕ) → (n == n) ≡ true
@@ -73,52 +73,6 @@ laundry_room fs rs laundry out f key has most mine owner =
       | inr apart ↦ (washed_at fs rs laundry.held g has.washed (rw apart.0 at there)).claimed
     ]
 
--- all are as they were, where a page has left another frame
-washed_kept : (fs fs2 : FrameTable) (rs rs2 : ResidentTable) (held : List FrameNo) (f : ℕ) → is_skipped held f ≡ false → ((g : ℕ) → (f ≡ g → ⊥) → is_claimed fs2 g ≡ is_claimed fs g) → PutsOwner f None rs rs2 → All (IsWashed fs rs) held
-    → All (IsWashed fs2 rs2) held
-washed_kept fs fs2 rs rs2 [] f none claims owner all = All-nil (IsWashed fs2 rs2)
-washed_kept fs fs2 rs rs2 (g ∷ held) f none claims owner all = All-cons (IsWashed fs2 rs2) g held first (washed_kept fs fs2 rs rs2 held f (right (g.0 == f) (is_skipped held f) none) claims owner (All-tail (IsWashed fs rs) g held all))
-  where
-    right : (a b : Bool) → (a || b) ≡ false → b ≡ false
-    right true b is = absurd (let bad : true ≡ false = is in cc)
-    right false b is = is
-
-    left : (a b : Bool) → (a || b) ≡ false → a ≡ false
-    left true b is = absurd (let bad : true ≡ false = is in cc)
-    left false b is = refl
-
-    apart : f ≡ g.0 → ⊥
-    apart same = elim (eqb_tells g.0 f) [
-      | inl also ↦ let bad : true ≡ false = sym also.0 ∙ left (g.0 == f) (is_skipped held f) none in cc
-      | inr other ↦ other.1 (sym same)
-    ]
-
-    was : IsWashed fs rs g
-    was = All-head (IsWashed fs rs) g held all
-
-    first : IsWashed fs2 rs2 g
-    first = record {
-      claimed = claims g.0 apart ∙ was.claimed;
-      unowned = elim (one_case f g.0 None (owner_of rs g.0) (owner_of rs2 g.0) (owner.at g.0)) [ inl same ↦ same.1 | inr other ↦ other.1 ∙ was.unowned ];
-    }
-
--- a page has gone, and its frame is free
-pub laundry_lost : (fs fs2 : FrameTable) (rs rs2 : ResidentTable) (laundry : LaundryList) (out f : ℕ) (key : PageKey) → HasLaundry fs rs laundry out → owner_of rs f ≡ Some key → is_claimed fs f ≡ true → Releases f fs fs2 → PutsOwner f None rs rs2
-    → HasLaundry fs2 rs2 laundry out
-laundry_lost fs fs2 rs rs2 laundry out f key has owner mine releases put =
-    record {
-      count = has.count;
-      room = has.room ∙ sym (ap frame_count releases.is ∙ length_set);
-      washed = washed_kept fs fs2 rs rs2 laundry.held f (unheld fs rs laundry.held f key has.washed owner) claims put has.washed;
-      apart = has.apart;
-    }
-  where
-    length_set : length (set fs.claims f false) ≡ length fs.claims
-    length_set = length-set fs.claims f false
-
-    claims : (g : ℕ) → (f ≡ g → ⊥) → is_claimed fs2 g ≡ is_claimed fs g
-    claims g apart = ap (λ z. is_claimed z g) releases.is ∙ get_or-set_other fs.claims f g false false (λ e. apart (sym e))
-
 -- each stands there once still, behind them one that did not
 apart_push : (held : List FrameNo) (f : FrameNo) → EachApart held → is_skipped held f.0 ≡ false → EachApart (held ++ f ∷ [])
 apart_push [] f apart new = (refl, tt)
@@ -137,23 +91,24 @@ apart_push (g ∷ held) f apart new = (unskipped held apart.0, apart_push held f
 
     unskipped : (held : List FrameNo) → is_skipped held g.0 ≡ false → is_skipped (held ++ f ∷ []) g.0 ≡ false
     unskipped [] none = rw (turned g.0 f.0 (left (g.0 == f.0) (is_skipped held f.0) new)) refl
-    unskipped (h ∷ rest) none = rw (left (h.0 == g.0) (is_skipped rest g.0) none) (unskipped rest (right (h.0 == g.0) (is_skipped rest g.0) none))
+    unskipped (moment ∷ rest) none = rw (left (moment.0 == g.0) (is_skipped rest g.0) none) (unskipped rest (right (moment.0 == g.0) (is_skipped rest g.0) none))
 
 -- a page has gone to its pager, and its frame is held
-pub laundry_returned : (fs : FrameTable) (rs rs2 : ResidentTable) (laundry laundry2 : LaundryList) (out : ℕ) (f : FrameNo) (key : PageKey) → HasLaundry fs rs laundry out → owner_of rs f.0 ≡ Some key → is_claimed fs f.0 ≡ true → PutsOwner f.0 None rs rs2
-    → laundry2.held ≡ laundry.held ++ f ∷ [] → laundry2.room + 1 ≡ laundry.room → HasLaundry fs rs2 laundry2 (out + 1)
-laundry_returned fs rs rs2 laundry laundry2 out f key has owner mine put held room =
-    let new = unheld fs rs laundry.held f.0 key has.washed owner in
-    let long : length laundry2.held ≡ length laundry.held + 1 = ap length held ∙ length-append laundry.held (f ∷ []) in
+pub laundry_returned : (key : PageKey) (row : PageRow) (bytes : List ℕ) (lists : Queues) (old new : HostParts) (laundry laundry2 : LaundryList) (out : ℕ) → HasLaundry old.frames old.resident laundry out → Changes key row.frame (Some row) None true bytes lists old new
+    → laundry2.held ≡ laundry.held ++ row.frame ∷ [] → laundry2.room + 1 ≡ laundry.room → HasLaundry new.frames new.resident laundry2 (out + 1)
+laundry_returned key row bytes lists old new laundry laundry2 out has c held room =
+    let fresh = unheld old.frames old.resident laundry.held row.frame.0 key has.washed c.owned in
+    let still = laundry_changed key row.frame (Some row) None true bytes lists old new laundry out has c in
+    let long : length laundry2.held ≡ length laundry.held + 1 = ap length held ∙ length-append laundry.held (row.frame ∷ []) in
     record {
       count = omega (arith, has.count, long);
-      room = omega (arith, has.room, long, room);
-      washed = subst (All (IsWashed fs rs2)) (sym held) (All-append (IsWashed fs rs2) laundry.held (f ∷ []) (washed_kept fs fs rs rs2 laundry.held f.0 new (λ g apart. refl) put has.washed) (All-cons (IsWashed fs rs2) f [] last (All-nil (IsWashed fs rs2))));
-      apart = subst EachApart (sym held) (apart_push laundry.held f has.apart new);
+      room = omega (arith, still.room, long, room);
+      washed = subst (All (IsWashed new.frames new.resident)) (sym held) (All-append (IsWashed new.frames new.resident) laundry.held (row.frame ∷ []) still.washed (All-cons (IsWashed new.frames new.resident) row.frame [] last (All-nil (IsWashed new.frames new.resident))));
+      apart = subst EachApart (sym held) (apart_push laundry.held row.frame has.apart fresh);
     }
   where
-    last : IsWashed fs rs2 f
+    last : IsWashed new.frames new.resident row.frame
     last = record {
-      claimed = mine;
-      unowned = elim (one_case f.0 f.0 None (owner_of rs f.0) (owner_of rs2 f.0) (put.at f.0)) [ inl same ↦ same.1 | inr other ↦ absurd (other.0 refl) ];
+      claimed = if_true row.frame.0 true (is_claimed old.frames row.frame.0) (is_claimed new.frames row.frame.0) (c.claim.at row.frame.0);
+      unowned = if_true row.frame.0 None (owner_of old.resident row.frame.0) (owner_of new.resident row.frame.0) (c.owner.at row.frame.0);
     }

@@ -17,24 +17,25 @@ use Rattle.vm_frames.specs.Frames.{FrameTable, claimed, frame_count, free}
 use Rattle.vm_objects.specs.Objects.{ObjectTable, absent_at}
 use Rattle.vm_pageout.specs.Laundry.{LaundryList}
 use Rattle.vm_parts.specs.Fits.{Fit}
-use Rattle.vm_queues.specs.Queues.{Queues}
 use Rattle.vm_resident.specs.Resident.{ResidentTable, row_at}
 use Rattle.vm_resident.specs.declared.page_row.PageRow.{PageRow}
 use Rattle.vm_shadow.specs.Chains.{ChainTable}
 use Rattle.vm_shadow.specs.declared.ids.Ids.{Ids}
 use Rattle.vm_kernel.specs.Begun.{Ran, Starts}
-use Rattle.vm_kernel.specs.Matches.{HasFrames, HasLaundry, HasPages, IsWashed, Rests, the_host}
+use Rattle.vm_kernel.specs.Matches.{HasFrames, HasLaundry, HasPages, IsWashed, Rests, host_id}
 use Rattle.vm_kernel.specs.Places.{place_of, shown}
 use Rattle.vm_kernel.specs.declared.parts.Parts.{Parts}
 use Rattle.vm_kernel.proofs.Growing.{free_is, suffices}
 use Rattle.vm_kernel.proofs.Heads.{heads_one, passed, ran_head}
+use Rattle.vm_parts.specs.declared.parts.HostParts.{HostParts}
+use Rattle.vm_kernel.proofs.Own.{named_host, own_host}
 
 -- the frames, with another number wired
 abbrev pub with_wired : FrameTable → ℕ → FrameTable
 with_wired fs wired = record fs { wired = wired }
 
-fit_wired : (size : ℕ) (fs : FrameTable) (rs : ResidentTable) (qs : Queues) (os : ObjectTable) (wired : ℕ) → Fit size fs rs qs os → Fit size (with_wired fs wired) rs qs os
-fit_wired size fs rs qs os wired fit =
+fit_wired : (parts : HostParts) (wired : ℕ) → Fit parts → Fit (record parts { frames = with_wired parts.frames wired })
+fit_wired parts wired fit =
     record {
       owned = fit.owned;
       held = fit.held;
@@ -61,30 +62,31 @@ pages_wired : (fs : FrameTable) (rs : ResidentTable) (os : ObjectTable) (cs : Ch
 pages_wired fs rs os cs local_at wired has = record { shown = λ o p. has.shown o p ∙ shown_wired fs wired (row_at rs o p) (absent_at os o p); live = has.live }
 
 -- so many frames are wired now, and that was told
-ran_wired : (header : Header) (outside : Outside) (doing : Command) (past : List Event) (k : Parts) (ids : Ids) (wired : ℕ) → Rests header k ids past → claimed k.frames + wired ≤ frame_count k.frames → head header past doing ≡ Some (event.Wired the_host wired ∷ [])
-    → IsDone header doing (event.Wired the_host wired ∷ []) past → Ran header outside doing past (record k { frames = with_wired k.frames wired }) ids (event.Wired the_host wired ∷ [])
-ran_wired header outside doing past k ids wired rests few first done =
+ran_wired : (header : Header) (h : ℕ) (outside : Outside) (doing : Command) (past : List Event) (k : Parts) (ids : Ids) (wired : ℕ) → Rests header h k ids past → claimed k.memory.frames + wired ≤ frame_count k.memory.frames → head header past doing ≡ Some (event.Wired (host_id h) wired ∷ [])
+    → IsDone header doing (event.Wired (host_id h) wired ∷ []) past → Ran header h outside doing past (record k { memory = record k.memory { frames = with_wired k.memory.frames wired } }) ids (event.Wired (host_id h) wired ∷ [])
+ran_wired header h outside doing past k ids wired rests few first done =
     let m = rests.matches in
-    let frames : HasFrames (slice_get (reverse header.frames.items) 0) (with_wired k.frames wired) (frames_held header.size 0 (event.Wired the_host wired ∷ past)) (frames_wired 0 (event.Wired the_host wired ∷ past)) =
-    record { total = m.frames.total; held = m.frames.held; wired = refl; fits = few } in
-    ran_head header outside doing past (record k { frames = with_wired k.frames wired }) ids (event.Wired the_host wired ∷ []) (event.Wired the_host wired ∷ []) first refl
-    (heads_one header outside doing past (event.Wired the_host wired) (record { quiet = m.settled; cause = tt; own_bytes = tt; copies = tt; frames = suffices header (with_wired k.frames wired) (event.Wired the_host wired ∷ past) frames; inner = tt; said = tt }))
+    let frames : HasFrames (slice_get (reverse header.frames.items) h) (with_wired k.memory.frames wired) (frames_held header.size h (event.Wired (host_id h) wired ∷ past)) (frames_wired h (event.Wired (host_id h) wired ∷ past)) =
+    record { total = m.frames.total; held = m.frames.held; wired = rw (own_host h) refl; fits = few } in
+    ran_head header h outside doing past (record k { memory = record k.memory { frames = with_wired k.memory.frames wired } }) ids (event.Wired (host_id h) wired ∷ []) (event.Wired (host_id h) wired ∷ []) first refl
+    (heads_one header h outside doing past (event.Wired (host_id h) wired) (record { quiet = m.settled; cause = tt; own_bytes = tt; frames = suffices header h (with_wired k.memory.frames wired) (event.Wired (host_id h) wired ∷ past) frames; inner = tt; said = tt }))
     done
     (record {
       matches =
           record {
             plain = m.plain;
+            known = m.known;
             size = m.size;
             host = m.host;
-            fits = record { parts = fit_wired k.size k.frames k.resident k.queues k.objects wired m.fits.parts; plain = m.fits.plain; buffers = m.fits.buffers };
+            fits = record { parts = fit_wired k.memory wired m.fits.parts; plain = m.fits.plain; buffers = m.fits.buffers };
             tasks = m.tasks;
             regions = m.regions;
             entries = m.entries;
-            pages = pages_wired k.frames k.resident k.objects k.chains (λ o p. local header.size 0 (place_of o p) past) wired m.pages;
+            pages = pages_wired k.memory.frames k.memory.resident k.memory.objects k.chains (λ o p. local header.size h (place_of o p) past) wired m.pages;
             uses = m.uses;
             controls = m.controls;
             settled = refl;
-            laundry = laundry_wired k.frames k.resident k.laundry (returns_out 0 past) wired m.laundry;
+            laundry = laundry_wired k.memory.frames k.memory.resident k.laundry (returns_out h past) wired m.laundry;
             frames = frames;
           };
       used = rests.used;
@@ -94,38 +96,38 @@ ran_wired header outside doing past k ids wired rests few first done =
       idle = rests.idle;
     })
 
-pub ran_wire : (header : Header) (outside : Outside) (count : ℕ) (past : List Event) (k : Parts) (ids : Ids) (before after : List Event) (frames : FrameTable) (enough : Bool) → Starts header (command.Wire the_host count) past k ids before
-    → enough ≡ nat_le count (free k.frames) → frames ≡ (if enough then with_wired k.frames (k.frames.wired + count) else k.frames) → after ≡ event.Wired k.host frames.wired ∷ before
-    → Ran header outside (command.Wire the_host count) past (record k { frames = frames }) ids after
-ran_wire header outside count past k ids before after frames enough s test is told =
+pub ran_wire : (header : Header) (h : ℕ) (outside : Outside) (count : ℕ) (past : List Event) (k : Parts) (ids : Ids) (before after : List Event) (frames : FrameTable) (enough : Bool) → Starts header h (command.Wire (host_id h) count) past k ids before
+    → enough ≡ nat_le count (free k.memory.frames) → frames ≡ (if enough then with_wired k.memory.frames (k.memory.frames.wired + count) else k.memory.frames) → after ≡ event.Wired k.host frames.wired ∷ before
+    → Ran header h outside (command.Wire (host_id h) count) past (record k { memory = record k.memory { frames = frames } }) ids after
+ran_wire header h outside count past k ids before after frames enough s test is told =
     let m = s.rests.matches in
-    let short : nat_lt (frames_free header 0 past) count ≡ false = (passed (nat_lt (frames_free header 0 past) count) code.ResourceShortage None s.accepted).0 in
-    let same = free_is header k.frames past m.frames in
-    let less : count ≤ free k.frames = grind (arith, nat_tests) in
+    let short : nat_lt (frames_free header h past) count ≡ false = (passed (nat_lt (frames_free header h past) count) code.ResourceShortage None s.accepted).0 in
+    let same = free_is header h k.memory.frames past m.frames in
+    let less : count ≤ free k.memory.frames = grind (arith, nat_tests) in
     let yes : enough ≡ true = test ∙ grind (arith, nat_tests) in
-    let now : frames ≡ with_wired k.frames (k.frames.wired + count) = is ∙ ap (λ b. if b then with_wired k.frames (k.frames.wired + count) else k.frames) yes in
+    let now : frames ≡ with_wired k.memory.frames (k.memory.frames.wired + count) = is ∙ ap (λ b. if b then with_wired k.memory.frames (k.memory.frames.wired + count) else k.memory.frames) yes in
     let fits = m.frames.fits in
-    let ran = ran_wired header outside (command.Wire the_host count) past k ids (k.frames.wired + count) s.rests (omega (arith, less, fits)) (ap (λ z. Some (event.Wired the_host (z + count) ∷ [])) m.frames.wired) tt in
-    let log : after ≡ event.Wired the_host (k.frames.wired + count) ∷ [] = told ∙ (ap (λ z. event.Wired z frames.wired ∷ before) m.host ∙ (ap (λ z. event.Wired the_host z.wired ∷ before) now ∙ ap (λ z. event.Wired the_host (k.frames.wired + count) ∷ z) s.nothing)) in
-    subst (λ (z : List Event). Ran header outside (command.Wire the_host count) past (record k { frames = frames }) ids z) (sym log)
-    (subst (λ (z : FrameTable). Ran header outside (command.Wire the_host count) past (record k { frames = z }) ids (event.Wired the_host (k.frames.wired + count) ∷ [])) (sym now) ran)
+    let ran = ran_wired header h outside (command.Wire (host_id h) count) past k ids (k.memory.frames.wired + count) s.rests (omega (arith, less, fits)) (ap (λ z. Some (event.Wired (host_id h) (z + count) ∷ [])) m.frames.wired) tt in
+    let log : after ≡ event.Wired (host_id h) (k.memory.frames.wired + count) ∷ [] = told ∙ (ap (λ z. event.Wired z frames.wired ∷ before) (named_host k.host h m.host) ∙ (ap (λ z. event.Wired (host_id h) z.wired ∷ before) now ∙ ap (λ z. event.Wired (host_id h) (k.memory.frames.wired + count) ∷ z) s.nothing)) in
+    subst (λ (z : List Event). Ran header h outside (command.Wire (host_id h) count) past (record k { memory = record k.memory { frames = frames } }) ids z) (sym log)
+    (subst (λ (z : FrameTable). Ran header h outside (command.Wire (host_id h) count) past (record k { memory = record k.memory { frames = z } }) ids (event.Wired (host_id h) (k.memory.frames.wired + count) ∷ [])) (sym now) ran)
 
-pub ran_unwire : (header : Header) (outside : Outside) (count : ℕ) (past : List Event) (k : Parts) (ids : Ids) (before after : List Event) (frames : FrameTable) (enough : Bool) → Starts header (command.Unwire the_host count) past k ids before
-    → enough ≡ nat_le count k.frames.wired → k.frames ≡ (if enough then with_wired frames (frames.wired + count) else frames) → after ≡ event.Wired k.host frames.wired ∷ before
-    → Ran header outside (command.Unwire the_host count) past (record k { frames = frames }) ids after
-ran_unwire header outside count past k ids before after frames enough s test is told =
+pub ran_unwire : (header : Header) (h : ℕ) (outside : Outside) (count : ℕ) (past : List Event) (k : Parts) (ids : Ids) (before after : List Event) (frames : FrameTable) (enough : Bool) → Starts header h (command.Unwire (host_id h) count) past k ids before
+    → enough ≡ nat_le count k.memory.frames.wired → k.memory.frames ≡ (if enough then with_wired frames (frames.wired + count) else frames) → after ≡ event.Wired k.host frames.wired ∷ before
+    → Ran header h outside (command.Unwire (host_id h) count) past (record k { memory = record k.memory { frames = frames } }) ids after
+ran_unwire header h outside count past k ids before after frames enough s test is told =
     let m = s.rests.matches in
-    let short : nat_lt (frames_wired 0 past) count ≡ false = (passed (nat_lt (frames_wired 0 past) count) code.InvalidArgument None s.accepted).0 in
+    let short : nat_lt (frames_wired h past) count ≡ false = (passed (nat_lt (frames_wired h past) count) code.InvalidArgument None s.accepted).0 in
     let same = m.frames.wired in
-    let less : count ≤ k.frames.wired = grind (arith, nat_tests) in
+    let less : count ≤ k.memory.frames.wired = grind (arith, nat_tests) in
     let yes : enough ≡ true = test ∙ grind (arith, nat_tests) in
-    let was : k.frames ≡ with_wired frames (frames.wired + count) = is ∙ ap (λ b. if b then with_wired frames (frames.wired + count) else frames) yes in
-    let number : k.frames.wired ≡ frames.wired + count = ap (λ z. z.wired) was in
-    let left : k.frames.wired - count ≡ frames.wired = omega arith in
-    let now : frames ≡ with_wired k.frames frames.wired = sym (ap (λ z. with_wired z frames.wired) was) in
+    let was : k.memory.frames ≡ with_wired frames (frames.wired + count) = is ∙ ap (λ b. if b then with_wired frames (frames.wired + count) else frames) yes in
+    let number : k.memory.frames.wired ≡ frames.wired + count = ap (λ z. z.wired) was in
+    let left : k.memory.frames.wired - count ≡ frames.wired = omega arith in
+    let now : frames ≡ with_wired k.memory.frames frames.wired = sym (ap (λ z. with_wired z frames.wired) was) in
     let fits = m.frames.fits in
-    let first : head header past (command.Unwire the_host count) ≡ Some (event.Wired the_host frames.wired ∷ []) = ap (λ z. Some (event.Wired the_host (z - count) ∷ [])) m.frames.wired ∙ ap (λ z. Some (event.Wired the_host z ∷ [])) left in
-    let ran = ran_wired header outside (command.Unwire the_host count) past k ids frames.wired s.rests (omega (arith, number, fits)) first tt in
-    let log : after ≡ event.Wired the_host frames.wired ∷ [] = told ∙ (ap (λ z. event.Wired z frames.wired ∷ before) m.host ∙ ap (λ z. event.Wired the_host frames.wired ∷ z) s.nothing) in
-    subst (λ (z : List Event). Ran header outside (command.Unwire the_host count) past (record k { frames = frames }) ids z) (sym log)
-    (subst (λ (z : FrameTable). Ran header outside (command.Unwire the_host count) past (record k { frames = z }) ids (event.Wired the_host frames.wired ∷ [])) (sym now) ran)
+    let first : head header past (command.Unwire (host_id h) count) ≡ Some (event.Wired (host_id h) frames.wired ∷ []) = ap (λ z. Some (event.Wired (host_id h) (z - count) ∷ [])) m.frames.wired ∙ ap (λ z. Some (event.Wired (host_id h) z ∷ [])) left in
+    let ran = ran_wired header h outside (command.Unwire (host_id h) count) past k ids frames.wired s.rests (omega (arith, number, fits)) first tt in
+    let log : after ≡ event.Wired (host_id h) frames.wired ∷ [] = told ∙ (ap (λ z. event.Wired z frames.wired ∷ before) (named_host k.host h m.host) ∙ ap (λ z. event.Wired (host_id h) frames.wired ∷ z) s.nothing) in
+    subst (λ (z : List Event). Ran header h outside (command.Unwire (host_id h) count) past (record k { memory = record k.memory { frames = frames } }) ids z) (sym log)
+    (subst (λ (z : FrameTable). Ran header h outside (command.Unwire (host_id h) count) past (record k { memory = record k.memory { frames = z } }) ids (event.Wired (host_id h) frames.wired ∷ [])) (sym now) ran)

@@ -1,24 +1,26 @@
 -- What a kernel's call adds to a history: a command's group, each event with its cause and its bytes, within the frames.
-use Rattle.std.specs.Prelude.{ℕ, ◌≡◌, Bool, true, false, List, [], ◌∷◌, ◌++◌, length, reverse, Some, None}
+use Rattle.std.specs.Prelude.{ℕ, ◌≡◌, ◌==◌, Bool, true, false, List, [], ◌∷◌, ◌++◌, length, reverse, Some, None}
 use Rattle.vm_model.specs.declared.event.Event.{Event}
 use Rattle.vm_model.specs.declared.event.Event.TheVariants as event
 use Rattle.vm_model.specs.declared.command.Command.{Command}
+use Rattle.vm_model.specs.declared.command.Command.TheVariants as command
 use Rattle.vm_model.specs.declared.message.Channel.TheVariants.{Up, Down}
 use Rattle.vm_model.specs.declared.message.Message.TheVariants as message
 use Rattle.vm_model.specs.declared.script.Header.{Header}
 use Rattle.vm_model.specs.Ranges.{InRange}
-use Rattle.vm_legal.specs.Bytes.{CopiesCurrent, OwnBytes}
+use Rattle.vm_legal.specs.Bytes.{OwnBytes}
 use Rattle.vm_legal.specs.Debts.{IsPaid}
 use Rattle.vm_legal.specs.Follows.{IsConsequence, IsDone, head}
 use Rattle.vm_legal.specs.Frames.{Suffice}
 use Rattle.vm_legal.specs.Licences.{AllLicensed, created}
+use Rattle.vm_legal.specs.Living.{lives_on}
 use Rattle.vm_legal.specs.Outside.{Outside}
-use Rattle.vm_legal.specs.Prompt.{Prompt}
+use Rattle.vm_legal.specs.Prompt.{PromptAt}
 use Rattle.vm_legal.specs.Refusal.{refusal}
-use Rattle.vm_legal.specs.Stretches.{EachIn, EachOf, MomentsIn}
+use Rattle.vm_legal.specs.Stretches.{AllInner, EachIn, EachOf, MomentsIn}
 use Rattle.vm_shadow.specs.declared.ids.Ids.{Ids}
 use Rattle.vm_kernel.specs.Built.{copies_entries}
-use Rattle.vm_kernel.specs.Matches.{HasOrder, HasWaits, Matches, Rests, the_host}
+use Rattle.vm_kernel.specs.Matches.{HasOrder, HasWaits, Matches, Rests, host_id}
 use Rattle.vm_kernel.specs.Serving.{HasQueue}
 use Rattle.vm_supply.specs.declared.woken.Woken.TheVariants as woken
 use Rattle.vm_waits.specs.Waits.{again}
@@ -30,37 +32,55 @@ use Rattle.vm_kernel.specs.declared.parts.Parts.{Parts}
 -- the history in front of a call, up to and with the line of its command, the script's header, and what is told of the outside
 pub record Given : Type 0 where
   pub header : Header
+  pub host : ℕ
   pub outside : Outside
   pub past : List Event
 
 -- the command is told where it is no argument
 pub record Doing : Type 0 where
   pub header : Header
+  pub host : ℕ
   pub outside : Outside
   pub past : List Event
   pub command : Command
 
--- the event begins no step
-abbrev pub IsInner : Event → Type 0
-IsInner (event.Line line) = ⊥
-IsInner (event.Taken channel message) = ⊥
-IsInner other = Unit {0}
-
-abbrev pub AllInner : List Event → Type 0
-AllInner [] = Unit {0}
-AllInner (e ∷ events) = IsInner e × AllInner events
-
--- what a kernel says: to pagers alone, from its own host, and with whole pages
-abbrev pub IsSaid : ℕ → Event → Type 0
-IsSaid size (event.Sent (Up host object) (message.Return control page dirty keep bytes)) = (host ≡ the_host) × (length bytes ≡ size)
-IsSaid size (event.Sent (Up host object) other) = host ≡ the_host
-IsSaid size (event.Sent (Down host object control) m) = ⊥
-IsSaid size (event.DeviceFailed who way object page) = ⊥
-IsSaid size (event.NoSlot object page) = ⊥
-IsSaid size other = Unit {0}
+-- what a kernel says: to pagers alone, from its own host, and with whole pages; tasks are made there
+abbrev pub IsOwn : ℕ → ℕ → Event → Type 0
+IsOwn h size (event.Sent (Up host object) (message.Return control page dirty keep bytes)) = (host.0 ≡ h) × (length bytes ≡ size)
+IsOwn h size (event.Sent (Up host object) (message.Create control bytes)) = host.0 ≡ h
+IsOwn h size (event.Sent (Up host object) (message.Request control page access)) = host.0 ≡ h
+IsOwn h size (event.Sent (Up host object) (message.Terminate control)) = host.0 ≡ h
+IsOwn h size (event.Sent (Up host object) other) = ⊥
+IsOwn h size (event.Sent (Down host object control) m) = ⊥
+IsOwn h size (event.TaskMade task host) = host.0 ≡ h
+IsOwn h size (event.DeviceFailed who way object page) = ⊥
+IsOwn h size (event.NoSlot object page) = ⊥
+IsOwn h size (event.Line line) = ⊥
+IsOwn h size (event.Refused code) = Unit {0}
+IsOwn h size (event.Taken channel m) = ⊥
+IsOwn h size (event.TaskEnded task) = Unit {0}
+IsOwn h size (event.RegionMade region object pages) = Unit {0}
+IsOwn h size (event.RegionCopied region source offset pages) = Unit {0}
+IsOwn h size (event.Entered task address bytes region offset prot inherit) = Unit {0}
+IsOwn h size (event.Removed task address bytes) = Unit {0}
+IsOwn h size (event.Protected task address bytes prot) = Unit {0}
+IsOwn h size (event.Inherited task address bytes inherit) = Unit {0}
+IsOwn h size (event.BegunLoad task address bytes) = Unit {0}
+IsOwn h size (event.BegunStore task address bytes value) = Unit {0}
+IsOwn h size (event.BegunCopy task address bytes to) = Unit {0}
+IsOwn h size (event.Loaded task object page value) = Unit {0}
+IsOwn h size (event.Stored task object page at bytes value) = Unit {0}
+IsOwn h size (event.CopiedPage task page object object_page target) = Unit {0}
+IsOwn h size (event.CopyEnded task) = Unit {0}
+IsOwn h size (event.Failed task object page) = Unit {0}
+IsOwn h size (event.Dropped host object page) = Unit {0}
+IsOwn h size (event.Zeroed host object page) = Unit {0}
+IsOwn h size (event.Raised host lower lower_page upper upper_page) = Unit {0}
+IsOwn h size (event.Shadowed region new old) = Unit {0}
+IsOwn h size (event.Wired host count) = Unit {0}
 
 -- events of one step: the head of its command, and what follows from it; each has its cause
-pub record Grows (header : Header) (outside : Outside) (doing : Command) (past events : List Event) : Type 0 where
+pub record Grows (header : Header) (h : ℕ) (outside : Outside) (doing : Command) (past events : List Event) : Type 0 where
   pub first : List Event
   pub more : List Event
   pub head : head header past doing ≡ Some first
@@ -68,10 +88,9 @@ pub record Grows (header : Header) (outside : Outside) (doing : Command) (past e
   pub follows : EachOf IsConsequence more
   pub licensed : AllLicensed header outside doing events past
   pub own_bytes : EachIn (OwnBytes header) events past
-  pub copies : EachIn (CopiesCurrent header outside) events past
-  pub frames : MomentsIn (Suffice header 0) events past
+  pub frames : MomentsIn (Suffice header h) events past
   pub inner : AllInner events
-  pub said : EachOf (IsSaid header.size) events
+  pub said : EachOf (IsOwn h header.size) events
 
 -- the newest event is a line
 pub record IsLined (past : List Event) : Type 0 where
@@ -79,9 +98,28 @@ pub record IsLined (past : List Event) : Type 0 where
   pub before : List Event
   pub is : past ≡ event.Line line ∷ before
 
--- a kernel may run a command that is in its ranges, isn't refused and copies no entries; its line stands in front
-pub record Starts (header : Header) (doing : Command) (past : List Event) (k : Parts) (ids : Ids) (events : List Event) : Type 0 where
-  pub rests : Rests header k ids past
+-- the command acts on the host: it names it, or a task that lives there
+abbrev pub acts_on : ℕ → Command → List Event → Bool
+acts_on h (command.Task task host) past = host.0 == h
+acts_on h (command.Fork task child) past = lives_on h task.0 past
+acts_on h (command.Exit task) past = lives_on h task.0 past
+acts_on h (command.Allocate task address bytes) past = lives_on h task.0 past
+acts_on h (command.Map task address bytes object offset) past = lives_on h task.0 past
+acts_on h (command.Deallocate task address bytes) past = lives_on h task.0 past
+acts_on h (command.Protect task address bytes prot) past = lives_on h task.0 past
+acts_on h (command.Inherit task address bytes inherit) past = lives_on h task.0 past
+acts_on h (command.Load task address size) past = lives_on h task.0 past
+acts_on h (command.Store task address size value) past = lives_on h task.0 past
+acts_on h (command.Copy task address bytes target to) past = lives_on h task.0 past
+acts_on h (command.Pageout host count) past = host.0 == h
+acts_on h (command.Wire host count) past = host.0 == h
+acts_on h (command.Unwire host count) past = host.0 == h
+acts_on h other past = false
+
+-- a kernel may run a command that acts on its host, is in its ranges, isn't refused and copies no entries; its line stands in front
+pub record Starts (header : Header) (h : ℕ) (doing : Command) (past : List Event) (k : Parts) (ids : Ids) (events : List Event) : Type 0 where
+  pub rests : Rests header h k ids past
+  pub acts : acts_on h doing past ≡ true
   pub range : InRange header doing
   pub accepted : refusal header past doing ≡ None
   pub enough : copies_entries header past doing ≡ false
@@ -89,76 +127,93 @@ pub record Starts (header : Header) (doing : Command) (past : List Event) (k : P
   pub nothing : events ≡ []
 
 -- a command was run, and its step has more to do only for those that wait for a frame
-pub record Ran (header : Header) (outside : Outside) (doing : Command) (past : List Event) (k : Parts) (ids : Ids) (events : List Event) : Type 0 where
-  pub rests : Rests header k ids (events ++ past)
-  pub grows : Grows header outside doing past events
+pub record Ran (header : Header) (h : ℕ) (outside : Outside) (doing : Command) (past : List Event) (k : Parts) (ids : Ids) (events : List Event) : Type 0 where
+  pub rests : Rests header h k ids (events ++ past)
+  pub grows : Grows header h outside doing past events
   pub done : IsDone header doing events past
 
 -- a command's step was run
-pub record Began (header : Header) (outside : Outside) (doing : Command) (past : List Event) (k : Parts) (ids : Ids) (events : List Event) : Type 0 where
-  pub rests : Rests header k ids (events ++ past)
-  pub grows : Grows header outside doing past events
+pub record Began (header : Header) (h : ℕ) (outside : Outside) (doing : Command) (past : List Event) (k : Parts) (ids : Ids) (events : List Event) : Type 0 where
+  pub rests : Rests header h k ids (events ++ past)
+  pub grows : Grows header h outside doing past events
   pub done : IsDone header doing events past
-  pub queue : HasQueue header k (events ++ past)
-  pub prompt : Prompt header (events ++ past)
+  pub queue : HasQueue header h k (events ++ past)
+  pub prompt : PromptAt header h (events ++ past)
   pub paid : IsPaid header (events ++ past)
 
 -- inside a command's step, with some entries that have just gone among the counts
-pub record Runs (header : Header) (outside : Outside) (doing : Command) (past : List Event) (k : Parts) (ids : Ids) (gone : List Entry) (events : List Event) : Type 0 where
+pub record Runs (header : Header) (h : ℕ) (outside : Outside) (doing : Command) (past : List Event) (k : Parts) (ids : Ids) (gone : List Entry) (events : List Event) : Type 0 where
   pub begins : IsLined past
-  pub matches : Matches header k ids gone (events ++ past)
+  pub matches : Matches header h k ids gone (events ++ past)
   pub waits : HasWaits k woken.Nobody (events ++ past)
   pub order : HasOrder k (events ++ past)
   pub idle : again k.waits.rows ≡ 0
-  pub grows : Grows header outside doing past events
+  pub grows : Grows header h outside doing past events
 
 -- events that follow from what stands in front of them, each with its cause and its bytes, within the frames
-pub record Goes (header : Header) (outside : Outside) (doing : Command) (past old new : List Event) : Type 0 where
+pub record Goes (header : Header) (h : ℕ) (outside : Outside) (doing : Command) (past old new : List Event) : Type 0 where
   pub more : List Event
   pub is : new ≡ more ++ old
   pub follows : EachOf IsConsequence more
   pub licensed : AllLicensed header outside doing more (old ++ past)
   pub own_bytes : EachIn (OwnBytes header) more (old ++ past)
-  pub copies : EachIn (CopiesCurrent header outside) more (old ++ past)
-  pub frames : MomentsIn (Suffice header 0) more (old ++ past)
+  pub frames : MomentsIn (Suffice header h) more (old ++ past)
   pub inner : AllInner more
-  pub said : EachOf (IsSaid header.size) more
+  pub said : EachOf (IsOwn h header.size) more
 
 -- what is told of a step that takes a message, or of one that is nothing to this host: the past in front of the step, and what of the
 -- step stands in front of the kernel's events
 pub record Passing : Type 0 where
   pub header : Header
+  pub host : ℕ
   pub outside : Outside
   pub past : List Event
   pub front : List Event
   pub command : Command
 
 -- a kernel's part of such a step: the events behind the front
-pub record Passed (header : Header) (outside : Outside) (doing : Command) (past : List Event) (k : Parts) (ids : Ids) (events : List Event) : Type 0 where
-  pub rests : Rests header k ids (events ++ past)
-  pub goes : Goes header outside doing past [] events
-  pub queue : HasQueue header k (events ++ past)
-  pub prompt : Prompt header (events ++ past)
+pub record Passed (header : Header) (h : ℕ) (outside : Outside) (doing : Command) (past : List Event) (k : Parts) (ids : Ids) (events : List Event) : Type 0 where
+  pub rests : Rests header h k ids (events ++ past)
+  pub goes : Goes header h outside doing past [] events
+  pub queue : HasQueue header h k (events ++ past)
+  pub prompt : PromptAt header h (events ++ past)
   pub returned : created (events ++ past) ≡ None
 
 -- the event is nothing to a host: what its kernel stands for is the same behind it
 abbrev pub IsForeign : Event → Type 0
 IsForeign (event.Line line) = Unit {0}
 IsForeign (event.Taken (Up host object) (message.Return control page dirty keep bytes)) = keep ≡ true
-IsForeign (event.Taken (Up host object) other) = Unit {0}
-IsForeign (event.Sent (Down host object control) (message.Create number size)) = ⊥
-IsForeign (event.Sent (Down host object control) m) = Unit {0}
+IsForeign (event.Taken (Up host object) (message.Init control bytes)) = Unit {0}
+IsForeign (event.Taken (Up host object) (message.Create control bytes)) = Unit {0}
+IsForeign (event.Taken (Up host object) (message.Request control page access)) = Unit {0}
+IsForeign (event.Taken (Up host object) (message.Unlock control page access)) = Unit {0}
+IsForeign (event.Taken (Up host object) (message.Completed control page count)) = Unit {0}
+IsForeign (event.Taken (Up host object) (message.Terminate control)) = Unit {0}
+IsForeign (event.Taken (Up host object) (message.Ready cache strategy)) = Unit {0}
+IsForeign (event.Taken (Up host object) (message.Supply page lock precious bytes)) = Unit {0}
+IsForeign (event.Taken (Up host object) (message.Unavailable page)) = Unit {0}
+IsForeign (event.Taken (Up host object) (message.Error page reason)) = Unit {0}
+IsForeign (event.Taken (Up host object) (message.Lock page count returns flush lock reply)) = Unit {0}
+IsForeign (event.Taken (Up host object) (message.Attributes cache strategy reply)) = Unit {0}
+IsForeign (event.Taken (Up host object) (message.Destroy reason)) = Unit {0}
+IsForeign (event.Taken (Up host object) (message.Changed control cache strategy)) = Unit {0}
+IsForeign (event.Sent (Down host object control) (message.Ready cache strategy)) = Unit {0}
+IsForeign (event.Sent (Down host object control) (message.Supply page lock precious bytes)) = Unit {0}
+IsForeign (event.Sent (Down host object control) (message.Unavailable page)) = Unit {0}
+IsForeign (event.Sent (Down host object control) (message.Error page reason)) = Unit {0}
+IsForeign (event.Sent (Down host object control) (message.Lock page count returns flush lock reply)) = Unit {0}
+IsForeign (event.Sent (Down host object control) other) = ⊥
 IsForeign (event.NoSlot object page) = Unit {0}
 IsForeign (event.DeviceFailed who way object page) = Unit {0}
 IsForeign other = ⊥
 
 -- a return that kept no copy was taken, and its pager told what became of it
-pub record IsLaundered (front : List Event) : Type 0 where
+pub record IsLaundered (h : ℕ) (front : List Event) : Type 0 where
   pub object : ObjectId
   pub control : ℕ
   pub page : PageNo
   pub dirty : Bool
   pub bytes : List ℕ
   pub told : List Event
-  pub is : front ≡ told ++ event.Taken (Up the_host object) (message.Return control page dirty false bytes) ∷ []
+  pub is : front ≡ told ++ event.Taken (Up (host_id h) object) (message.Return control page dirty false bytes) ∷ []
   pub foreign : EachOf IsForeign told

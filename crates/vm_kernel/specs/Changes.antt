@@ -1,5 +1,5 @@
 -- What the steps of a kernel's calls do to its parts.
-use Rattle.std.specs.Prelude.{ℕ, suc, ◌≡◌, ◌+◌, ◌<◌, ◌==◌, Bool, true, false, List, ◌∷◌, replicate, Some, None, if◌then◌else◌}
+use Rattle.std.specs.Prelude.{ℕ, ◌≡◌, true, false, List, ◌∷◌, Some, None}
 use Rattle.vm_base.specs.declared.entry.Entry.{Entry}
 use Rattle.vm_base.specs.declared.ids.Access.{Access}
 use Rattle.vm_base.specs.declared.ids.FrameNo.{FrameNo}
@@ -13,18 +13,16 @@ use Rattle.vm_base.specs.declared.ids.RegionId.{RegionId}
 use Rattle.vm_base.specs.Entries.{allows, entry_at}
 use Rattle.vm_model.specs.declared.event.Event.{Event}
 use Rattle.vm_model.specs.declared.event.Event.TheVariants as event
-use Rattle.vm_frames.specs.Frames.{FrameTable, claimed, frame_count, is_claimed, page_in}
 use Rattle.vm_maps.specs.Maps.{Mapped, entries_in, rows_in}
 use Rattle.vm_maps.specs.declared.change.MapChange.{MapChange}
 use Rattle.vm_maps.specs.declared.change.MapKind.TheVariants as kind
 use Rattle.vm_objects.specs.Objects.{PutsObject, SameMarks}
+use Rattle.vm_parts.specs.Changes.{Brings, Discards, Writes}
 use Rattle.vm_objects.specs.declared.row.PagerState.TheVariants.{Without}
-use Rattle.vm_queues.specs.Queues.{added, is_queued, removed}
-use Rattle.vm_resident.specs.Resident.{PutsOwner, PutsRow, owner_of, row_at}
+use Rattle.vm_resident.specs.Resident.{row_at}
 use Rattle.vm_resident.specs.declared.page_row.PageRow.{PageRow}
 use Rattle.vm_shadow.specs.Chains.{PutsRegion}
 use Rattle.vm_kernel.specs.Fits.{Fits}
-use Rattle.vm_kernel.specs.Places.{fresh_row}
 use Rattle.vm_kernel.specs.declared.parts.Parts.{Parts}
 
 -- tasks, regions and objects are as they were, and so are those who wait, and the frames of returns
@@ -33,40 +31,21 @@ pub record SamePlan (old new : Parts) : Type 0 where
   pub size : new.size ≡ old.size
   pub maps : new.maps ≡ old.maps
   pub chains : new.chains ≡ old.chains
-  pub objects : new.objects ≡ old.objects
-  pub buffers : new.buffers ≡ old.buffers
+  pub objects : new.memory.objects ≡ old.memory.objects
+  pub buffers : new.memory.buffers ≡ old.memory.buffers
   pub laundry : new.laundry ≡ old.laundry
   pub waits : new.waits ≡ old.waits
-
--- one frame has these bytes now, and each other those that it had
-pub record PutsPage (f : ℕ) (bytes : List ℕ) (old new : FrameTable) : Type 0 where
-  pub at : (g : ℕ) → page_in new g ≡ (if f == g then bytes else page_in old g)
-
--- one frame is claimed now, or not, and each other as it was
-pub record PutsClaim (f : ℕ) (is : Bool) (old new : FrameTable) : Type 0 where
-  pub at : (g : ℕ) → is_claimed new g ≡ (if f == g then is else is_claimed old g)
 
 -- a page of zeros has come into a frame that was free
 pub record Brought (key : PageKey) (frame : FrameNo) (old new : Parts) : Type 0 where
   pub plan : SamePlan old new
   pub fits : Fits new
-  pub absent : row_at old.resident key.object.0 key.page.0 ≡ None
-  pub row : PutsRow key.object.0 key.page.0 (Some (fresh_row frame)) old.resident new.resident
-  pub owner : PutsOwner frame.0 (Some key) old.resident new.resident
-  pub lists : new.queues ≡ added frame.0 old.queues
-  pub unlisted : is_queued old.queues frame.0 ≡ false
-  pub page : PutsPage frame.0 (replicate old.size 0) old.frames new.frames
-  pub fresh : is_claimed old.frames frame.0 ≡ false
-  pub claim : PutsClaim frame.0 true old.frames new.frames
-  pub claims : claimed new.frames ≡ suc (claimed old.frames)
-  pub wired : new.frames.wired ≡ old.frames.wired
-  pub count : frame_count new.frames ≡ frame_count old.frames
-  pub room : claimed new.frames + new.frames.wired < suc (frame_count new.frames)
+  pub page : Brings key frame old.memory new.memory
 
 -- the frame of a page that is here
 pub record IsHere (key : PageKey) (frame : FrameNo) (k : Parts) : Type 0 where
   pub row : PageRow
-  pub found : row_at k.resident key.object.0 key.page.0 ≡ Some row
+  pub found : row_at k.memory.resident key.object.0 key.page.0 ≡ Some row
   pub is : row.frame ≡ frame
   pub here : row.here ≡ true
 
@@ -78,46 +57,29 @@ pub record Wrote (key : PageKey) (frame : FrameNo) (bytes : List ℕ) (old new :
   pub plan : SamePlan old new
   pub fits : Fits new
   pub row : PageRow
-  pub found : row_at old.resident key.object.0 key.page.0 ≡ Some row
   pub is : row.frame ≡ frame
-  pub put : PutsRow key.object.0 key.page.0 (Some (record row { dirty = true })) old.resident new.resident
-  pub owners : (f : ℕ) → owner_of new.resident f ≡ owner_of old.resident f
-  pub page : PutsPage frame.0 bytes old.frames new.frames
-  pub claims : new.frames.claims ≡ old.frames.claims
-  pub wired : new.frames.wired ≡ old.frames.wired
-  pub queues : new.queues ≡ old.queues
+  pub page : Writes key row bytes old.memory new.memory
 
 -- a page has gone, and that was told
 pub record Lost (key : PageKey) (old new : Parts) (before after : List Event) : Type 0 where
   pub plan : SamePlan old new
   pub fits : Fits new
   pub row : PageRow
-  pub found : row_at old.resident key.object.0 key.page.0 ≡ Some row
   pub here : row.here ≡ true
-  pub put : PutsRow key.object.0 key.page.0 None old.resident new.resident
-  pub owner : PutsOwner row.frame.0 None old.resident new.resident
-  pub lists : new.queues ≡ removed row.frame.0 old.queues
-  pub pages : new.frames.pages ≡ old.frames.pages
-  pub claim : PutsClaim row.frame.0 false old.frames new.frames
-  pub claims : claimed old.frames ≡ suc (claimed new.frames)
-  pub wired : new.frames.wired ≡ old.frames.wired
-  pub count : frame_count new.frames ≡ frame_count old.frames
+  pub page : Discards key row old.memory new.memory
   pub told : after ≡ event.Dropped old.host key.object key.page ∷ before
 
 -- a region was made with one entry, over a new object
 pub record MadeRange (region : RegionId) (object : ObjectId) (pages : ℕ) (old new : Parts) : Type 0 where
   pub host : new.host ≡ old.host
   pub size : new.size ≡ old.size
-  pub frames : new.frames ≡ old.frames
-  pub resident : new.resident ≡ old.resident
-  pub queues : new.queues ≡ old.queues
+  pub memory : new.memory ≡ record old.memory { objects = new.memory.objects }
   pub maps : new.maps ≡ old.maps
-  pub buffers : new.buffers ≡ old.buffers
   pub laundry : new.laundry ≡ old.laundry
   pub waits : new.waits ≡ old.waits
   pub region_row : PutsRegion region.0 (Some (record { top = object; shift = 0; pages = pages; marked = false; entries = 1 })) old.chains new.chains
-  pub object_row : PutsObject object.0 (Some (record { kind = Temp; pages = pages; state = Without; control = 0; live = false; references = 1 })) old.objects new.objects
-  pub marks : SameMarks old.objects new.objects
+  pub object_row : PutsObject object.0 (Some (record { kind = Temp; pages = pages; state = Without; control = 0; live = false; references = 1 })) old.memory.objects new.memory.objects
+  pub marks : SameMarks old.memory.objects new.memory.objects
 
 -- a task has an entry that holds the address, and allows the access
 pub record IsAllowed (maps : Mapped) (task address : ℕ) (need : Access) : Type 0 where

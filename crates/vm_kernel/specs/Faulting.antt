@@ -1,5 +1,5 @@
 -- What running an access once does to the parts of a kernel.
-use Rattle.std.specs.Prelude.{ℕ, suc, ◌+◌, ◌%◌, ◌^◌, ◌<◌, ◌≡◌, ◌⊎◌, Bool, true, false, List, ◌∷◌, Some, None, slice_range}
+use Rattle.std.specs.Prelude.{ℕ, ◌+◌, ◌%◌, ◌^◌, ◌<◌, ◌≡◌, ◌⊎◌, Bool, true, false, List, ◌∷◌, Some, None, slice_range}
 use Rattle.vm_base.specs.declared.ids.FrameNo.{FrameNo}
 use Rattle.vm_base.specs.declared.ids.PageKey.{PageKey}
 use Rattle.vm_base.specs.declared.ids.TaskId.{TaskId}
@@ -10,19 +10,18 @@ use Rattle.vm_model.specs.declared.event.Event.TheVariants as event
 use Rattle.vm_model.specs.declared.message.Channel.TheVariants.{Up}
 use Rattle.vm_model.specs.declared.message.Message.TheVariants as message
 use Rattle.vm_legal.specs.Licences.{access_number}
-use Rattle.vm_frames.specs.Frames.{claimed, frame_count, free, is_claimed, page_in}
+use Rattle.vm_frames.specs.Frames.{free, page_in}
 use Rattle.vm_objects.specs.Objects.{absent_at, object_at}
 use Rattle.vm_objects.specs.declared.row.ObjectRow.{ObjectRow}
 use Rattle.vm_objects.specs.declared.row.PagerState.TheVariants as state
+use Rattle.vm_parts.specs.Changes.{Asks}
 use Rattle.vm_parts.specs.Fits.{object_pages}
 use Rattle.vm_queues.specs.Queues.{KeepsPages, touched}
-use Rattle.vm_resident.specs.Resident.{PutsOwner, PutsRow, row_at}
-use Rattle.vm_resident.specs.declared.page_row.PageRow.{PageRow}
+use Rattle.vm_resident.specs.Resident.{row_at}
 use Rattle.vm_waits.specs.declared.waiting.Want.{Want}
 use Rattle.vm_waits.specs.declared.waiting.Want.TheVariants as want
-use Rattle.vm_kernel.specs.Changes.{Brought, IsAllowed, IsHere, PutsClaim, SamePlan, Wrote, zeroed}
+use Rattle.vm_kernel.specs.Changes.{Brought, IsAllowed, IsHere, SamePlan, Wrote, zeroed}
 use Rattle.vm_kernel.specs.Fits.{Fits}
-use Rattle.vm_kernel.specs.Places.{unlocked}
 use Rattle.vm_kernel.specs.Waiters.{IsAsked, IsAt, IsSizedWant, IsTold, access_in, address_in, need_in}
 use Rattle.vm_kernel.specs.declared.parts.Parts.{Parts}
 use Rattle.vm_kernel.specs.declared.steps.FaultStep.{FaultStep}
@@ -37,25 +36,21 @@ pub record CanFault (k : Parts) (task : ℕ) (what : Want) : Type 0 where
   pub key : PageKey
   pub at : IsAt k.maps k.chains task what key
   pub few : page_at k.maps.size (address_in what) at.entry < 2 ^ 32 → key.page.0 < 2 ^ 32
-  pub inside : key.page.0 < object_pages k.objects key.object.0
-
--- the row of a page that was asked for
-abbrev pub asked_row : FrameNo → PageRow
-asked_row frame = record { frame = frame; lock = unlocked; dirty = false; precious = false; here = false; unlock_sent = false }
+  pub inside : key.page.0 < object_pages k.memory.objects key.object.0
 
 -- what is known of an object whose pager may have the page
 pub record IsAvailable (key : PageKey) (control : ℕ) (k : Parts) : Type 0 where
   pub row : ObjectRow
-  pub found : object_at k.objects key.object.0 ≡ Some row
+  pub found : object_at k.memory.objects key.object.0 ≡ Some row
   pub ready : row.state ≡ state.Ready
   pub number : row.control ≡ control
-  pub may_have : absent_at k.objects key.object.0 key.page.0 ≡ false
+  pub may_have : absent_at k.memory.objects key.object.0 key.page.0 ≡ false
 
 -- what is known of an object whose pager has no such page, or that has no pager
 pub record IsUnavailable (key : PageKey) (k : Parts) : Type 0 where
   pub row : ObjectRow
-  pub found : object_at k.objects key.object.0 ≡ Some row
-  pub none : (row.state ≡ state.Without) ⊎ ((row.state ≡ state.Ready) × (absent_at k.objects key.object.0 key.page.0 ≡ true))
+  pub found : object_at k.memory.objects key.object.0 ≡ Some row
+  pub none : (row.state ≡ state.Without) ⊎ ((row.state ≡ state.Ready) × (absent_at k.memory.objects key.object.0 key.page.0 ≡ true))
 
 -- a page is asked for, and a frame is held for it
 pub record Requested (key : PageKey) (access : ℕ) (old new : Parts) (before after : List Event) : Type 0 where
@@ -63,33 +58,23 @@ pub record Requested (key : PageKey) (access : ℕ) (old new : Parts) (before af
   pub available : IsAvailable key control old
   pub frame : FrameNo
   pub plan : SamePlan old new
-  pub queues : new.queues ≡ old.queues
   pub fits : Fits new
-  pub absent : row_at old.resident key.object.0 key.page.0 ≡ None
-  pub row : PutsRow key.object.0 key.page.0 (Some (asked_row frame)) old.resident new.resident
-  pub owner : PutsOwner frame.0 (Some key) old.resident new.resident
-  pub pages : new.frames.pages ≡ old.frames.pages
-  pub fresh : is_claimed old.frames frame.0 ≡ false
-  pub claim : PutsClaim frame.0 true old.frames new.frames
-  pub claims : claimed new.frames ≡ suc (claimed old.frames)
-  pub wired : new.frames.wired ≡ old.frames.wired
-  pub count : frame_count new.frames ≡ frame_count old.frames
-  pub room : claimed new.frames + new.frames.wired < suc (frame_count new.frames)
+  pub page : Asks key frame old.memory new.memory
   pub told : after ≡ event.Sent (Up old.host key.object) (message.Request control key.page access) ∷ before
 
 -- the page in a frame is marked as referenced
 pub record Touched (frame : FrameNo) (old new : Parts) : Type 0 where
-  pub is : new ≡ record old { queues = new.queues }
-  pub marks : new.queues ≡ touched frame.0 old.queues
-  pub keeps : KeepsPages old.queues new.queues
-  pub frames : new.queues.frames ≡ old.queues.frames
+  pub is : new ≡ record old { memory = record old.memory { queues = new.memory.queues } }
+  pub marks : new.memory.queues ≡ touched frame.0 old.memory.queues
+  pub keeps : KeepsPages old.memory.queues new.memory.queues
+  pub frames : new.memory.queues.frames ≡ old.memory.queues.frames
 
 -- the access ends with a page that is here
 abbrev pub Hits : TaskId → Want → PageKey → FrameNo → ℕ → Parts → Parts → List Event → List Event → Type 0
 Hits task (want.Load address size) key frame at old new before after =
-    (value : ℕ) × (value ≡ little_endian (slice_range (page_in old.frames frame.0) at (at + size))) × Touched frame old new × (after ≡ event.Loaded task key.object key.page value ∷ before)
+    (value : ℕ) × (value ≡ little_endian (slice_range (page_in old.memory.frames frame.0) at (at + size))) × Touched frame old new × (after ≡ event.Loaded task key.object key.page value ∷ before)
 Hits task (want.Store address size value) key frame at old new before after =
-    (mid : Parts) × Wrote key frame (with_bytes at (little_endian_bytes size value) (page_in old.frames frame.0)) old mid × Touched frame mid new × (after ≡ event.Stored task key.object key.page at size value ∷ before)
+    (mid : Parts) × Wrote key frame (with_bytes at (little_endian_bytes size value) (page_in old.memory.frames frame.0)) old mid × Touched frame mid new × (after ≡ event.Stored task key.object key.page at size value ∷ before)
 
 -- an access ends: its page was here, or came as zeros
 pub data Ended (task : TaskId) (what : Want) (key : PageKey) (at : ℕ) (old new : Parts) (before after : List Event) : Type 0 where
@@ -98,9 +83,9 @@ pub data Ended (task : TaskId) (what : Want) (key : PageKey) (at : ℕ) (old new
 
 -- a frame is wanted: the page isn't here, its pager may be asked for it or has none, and no frame is free or may be claimed
 pub record WantsOne (key : PageKey) (may_claim : Bool) (k : Parts) : Type 0 where
-  pub absent : row_at k.resident key.object.0 key.page.0 ≡ None
+  pub absent : row_at k.memory.resident key.object.0 key.page.0 ≡ None
   pub why : IsUnavailable key k ⊎ ((control : ℕ) × IsAvailable key control k)
-  pub none : may_claim ≡ true → free k.frames ≡ 0
+  pub none : may_claim ≡ true → free k.memory.frames ≡ 0
 
 -- nothing changes
 pub record Stays (old new : Parts) (before after : List Event) : Type 0 where
@@ -111,8 +96,8 @@ pub record Stays (old new : Parts) (before after : List Event) : Type 0 where
 abbrev pub Faults : TaskId → Want → Bool → PageKey → FaultStep → Parts → Parts → List Event → List Event → Type 0
 Faults task what may_claim key step.Done old new before after = Ended task what key (address_in what % old.size) old new before after
 Faults task what may_claim key (step.Ask asked) old new before after = (asked ≡ key) × Requested key (access_number (access_in what) 0) old new before after
-Faults task what may_claim key (step.WaitReady object) old new before after = (object ≡ key.object) × IsTold old.objects key.object.0 × Stays old new before after × (row_at old.resident key.object.0 key.page.0 ≡ None)
-Faults task what may_claim key (step.WaitAnswer asked) old new before after = (asked ≡ key) × IsAsked old.resident key.object.0 key.page.0 × Stays old new before after
+Faults task what may_claim key (step.WaitReady object) old new before after = (object ≡ key.object) × IsTold old.memory.objects key.object.0 × Stays old new before after × (row_at old.memory.resident key.object.0 key.page.0 ≡ None)
+Faults task what may_claim key (step.WaitAnswer asked) old new before after = (asked ≡ key) × IsAsked old.memory.resident key.object.0 key.page.0 × Stays old new before after
 Faults task what may_claim key step.NeedFrame old new before after = WantsOne key may_claim old × Stays old new before after
 
 -- the same, for the page that the access is about

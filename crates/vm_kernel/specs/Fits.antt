@@ -3,8 +3,8 @@ use Rattle.std.specs.Prelude.{ℕ, ◌≡◌, false, Some}
 use Rattle.vm_parts.specs.Fits.{Fit}
 use Rattle.vm_resident.specs.Resident.{ResidentTable, row_at}
 use Rattle.vm_resident.specs.declared.page_row.PageRow.{PageRow}
-use Rattle.vm_kernel.specs.Places.{unlocked}
 use Rattle.vm_kernel.specs.declared.parts.Parts.{Parts}
+use Rattle.vm_parts.specs.Changes.{unlocked}
 
 -- the row of a page of temporary memory: nothing of it is prohibited, and its pager doesn't want it back unchanged
 pub record IsPlainRow (row : PageRow) : Type 0 where
@@ -17,6 +17,6 @@ ArePlain resident = (o p : ℕ) (row : PageRow) → row_at resident o p ≡ Some
 
 -- frames, rows, lists and objects fit, all rows are plain, and pages that are sent are as long as frames
 pub record Fits (k : Parts) : Type 0 where
-  pub parts : Fit k.size k.frames k.resident k.queues k.objects
-  pub plain : ArePlain k.resident
-  pub buffers : k.buffers.size ≡ k.size
+  pub parts : Fit k.memory
+  pub plain : ArePlain k.memory.resident
+  pub buffers : k.memory.buffers.size ≡ k.size

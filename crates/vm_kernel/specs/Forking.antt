@@ -17,7 +17,7 @@ use Rattle.vm_shadow.specs.declared.ids.Ids.{Ids}
 use Rattle.vm_kernel.specs.Changes.{entering}
 use Rattle.vm_supply.specs.declared.woken.Woken.TheVariants as woken
 use Rattle.vm_waits.specs.Waits.{again}
-use Rattle.vm_kernel.specs.Matches.{AllReached, AllUsed, HasOrder, HasWaits, Matches, the_host}
+use Rattle.vm_kernel.specs.Matches.{AllReached, AllUsed, HasOrder, HasWaits, Matches, host_id}
 use Rattle.vm_kernel.specs.Places.{has_region, region_entries}
 use Rattle.vm_kernel.specs.Sweeping.{PutsEntries}
 use Rattle.vm_kernel.specs.declared.parts.Parts.{Parts}
@@ -38,11 +38,7 @@ pub record CanShare (task : ℕ) (row : Entry) (k : Parts) : Type 0 where
 pub record Shares (task : TaskId) (row : Entry) (old new : Parts) (before after : List Event) : Type 0 where
   pub host : new.host ≡ old.host
   pub size : new.size ≡ old.size
-  pub frames : new.frames ≡ old.frames
-  pub resident : new.resident ≡ old.resident
-  pub queues : new.queues ≡ old.queues
-  pub objects : new.objects ≡ old.objects
-  pub buffers : new.buffers ≡ old.buffers
+  pub memory : new.memory ≡ old.memory
   pub laundry : new.laundry ≡ old.laundry
   pub waits : new.waits ≡ old.waits
   pub maps : ChangesOnly old.maps new.maps task.0 (Some (entered row (rows_in task.0 old.maps)))
@@ -50,19 +46,19 @@ pub record Shares (task : TaskId) (row : Entry) (old new : Parts) (before after 
   pub told : after ≡ got task row ∷ before
 
 -- a child that got entries
-abbrev pub with_child : TaskId → List Entry → List Event
-with_child child rows = reverse (gets child rows) ++ event.TaskMade child the_host ∷ []
+abbrev pub with_child : ℕ → TaskId → List Entry → List Event
+with_child h child rows = reverse (gets child rows) ++ event.TaskMade child (host_id h) ∷ []
 
 -- a child was made, and has what is shared of the first of these entries of another task
-pub record HasForked (header : Header) (outside : Outside) (task child : TaskId) (rows : List Entry) (count : ℕ) (past : List Event) (k : Parts) (ids : Ids) (events : List Event) : Type 0 where
+pub record HasForked (header : Header) (h : ℕ) (outside : Outside) (task child : TaskId) (rows : List Entry) (count : ℕ) (past : List Event) (k : Parts) (ids : Ids) (events : List Event) : Type 0 where
   pub apart : task.0 ≢ child.0
-  pub matches : Matches header k ids [] (events ++ past)
+  pub matches : Matches header h k ids [] (events ++ past)
   pub used : AllUsed k.chains
-  pub reached : AllReached k.chains k.objects
+  pub reached : AllReached k.chains k.memory.objects
   pub waits : HasWaits k woken.Nobody (events ++ past)
   pub order : HasOrder k (events ++ past)
   pub idle : again k.waits.rows ≡ 0
   pub others : entries_in task.0 k.maps ≡ Some rows
   pub own : entries_in child.0 k.maps ≡ Some (shared (take count rows))
-  pub told : events ≡ with_child child (shared (take count rows))
+  pub told : events ≡ with_child h child (shared (take count rows))
   pub licensed : AllLicensed header outside (command.Fork task child) events past

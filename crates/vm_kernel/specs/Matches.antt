@@ -1,5 +1,5 @@
 -- A kernel stands for what a history says of its host: its parts are the facts of that history.
-use Rattle.std.specs.Prelude.{ℕ, All, if◌then◌else◌, ◌≢◌, ◌≡◌, ◌+◌, ◌<◌, ◌≤◌, ◌^◌, ◌==◌, ◌||◌, nat_lt, Bool, true, false, List, [], ◌∷◌, length, Option, Some, None, slice_get, reverse}
+use Rattle.std.specs.Prelude.{ℕ, All, if◌then◌else◌, ◌≢◌, ◌≡◌, ◌+◌, ◌<◌, ◌≤◌, ◌^◌, ◌==◌, ◌||◌, nat_lt, is_some, ◌⊎◌, Bool, true, false, List, [], ◌∷◌, length, Option, Some, None, slice_get, reverse}
 use Rattle.vm_base.specs.declared.entry.Entry.{Entry}
 use Rattle.vm_base.specs.declared.ids.FrameNo.{FrameNo}
 use Rattle.vm_base.specs.declared.ids.HostId.{HostId}
@@ -9,11 +9,12 @@ use Rattle.vm_base.specs.Pages.{IsPageSize}
 use Rattle.vm_model.specs.declared.event.Event.{Event}
 use Rattle.vm_model.specs.declared.script.Header.{Header}
 use Rattle.vm_model.specs.Controls.{last_control, live_control}
-use Rattle.vm_model.specs.Local.{Local, local}
+use Rattle.vm_model.specs.Ranges.{IsBetween}
+use Rattle.vm_model.specs.Local.{Local, is_on, local}
 use Rattle.vm_model.specs.Regions.{Backing, Region, backing_of, next_object, next_region, region_of}
 use Rattle.vm_model.specs.Rows.{AllRows, Inside}
-use Rattle.vm_model.specs.Tasks.{entries_of, host_of}
-use Rattle.vm_model.specs.Waiting.{waiting}
+use Rattle.vm_model.specs.Tasks.{entries_of, has_entry, host_of}
+use Rattle.vm_model.specs.Waiting.{copy_target, fills, waiting}
 use Rattle.vm_legal.specs.Accesses.{begun_at, is_ready}
 use Rattle.vm_legal.specs.Frames.{frames_held, frames_wired, returns_out}
 use Rattle.vm_legal.specs.Licences.{created}
@@ -42,32 +43,26 @@ use Rattle.vm_kernel.specs.Fits.{Fits}
 use Rattle.vm_kernel.specs.Places.{has_region, place_of, region_pages, shown}
 use Rattle.vm_kernel.specs.declared.parts.Parts.{Parts}
 
--- all tasks live on host 0
-abbrev pub the_host : HostId
-the_host = record { 0 = 0 }
+-- the host with a number
+abbrev pub host_id : ℕ → HostId
+host_id host = record { 0 = host }
 
--- the header of a script of temporary memory: one host, and no objects
+-- the header of a script of temporary memory: its numbers are in their ranges, and it has no objects
 pub record IsPlain (header : Header) : Type 0 where
   pub size : IsPageSize header.size
-  pub frames : ℕ
-  pub hosts : header.frames.items ≡ frames ∷ []
-  pub few : frames < 2 ^ 32
+  pub hosts : IsBetween 1 8 (length header.frames.items)
+  pub few : All (λ frames. frames < 2 ^ 32) header.frames.items
   pub objects : header.objects.items ≡ []
 
 -- the numbers of the first region and object, where none is declared
 abbrev pub first_ids : Ids
 first_ids = record { next_object = 0; next_region = 0; marks = 0 }
 
--- where a task with these entries lives
-abbrev pub host_for : Option (List Entry) → Option ℕ
-host_for None = None
-host_for (Some rows) = Some 0
-
--- the tasks and their entries
-pub record HasTasks (size : ℕ) (maps : Mapped) (host_at : ℕ → Option ℕ) (rows_at : ℕ → List Entry) : Type 0 where
+-- the tasks that live here, and their entries
+pub record HasTasks (h size : ℕ) (maps : Mapped) (host_at : ℕ → Option ℕ) (rows_at : ℕ → List Entry) : Type 0 where
   pub sized : maps.size ≡ size
-  pub hosts : (task : ℕ) → host_at task ≡ host_for (entries_in task maps)
-  pub rows : (task : ℕ) → rows_at task ≡ rows_in task maps
+  pub hosts : (task : ℕ) → is_on h (host_at task) ≡ is_some (entries_in task maps)
+  pub rows : (task : ℕ) → is_some (entries_in task maps) ≡ true → rows_at task ≡ rows_in task maps
 
 -- a region is that of the object with its number, from its page 0 on, and has no copy mark
 pub record IsOwn (region : Region) (number : ℕ) : Type 0 where
@@ -126,10 +121,16 @@ abbrev pub is_among : ℕ → List ℕ → Bool
 is_among n [] = false
 is_among n (m ∷ more) = m == n || is_among n more
 
--- the regions in use are those on which some task has an entry; all tasks that live were made
-pub record HasUse (maps : Mapped) (used_at : ℕ → Bool) (made : List ℕ) : Type 0 where
+-- the task has an entry on the region, or fills it by a slow copy
+abbrev pub holds : ℕ → ℕ → ℕ → List Event → Bool
+holds size task region past = has_entry region (entries_of size task past) || fills region (waiting task past) (copy_target task past)
+
+-- The regions in use are those on which some task here has an entry; all tasks that live here were made. Tasks elsewhere hold none of these regions,
+-- and none that isn't made yet.
+pub record HasUse (maps : Mapped) (used_at : ℕ → Bool) (made : List ℕ) (held_at : ℕ → ℕ → Bool) (regions_made : ℕ) : Type 0 where
   pub used : (r : ℕ) → used_at r ≡ nat_lt 0 (count_by most_tasks r maps)
   pub among : (task : ℕ) (rows : List Entry) → entries_in task maps ≡ Some rows → is_among task made ≡ true
+  pub apart : (task r : ℕ) → entries_in task maps ≡ None → (used_at r ≡ true) ⊎ (regions_made ≤ r) → held_at task r ≡ false
 
 -- the controls of objects: the last one, the one that lives, and whether that is ready
 pub record HasControls (objects : ObjectTable) (last_at : ℕ → ℕ) (live_at : ℕ → Option ℕ) (ready_at : ℕ → Bool) : Type 0 where
@@ -164,21 +165,22 @@ pub record HasFrames (most : Option ℕ) (frames : FrameTable) (held_now wired_n
   pub wired : wired_now ≡ frames.wired
   pub fits : claimed frames + frames.wired ≤ frame_count frames
 
--- the kernel of host 0 after a history, also inside a step; the counts of entries include some that have just gone
-pub record Matches (header : Header) (k : Parts) (ids : Ids) (gone : List Entry) (past : List Event) : Type 0 where
+-- the kernel of a host after a history, also inside a step; the counts of entries include some that have just gone
+pub record Matches (header : Header) (h : ℕ) (k : Parts) (ids : Ids) (gone : List Entry) (past : List Event) : Type 0 where
   pub plain : IsPlain header
+  pub known : h < length header.frames.items
   pub size : k.size ≡ header.size
-  pub host : k.host ≡ the_host
+  pub host : k.host.0 ≡ h
   pub fits : Fits k
-  pub tasks : HasTasks header.size k.maps (λ task. host_of task past) (λ task. entries_of header.size task past)
-  pub regions : HasRegions k.chains k.objects ids (λ r. region_of header r past) (λ o. backing_of header o past) (next_region header past) (next_object header past)
+  pub tasks : HasTasks h header.size k.maps (λ task. host_of task past) (λ task. entries_of header.size task past)
+  pub regions : HasRegions k.chains k.memory.objects ids (λ r. region_of header r past) (λ o. backing_of header o past) (next_region header past) (next_object header past)
   pub entries : HasEntries header.size k.maps k.chains gone
-  pub pages : HasPages k.frames k.resident k.objects k.chains (λ o p. local header.size 0 (place_of o p) past)
-  pub uses : HasUse k.maps (λ r. in_use header 0 r past) (made_tasks past)
-  pub controls : HasControls k.objects (λ o. last_control 0 o past) (λ o. live_control 0 o past) (λ o. is_ready 0 o past)
+  pub pages : HasPages k.memory.frames k.memory.resident k.memory.objects k.chains (λ o p. local header.size h (place_of o p) past)
+  pub uses : HasUse k.maps (λ r. in_use header h r past) (made_tasks past) (λ task r. holds header.size task r past) (next_region header past)
+  pub controls : HasControls k.memory.objects (λ o. last_control h o past) (λ o. live_control h o past) (λ o. is_ready h o past)
   pub settled : created past ≡ None
-  pub laundry : HasLaundry k.frames k.resident k.laundry (returns_out 0 past)
-  pub frames : HasFrames (slice_get (reverse header.frames.items) 0) k.frames (frames_held header.size 0 past) (frames_wired 0 past)
+  pub laundry : HasLaundry k.memory.frames k.memory.resident k.laundry (returns_out h past)
+  pub frames : HasFrames (slice_get (reverse header.frames.items) h) k.memory.frames (frames_held header.size h past) (frames_wired h past)
 
 -- each region has an entry
 abbrev pub AllUsed : ChainTable → Type 0
@@ -190,25 +192,25 @@ AllReached chains objects = (o : ℕ) (row : ObjectRow) → object_at objects o 
 
 -- the accesses that wait, of a kernel with these maps, regions, pages and objects; some may have been woken
 abbrev pub HasWaits : Parts → Woken → List Event → Type 0
-HasWaits k who past = HasWaiters k.maps k.chains k.resident k.objects k.waits.rows who (λ task. waiting task past)
+HasWaits k who past = HasWaiters k.maps k.chains k.memory.resident k.memory.objects k.waits.rows who (λ task. waiting task past)
 
 -- their rows stand in the order in which they began
 abbrev pub HasOrder : Parts → List Event → Type 0
 HasOrder k past = BeganInOrder (λ task. begun_at task past) 0 k.waits.rows
 
 -- the kernel inside a step, with accesses that are to be run again, and whom an answer has woken
-pub record Works (header : Header) (k : Parts) (ids : Ids) (who : Woken) (past : List Event) : Type 0 where
-  pub matches : Matches header k ids [] past
+pub record Works (header : Header) (h : ℕ) (k : Parts) (ids : Ids) (who : Woken) (past : List Event) : Type 0 where
+  pub matches : Matches header h k ids [] past
   pub used : AllUsed k.chains
-  pub reached : AllReached k.chains k.objects
+  pub reached : AllReached k.chains k.memory.objects
   pub waits : HasWaits k who past
   pub order : HasOrder k past
 
 -- the kernel at the end of a step: no access is left that is to be run again
-pub record Rests (header : Header) (k : Parts) (ids : Ids) (past : List Event) : Type 0 where
-  pub matches : Matches header k ids [] past
+pub record Rests (header : Header) (h : ℕ) (k : Parts) (ids : Ids) (past : List Event) : Type 0 where
+  pub matches : Matches header h k ids [] past
   pub used : AllUsed k.chains
-  pub reached : AllReached k.chains k.objects
+  pub reached : AllReached k.chains k.memory.objects
   pub waits : HasWaits k woken.Nobody past
   pub order : HasOrder k past
   pub idle : again k.waits.rows ≡ 0

@@ -1,7 +1,6 @@
 -- What a host has of the pages of objects, by the rows and frames that its kernel keeps.
-use Rattle.std.specs.Prelude.{ℕ, ◌+◌, Bool, true, false, [], Option, Some, None, if◌then◌else◌, is_some, not}
+use Rattle.std.specs.Prelude.{ℕ, ◌+◌, Bool, false, [], Option, Some, None, if◌then◌else◌, is_some, not}
 use Rattle.vm_base.specs.declared.ids.Lock.{Lock}
-use Rattle.vm_base.specs.declared.ids.FrameNo.{FrameNo}
 use Rattle.vm_model.specs.Local.{Local, Place, away}
 use Rattle.vm_frames.specs.Frames.{FrameTable, page_in}
 use Rattle.vm_resident.specs.declared.page_row.PageRow.{PageRow}
@@ -10,9 +9,6 @@ use Rattle.vm_shadow.specs.declared.region_row.RegionRow.{RegionRow}
 
 abbrev pub place_of : ℕ → ℕ → Place
 place_of object page = record { object = object; page = page }
-
-abbrev pub unlocked : Lock
-unlocked = record { read = false; write = false }
 
 abbrev pub lock_number : Lock → ℕ
 lock_number lock = (if lock.read then 1 else 0) + (if lock.write then 2 else 0)
@@ -31,10 +27,6 @@ shown frames (Some row) lacked =
       unlocking = row.unlock_sent;
       absent = lacked;
     }
-
--- the row of a page that has come as zeros
-abbrev pub fresh_row : FrameNo → PageRow
-fresh_row frame = record { frame = frame; lock = unlocked; dirty = false; precious = false; here = true; unlock_sent = false }
 
 abbrev pub has_region : ChainTable → ℕ → Bool
 has_region chains r = is_some (region_at chains r)

@@ -27,7 +27,7 @@ frame_here (Some row) = if row.here then Some row.frame else None
 
 -- those of a kernel
 abbrev pub paging : Parts → Paging
-paging k = record { frame_at = λ o p. frame_here (row_at k.resident o p); queues = k.queues }
+paging k = record { frame_at = λ o p. frame_here (row_at k.memory.resident o p); queues = k.memory.queues }
 
 -- one page is in this frame now, or not here, and each other page where it was
 abbrev pub with_frame : ℕ → ℕ → Option FrameNo → (ℕ → ℕ → Option FrameNo) → ℕ → ℕ → Option FrameNo

@@ -23,30 +23,31 @@ pub record Leaves (was : Waiting) (old new : Parts) : Type 0 where
   pub laundry : new.laundry ≡ old.laundry
 
 -- an access wants a frame, and stands in the queue
-pub record Queues (header : Header) (was : Waiting) (may_claim : Bool) (old new : Parts) (before after : List Event) : Type 0 where
+pub record Queues (header : Header) (h : ℕ) (was : Waiting) (may_claim : Bool) (old new : Parts) (before after : List Event) : Type 0 where
   pub same : after ≡ before
-  pub wants : Wants header 0 after
-  pub none : may_claim ≡ true → free new.frames ≡ 0
+  pub wants : Wants header h after
+  pub mine : wants.task ≡ was.task.0
+  pub none : may_claim ≡ true → free new.memory.frames ≡ 0
   pub again : again new.waits.rows + one_again was.on ≡ again old.waits.rows
   pub queued : queued new.waits.rows ≡ queued old.waits.rows + (1 - one_frame was.on)
-  pub claimed : claimed new.frames ≡ claimed old.frames
+  pub claimed : claimed new.memory.frames ≡ claimed old.memory.frames
   pub laundry : new.laundry ≡ old.laundry
 
 -- an access was run, and it needs a frame or not
-abbrev pub Attempts : Header → Waiting → Bool → Bool → Parts → Parts → List Event → List Event → Type 0
-Attempts header was may_claim true old new before after = Queues header was may_claim old new before after
-Attempts header was may_claim false old new before after = Leaves was old new
+abbrev pub Attempts : Header → ℕ → Waiting → Bool → Bool → Parts → Parts → List Event → List Event → Type 0
+Attempts header h was may_claim true old new before after = Queues header h was may_claim old new before after
+Attempts header h was may_claim false old new before after = Leaves was old new
 
 -- some page was reclaimed, and is dropped or on its way
-pub record Reclaimed (answer : Reclaim) (old new : Parts) (before after : List Event) : Type 0 where
+pub record Reclaimed (h : ℕ) (answer : Reclaim) (old new : Parts) (before after : List Event) : Type 0 where
   pub waits : new.waits ≡ old.waits
-  pub freed : answer ≡ reclaim.Freed → (claimed old.frames ≡ claimed new.frames + 1) × (gone after ≡ gone before + 1)
-  pub returned : answer ≡ reclaim.Returned → (claimed new.frames ≡ claimed old.frames) × (gone after ≡ gone before + 1) × (free new.frames ≡ free old.frames) × (0 < returns_out 0 after)
-  pub nothing : answer ≡ reclaim.Nothing → (after ≡ before) × ((o p : ℕ) (row : PageRow) → row_at new.resident o p ≡ Some row → row.here ≡ false) × (free new.frames ≡ free old.frames)
+  pub freed : answer ≡ reclaim.Freed → (claimed old.memory.frames ≡ claimed new.memory.frames + 1) × (gone h after ≡ gone h before + 1)
+  pub returned : answer ≡ reclaim.Returned → (claimed new.memory.frames ≡ claimed old.memory.frames) × (gone h after ≡ gone h before + 1) × (free new.memory.frames ≡ free old.memory.frames) × (0 < returns_out h after)
+  pub nothing : answer ≡ reclaim.Nothing → (after ≡ before) × ((o p : ℕ) (row : PageRow) → row_at new.memory.resident o p ≡ Some row → row.here ≡ false) × (free new.memory.frames ≡ free old.memory.frames)
 
 -- the frame queue is empty, or can't go on
-abbrev pub IsServed : Header → Parts → List Event → Type 0
-IsServed header k past = (queued k.waits.rows ≡ 0) ⊎ IsFull header 0 past
+abbrev pub IsServed : Header → ℕ → Parts → List Event → Type 0
+IsServed header h k past = (queued k.waits.rows ≡ 0) ⊎ IsFull header h past
 
 -- one access is to be run again, and no other
 pub record IsNext (task : ℕ) (rows : List Waiting) : Type 0 where
@@ -58,5 +59,5 @@ abbrev pub RunsFirst : Header → List Waiting → List Event → List Event →
 RunsFirst header rows past before after = (task : ℕ) → IsNext task rows → FindsPage header task (before ++ past) → EndsNext task before after
 
 -- somebody stands in the frame queue only while no frame is free
-abbrev pub HasQueue : Header → Parts → List Event → Type 0
-HasQueue header k past = (queued k.waits.rows ≡ 0) ⊎ (frames_free header 0 past ≡ 0)
+abbrev pub HasQueue : Header → ℕ → Parts → List Event → Type 0
+HasQueue header h k past = (queued k.waits.rows ≡ 0) ⊎ (frames_free header h past ≡ 0)

@@ -38,31 +38,32 @@ pub record Lowered (rows : List Entry) (old new : ChainTable) : Type 0 where
 -- what is given to calls that take entries out of the counts: those that are left, too
 pub record Releasing : Type 0 where
   pub header : Header
+  pub host : ℕ
   pub outside : Outside
   pub past : List Event
   pub command : Command
   pub rest : List Entry
 
 -- some entries have gone, but are still among the counts
-pub record Sweeps (header : Header) (outside : Outside) (doing : Command) (past : List Event) (k : Parts) (ids : Ids) (gone : List Entry) (events : List Event) : Type 0 where
-  pub runs : Runs header outside doing past k ids gone events
+pub record Sweeps (header : Header) (h : ℕ) (outside : Outside) (doing : Command) (past : List Event) (k : Parts) (ids : Ids) (gone : List Entry) (events : List Event) : Type 0 where
+  pub runs : Runs header h outside doing past k ids gone events
   pub used : AllUsed k.chains
-  pub reached : AllReached k.chains k.objects
+  pub reached : AllReached k.chains k.memory.objects
 
 -- a region has no entries left, and all others have some
-pub record Ends (header : Header) (outside : Outside) (doing : Command) (past : List Event) (k : Parts) (ids : Ids) (gone : List Entry) (region : ℕ) (events : List Event) : Type 0 where
-  pub runs : Runs header outside doing past k ids gone events
+pub record Ends (header : Header) (h : ℕ) (outside : Outside) (doing : Command) (past : List Event) (k : Parts) (ids : Ids) (gone : List Entry) (region : ℕ) (events : List Event) : Type 0 where
+  pub runs : Runs header h outside doing past k ids gone events
   pub there : has_region k.chains region ≡ true
   pub none : region_entries k.chains region ≡ 0
   pub others : (r : ℕ) (row : RegionRow) → r ≢ region → region_at k.chains r ≡ Some row → 0 < row.entries
-  pub reached : AllReached k.chains k.objects
+  pub reached : AllReached k.chains k.memory.objects
 
 -- no region is over the object, and nothing of it is here; its control may still live
-pub record Strands (header : Header) (outside : Outside) (doing : Command) (past : List Event) (k : Parts) (ids : Ids) (gone : List Entry) (object : ℕ) (events : List Event) : Type 0 where
-  pub runs : Runs header outside doing past k ids gone events
+pub record Strands (header : Header) (h : ℕ) (outside : Outside) (doing : Command) (past : List Event) (k : Parts) (ids : Ids) (gone : List Entry) (object : ℕ) (events : List Event) : Type 0 where
+  pub runs : Runs header h outside doing past k ids gone events
   pub used : AllUsed k.chains
-  pub others : (o : ℕ) (row : ObjectRow) → o ≢ object → object_at k.objects o ≡ Some row → row.live ≡ true → has_region k.chains o ≡ true
-  pub known : IsSome (object_at k.objects object)
+  pub others : (o : ℕ) (row : ObjectRow) → o ≢ object → object_at k.memory.objects o ≡ Some row → row.live ≡ true → has_region k.chains o ≡ true
+  pub known : IsSome (object_at k.memory.objects object)
   pub none : region_at k.chains object ≡ None
-  pub pages : (p : ℕ) → row_at k.resident object p ≡ None
-  pub unused : in_use header 0 object (events ++ past) ≡ false
+  pub pages : (p : ℕ) → row_at k.memory.resident object p ≡ None
+  pub unused : in_use header h object (events ++ past) ≡ false

@@ -26,19 +26,23 @@ IsTempAnswer size (message.Error page reason) = Unit {0}
 IsTempAnswer size other = ⊥
 
 -- the step took the error that ends those who wait for a page; or it took none that counts
-abbrev pub FailsNow : Header → Woken → List Event → Type 0
-FailsNow header (woken.Fails key) past = error_taken header.size past ≡ Some (record { host = 0; object = key.object.0; page = key.page.0 })
-FailsNow header other past = error_taken header.size past ≡ None
+abbrev pub FailsNow : Header → ℕ → Woken → List Event → Type 0
+FailsNow header h (woken.Fails key) past = error_taken header.size past ≡ Some (record { host = h; object = key.object.0; page = key.page.0 })
+FailsNow header h other past = error_taken header.size past ≡ None
 
 -- and it has ended nobody yet
 abbrev pub EndsNobody : Woken → List Event → Type 0
 EndsNobody (woken.Fails key) past = (t : ℕ) → since (fails_task t key.object.0 key.page.0) past ≡ false
-EndsNobody other past = Unit {0}
+EndsNobody woken.Nobody past = Unit {0}
+EndsNobody (woken.ReadyOf object) past = Unit {0}
+EndsNobody (woken.Page key) past = Unit {0}
 
 -- some access waits for the page that failed
 abbrev pub HasAsker : Woken → List Waiting → Type 0
 HasAsker (woken.Fails key) rows = Asker rows key.object.0 key.page.0
-HasAsker other rows = Unit {0}
+HasAsker woken.Nobody rows = Unit {0}
+HasAsker (woken.ReadyOf object) rows = Unit {0}
+HasAsker (woken.Page key) rows = Unit {0}
 
 -- whom an answer wakes or ends waits for a page that is asked no more, or for a pager
 pub record IsAnswered (who : Woken) (resident : ResidentTable) : Type 0 where
@@ -47,12 +51,16 @@ pub record IsAnswered (who : Woken) (resident : ResidentTable) : Type 0 where
 -- and some access was ended by it
 abbrev pub HasFailed : Woken → List Event → Type 0
 HasFailed (woken.Fails key) past = since (fails_access key.object.0 key.page.0) past ≡ true
-HasFailed other past = Unit {0}
+HasFailed woken.Nobody past = Unit {0}
+HasFailed (woken.ReadyOf object) past = Unit {0}
+HasFailed (woken.Page key) past = Unit {0}
 
 -- and each access that waited for the page, in a table as it was, was ended by it
 abbrev pub HasEnded : Woken → List Waiting → List Event → Type 0
 HasEnded (woken.Fails key) rows past = (t : ℕ) (w : Waiting) → entry rows t ≡ Some w → w.on ≡ on.Page key → since (fails_task t key.object.0 key.page.0) past ≡ true
-HasEnded other rows past = Unit {0}
+HasEnded woken.Nobody rows past = Unit {0}
+HasEnded (woken.ReadyOf object) rows past = Unit {0}
+HasEnded (woken.Page key) rows past = Unit {0}
 
 -- an error that the step took has ended each access that waited for its page
 abbrev pub EndsEach : Header → List Waiting → List Event → Type 0
@@ -64,10 +72,10 @@ abbrev pub IsErrorPaid : Header → List Event → Type 0
 IsErrorPaid header past = (host object page : ℕ) → error_taken header.size past ≡ Some (record { host = host; object = object; page = page }) → since (fails_access object page) past ≡ true
 
 -- all events that were added take pages from the host
-pub record EachGone (old new : List Event) : Type 0 where
+pub record EachGone (h : ℕ) (old new : List Event) : Type 0 where
   pub more : List Event
   pub is : new ≡ more ++ old
-  pub each : EachOf (IsReclaim 0) more
+  pub each : EachOf (IsReclaim h) more
 
 -- and in the words of the history
 abbrev pub EndsAll : Header → List Event → Type 0

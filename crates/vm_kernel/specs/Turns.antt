@@ -1,48 +1,102 @@
--- Frames in turn: who wants a frame and may have none joins the back of the queue, only fronts leave, and while somebody queues they alone claim frames.
-use Rattle.std.specs.Prelude.{◌≡◌, ◌≢◌, ◌⊎◌, ℕ, Bool, true, false, List, [], ◌∷◌, ◌++◌, reverse, Some, if◌then◌else◌}
+-- Frames in turn: accesses are run again in the order in which they began; who wants a frame and may have none joins the back of the queue, only fronts
+-- leave, and while somebody queues they alone claim frames.
+use Rattle.std.specs.Prelude.{◌≡◌, ◌≢◌, ◌⊎◌, ◌<◌, ◌≤◌, ℕ, suc, Bool, true, false, List, [], ◌∷◌, ◌++◌, reverse, Some, if◌then◌else◌}
 use Rattle.vm_base.specs.declared.ids.HostId.{HostId}
 use Rattle.vm_base.specs.declared.ids.PageKey.{PageKey}
 use Rattle.vm_base.specs.declared.ids.TaskId.{TaskId}
+use Rattle.vm_legal.specs.Accesses.{Wants, begun_at}
 use Rattle.vm_legal.specs.Follows.{IsEnd}
 use Rattle.vm_legal.specs.Frames.{frames_free}
+use Rattle.vm_legal.specs.Licences.{access_number}
 use Rattle.vm_legal.specs.Stretches.{EachOf}
 use Rattle.vm_model.specs.declared.event.Event.{Event}
 use Rattle.vm_model.specs.declared.event.Event.TheVariants as event
-use Rattle.vm_model.specs.declared.message.Channel.TheVariants.{Up}
+use Rattle.vm_model.specs.declared.message.Channel.TheVariants.{Up, Down}
 use Rattle.vm_model.specs.declared.message.Message.TheVariants as message
 use Rattle.vm_model.specs.declared.script.Header.{Header}
 use Rattle.vm_waits.specs.Kept.{EachListedOnce}
-use Rattle.vm_waits.specs.Waits.{WaitTable, entry, is_frame, others}
+use Rattle.vm_waits.specs.Waits.{WaitTable, entry, is_again, is_frame, is_listed, others}
 use Rattle.vm_waits.specs.declared.waiting.On.TheVariants as on
 use Rattle.vm_waits.specs.declared.waiting.Waiting.{Waiting}
+use Rattle.vm_kernel.specs.Waiters.{access_in}
 
--- the event claims no frame: no page comes as zeros or from a region below, and none is asked for
-abbrev pub ClaimsNone : Event → Type 0
-ClaimsNone (event.Zeroed host object page) = ⊥
-ClaimsNone (event.Raised host lower lower_page upper upper_page) = ⊥
-ClaimsNone (event.Sent (Up host object) (message.Request control page access)) = ⊥
-ClaimsNone other = Unit {0}
+-- the event is of no access that was run: none loads or stores, no page comes as zeros or from a region below, and none is asked for
+abbrev pub RunsNone : Event → Type 0
+RunsNone (event.Zeroed host object page) = ⊥
+RunsNone (event.Raised host lower lower_page upper upper_page) = ⊥
+RunsNone (event.Sent (Up host object) (message.Request control page access)) = ⊥
+RunsNone (event.CopiedPage task page object object_page target) = ⊥
+RunsNone (event.Sent (Up host object) (message.Init control bytes)) = Unit {0}
+RunsNone (event.Sent (Up host object) (message.Create control bytes)) = Unit {0}
+RunsNone (event.Sent (Up host object) (message.Unlock control page access)) = Unit {0}
+RunsNone (event.Sent (Up host object) (message.Return control page dirty keep bytes)) = Unit {0}
+RunsNone (event.Sent (Up host object) (message.Completed control page count)) = Unit {0}
+RunsNone (event.Sent (Up host object) (message.Terminate control)) = Unit {0}
+RunsNone (event.Sent (Up host object) (message.Ready cache strategy)) = Unit {0}
+RunsNone (event.Sent (Up host object) (message.Supply page lock precious bytes)) = Unit {0}
+RunsNone (event.Sent (Up host object) (message.Unavailable page)) = Unit {0}
+RunsNone (event.Sent (Up host object) (message.Error page reason)) = Unit {0}
+RunsNone (event.Sent (Up host object) (message.Lock page count returns flush lock reply)) = Unit {0}
+RunsNone (event.Sent (Up host object) (message.Attributes cache strategy reply)) = Unit {0}
+RunsNone (event.Sent (Up host object) (message.Destroy reason)) = Unit {0}
+RunsNone (event.Sent (Up host object) (message.Changed control cache strategy)) = Unit {0}
+RunsNone (event.Sent (Down host object control) m) = Unit {0}
+RunsNone (event.Line line) = Unit {0}
+RunsNone (event.Refused code) = Unit {0}
+RunsNone (event.TaskMade task host) = Unit {0}
+RunsNone (event.TaskEnded task) = Unit {0}
+RunsNone (event.RegionMade region object pages) = Unit {0}
+RunsNone (event.RegionCopied region source offset pages) = Unit {0}
+RunsNone (event.Entered task address bytes region offset prot inherit) = Unit {0}
+RunsNone (event.Removed task address bytes) = Unit {0}
+RunsNone (event.Protected task address bytes prot) = Unit {0}
+RunsNone (event.Inherited task address bytes inherit) = Unit {0}
+RunsNone (event.BegunLoad task address bytes) = Unit {0}
+RunsNone (event.BegunStore task address bytes value) = Unit {0}
+RunsNone (event.BegunCopy task address bytes to) = Unit {0}
+RunsNone (event.Loaded task object page value) = ⊥
+RunsNone (event.Stored task object page at bytes value) = ⊥
+RunsNone (event.CopyEnded task) = Unit {0}
+RunsNone (event.Failed task object page) = Unit {0}
+RunsNone (event.Taken channel m) = Unit {0}
+RunsNone (event.Dropped host object page) = Unit {0}
+RunsNone (event.Shadowed region new old) = Unit {0}
+RunsNone (event.DeviceFailed who way object page) = Unit {0}
+RunsNone (event.NoSlot object page) = Unit {0}
+RunsNone (event.Wired host count) = Unit {0}
 
--- what a task's access did when it was run: it claimed no frame, or one for a page of zeros, with which it ended at once, or one for a page that it asked for, on which it waits now
-pub data ClaimsOne (rows : List Waiting) (task : TaskId) (events : List Event) : Type 0 where
-  NoFrame : EachOf ClaimsNone events → ClaimsOne rows task events
-  ForZeros : (end : Event) → (host : HostId) → (key : PageKey) → events ≡ end ∷ event.Zeroed host key.object key.page ∷ [] → IsEnd task.0 end → ClaimsOne rows task events
-  ForAsked : (host : HostId) → (key : PageKey) → (control access : ℕ) → (row : Waiting) → events ≡ event.Sent (Up host key.object) (message.Request control key.page access) ∷ [] → entry rows task.0 ≡ Some row → row.on ≡ on.Page key → ClaimsOne rows task events
+-- what a task's access did when it was run, and whether it claimed a frame: nothing; it found its page and ended; it claimed one for a page of zeros, with which it
+-- ended; or it claimed one for a page that it asked for, on which it waits now, and none of those that were run earlier
+pub data Did (rows : List Waiting) (earlier : ℕ → Type 0) (task : TaskId) : Bool → List Event → Type 0 where
+  Nothing : Did rows earlier task false []
+  Found : (end : Event) → IsEnd task.0 end → Did rows earlier task false (end ∷ [])
+  ForZeros : (end : Event) → (host : HostId) → (key : PageKey) → IsEnd task.0 end → Did rows earlier task true (end ∷ event.Zeroed host key.object key.page ∷ [])
+  ForAsked : (host : HostId) → (key : PageKey) → (control : ℕ) → (row : Waiting) → entry rows task.0 ≡ Some row → row.on ≡ on.Page key
+      → ((t : ℕ) (w : Waiting) → earlier t → entry rows t ≡ Some w → w.on ≢ on.Page key)
+      → Did rows earlier task true (event.Sent (Up host key.object) (message.Request control key.page (access_number (access_in row.want) 0)) ∷ [])
 
--- those who left claimed their frames one after another, and nobody else claimed one; the last who left stands first, as the newest event does
+-- Some accesses were run again, each once, in the order in which they began: from when on the next one began, the queue, and the events, which have the newest first.
+pub data Restarts (header : Header) (h : ℕ) (rows : List Waiting) (past : List Event) (old : List TaskId) : ℕ → List TaskId → List Event → Type 0 where
+  -- none was run yet
+  Start : (events : List Event) → EachOf RunsNone events → Restarts header h rows past old 0 old events
+  -- one wants a frame while somebody queues or none is free: it joins the back
+  Joins : (task : TaskId) (from : ℕ) (queue : List TaskId) (events : List Event) → Restarts header h rows past old from queue events → from ≤ begun_at task.0 (events ++ past)
+      → (wants : Wants header h (events ++ past)) → wants.task ≡ task.0 → (queue ≢ []) ⊎ (frames_free header h (events ++ past) ≡ 0)
+      → Restarts header h rows past old (suc (begun_at task.0 (events ++ past))) (queue ++ task ∷ []) events
+  -- one doesn't join, and claims a frame only where nobody queues
+  Goes : (task : TaskId) (from : ℕ) (queue : List TaskId) (claims : Bool) (own events : List Event) → Restarts header h rows past old from queue events → from ≤ begun_at task.0 (events ++ past)
+      → Did rows (λ t. begun_at t (events ++ past) < begun_at task.0 (events ++ past)) task claims own → (claims ≡ true → queue ≡ [])
+      → Restarts header h rows past old (suc (begun_at task.0 (events ++ past))) queue (own ++ events)
+
+-- so the queue became another
+abbrev pub Restarted : Header → ℕ → List Waiting → List Event → List TaskId → List TaskId → List Event → Type 0
+Restarted header h rows past old new events = (from : ℕ) × Restarts header h rows past old from new events
+
+-- those who left were run one after another, and nobody else was; the last who left stands first, as the newest event does
 abbrev pub ClaimsInTurn : List Waiting → List TaskId → List Event → Type 0
-ClaimsInTurn rows [] events = EachOf ClaimsNone events
+ClaimsInTurn rows [] events = EachOf RunsNone events
 ClaimsInTurn rows (task ∷ left) events =
-    (late own early : List Event) × (events ≡ late ++ (own ++ early)) × EachOf ClaimsNone late × ClaimsOne rows task own × ClaimsInTurn rows left early
-
--- some joined the back of the queue, and nobody left; where somebody had queued before, no frame was claimed; and where somebody joined an empty queue, no frame is free behind these events
-pub record Joins (header : Header) (past : List Event) (old new : List TaskId) (before after : List Event) : Type 0 where
-  pub joined : List TaskId
-  pub queue : new ≡ old ++ joined
-  pub run : List Event
-  pub told : after ≡ run ++ before
-  pub behind : (old ≡ []) ⊎ EachOf ClaimsNone run
-  pub full : old ≡ [] → joined ≢ [] → frames_free header 0 (after ++ past) ≡ 0
+    (claims : Bool) × (late own early : List Event) × (events ≡ late ++ (own ++ early)) × EachOf RunsNone late × Did rows (λ t. is_listed t left ≡ true) task claims own × ClaimsInTurn rows left early
 
 -- some left from the front of a queue in which nobody stood twice, nobody joined, and frames were claimed in turn
 pub record Leaves (old : List TaskId) (new : WaitTable) (before after : List Event) : Type 0 where
@@ -53,29 +107,35 @@ pub record Leaves (old : List TaskId) (new : WaitTable) (before after : List Eve
   pub told : after ≡ served ++ before
   pub turns : ClaimsInTurn new.rows left served
 
--- a call's first events are those of the accesses that were run, of which some joined the queue; the others are those of serving it
-pub record InTurn (header : Header) (past : List Event) (old new : WaitTable) (events : List Event) : Type 0 where
+-- a call's first events are those of the accesses that were run again, of which some joined the queue; the others are those of serving it
+pub record InTurn (header : Header) (h : ℕ) (past : List Event) (old new : WaitTable) (events : List Event) : Type 0 where
   pub queue : List TaskId
   pub run : List Event
-  pub joins : Joins header past old.queue queue [] run
+  pub restarts : Restarted header h new.rows past old.queue queue run
   pub leaves : Leaves queue new run events
 
--- nobody joined or left, and no frame was claimed by what was added
+-- the rows of those who don't queue are as they were
+abbrev pub KeepsOthers : List TaskId → List Waiting → List Waiting → Type 0
+KeepsOthers queue old new = (t : ℕ) → is_listed t queue ≡ false → entry new t ≡ entry old t
+
+-- nobody joined or left, and no access was run by what was added
 pub record Quiet (old new : List TaskId) (before after : List Event) : Type 0 where
   pub queue : new ≡ old
-  pub none : EachOf ClaimsNone before → EachOf ClaimsNone after
+  pub none : EachOf RunsNone before → EachOf RunsNone after
 
 -- where an access that was run stands then: if it wants a frame, it is where it was in the queue, or behind all others; if not, nowhere
 abbrev pub QueueAfter : Waiting → Bool → List TaskId → List TaskId → Type 0
 QueueAfter was true old new = new ≡ (if is_frame was.on then old else old ++ was.task ∷ [])
 QueueAfter was false old new = new ≡ others was.task.0 old
 
--- an access was run once: it claims at most one frame, and none where it may not; if it wants one still, nothing has happened; and only its own row has changed
+-- an access was run once: it claims no frame where it may not; if it wants one still, nothing has happened; it is not to be run again; and only its own row has changed
 pub record RunsOnce (was : Waiting) (may_claim wants : Bool) (old new : WaitTable) (before after : List Event) : Type 0 where
   pub more : List Event
   pub told : after ≡ more ++ before
-  pub claims : ClaimsOne new.rows was.task more
-  pub none : may_claim ≡ false → EachOf ClaimsNone more
+  pub claims : Bool
+  pub did : Did new.rows (λ t. t ≢ was.task.0) was.task claims more
+  pub none : may_claim ≡ false → claims ≡ false
   pub nothing : wants ≡ true → more ≡ []
+  pub done : (w : Waiting) → entry new.rows was.task.0 ≡ Some w → is_again w.on ≡ false
   pub rest : (t : ℕ) → t ≢ was.task.0 → entry new.rows t ≡ entry old.rows t
   pub queue : QueueAfter was wants old.queue new.queue

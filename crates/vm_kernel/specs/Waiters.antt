@@ -1,12 +1,12 @@
 -- The accesses that wait on a host, as its kernel keeps them, and what each waits for.
-use Rattle.std.specs.Prelude.{ℕ, suc, ◌+◌, ◌%◌, ◌^◌, ◌<◌, ◌≤◌, ◌≡◌, Bool, false, List, [], ◌∷◌, Option, Some, None}
+use Rattle.std.specs.Prelude.{ℕ, suc, ◌+◌, ◌%◌, ◌^◌, ◌<◌, ◌≤◌, ◌≡◌, Bool, true, false, List, [], ◌∷◌, Option, Some, None, is_some}
 use Rattle.vm_base.specs.declared.entry.Entry.{Entry}
 use Rattle.vm_base.specs.declared.ids.Access.{Access as Need}
 use Rattle.vm_base.specs.declared.ids.Access.TheVariants as need
 use Rattle.vm_base.specs.declared.ids.PageKey.{PageKey}
 use Rattle.vm_base.specs.Entries.{entry_at, page_at}
 use Rattle.vm_base.specs.Pages.{IsAccessSize}
-use Rattle.vm_maps.specs.Maps.{Mapped, rows_in}
+use Rattle.vm_maps.specs.Maps.{Mapped, entries_in, rows_in}
 use Rattle.vm_model.specs.Waiting.{Access, Loading, Storing}
 use Rattle.vm_objects.specs.Objects.{ObjectTable, object_at}
 use Rattle.vm_objects.specs.declared.row.ObjectRow.{ObjectRow}
@@ -24,6 +24,7 @@ use Rattle.vm_waits.specs.declared.waiting.Waiting.{Waiting}
 use Rattle.vm_waits.specs.declared.waiting.Want.{Want}
 use Rattle.vm_waits.specs.declared.waiting.Want.TheVariants as want
 use Rattle.vm_kernel.specs.Changes.{IsAllowed}
+use Rattle.vm_kernel.specs.Pagers.{ready_in}
 
 -- the address of an access
 abbrev pub address_in : Want → ℕ
@@ -100,12 +101,13 @@ is_woken (woken.ReadyOf object) reason = woken_ready object.0 reason
 is_woken (woken.Page key) reason = woken_page key reason
 is_woken (woken.Fails key) reason = woken_page key reason
 
--- The accesses that wait in the history wait here, each with an entry that allows it, within a page; each has a reason, but those whom an answer
--- wakes may have lost theirs; and somebody waits for each page that is asked.
+-- The accesses of tasks here that wait in the history wait here, each with an entry that allows it, within a page; each has a reason, but those whom an answer
+-- wakes may have lost theirs; and somebody waits for each page that is asked, whose pager is ready.
 pub record HasWaiters (maps : Mapped) (chains : ChainTable) (resident : ResidentTable) (objects : ObjectTable) (rows : List Waiting) (who : Woken) (waiting_at : ℕ → Option Access) : Type 0 where
-  pub is : (t : ℕ) → waiting_at t ≡ waiting_in (entry rows t)
+  pub is : (t : ℕ) → is_some (entries_in t maps) ≡ true → waiting_at t ≡ waiting_in (entry rows t)
   pub allowed : (t : ℕ) (w : Waiting) → entry rows t ≡ Some w → IsAllowed maps t (address_in w.want) (need_in w.want)
   pub sized : (t : ℕ) (w : Waiting) → entry rows t ≡ Some w → IsSizedWant w.want
   pub reasons : (t : ℕ) (w : Waiting) → entry rows t ≡ Some w → is_woken who w.on ≡ false → Reason maps chains resident objects t w.want w.on
   pub aims : (t : ℕ) (w : Waiting) (key : PageKey) → entry rows t ≡ Some w → w.on ≡ on.Page key → IsAt maps chains t w.want key
   pub askers : (o p : ℕ) (row : PageRow) → row_at resident o p ≡ Some row → row.here ≡ false → Asker rows o p
+  pub ready : (o p : ℕ) (row : PageRow) → row_at resident o p ≡ Some row → row.here ≡ false → ready_in (object_at objects o) ≡ true

@@ -3,7 +3,7 @@ ghost use Rattle.std.specs.Prelude.{◌≡◌, OnOk};
 ghost use Rattle.vm_model.specs.declared.command.Command.TheVariants as command;
 ghost use Rattle.vm_kernel.specs.Begun.{Doing, Ran, Starts};
 ghost use Rattle.vm_kernel.specs.Plays.{Plays, paging};
-ghost use Rattle.vm_kernel.specs.Turns.{Joins};
+ghost use Rattle.vm_kernel.specs.Turns.{Restarted};
 
 use crate::parts::Parts;
 use vm_base::{NoMemory, TaskId};
@@ -22,10 +22,10 @@ impl Parts {
     ) -> Result<(), NoMemory>
         ghost given: { Doing }
         requires is { given.command ≡ command.Load task address size }
-        requires starts { Starts given.header given.command given.past self.old ids.now log.old.items }
-        ensures ran { OnOk result (Ran given.header given.outside given.command given.past self.new ids.now log.new.items) }
+        requires starts { Starts given.header given.host given.command given.past self.old ids.now log.old.items }
+        ensures ran { OnOk result (Ran given.header given.host given.outside given.command given.past self.new ids.now log.new.items) }
         ensures plays { OnOk result (Plays given.header given.past log.old.items (paging self.old) log.new.items (paging self.new)) }
-        ensures joins { OnOk result (Joins given.header given.past self.old.waits.queue self.new.waits.queue log.old.items log.new.items) }
+        ensures restarts { OnOk result (Restarted given.header given.host self.new.waits.rows given.past self.old.waits.queue self.new.waits.queue log.new.items) }
     {
         self.waits.reserve(1)?;
         log.push(Event::BegunLoad {
@@ -48,10 +48,10 @@ impl Parts {
     ) -> Result<(), NoMemory>
         ghost given: { Doing }
         requires is { given.command ≡ command.Store task address size value }
-        requires starts { Starts given.header given.command given.past self.old ids.now log.old.items }
-        ensures ran { OnOk result (Ran given.header given.outside given.command given.past self.new ids.now log.new.items) }
+        requires starts { Starts given.header given.host given.command given.past self.old ids.now log.old.items }
+        ensures ran { OnOk result (Ran given.header given.host given.outside given.command given.past self.new ids.now log.new.items) }
         ensures plays { OnOk result (Plays given.header given.past log.old.items (paging self.old) log.new.items (paging self.new)) }
-        ensures joins { OnOk result (Joins given.header given.past self.old.waits.queue self.new.waits.queue log.old.items log.new.items) }
+        ensures restarts { OnOk result (Restarted given.header given.host self.new.waits.rows given.past self.old.waits.queue self.new.waits.queue log.new.items) }
     {
         self.waits.reserve(1)?;
         log.push(Event::BegunStore {

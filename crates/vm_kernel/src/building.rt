@@ -7,7 +7,7 @@ ghost use Rattle.vm_kernel.specs.Forking.{got};
 ghost use Rattle.vm_model.specs.declared.event.Event.TheVariants as event;
 ghost use Rattle.vm_objects.specs.Objects.{object_at};
 ghost use Rattle.vm_shadow.specs.Chains.{region_at};
-ghost use Rattle.vm_kernel.specs.Matches.{the_host};
+ghost use Rattle.vm_kernel.specs.Matches.{host_id};
 ghost use Rattle.vm_kernel.specs.Plays.{Plays, paging};
 ghost use Rattle.vm_kernel.specs.Turns.{Quiet};
 
@@ -66,8 +66,8 @@ pub fn entered(task: TaskId, entry: Entry) -> Event
 impl Parts {
     pub fn make_task(&mut self, ids: &Ids, task: TaskId, log: &mut Events) -> Result<(), NoMemory>
         ghost given: { Given }
-        requires { Starts given.header (command.Task task the_host) given.past self.old ids.now log.old.items }
-        ensures ran { OnOk result (Ran given.header given.outside (command.Task task the_host) given.past self.new ids.now log.new.items) }
+        requires { Starts given.header given.host (command.Task task (host_id given.host)) given.past self.old ids.now log.old.items }
+        ensures ran { OnOk result (Ran given.header given.host given.outside (command.Task task (host_id given.host)) given.past self.new ids.now log.new.items) }
         ensures plays { OnOk result (Plays given.header given.past log.old.items (paging self.old) log.new.items (paging self.new)) }
         ensures quiet { OnOk result (Quiet self.old.waits.queue self.new.waits.queue log.old.items log.new.items) }
     {
@@ -87,8 +87,8 @@ impl Parts {
         log: &mut Events,
     ) -> Result<(), NoMemory>
         ghost given: { Given }
-        requires { Starts given.header (command.Allocate task address bytes) given.past self.old ids.old log.old.items }
-        ensures ran { OnOk result (Ran given.header given.outside (command.Allocate task address bytes) given.past self.new ids.new log.new.items) }
+        requires { Starts given.header given.host (command.Allocate task address bytes) given.past self.old ids.old log.old.items }
+        ensures ran { OnOk result (Ran given.header given.host given.outside (command.Allocate task address bytes) given.past self.new ids.new log.new.items) }
         ensures plays { OnOk result (Plays given.header given.past log.old.items (paging self.old) log.new.items (paging self.new)) }
         ensures quiet { OnOk result (Quiet self.old.waits.queue self.new.waits.queue log.old.items log.new.items) }
     {
@@ -111,11 +111,11 @@ impl Parts {
     // Makes a region with one entry, over a new object.
     fn make_range(&mut self, region: RegionId, object: ObjectId, pages: u32) -> Result<(), NoMemory>
         requires absent { region_at self.old.chains region.0 ≡ None }
-        requires unknown { object_at self.old.objects object.0 ≡ None }
+        requires unknown { object_at self.old.memory.objects object.0 ≡ None }
         ensures { OnOk result (MadeRange region object pages self.old self.new) }
     {
-        self.objects.make(object, ObjectKind::Temp, pages)?;
-        self.objects.refer(object);
+        self.memory.objects.make(object, ObjectKind::Temp, pages)?;
+        self.memory.objects.refer(object);
         let row = RegionRow {
             top: object,
             shift: 0,
@@ -128,33 +128,33 @@ impl Parts {
 
     pub fn wire(&mut self, ids: &Ids, count: u32, log: &mut Events) -> Result<(), NoMemory>
         ghost given: { Given }
-        requires { Starts given.header (command.Wire the_host count) given.past self.old ids.now log.old.items }
-        ensures ran { OnOk result (Ran given.header given.outside (command.Wire the_host count) given.past self.new ids.now log.new.items) }
+        requires { Starts given.header given.host (command.Wire (host_id given.host) count) given.past self.old ids.now log.old.items }
+        ensures ran { OnOk result (Ran given.header given.host given.outside (command.Wire (host_id given.host) count) given.past self.new ids.now log.new.items) }
         ensures plays { OnOk result (Plays given.header given.past log.old.items (paging self.old) log.new.items (paging self.new)) }
         ensures quiet { OnOk result (Quiet self.old.waits.queue self.new.waits.queue log.old.items log.new.items) }
     {
-        let _ = self.frames.wire(count);
+        let _ = self.memory.frames.wire(count);
         self.tell_wired(log)
     }
 
     pub fn unwire(&mut self, ids: &Ids, count: u32, log: &mut Events) -> Result<(), NoMemory>
         ghost given: { Given }
-        requires { Starts given.header (command.Unwire the_host count) given.past self.old ids.now log.old.items }
-        ensures ran { OnOk result (Ran given.header given.outside (command.Unwire the_host count) given.past self.new ids.now log.new.items) }
+        requires { Starts given.header given.host (command.Unwire (host_id given.host) count) given.past self.old ids.now log.old.items }
+        ensures ran { OnOk result (Ran given.header given.host given.outside (command.Unwire (host_id given.host) count) given.past self.new ids.now log.new.items) }
         ensures plays { OnOk result (Plays given.header given.past log.old.items (paging self.old) log.new.items (paging self.new)) }
         ensures quiet { OnOk result (Quiet self.old.waits.queue self.new.waits.queue log.old.items log.new.items) }
     {
-        let _ = self.frames.unwire(count);
+        let _ = self.memory.frames.unwire(count);
         self.tell_wired(log)
     }
 
     // Tells how many frames are wired now.
     fn tell_wired(&self, log: &mut Events) -> Result<(), NoMemory>
-        ensures { OnOk result (log.new.items ≡ event.Wired self.now.host self.now.frames.wired ∷ log.old.items) }
+        ensures { OnOk result (log.new.items ≡ event.Wired self.now.host self.now.memory.frames.wired ∷ log.old.items) }
     {
         log.push(Event::Wired {
             host: self.host,
-            count: self.frames.wired(),
+            count: self.memory.frames.wired(),
         })
     }
 }

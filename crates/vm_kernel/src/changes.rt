@@ -79,8 +79,8 @@ impl Parts {
     pub fn exit(&mut self, ids: &Ids, task: TaskId, log: &mut Events) -> Result<(), NoMemory>
         ghost given: { Doing }
         requires is { given.command ≡ command.Exit task }
-        requires starts { Starts given.header given.command given.past self.old ids.now log.old.items }
-        ensures ran { OnOk result (Ran given.header given.outside given.command given.past self.new ids.now log.new.items) }
+        requires starts { Starts given.header given.host given.command given.past self.old ids.now log.old.items }
+        ensures ran { OnOk result (Ran given.header given.host given.outside given.command given.past self.new ids.now log.new.items) }
         ensures plays { OnOk result (Plays given.header given.past log.old.items (paging self.old) log.new.items (paging self.new)) }
         ensures quiet { OnOk result (Quiet self.old.waits.queue self.new.waits.queue log.old.items log.new.items) }
     {
@@ -100,8 +100,8 @@ impl Parts {
     ) -> Result<(), NoMemory>
         ghost given: { Doing }
         requires is { given.command ≡ command.Deallocate task address bytes }
-        requires starts { Starts given.header given.command given.past self.old ids.now log.old.items }
-        ensures ran { OnOk result (Ran given.header given.outside given.command given.past self.new ids.now log.new.items) }
+        requires starts { Starts given.header given.host given.command given.past self.old ids.now log.old.items }
+        ensures ran { OnOk result (Ran given.header given.host given.outside given.command given.past self.new ids.now log.new.items) }
         ensures plays { OnOk result (Plays given.header given.past log.old.items (paging self.old) log.new.items (paging self.new)) }
         ensures quiet { OnOk result (Quiet self.old.waits.queue self.new.waits.queue log.old.items log.new.items) }
     {
@@ -128,8 +128,8 @@ impl Parts {
         log: &mut Events,
     ) -> Result<(), NoMemory>
         ghost given: { Given }
-        requires { Starts given.header (command.Protect task address bytes prot) given.past self.old ids.now log.old.items }
-        ensures ran { OnOk result (Ran given.header given.outside (command.Protect task address bytes prot) given.past self.new ids.now log.new.items) }
+        requires { Starts given.header given.host (command.Protect task address bytes prot) given.past self.old ids.now log.old.items }
+        ensures ran { OnOk result (Ran given.header given.host given.outside (command.Protect task address bytes prot) given.past self.new ids.now log.new.items) }
         ensures plays { OnOk result (Plays given.header given.past log.old.items (paging self.old) log.new.items (paging self.new)) }
         ensures quiet { OnOk result (Quiet self.old.waits.queue self.new.waits.queue log.old.items log.new.items) }
     {
@@ -155,8 +155,8 @@ impl Parts {
         log: &mut Events,
     ) -> Result<(), NoMemory>
         ghost given: { Given }
-        requires { Starts given.header (command.Inherit task address bytes inherit) given.past self.old ids.now log.old.items }
-        ensures ran { OnOk result (Ran given.header given.outside (command.Inherit task address bytes inherit) given.past self.new ids.now log.new.items) }
+        requires { Starts given.header given.host (command.Inherit task address bytes inherit) given.past self.old ids.now log.old.items }
+        ensures ran { OnOk result (Ran given.header given.host given.outside (command.Inherit task address bytes inherit) given.past self.new ids.now log.new.items) }
         ensures plays { OnOk result (Plays given.header given.past log.old.items (paging self.old) log.new.items (paging self.new)) }
         ensures quiet { OnOk result (Quiet self.old.waits.queue self.new.waits.queue log.old.items log.new.items) }
     {

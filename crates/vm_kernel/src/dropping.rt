@@ -6,7 +6,7 @@ ghost use Rattle.vm_resident.specs.Resident.{row_at};
 ghost use Rattle.vm_kernel.specs.Begun.{Doing, Goes, Ran, Starts};
 ghost use Rattle.vm_kernel.specs.Changes.{Lost};
 ghost use Rattle.vm_kernel.specs.Fits.{Fits};
-ghost use Rattle.vm_kernel.specs.Matches.{Rests, the_host};
+ghost use Rattle.vm_kernel.specs.Matches.{Rests, host_id};
 ghost use Rattle.vm_kernel.specs.Serving.{Reclaimed};
 ghost use Rattle.vm_kernel.specs.Taking.{EachGone};
 ghost use Rattle.vm_kernel.specs.Plays.{Plays, paging};
@@ -22,14 +22,10 @@ impl Parts {
     // Drops a page that is here.
     pub fn drop_page(&mut self, key: PageKey, log: &mut Events) -> Result<(), NoMemory>
         requires fits { Fits self.old }
-        requires there { IsSomeAnd (row_at self.old.resident key.object.0 key.page.0) (λ row. row.here ≡ true) }
+        requires there { IsSomeAnd (row_at self.old.memory.resident key.object.0 key.page.0) (λ row. row.here ≡ true) }
         ensures { OnOk result (Lost key self.old self.new log.old.items log.new.items) }
     {
-        let Some(row) = self.resident.remove(key) else {
-            unreachable!()
-        };
-        self.queues.remove(row.frame);
-        self.frames.release(row.frame);
+        self.memory.discard(key);
         log.push(Event::Dropped {
             host: self.host,
             object: key.object,
@@ -41,9 +37,9 @@ impl Parts {
     #[tactic(auto, using(crate::proofs::Playing::plays_still))]
     pub fn pageout(&mut self, ids: &Ids, count: u32, log: &mut Events) -> Result<(), NoMemory>
         ghost given: { Doing }
-        requires is { given.command ≡ command.Pageout the_host count }
-        requires starts { Starts given.header given.command given.past self.old ids.now log.old.items }
-        ensures ran { OnOk result (Ran given.header given.outside given.command given.past self.new ids.now log.new.items) }
+        requires is { given.command ≡ command.Pageout (host_id given.host) count }
+        requires starts { Starts given.header given.host given.command given.past self.old ids.now log.old.items }
+        ensures ran { OnOk result (Ran given.header given.host given.outside given.command given.past self.new ids.now log.new.items) }
         ensures plays { OnOk result (Plays given.header given.past log.old.items (paging self.old) log.new.items (paging self.new)) }
         ensures quiet { OnOk result (Quiet self.old.waits.queue self.new.waits.queue log.old.items log.new.items) }
     {
@@ -59,30 +55,19 @@ impl Parts {
     /// Reclaims one page.
     pub fn reclaim(&mut self, ids: &Ids, log: &mut Events) -> Result<Reclaim, NoMemory>
         ghost given: { Doing }
-        requires rests { Rests given.header self.old ids.now (log.old.items ++ given.past) }
-        requires may { PagesOut given.command 0 (log.old.items ++ given.past) ⊎ Starves given.header 0 (log.old.items ++ given.past) }
-        ensures rests { OnOk result (Rests given.header self.new ids.now (log.new.items ++ given.past)) }
-        ensures goes { OnOk result (Goes given.header given.outside given.command given.past log.old.items log.new.items) }
-        ensures reclaims { OnOk result (EachGone log.old.items log.new.items) }
-        ensures reclaimed { IfOk result (λ answer. Reclaimed answer self.old self.new (log.old.items ++ given.past) (log.new.items ++ given.past)) }
+        requires rests { Rests given.header given.host self.old ids.now (log.old.items ++ given.past) }
+        requires may { PagesOut given.command given.host (log.old.items ++ given.past) ⊎ Starves given.header given.host (log.old.items ++ given.past) }
+        ensures rests { OnOk result (Rests given.header given.host self.new ids.now (log.new.items ++ given.past)) }
+        ensures goes { OnOk result (Goes given.header given.host given.outside given.command given.past log.old.items log.new.items) }
+        ensures reclaims { OnOk result (EachGone given.host log.old.items log.new.items) }
+        ensures reclaimed { IfOk result (λ answer. Reclaimed given.host answer self.old self.new (log.old.items ++ given.past) (log.new.items ++ given.past)) }
         ensures plays { OnOk result (Plays given.header given.past log.old.items (paging self.old) log.new.items (paging self.new)) }
     {
         // The laundry has room for a page that is here, but may be full while none is.
-        let Some(_) = self.queues.victim(&[]) else {
+        let Some(_) = self.memory.queues.victim(&[]) else {
             return Ok(Reclaim::Nothing);
         };
-        let answer = reclaim(
-            self.alloc,
-            self.host,
-            &mut self.frames,
-            &mut self.resident,
-            &mut self.queues,
-            &mut self.objects,
-            &mut self.buffers,
-            &[],
-            &mut self.laundry,
-            log,
-        )?;
+        let answer = reclaim(self.host, &mut self.memory, &[], &mut self.laundry, log)?;
         Ok(answer)
     }
 }

@@ -17,20 +17,13 @@ ghost use Rattle.vm_kernel.specs.Faulting.{CanFault, Faulted, Faults, Hits, IsAv
 ghost use Rattle.vm_kernel.specs.Fits.{Fits};
 ghost use Rattle.vm_kernel.specs.Waiters.{IsSizedWant, access_in, address_in, want_size};
 
-use crate::framing::{clear_frame, put_number};
 use crate::parts::Parts;
 use crate::steps::{FaultStep, access_number, address_of, need_of};
-use vm_base::{Access, FrameNo, Lock, NoMemory, PageKey, PageNo, TaskId};
+use vm_base::{Access, FrameNo, NoMemory, PageKey, PageNo, TaskId};
 use vm_maps::Place;
 use vm_model::{Channel, Event, Events, Message};
 use vm_objects::PagerState;
-use vm_resident::PageRow;
 use vm_waits::Want;
-
-const UNLOCKED: Lock = Lock {
-    read: false,
-    write: false,
-};
 
 impl Parts {
     // Where an access leads that isn't refused.
@@ -77,12 +70,12 @@ impl Parts {
     ) -> Result<FaultStep, NoMemory>
         requires { CanFault self.old task.0 want }
         ensures faulted { IfOk result (λ step. Faulted task want may_claim step self.old self.new log.old.items log.new.items) }
-        ensures still { OnOk result (may_claim ≡ false → free self.new.frames ≡ free self.old.frames) }
+        ensures still { OnOk result (may_claim ≡ false → free self.new.memory.frames ≡ free self.old.memory.frames) }
     {
         let place = self.find(task, address_of(want), need_of(want));
         let key = self.key_of(place);
         let at = self.offset_of(address_of(want));
-        match self.resident.get(key) {
+        match self.memory.resident.get(key) {
             Some(row) => {
                 if !row.here {
                     return Ok(FaultStep::WaitAnswer { key });
@@ -105,25 +98,25 @@ impl Parts {
         log: &mut Events,
     ) -> Result<FaultStep, NoMemory>
         requires fits { Fits self.old }
-        requires absent { row_at self.old.resident key.object.0 key.page.0 ≡ None }
-        requires pages { key.page.0 < object_pages self.old.objects key.object.0 }
+        requires absent { row_at self.old.memory.resident key.object.0 key.page.0 ≡ None }
+        requires pages { key.page.0 < object_pages self.old.memory.objects key.object.0 }
         requires at { at ≡ address_in want % self.old.size }
         requires inside { at + want_size want ≤ self.old.size }
         requires sized { IsSizedWant want }
         ensures faults { IfOk result (λ step. Faults task want may_claim key step self.old self.new log.old.items log.new.items) }
-        ensures still { OnOk result (may_claim ≡ false → free self.new.frames ≡ free self.old.frames) }
+        ensures still { OnOk result (may_claim ≡ false → free self.new.memory.frames ≡ free self.old.memory.frames) }
     {
-        let Some(known) = self.objects.find(key.object) else {
+        let Some(known) = self.memory.objects.find(key.object) else {
             unreachable!()
         };
         if known.state == PagerState::Sent {
             return Ok(FaultStep::WaitReady { object: key.object });
         }
-        if !may_claim || self.frames.free() == 0 {
+        if !may_claim || self.memory.frames.free() == 0 {
             return Ok(FaultStep::NeedFrame);
         }
-        self.resident.reserve(1)?;
-        if known.state == PagerState::Ready && !self.objects.known_absent(key) {
+        self.memory.reserve(1)?;
+        if known.state == PagerState::Ready && !self.memory.objects.known_absent(key) {
             self.ask(want, key, known.control, log)?;
             return Ok(FaultStep::Ask { key });
         }
@@ -141,11 +134,11 @@ impl Parts {
         log: &mut Events,
     ) -> Result<(), NoMemory>
         requires fits { Fits self.old }
-        requires absent { row_at self.old.resident key.object.0 key.page.0 ≡ None }
-        requires pages { key.page.0 < object_pages self.old.objects key.object.0 }
+        requires absent { row_at self.old.memory.resident key.object.0 key.page.0 ≡ None }
+        requires pages { key.page.0 < object_pages self.old.memory.objects key.object.0 }
         requires available { IsAvailable key control self.old }
-        requires free { 0 < free self.old.frames }
-        requires room { 0 < self.old.resident.spare }
+        requires free { 0 < free self.old.memory.frames }
+        requires room { 0 < self.old.memory.resident.spare }
         ensures { OnOk result (Requested key (access_number (access_in want) 0) self.old self.new log.old.items log.new.items) }
     {
         log.push(Event::Sent {
@@ -159,18 +152,7 @@ impl Parts {
                 access: access_number(want),
             },
         })?;
-        let Some(frame) = self.frames.claim() else {
-            unreachable!()
-        };
-        let row = PageRow {
-            frame,
-            lock: UNLOCKED,
-            dirty: false,
-            precious: false,
-            here: false,
-            unlock_sent: false,
-        };
-        self.resident.insert(key, row);
+        self.memory.ask(key);
         Ok(())
     }
 
@@ -193,7 +175,7 @@ impl Parts {
         let event = match want {
             Want::Load { size, .. } => self.loaded(task, key, frame, at, size),
             Want::Store { size, value, .. } => {
-                self.write(key, frame, at, size, value);
+                self.memory.write(key, at, size, value);
                 Event::Stored {
                     task,
                     object: key.object,
@@ -204,48 +186,32 @@ impl Parts {
                 }
             }
         };
-        self.queues.touch(frame);
+        self.memory.queues.touch(frame);
         log.push(event)
     }
 
     // A load ends with the number that it finds.
     fn loaded(&self, task: TaskId, key: PageKey, frame: FrameNo, at: u32, size: u32) -> Event
-        requires claimed { is_claimed self.now.frames frame.0 ≡ true }
-        requires inside { at + size ≤ length (page_in self.now.frames frame.0) }
+        requires claimed { is_claimed self.now.memory.frames frame.0 ≡ true }
+        requires inside { at + size ≤ length (page_in self.now.memory.frames frame.0) }
         requires size { IsAccessSize size }
-        ensures { result ≡ event.Loaded task key.object key.page (little_endian (slice_range (page_in self.now.frames frame.0) at (at + size))) }
+        ensures { result ≡ event.Loaded task key.object key.page (little_endian (slice_range (page_in self.now.memory.frames frame.0) at (at + size))) }
     {
         Event::Loaded {
             task,
             object: key.object,
             page: key.page,
-            value: self.frames.bytes(frame).get(at, size),
+            value: self.memory.frames.bytes(frame).get(at, size),
         }
-    }
-
-    // Puts the number into a page that is here, which is changed by that.
-    fn write(&mut self, key: PageKey, frame: FrameNo, at: u32, size: u32, value: u64)
-        requires fits { Fits self.old }
-        requires here { IsHere key frame self.old }
-        requires inside { at + size ≤ length (page_in self.old.frames frame.0) }
-        requires size { IsAccessSize size }
-        requires value { value < 256 ^ size }
-        ensures { Wrote key frame (with_bytes at (little_endian_bytes size value) (page_in self.old.frames frame.0)) self.old self.new }
-    {
-        let Some(row) = self.resident.get(key) else {
-            unreachable!()
-        };
-        put_number(&mut self.frames, frame, at, size, value);
-        self.resident.set(key, PageRow { dirty: true, ..row });
     }
 
     // Puts a page of zeros into a free frame.
     fn bring(&mut self, key: PageKey, log: &mut Events) -> Result<FrameNo, NoMemory>
         requires fits { Fits self.old }
-        requires absent { row_at self.old.resident key.object.0 key.page.0 ≡ None }
-        requires pages { key.page.0 < object_pages self.old.objects key.object.0 }
-        requires free { 0 < free self.old.frames }
-        requires room { 0 < self.old.resident.spare }
+        requires absent { row_at self.old.memory.resident key.object.0 key.page.0 ≡ None }
+        requires pages { key.page.0 < object_pages self.old.memory.objects key.object.0 }
+        requires free { 0 < free self.old.memory.frames }
+        requires room { 0 < self.old.memory.resident.spare }
         ensures brought { IfOk result (λ frame. Brought key frame self.old self.new) }
         ensures told { OnOk result (log.new.items ≡ zeroed key self.old ∷ log.old.items) }
     {
@@ -254,20 +220,6 @@ impl Parts {
             object: key.object,
             page: key.page,
         })?;
-        let Some(frame) = self.frames.claim() else {
-            unreachable!()
-        };
-        clear_frame(&mut self.frames, frame);
-        let row = PageRow {
-            frame,
-            lock: UNLOCKED,
-            dirty: false,
-            precious: false,
-            here: true,
-            unlock_sent: false,
-        };
-        self.resident.insert(key, row);
-        self.queues.add(frame);
-        Ok(frame)
+        Ok(self.memory.bring(key))
     }
 }

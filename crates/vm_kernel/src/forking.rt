@@ -33,8 +33,8 @@ impl Parts {
         log: &mut Events,
     ) -> Result<(), NoMemory>
         ghost given: { Given }
-        requires { Starts given.header (command.Fork task child) given.past self.old ids.now log.old.items }
-        ensures ran { OnOk result (Ran given.header given.outside (command.Fork task child) given.past self.new ids.now log.new.items) }
+        requires { Starts given.header given.host (command.Fork task child) given.past self.old ids.now log.old.items }
+        ensures ran { OnOk result (Ran given.header given.host given.outside (command.Fork task child) given.past self.new ids.now log.new.items) }
         ensures plays { OnOk result (Plays given.header given.past log.old.items (paging self.old) log.new.items (paging self.new)) }
         ensures quiet { OnOk result (Quiet self.old.waits.queue self.new.waits.queue log.old.items log.new.items) }
     {

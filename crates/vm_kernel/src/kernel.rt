@@ -1,5 +1,5 @@
 // One host's kernel.
-ghost use Rattle.std.specs.Prelude.{◌≡◌, ◌≢◌, ◌++◌, ◌∷◌, [], true, is_some, IfOk};
+ghost use Rattle.std.specs.Prelude.{◌≡◌, ◌≢◌, ◌++◌, ◌∷◌, ◌<◌, [], length, true, is_some, IfOk};
 ghost use Rattle.vm_model.specs.declared.event.Event.TheVariants as event;
 ghost use Rattle.vm_model.specs.declared.message.Channel.TheVariants.{Down};
 ghost use Rattle.vm_legal.specs.Stretches.{EachOf};
@@ -12,21 +12,19 @@ ghost use Rattle.vm_kernel.specs.Built.{is_built};
 ghost use Rattle.vm_kernel.specs.Plays.{Plays, PlaysAnswer, paging};
 ghost use Rattle.vm_resident.specs.Resident.{row_at};
 ghost use Rattle.vm_supply.specs.Answers.{outcome_of};
-ghost use Rattle.vm_kernel.specs.Matches.{IsPlain, Rests, first_ids, the_host};
+ghost use Rattle.vm_kernel.specs.Matches.{IsPlain, Rests, first_ids, host_id};
 ghost use Rattle.vm_kernel.specs.Taking.{EndsAll, IsErrorPaid, IsTempAnswer};
 ghost use Rattle.vm_kernel.specs.Turns.{InTurn};
 
 use crate::parts::Parts;
 use std::alloc::Global;
 use std::marker::Model;
-use vm_base::{Buffers, HostId, NoMemory, ObjectId, TaskId};
-use vm_frames::Frames;
+use vm_base::{HostId, NoMemory, ObjectId, TaskId};
 use vm_maps::Maps;
 use vm_model::{Command, Events, Header, Message};
-use vm_objects::{ObjectRow, Objects};
+use vm_objects::ObjectRow;
 use vm_pageout::Laundry;
-use vm_queues::PageQueues;
-use vm_resident::Resident;
+use vm_parts::HostParts;
 use vm_shadow::{Chains, Ids};
 use vm_waits::Waits;
 
@@ -51,26 +49,21 @@ impl Kernel {
     /// The kernel of a host before anything has happened; all its frames are taken now.
     pub fn new(alloc: Global, host: HostId, header: &Header) -> Result<Kernel, NoMemory>
         requires plain { IsPlain header.now }
-        requires host { host ≡ the_host }
-        ensures rests { IfOk result (λ kernel. Rests header.now kernel first_ids []) }
+        requires host { host.0 < length header.now.frames.items }
+        ensures rests { IfOk result (λ kernel. Rests header.now host.0 kernel first_ids []) }
         ensures queue { IfOk result (λ kernel. queued kernel.waits.rows ≡ 0) }
-        ensures lists { IfOk result (λ kernel. (kernel.queues.active ≡ []) × (kernel.queues.inactive ≡ [])) }
+        ensures lists { IfOk result (λ kernel. (kernel.memory.queues.active ≡ []) × (kernel.memory.queues.inactive ≡ [])) }
     {
         let count = *header.frames.at(host.0);
-        let frames = Frames::new(alloc, count, header.size)?;
-        let queues = PageQueues::new(alloc, count)?;
+        let memory = HostParts::new(alloc, count, header.size)?;
         let laundry = Laundry::new(alloc, count)?;
         let parts = Parts {
             alloc,
             host,
             size: header.size,
-            frames,
-            resident: Resident::new(alloc),
-            queues,
-            objects: Objects::new(alloc),
+            memory,
             maps: Maps::new(alloc, header.size),
             chains: Chains::new(alloc),
-            buffers: Buffers::new(alloc, header.size),
             laundry,
             waits: Waits::new(alloc),
         };
@@ -83,11 +76,11 @@ impl Kernel {
     /// After `NoMemory` the kernel is used no more.
     pub fn begin(&mut self, command: &Command, ids: &mut Ids) -> Result<Events, NoMemory>
         ghost given: { Given }
-        requires starts { Starts given.header command.now given.past self.old ids.old [] }
+        requires starts { Starts given.header given.host command.now given.past self.old ids.old [] }
         requires built { is_built command.now ≡ true }
-        ensures began { IfOk result (λ events. Began given.header given.outside command.now given.past self.new ids.new events.items) }
+        ensures began { IfOk result (λ events. Began given.header given.host given.outside command.now given.past self.new ids.new events.items) }
         ensures plays { IfOk result (λ events. Plays given.header given.past [] (paging self.old) events.items (paging self.new)) }
-        ensures turns { IfOk result (λ events. InTurn given.header given.past self.old.waits self.new.waits events.items) }
+        ensures turns { IfOk result (λ events. InTurn given.header given.host given.past self.old.waits self.new.waits events.items) }
     {
         let mut log = Events::new(self.parts.alloc);
         self.parts.begin(command, ids, &mut log)?;
@@ -106,15 +99,14 @@ impl Kernel {
         ids: &mut Ids,
     ) -> Result<Events, NoMemory>
         ghost given: { Passing }
-        requires rests { Rests given.header self.old ids.old given.past }
-        requires queue { HasQueue given.header self.old given.past }
-        requires front { given.front ≡ event.Taken (Down the_host object control) message.now ∷ [] }
+        requires rests { Rests given.header given.host self.old ids.old given.past }
+        requires front { given.front ≡ event.Taken (Down (host_id given.host) object control) message.now ∷ [] }
         requires answer { IsTempAnswer given.header.size message.now }
-        ensures passed { IfOk result (λ events. Passed given.header given.outside given.command (given.front ++ given.past) self.new ids.new events.items) }
+        ensures passed { IfOk result (λ events. Passed given.header given.host given.outside given.command (given.front ++ given.past) self.new ids.new events.items) }
         ensures failed { IfOk result (λ events. IsErrorPaid given.header (events.items ++ (given.front ++ given.past))) }
-        ensures plays { IfOk result (λ events. PlaysAnswer given.header (given.front ++ given.past) object (outcome_of (object_at self.old.objects object.0) control (row_at self.old.resident object.0) message.now) (paging self.old) events.items (paging self.new)) }
-        ensures ended { IfOk result (λ events. EndsAll given.header (events.items ++ (given.front ++ given.past))) }
-        ensures turns { IfOk result (λ events. InTurn given.header (given.front ++ given.past) self.old.waits self.new.waits events.items) }
+        ensures plays { IfOk result (λ events. PlaysAnswer given.header (given.front ++ given.past) object (outcome_of (object_at self.old.memory.objects object.0) control (row_at self.old.memory.resident object.0) message.now) (paging self.old) events.items (paging self.new)) }
+        ensures ended { HasQueue given.header given.host self.old given.past → IfOk result (λ events. EndsAll given.header (events.items ++ (given.front ++ given.past))) }
+        ensures turns { IfOk result (λ events. InTurn given.header given.host (given.front ++ given.past) self.old.waits self.new.waits events.items) }
     {
         let mut log = Events::new(self.parts.alloc);
         self.parts.take(ids, object, control, message, &mut log)?;
@@ -128,12 +120,12 @@ impl Kernel {
     /// After `NoMemory` the kernel is used no more.
     pub fn laundered(&mut self, ids: &mut Ids) -> Result<Events, NoMemory>
         ghost given: { Passing }
-        requires rests { Rests given.header self.old ids.old given.past }
-        requires front { IsLaundered given.front }
+        requires rests { Rests given.header given.host self.old ids.old given.past }
+        requires front { IsLaundered given.host given.front }
         requires held { self.old.laundry.held ≢ [] }
-        ensures passed { IfOk result (λ events. Passed given.header given.outside given.command (given.front ++ given.past) self.new ids.new events.items) }
+        ensures passed { IfOk result (λ events. Passed given.header given.host given.outside given.command (given.front ++ given.past) self.new ids.new events.items) }
         ensures plays { IfOk result (λ events. Plays given.header (given.front ++ given.past) [] (paging self.old) events.items (paging self.new)) }
-        ensures turns { IfOk result (λ events. InTurn given.header (given.front ++ given.past) self.old.waits self.new.waits events.items) }
+        ensures turns { IfOk result (λ events. InTurn given.header given.host (given.front ++ given.past) self.old.waits self.new.waits events.items) }
     {
         let mut log = Events::new(self.parts.alloc);
         self.parts.launder(ids);
@@ -147,11 +139,11 @@ impl Kernel {
     /// After `NoMemory` the kernel is used no more.
     pub fn serve(&mut self, ids: &mut Ids) -> Result<Events, NoMemory>
         ghost given: { Passing }
-        requires rests { Rests given.header self.old ids.old given.past }
+        requires rests { Rests given.header given.host self.old ids.old given.past }
         requires front { EachOf IsForeign given.front }
-        ensures passed { IfOk result (λ events. Passed given.header given.outside given.command (given.front ++ given.past) self.new ids.new events.items) }
+        ensures passed { IfOk result (λ events. Passed given.header given.host given.outside given.command (given.front ++ given.past) self.new ids.new events.items) }
         ensures plays { IfOk result (λ events. Plays given.header (given.front ++ given.past) [] (paging self.old) events.items (paging self.new)) }
-        ensures turns { IfOk result (λ events. InTurn given.header (given.front ++ given.past) self.old.waits self.new.waits events.items) }
+        ensures turns { IfOk result (λ events. InTurn given.header given.host (given.front ++ given.past) self.old.waits self.new.waits events.items) }
     {
         let mut log = Events::new(self.parts.alloc);
         self.parts.go_on(ids, &mut log)?;
@@ -167,16 +159,16 @@ impl Kernel {
 
     /// The number of frames that are neither claimed nor wired.
     pub fn free(&self) -> u32
-        ensures { result ≡ free self.now.frames }
+        ensures { result ≡ free self.now.memory.frames }
     {
-        self.parts.frames.free()
+        self.parts.memory.frames.free()
     }
 
     /// The number of wired frames.
     pub fn wired(&self) -> u32
-        ensures { result ≡ self.now.frames.wired }
+        ensures { result ≡ self.now.memory.frames.wired }
     {
-        self.parts.frames.wired()
+        self.parts.memory.frames.wired()
     }
 
     /// The address maps of the host's tasks.
@@ -195,8 +187,8 @@ impl Kernel {
 
     /// What the host knows of a memory object; None where it knows nothing.
     pub fn object(&self, id: ObjectId) -> Option<ObjectRow>
-        ensures { result ≡ object_at self.now.objects id.0 }
+        ensures { result ≡ object_at self.now.memory.objects id.0 }
     {
-        self.parts.objects.find(id)
+        self.parts.memory.objects.find(id)
     }
 }

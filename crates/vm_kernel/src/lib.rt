@@ -8,7 +8,6 @@ mod counting;
 mod dropping;
 mod faults;
 mod forking;
-mod framing;
 mod kernel;
 mod parts;
 mod running;

@@ -3,7 +3,7 @@ ghost use Rattle.std.specs.Prelude.{◌≡◌, true, OnOk};
 ghost use Rattle.vm_kernel.specs.Begun.{Began, Doing, Given, Ran, Starts};
 ghost use Rattle.vm_kernel.specs.Built.{is_built};
 ghost use Rattle.vm_kernel.specs.Plays.{Plays, paging};
-ghost use Rattle.vm_kernel.specs.Turns.{InTurn, Joins};
+ghost use Rattle.vm_kernel.specs.Turns.{InTurn, Restarted};
 
 use crate::parts::Parts;
 use vm_base::NoMemory;
@@ -20,11 +20,11 @@ impl Parts {
     ) -> Result<(), NoMemory>
         ghost given: { Doing }
         requires is { given.command ≡ command.now }
-        requires starts { Starts given.header command.now given.past self.old ids.old log.old.items }
+        requires starts { Starts given.header given.host command.now given.past self.old ids.old log.old.items }
         requires built { is_built command.now ≡ true }
-        ensures began { OnOk result (Began given.header given.outside command.now given.past self.new ids.new log.new.items) }
+        ensures began { OnOk result (Began given.header given.host given.outside command.now given.past self.new ids.new log.new.items) }
         ensures plays { OnOk result (Plays given.header given.past log.old.items (paging self.old) log.new.items (paging self.new)) }
-        ensures turns { OnOk result (InTurn given.header given.past self.old.waits self.new.waits log.new.items) }
+        ensures turns { OnOk result (InTurn given.header given.host given.past self.old.waits self.new.waits log.new.items) }
     {
         self.run(command, ids, log)?;
         self.serve(ids, log)
@@ -33,11 +33,11 @@ impl Parts {
     // Runs one command.
     fn run(&mut self, command: &Command, ids: &mut Ids, log: &mut Events) -> Result<(), NoMemory>
         ghost given: { Given }
-        requires starts { Starts given.header command.now given.past self.old ids.old log.old.items }
+        requires starts { Starts given.header given.host command.now given.past self.old ids.old log.old.items }
         requires built { is_built command.now ≡ true }
-        ensures ran { OnOk result (Ran given.header given.outside command.now given.past self.new ids.new log.new.items) }
+        ensures ran { OnOk result (Ran given.header given.host given.outside command.now given.past self.new ids.new log.new.items) }
         ensures plays { OnOk result (Plays given.header given.past log.old.items (paging self.old) log.new.items (paging self.new)) }
-        ensures joins { OnOk result (Joins given.header given.past self.old.waits.queue self.new.waits.queue log.old.items log.new.items) }
+        ensures restarts { OnOk result (Restarted given.header given.host self.new.waits.rows given.past self.old.waits.queue self.new.waits.queue log.new.items) }
     {
         match command {
             Command::Task { task, .. } => self.make_task(ids, *task, log),

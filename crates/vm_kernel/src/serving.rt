@@ -3,7 +3,8 @@ ghost use Rattle.std.specs.Prelude.{◌≡◌, ◌+◌, ◌++◌, true, false, I
 ghost use Rattle.vm_frames.specs.Frames.{claimed, free};
 ghost use Rattle.vm_legal.specs.Accesses.{FindsPage, Wants};
 ghost use Rattle.vm_legal.specs.Follows.{EndsNext};
-ghost use Rattle.vm_legal.specs.Prompt.{IsFull, Prompt};
+ghost use Rattle.vm_legal.specs.Prompt.{IsFull, PromptAt};
+ghost use Rattle.vm_legal.specs.Stretches.{EachOf};
 ghost use Rattle.vm_supply.specs.declared.woken.Woken.TheVariants as woken;
 ghost use Rattle.vm_waits.specs.Waits.{entry};
 ghost use Rattle.vm_kernel.specs.Begun.{Doing, Goes};
@@ -11,7 +12,7 @@ ghost use Rattle.vm_kernel.specs.Matches.{Rests, Works};
 ghost use Rattle.vm_kernel.specs.Serving.{Attempts, HasQueue, IsServed, RunsFirst};
 ghost use Rattle.vm_kernel.specs.Plays.{Plays, paging};
 ghost use Rattle.vm_kernel.specs.Taking.{EachGone};
-ghost use Rattle.vm_kernel.specs.Turns.{Joins, Leaves, RunsOnce};
+ghost use Rattle.vm_kernel.specs.Turns.{KeepsOthers, Leaves, Restarted, RunsNone, RunsOnce};
 
 use crate::parts::Parts;
 use crate::steps::FaultStep;
@@ -31,14 +32,13 @@ impl Parts {
         log: &mut Events,
     ) -> Result<bool, NoMemory>
         ghost given: { Doing }
-        requires works { Works given.header self.old ids.now woken.Nobody (log.old.items ++ given.past) }
+        requires works { Works given.header given.host self.old ids.now woken.Nobody (log.old.items ++ given.past) }
         requires waits { entry self.old.waits.rows waiting.task.0 ≡ Some waiting }
-        ensures works { OnOk result (Works given.header self.new ids.now woken.Nobody (log.new.items ++ given.past)) }
-        ensures goes { OnOk result (Goes given.header given.outside given.command given.past log.old.items log.new.items) }
+        ensures works { OnOk result (Works given.header given.host self.new ids.now woken.Nobody (log.new.items ++ given.past)) }
+        ensures goes { OnOk result (Goes given.header given.host given.outside given.command given.past log.old.items log.new.items) }
         ensures ends { OnOk result (FindsPage given.header waiting.task.0 (log.old.items ++ given.past) → EndsNext waiting.task.0 log.old.items log.new.items) }
-        ensures attempts { IfOk result (λ needs. Attempts given.header waiting may_claim needs self.old self.new (log.old.items ++ given.past) (log.new.items ++ given.past)) }
+        ensures attempts { IfOk result (λ needs. Attempts given.header given.host waiting may_claim needs self.old self.new (log.old.items ++ given.past) (log.new.items ++ given.past)) }
         ensures plays { OnOk result (Plays given.header given.past log.old.items (paging self.old) log.new.items (paging self.new)) }
-        ensures still { OnOk result (may_claim ≡ false → free self.new.frames ≡ free self.old.frames) }
         ensures once { IfOk result (λ wants. RunsOnce waiting may_claim wants self.old.waits self.new.waits log.old.items log.new.items) }
     {
         let on = match self.fault(waiting.task, waiting.want, may_claim, log)? {
@@ -63,12 +63,12 @@ impl Parts {
     #[tactic(auto, using(crate::proofs::Playing::plays_still))]
     pub fn restart(&mut self, ids: &Ids, log: &mut Events) -> Result<(), NoMemory>
         ghost given: { Doing }
-        requires works { Works given.header self.old ids.now woken.Nobody (log.old.items ++ given.past) }
-        ensures rests { OnOk result (Rests given.header self.new ids.now (log.new.items ++ given.past)) }
-        ensures goes { OnOk result (Goes given.header given.outside given.command given.past log.old.items log.new.items) }
+        requires works { Works given.header given.host self.old ids.now woken.Nobody (log.old.items ++ given.past) }
+        ensures rests { OnOk result (Rests given.header given.host self.new ids.now (log.new.items ++ given.past)) }
+        ensures goes { OnOk result (Goes given.header given.host given.outside given.command given.past log.old.items log.new.items) }
         ensures first { OnOk result (RunsFirst given.header self.old.waits.rows given.past log.old.items log.new.items) }
         ensures plays { OnOk result (Plays given.header given.past log.old.items (paging self.old) log.new.items (paging self.new)) }
-        ensures joins { OnOk result (Joins given.header given.past self.old.waits.queue self.new.waits.queue log.old.items log.new.items) }
+        ensures restarts { OnOk result (EachOf RunsNone log.old.items → Restarted given.header given.host self.new.waits.rows given.past self.old.waits.queue self.new.waits.queue log.new.items) }
     {
         'again: while let Some(waiting) = self.waits.next_again() {
             let may_claim = !self.waits.has_queue();
@@ -81,12 +81,13 @@ impl Parts {
     #[tactic(auto, using(crate::proofs::Playing::plays_still))]
     pub fn serve(&mut self, ids: &Ids, log: &mut Events) -> Result<(), NoMemory>
         ghost given: { Doing }
-        requires rests { Rests given.header self.old ids.now (log.old.items ++ given.past) }
-        ensures rests { OnOk result (Rests given.header self.new ids.now (log.new.items ++ given.past)) }
-        ensures goes { OnOk result (Goes given.header given.outside given.command given.past log.old.items log.new.items) }
-        ensures served { OnOk result (IsServed given.header self.new (log.new.items ++ given.past)) }
+        requires rests { Rests given.header given.host self.old ids.now (log.old.items ++ given.past) }
+        ensures rests { OnOk result (Rests given.header given.host self.new ids.now (log.new.items ++ given.past)) }
+        ensures goes { OnOk result (Goes given.header given.host given.outside given.command given.past log.old.items log.new.items) }
+        ensures served { OnOk result (IsServed given.header given.host self.new (log.new.items ++ given.past)) }
         ensures plays { OnOk result (Plays given.header given.past log.old.items (paging self.old) log.new.items (paging self.new)) }
         ensures leaves { OnOk result (Leaves self.old.waits.queue self.new.waits log.old.items log.new.items) }
+        ensures others { OnOk result (KeepsOthers self.old.waits.queue self.old.waits.rows self.new.waits.rows) }
     {
         'serve: while let Some(waiting) = self.waits.front() {
             if self.attempt(ids, waiting, true, log)? && self.stops(ids, log)? {
@@ -100,15 +101,15 @@ impl Parts {
     #[tactic(auto, using(crate::proofs::Playing::plays_still))]
     fn stops(&mut self, ids: &Ids, log: &mut Events) -> Result<bool, NoMemory>
         ghost given: { Doing }
-        requires rests { Rests given.header self.old ids.now (log.old.items ++ given.past) }
-        requires wants { Wants given.header 0 (log.old.items ++ given.past) }
-        requires none { free self.old.frames ≡ 0 }
-        ensures rests { OnOk result (Rests given.header self.new ids.now (log.new.items ++ given.past)) }
-        ensures goes { OnOk result (Goes given.header given.outside given.command given.past log.old.items log.new.items) }
+        requires rests { Rests given.header given.host self.old ids.now (log.old.items ++ given.past) }
+        requires wants { Wants given.header given.host (log.old.items ++ given.past) }
+        requires none { free self.old.memory.frames ≡ 0 }
+        ensures rests { OnOk result (Rests given.header given.host self.new ids.now (log.new.items ++ given.past)) }
+        ensures goes { OnOk result (Goes given.header given.host given.outside given.command given.past log.old.items log.new.items) }
         ensures waits { OnOk result (self.new.waits ≡ self.old.waits) }
-        ensures reclaims { OnOk result (EachGone log.old.items log.new.items) }
-        ensures freed { IfOk result (λ stops. stops ≡ false → claimed self.old.frames ≡ claimed self.new.frames + 1) }
-        ensures full { IfOk result (λ stops. stops ≡ true → IsFull given.header 0 (log.new.items ++ given.past)) }
+        ensures reclaims { OnOk result (EachGone given.host log.old.items log.new.items) }
+        ensures freed { IfOk result (λ stops. stops ≡ false → claimed self.old.memory.frames ≡ claimed self.new.memory.frames + 1) }
+        ensures full { IfOk result (λ stops. stops ≡ true → IsFull given.header given.host (log.new.items ++ given.past)) }
         ensures plays { OnOk result (Plays given.header given.past log.old.items (paging self.old) log.new.items (paging self.new)) }
     {
         if !self.laundry.is_empty() {
@@ -123,13 +124,14 @@ impl Parts {
     /// Serves the frame queue at the end of a step that no command of this host began.
     pub fn go_on(&mut self, ids: &Ids, log: &mut Events) -> Result<(), NoMemory>
         ghost given: { Doing }
-        requires rests { Rests given.header self.old ids.now (log.old.items ++ given.past) }
-        ensures rests { OnOk result (Rests given.header self.new ids.now (log.new.items ++ given.past)) }
-        ensures goes { OnOk result (Goes given.header given.outside given.command given.past log.old.items log.new.items) }
-        ensures queue { OnOk result (HasQueue given.header self.new (log.new.items ++ given.past)) }
-        ensures prompt { OnOk result (Prompt given.header (log.new.items ++ given.past)) }
+        requires rests { Rests given.header given.host self.old ids.now (log.old.items ++ given.past) }
+        ensures rests { OnOk result (Rests given.header given.host self.new ids.now (log.new.items ++ given.past)) }
+        ensures goes { OnOk result (Goes given.header given.host given.outside given.command given.past log.old.items log.new.items) }
+        ensures queue { OnOk result (HasQueue given.header given.host self.new (log.new.items ++ given.past)) }
+        ensures prompt { OnOk result (PromptAt given.header given.host (log.new.items ++ given.past)) }
         ensures plays { OnOk result (Plays given.header given.past log.old.items (paging self.old) log.new.items (paging self.new)) }
         ensures leaves { OnOk result (Leaves self.old.waits.queue self.new.waits log.old.items log.new.items) }
+        ensures others { OnOk result (KeepsOthers self.old.waits.queue self.old.waits.rows self.new.waits.rows) }
     {
         self.serve(ids, log)
     }

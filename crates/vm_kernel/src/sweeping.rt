@@ -19,8 +19,8 @@ impl Parts {
     #[tactic(auto, using(crate::proofs::Playing::plays_both, crate::proofs::Playing::plays_still))]
     pub fn sweep(&mut self, ids: &Ids, gone: &Entries, log: &mut Events) -> Result<(), NoMemory>
         ghost given: { Doing }
-        requires { Sweeps given.header given.outside given.command given.past self.old ids.now (by_address gone.now) log.old.items }
-        ensures sweeps { OnOk result (Sweeps given.header given.outside given.command given.past self.new ids.now [] log.new.items) }
+        requires { Sweeps given.header given.host given.outside given.command given.past self.old ids.now (by_address gone.now) log.old.items }
+        ensures sweeps { OnOk result (Sweeps given.header given.host given.outside given.command given.past self.new ids.now [] log.new.items) }
         ensures plays { OnOk result (Plays given.header given.past log.old.items (paging self.old) log.new.items (paging self.new)) }
         ensures quiet { OnOk result (Quiet self.old.waits.queue self.new.waits.queue log.old.items log.new.items) }
     {
@@ -42,8 +42,8 @@ impl Parts {
         ghost given: { Releasing }
         requires inside { i < length gone.now.items }
         requires rest { given.rest ≡ drop (i + 1) (by_address gone.now) }
-        requires sweeps { Sweeps given.header given.outside given.command given.past self.old ids.now (drop i (by_address gone.now)) log.old.items }
-        ensures sweeps { OnOk result (Sweeps given.header given.outside given.command given.past self.new ids.now given.rest log.new.items) }
+        requires sweeps { Sweeps given.header given.host given.outside given.command given.past self.old ids.now (drop i (by_address gone.now)) log.old.items }
+        ensures sweeps { OnOk result (Sweeps given.header given.host given.outside given.command given.past self.new ids.now given.rest log.new.items) }
         ensures plays { OnOk result (Plays given.header given.past log.old.items (paging self.old) log.new.items (paging self.new)) }
         ensures quiet { OnOk result (Quiet self.old.waits.queue self.new.waits.queue log.old.items log.new.items) }
     {
@@ -59,14 +59,14 @@ impl Parts {
     // Drops the pages of a region without entries, and ends it.
     fn end_region(&mut self, ids: &Ids, region: RegionId, log: &mut Events) -> Result<(), NoMemory>
         ghost given: { Releasing }
-        requires { Ends given.header given.outside given.command given.past self.old ids.now given.rest region.0 log.old.items }
-        ensures sweeps { OnOk result (Sweeps given.header given.outside given.command given.past self.new ids.now given.rest log.new.items) }
+        requires { Ends given.header given.host given.outside given.command given.past self.old ids.now given.rest region.0 log.old.items }
+        ensures sweeps { OnOk result (Sweeps given.header given.host given.outside given.command given.past self.new ids.now given.rest log.new.items) }
         ensures plays { OnOk result (Plays given.header given.past log.old.items (paging self.old) log.new.items (paging self.new)) }
         ensures quiet { OnOk result (Quiet self.old.waits.queue self.new.waits.queue log.old.items log.new.items) }
     {
         self.drop_pages(ids, ObjectId(region.0), log)?;
         let object = self.chains.drop_region(region);
-        let _ = self.objects.unrefer(object);
+        let _ = self.memory.objects.unrefer(object);
         self.end_object(ids, object, log)
     }
 
@@ -74,18 +74,18 @@ impl Parts {
     #[tactic(auto, using(crate::proofs::Playing::plays_still))]
     fn end_object(&mut self, ids: &Ids, object: ObjectId, log: &mut Events) -> Result<(), NoMemory>
         ghost given: { Releasing }
-        requires { Strands given.header given.outside given.command given.past self.old ids.now given.rest object.0 log.old.items }
-        ensures sweeps { OnOk result (Sweeps given.header given.outside given.command given.past self.new ids.now given.rest log.new.items) }
+        requires { Strands given.header given.host given.outside given.command given.past self.old ids.now given.rest object.0 log.old.items }
+        ensures sweeps { OnOk result (Sweeps given.header given.host given.outside given.command given.past self.new ids.now given.rest log.new.items) }
         ensures plays { OnOk result (Plays given.header given.past log.old.items (paging self.old) log.new.items (paging self.new)) }
         ensures quiet { OnOk result (Quiet self.old.waits.queue self.new.waits.queue log.old.items log.new.items) }
     {
-        let Some(row) = self.objects.find(object) else {
+        let Some(row) = self.memory.objects.find(object) else {
             unreachable!()
         };
         if !row.live {
             return Ok(());
         }
-        self.objects.end_control(object);
+        self.memory.objects.end_control(object);
         log.push(Event::Sent {
             channel: Channel::Up {
                 host: self.host,
@@ -101,13 +101,13 @@ impl Parts {
     #[tactic(auto, using(crate::proofs::Playing::plays_still))]
     fn drop_pages(&mut self, ids: &Ids, object: ObjectId, log: &mut Events) -> Result<(), NoMemory>
         ghost given: { Releasing }
-        requires { Ends given.header given.outside given.command given.past self.old ids.now given.rest object.0 log.old.items }
-        ensures ends { OnOk result (Ends given.header given.outside given.command given.past self.new ids.now given.rest object.0 log.new.items) }
+        requires { Ends given.header given.host given.outside given.command given.past self.old ids.now given.rest object.0 log.old.items }
+        ensures ends { OnOk result (Ends given.header given.host given.outside given.command given.past self.new ids.now given.rest object.0 log.new.items) }
         ensures plays { OnOk result (Plays given.header given.past log.old.items (paging self.old) log.new.items (paging self.new)) }
-        ensures gone { OnOk result ((p : ℕ) → row_at self.new.resident object.0 p ≡ None) }
+        ensures gone { OnOk result ((p : ℕ) → row_at self.new.memory.resident object.0 p ≡ None) }
         ensures quiet { OnOk result (Quiet self.old.waits.queue self.new.waits.queue log.old.items log.new.items) }
     {
-        'pages: while let Some(page) = self.resident.next_page(object, PageNo(0)) {
+        'pages: while let Some(page) = self.memory.resident.next_page(object, PageNo(0)) {
             self.drop_page(PageKey { object, page }, log)?;
         }
         Ok(())

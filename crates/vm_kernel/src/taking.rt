@@ -4,13 +4,13 @@ ghost use Rattle.vm_model.specs.declared.event.Event.TheVariants as event;
 ghost use Rattle.vm_model.specs.declared.message.Channel.TheVariants.{Down};
 ghost use Rattle.vm_supply.specs.declared.woken.Woken.TheVariants as who;
 ghost use Rattle.vm_kernel.specs.Begun.{Doing, Goes, IsLaundered, Passing};
-ghost use Rattle.vm_kernel.specs.Matches.{Rests, Works, the_host};
+ghost use Rattle.vm_kernel.specs.Matches.{Rests, Works, host_id};
 ghost use Rattle.vm_kernel.specs.Taking.{EndsEach, EndsNobody, FailsNow, HasAsker, HasEnded, HasFailed, IsAnswered, IsErrorPaid, IsTempAnswer};
 ghost use Rattle.vm_objects.specs.Objects.{object_at};
 ghost use Rattle.vm_resident.specs.Resident.{row_at};
 ghost use Rattle.vm_supply.specs.Answers.{outcome_of};
 ghost use Rattle.vm_kernel.specs.Plays.{AnswerBrings, Plays, PlaysAnswer, paging};
-ghost use Rattle.vm_kernel.specs.Turns.{Joins, Quiet};
+ghost use Rattle.vm_kernel.specs.Turns.{Quiet, Restarted};
 
 use crate::parts::Parts;
 use vm_base::{NoMemory, ObjectId, PageKey};
@@ -29,32 +29,20 @@ impl Parts {
         log: &mut Events,
     ) -> Result<Woken, NoMemory>
         ghost given: { Passing }
-        requires rests { Rests given.header self.old ids.now given.past }
-        requires front { given.front ≡ event.Taken (Down the_host object control) message.now ∷ [] }
+        requires rests { Rests given.header given.host self.old ids.now given.past }
+        requires front { given.front ≡ event.Taken (Down (host_id given.host) object control) message.now ∷ [] }
         requires answer { IsTempAnswer self.old.size message.now }
         requires nothing { log.old.items ≡ [] }
-        ensures works { IfOk result (λ woken. Works given.header self.new ids.now woken (given.front ++ given.past)) }
-        ensures fails { IfOk result (λ woken. FailsNow given.header woken (given.front ++ given.past)) }
+        ensures works { IfOk result (λ woken. Works given.header given.host self.new ids.now woken (given.front ++ given.past)) }
+        ensures fails { IfOk result (λ woken. FailsNow given.header given.host woken (given.front ++ given.past)) }
         ensures fresh { IfOk result (λ woken. EndsNobody woken (given.front ++ given.past)) }
         ensures asker { IfOk result (λ woken. HasAsker woken self.new.waits.rows) }
-        ensures answered { IfOk result (λ woken. IsAnswered woken self.new.resident) }
+        ensures answered { IfOk result (λ woken. IsAnswered woken self.new.memory.resident) }
         ensures waits { OnOk result (self.new.waits ≡ self.old.waits) }
         ensures nothing { OnOk result (log.new.items ≡ []) }
-        ensures brings { OnOk result (AnswerBrings object (outcome_of (object_at self.old.objects object.0) control (row_at self.old.resident object.0) message.now) (paging self.old) (paging self.new)) }
+        ensures brings { OnOk result (AnswerBrings object (outcome_of (object_at self.old.memory.objects object.0) control (row_at self.old.memory.resident object.0) message.now) (paging self.old) (paging self.new)) }
     {
-        let woken = answer(
-            self.alloc,
-            self.host,
-            object,
-            control,
-            message,
-            &mut self.frames,
-            &mut self.resident,
-            &mut self.queues,
-            &mut self.objects,
-            &mut self.buffers,
-            log,
-        )?;
+        let woken = answer(self.host, object, control, message, &mut self.memory, log)?;
         Ok(woken)
     }
 
@@ -62,13 +50,13 @@ impl Parts {
     #[tactic(auto, using(crate::proofs::Playing::plays_still))]
     fn wake(&mut self, ids: &Ids, woken: Woken, log: &mut Events) -> Result<(), NoMemory>
         ghost given: { Doing }
-        requires works { Works given.header self.old ids.now woken (log.old.items ++ given.past) }
-        requires fails { FailsNow given.header woken (log.old.items ++ given.past) }
+        requires works { Works given.header given.host self.old ids.now woken (log.old.items ++ given.past) }
+        requires fails { FailsNow given.header given.host woken (log.old.items ++ given.past) }
         requires fresh { EndsNobody woken (log.old.items ++ given.past) }
         requires asker { HasAsker woken self.old.waits.rows }
-        requires answered { IsAnswered woken self.old.resident }
-        ensures works { OnOk result (Works given.header self.new ids.now who.Nobody (log.new.items ++ given.past)) }
-        ensures goes { OnOk result (Goes given.header given.outside given.command given.past log.old.items log.new.items) }
+        requires answered { IsAnswered woken self.old.memory.resident }
+        ensures works { OnOk result (Works given.header given.host self.new ids.now who.Nobody (log.new.items ++ given.past)) }
+        ensures goes { OnOk result (Goes given.header given.host given.outside given.command given.past log.old.items log.new.items) }
         ensures failed { OnOk result (HasFailed woken (log.new.items ++ given.past)) }
         ensures plays { OnOk result (Plays given.header given.past log.old.items (paging self.old) log.new.items (paging self.new)) }
         ensures ended { OnOk result (HasEnded woken self.old.waits.rows (log.new.items ++ given.past)) }
@@ -92,13 +80,13 @@ impl Parts {
     #[tactic(auto, using(crate::proofs::Playing::plays_still))]
     fn fail(&mut self, ids: &Ids, key: PageKey, log: &mut Events) -> Result<(), NoMemory>
         ghost given: { Doing }
-        requires works { Works given.header self.old ids.now (who.Fails key) (log.old.items ++ given.past) }
-        requires fails { FailsNow given.header (who.Fails key) (log.old.items ++ given.past) }
+        requires works { Works given.header given.host self.old ids.now (who.Fails key) (log.old.items ++ given.past) }
+        requires fails { FailsNow given.header given.host (who.Fails key) (log.old.items ++ given.past) }
         requires fresh { EndsNobody (who.Fails key) (log.old.items ++ given.past) }
         requires asker { HasAsker (who.Fails key) self.old.waits.rows }
-        requires answered { IsAnswered (who.Fails key) self.old.resident }
-        ensures works { OnOk result (Works given.header self.new ids.now who.Nobody (log.new.items ++ given.past)) }
-        ensures goes { OnOk result (Goes given.header given.outside given.command given.past log.old.items log.new.items) }
+        requires answered { IsAnswered (who.Fails key) self.old.memory.resident }
+        ensures works { OnOk result (Works given.header given.host self.new ids.now who.Nobody (log.new.items ++ given.past)) }
+        ensures goes { OnOk result (Goes given.header given.host given.outside given.command given.past log.old.items log.new.items) }
         ensures failed { OnOk result (HasFailed (who.Fails key) (log.new.items ++ given.past)) }
         ensures plays { OnOk result (Plays given.header given.past log.old.items (paging self.old) log.new.items (paging self.new)) }
         ensures ended { OnOk result (HasEnded (who.Fails key) self.old.waits.rows (log.new.items ++ given.past)) }
@@ -125,16 +113,16 @@ impl Parts {
         log: &mut Events,
     ) -> Result<(), NoMemory>
         ghost given: { Passing }
-        requires rests { Rests given.header self.old ids.now given.past }
-        requires front { given.front ≡ event.Taken (Down the_host object control) message.now ∷ [] }
+        requires rests { Rests given.header given.host self.old ids.now given.past }
+        requires front { given.front ≡ event.Taken (Down (host_id given.host) object control) message.now ∷ [] }
         requires answer { IsTempAnswer self.old.size message.now }
         requires nothing { log.old.items ≡ [] }
-        ensures rests { OnOk result (Rests given.header self.new ids.now (log.new.items ++ (given.front ++ given.past))) }
-        ensures goes { OnOk result (Goes given.header given.outside given.command (given.front ++ given.past) [] log.new.items) }
+        ensures rests { OnOk result (Rests given.header given.host self.new ids.now (log.new.items ++ (given.front ++ given.past))) }
+        ensures goes { OnOk result (Goes given.header given.host given.outside given.command (given.front ++ given.past) [] log.new.items) }
         ensures failed { OnOk result (IsErrorPaid given.header (log.new.items ++ (given.front ++ given.past))) }
-        ensures plays { OnOk result (PlaysAnswer given.header (given.front ++ given.past) object (outcome_of (object_at self.old.objects object.0) control (row_at self.old.resident object.0) message.now) (paging self.old) log.new.items (paging self.new)) }
+        ensures plays { OnOk result (PlaysAnswer given.header (given.front ++ given.past) object (outcome_of (object_at self.old.memory.objects object.0) control (row_at self.old.memory.resident object.0) message.now) (paging self.old) log.new.items (paging self.new)) }
         ensures ended { OnOk result (EndsEach given.header self.old.waits.rows (log.new.items ++ (given.front ++ given.past))) }
-        ensures joins { OnOk result (Joins given.header (given.front ++ given.past) self.old.waits.queue self.new.waits.queue log.old.items log.new.items) }
+        ensures restarts { OnOk result (Restarted given.header given.host self.new.waits.rows (given.front ++ given.past) self.old.waits.queue self.new.waits.queue log.new.items) }
     {
         let woken = self.hear(ids, object, control, message, log)?;
         self.wake(ids, woken, log)?;
@@ -144,16 +132,16 @@ impl Parts {
     // The frame of the oldest return is free.
     pub fn launder(&mut self, ids: &Ids)
         ghost given: { Passing }
-        requires rests { Rests given.header self.old ids.now given.past }
-        requires front { IsLaundered given.front }
+        requires rests { Rests given.header given.host self.old ids.now given.past }
+        requires front { IsLaundered given.host given.front }
         requires held { self.old.laundry.held ≢ [] }
-        ensures rests { Rests given.header self.new ids.now (given.front ++ given.past) }
+        ensures rests { Rests given.header given.host self.new ids.now (given.front ++ given.past) }
         ensures same { paging self.new ≡ paging self.old }
         ensures waits { self.new.waits ≡ self.old.waits }
     {
         let Some(frame) = self.laundry.first() else {
             unreachable!()
         };
-        self.frames.release(frame);
+        self.memory.release(frame);
     }
 }

@@ -9,4 +9,4 @@ returns-clause-plays g c = called_plays c.self.view_is c.new-log.ensures (plays_
 
 pub returns-clause-turns : goal.returns-clause-turns
 returns-clause-turns g c =
-    turns_served g.given.header (g.given.front ++ g.given.past) c.args.self.now.waits c.launder.new.self.waits c.go_on.new.self.waits c.new-log.result.items c.go_on.new.log.items (c.launder.ensures.waits ∙ ap (λ (z : Parts). z.waits) c.self.view_is) c.new-log.ensures c.in_ok-go_on.ensures.leaves
+    turns_served g.given.header g.given.host (g.given.front ++ g.given.past) c.args.self.now.waits c.launder.new.self.waits c.go_on.new.self.waits c.new-log.result.items c.go_on.new.log.items (c.launder.ensures.waits ∙ ap (λ (z : Parts). z.waits) c.self.view_is) c.new-log.ensures c.in_ok-go_on.ensures.leaves

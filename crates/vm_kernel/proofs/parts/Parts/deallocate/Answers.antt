@@ -67,16 +67,16 @@ sweep-requires g c =
     let now = c.args.self.now in
     let mid : Parts = record now { maps = c.remove.new.self; chains = c.raise-2.new.chains } in
     let gone = by_address c.in_ok-gone.gone in
-    let starts = subst (λ (z : Command). Starts g.given.header z g.given.past now c.args.ids.now c.args.log.now.items) c.requires.0 c.requires.1 in
-    let sweeps = sweeps_removed g.given.header g.given.outside c.args.task c.args.address c.args.bytes g.given.past c.args.log.now.items now c.args.ids.now c.remove.new.self c.lower.new.chains c.raise.new.chains c.raise-2.new.chains c.removal.result _ _ gone
+    let starts = subst (λ (z : Command). Starts g.given.header g.given.host z g.given.past now c.args.ids.now c.args.log.now.items) c.requires.0 c.requires.1 in
+    let sweeps = sweeps_removed g.given.header g.given.host g.given.outside c.args.task c.args.address c.args.bytes g.given.past c.args.log.now.items now c.args.ids.now c.remove.new.self c.lower.new.chains c.raise.new.chains c.raise-2.new.chains c.removal.result _ _ gone
     starts c.removal.ensures c.in_ok-gone.ensures.changes c.in_ok-gone.ensures.taken c.entries.ensures.value c.entries-2.ensures.value c.entries-2.ensures.sound.few c.lower.ensures c.raise.ensures c.raise-2.ensures in
-    subst (λ (z : Command). Sweeps g.given.header g.given.outside z g.given.past mid c.args.ids.now gone c.push.new.self.items) (sym c.requires.0)
-    (subst (λ (z : List Event). Sweeps g.given.header g.given.outside (command.Deallocate c.args.task c.args.address c.args.bytes) g.given.past mid c.args.ids.now gone z) (sym (c.in_ok-push.ensures.ok ∙ ap (λ z. event.Removed c.args.task c.args.address c.args.bytes ∷ z) starts.nothing)) sweeps)
+    subst (λ (z : Command). Sweeps g.given.header g.given.host g.given.outside z g.given.past mid c.args.ids.now gone c.push.new.self.items) (sym c.requires.0)
+    (subst (λ (z : List Event). Sweeps g.given.header g.given.host g.given.outside (command.Deallocate c.args.task c.args.address c.args.bytes) g.given.past mid c.args.ids.now gone z) (sym (c.in_ok-push.ensures.ok ∙ ap (λ z. event.Removed c.args.task c.args.address c.args.bytes ∷ z) starts.nothing)) sweeps)
 
 pub returns-clause-ran : goal.returns-clause-ran
 returns-clause-ran g c =
     on_ok c.sweep.result _ _
-    (λ is. ran_swept g.given.header g.given.outside g.given.command g.given.past c.sweep.new.log.items c.sweep.new.self c.args.ids.now is
+    (λ is. ran_swept g.given.header g.given.host g.given.outside g.given.command g.given.past c.sweep.new.log.items c.sweep.new.self c.args.ids.now is
     (subst (λ (z : Command). IsDone g.given.header z c.sweep.new.log.items g.given.past) (sym c.requires.0) tt))
     c.sweep.ensures.sweeps
 

@@ -1,5 +1,8 @@
-use Rattle.std.proofs.Common.{◌≡◌, ◌∙◌, sym, true, Some}
+use Rattle.std.proofs.Common.{◌≡◌, true}
+use Rattle.vm_parts.specs.Changes.{Discards}
+use Rattle.vm_parts.proofs.Rows.{of_found, row_of}
 use Rattle.vm_resident.specs.Resident.{row_at}
+use Rattle.vm_resident.specs.declared.page_row.PageRow.{PageRow}
 use Rattle.vm_kernel.proofs.Brings.{lost}
 use Rattle.vm_kernel.proofs.Growing.{on_ok}
 use Rattle.vm_kernel.proofs.parts.Parts.drop_page.Goals as goal
@@ -7,9 +10,9 @@ use Rattle.vm_kernel.proofs.parts.Parts.drop_page.Goals as goal
 pub returns : goal.returns
 returns c =
     let k = c.args.self.now in
-    let found : row_at k.resident c.args.key.object.0 c.args.key.page.0 ≡ Some c.in-Some.row = sym c.remove.ensures.value ∙ c.in-Some.is in
-    let here : c.in-Some.row.here ≡ true = rw found at c.requires.there in
-    on_ok c.push.result _ _
-    (λ told. lost k c.release.new.self c.remove.new.self c.remove-2.new.self c.args.key c.in-Some.row c.args.log.now.items c.push.new.self.items c.requires.fits found here c.release.ensures c.in-Some.ensures.rows
-    (rw c.in-Some.is at c.remove.ensures.frames c.requires.fits.parts.owned) (c.remove.ensures.owned c.requires.fits.parts.owned) c.remove-2.ensures.pages c.remove-2.ensures.queues told)
-    c.push.ensures.ok
+    let key = c.args.key in
+    let found = row_at k.memory.resident key.object.0 key.page.0 in
+    let it = row_of found (λ (row : PageRow). row.here ≡ true) c.requires.there in
+    let done = c.discard.ensures in
+    let page = of_found found it.0 (λ (row : PageRow). Discards key row k.memory c.discard.new.self) it.1 done.discards in
+    on_ok c.push.result _ _ (λ told. lost k c.discard.new.self key it.0 c.args.log.now.items c.push.new.self.items c.requires.fits it.2 done.fit page done.objects done.buffers told) c.push.ensures.ok

@@ -18,16 +18,16 @@ pages-preserved g c =
           quiet_both c.args.self.now.waits.queue c.pages.self.waits.queue c.drop_page.new.self.waits.queue c.args.log.now.items c.pages.log.items c.drop_page.new.log.items was.quiet
           (quiet_more c.pages.self.waits.queue c.drop_page.new.self.waits.queue c.pages.log.items c.drop_page.new.log.items _ (ap (λ z. z.queue) lost.plan.waits) lost.told tt);
       ends =
-          ends_lost g.given.header g.given.outside g.given.command g.given.past c.pages.self c.drop_page.new.self c.args.ids.now g.given.rest c.args.object.0 key c.pages.log.items c.drop_page.new.log.items
+          ends_lost g.given.header g.given.host g.given.outside g.given.command g.given.past c.pages.self c.drop_page.new.self c.args.ids.now g.given.rest c.args.object.0 key c.pages.log.items c.drop_page.new.log.items
           was.ends refl (λ q low. c.in-Some.ensures.first q (omega arith) low) lost;
       plays =
           plays_both was.plays
-          (lost_plays g.given.header g.given.outside g.given.command g.given.past c.pages.self c.drop_page.new.self c.args.ids.now g.given.rest c.args.object.0 key c.pages.log.items c.drop_page.new.log.items was.ends refl lost);
+          (lost_plays g.given.header g.given.host g.given.outside g.given.command g.given.past c.pages.self c.drop_page.new.self c.args.ids.now g.given.rest c.args.object.0 key c.pages.log.items c.drop_page.new.log.items was.ends refl lost);
     }
 
 pub drop_page-requires-clause-there : goal.drop_page-requires-clause-there
 drop_page-requires-clause-there g c =
-    all_here g.given.header g.given.outside g.given.command g.given.past c.pages.self c.args.ids.now g.given.rest c.args.object.0 c.pages.log.items c.in-Some.page.0 c.pages.invariant.ends c.in-Some.ensures.there
+    all_here g.given.header g.given.host g.given.outside g.given.command g.given.past c.pages.self c.args.ids.now g.given.rest c.args.object.0 c.pages.log.items c.in-Some.page.0 c.pages.invariant.ends c.in-Some.ensures.there
 
 pub pages-init : goal.pages-init
 pages-init g c = record { ends = c.requires; quiet = quiet_none c.args.self.now.waits.queue c.args.log.now.items; plays = Still }

@@ -10,9 +10,9 @@ use Rattle.vm_kernel.proofs.parts.Parts.end_object.Goals as goal
 pub returns-clause-sweeps : goal.returns-clause-sweeps
 returns-clause-sweeps g c =
     let k = c.args.self.now in
-    let found : object_at k.objects c.args.object.0 ≡ Some c.in-Some.row = sym c.find.ensures ∙ c.in-Some.is in
+    let found : object_at k.memory.objects c.args.object.0 ≡ Some c.in-Some.row = sym c.find.ensures ∙ c.in-Some.is in
     on_ok c.push.result _ _
-    (λ told. sweeps_told g.given.header g.given.outside g.given.command g.given.past k c.args.ids.now g.given.rest c.args.object c.args.log.now.items c.push.new.self.items c.in-Some.row c.end_control.new.self c.requires found (not-false c.in-Some.row.live c.if-not-row.false)
+    (λ told. sweeps_told g.given.header g.given.host g.given.outside g.given.command g.given.past k c.args.ids.now g.given.rest c.args.object c.args.log.now.items c.push.new.self.items c.in-Some.row c.end_control.new.self c.requires found (not-false c.in-Some.row.live c.if-not-row.false)
     (rw found at c.end_control.ensures.object) c.end_control.ensures.marks told)
     c.push.ensures.ok
 

@@ -18,15 +18,15 @@ sweep-requires g c =
     let now = c.args.self.now in
     let mid : Parts = record now { maps = c.end_task-gone.new.self } in
     let gone = by_address c.end_task-gone.result in
-    let starts = subst (λ (z : Command). Starts g.given.header z g.given.past now c.args.ids.now c.args.log.now.items) c.requires.0 c.requires.1 in
-    let sweeps = sweeps_exit g.given.header g.given.outside c.args.task g.given.past c.args.log.now.items now c.args.ids.now c.end_task-gone.new.self gone starts c.end_task-gone.ensures.entries c.end_task-gone.ensures.ended in
-    subst (λ (z : Command). Sweeps g.given.header g.given.outside z g.given.past mid c.args.ids.now gone c.push.new.self.items) (sym c.requires.0)
-    (subst (λ (z : List Event). Sweeps g.given.header g.given.outside (command.Exit c.args.task) g.given.past mid c.args.ids.now gone z) (sym (c.in_ok-push.ensures.ok ∙ ap (λ z. event.TaskEnded c.args.task ∷ z) starts.nothing)) sweeps)
+    let starts = subst (λ (z : Command). Starts g.given.header g.given.host z g.given.past now c.args.ids.now c.args.log.now.items) c.requires.0 c.requires.1 in
+    let sweeps = sweeps_exit g.given.header g.given.host g.given.outside c.args.task g.given.past c.args.log.now.items now c.args.ids.now c.end_task-gone.new.self gone starts c.end_task-gone.ensures.entries c.end_task-gone.ensures.ended in
+    subst (λ (z : Command). Sweeps g.given.header g.given.host g.given.outside z g.given.past mid c.args.ids.now gone c.push.new.self.items) (sym c.requires.0)
+    (subst (λ (z : List Event). Sweeps g.given.header g.given.host g.given.outside (command.Exit c.args.task) g.given.past mid c.args.ids.now gone z) (sym (c.in_ok-push.ensures.ok ∙ ap (λ z. event.TaskEnded c.args.task ∷ z) starts.nothing)) sweeps)
 
 pub returns-clause-ran : goal.returns-clause-ran
 returns-clause-ran g c =
     on_ok c.sweep.result _ _
-    (λ is. ran_swept g.given.header g.given.outside g.given.command g.given.past c.sweep.new.log.items c.sweep.new.self c.args.ids.now is
+    (λ is. ran_swept g.given.header g.given.host g.given.outside g.given.command g.given.past c.sweep.new.log.items c.sweep.new.self c.args.ids.now is
     (subst (λ (z : Command). IsDone g.given.header z c.sweep.new.log.items g.given.past) (sym c.requires.0) tt))
     c.sweep.ensures.sweeps
 

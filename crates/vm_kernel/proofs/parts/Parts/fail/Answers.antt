@@ -6,7 +6,8 @@ use Rattle.vm_kernel.specs.Plays.{Still, paging}
 use Rattle.vm_kernel.proofs.Playing.{plays_both, plays_one}
 use Rattle.vm_kernel.proofs.Failing.{EndsOr, Failing, before_none, ends_all, ends_or, failed_one, since_now}
 use Rattle.vm_kernel.proofs.Ordering.{without_keeps}
-use Rattle.vm_kernel.proofs.Turning.{page_other, quiet_both, quiet_none, quiet_unlisted}
+use Rattle.vm_kernel.proofs.Turning.{quiet_both, quiet_none, quiet_unlisted}
+use Rattle.vm_waits.proofs.Tables.{page_frame}
 use Rattle.vm_kernel.proofs.parts.Parts.fail.Goals as goal
 
 pub all-init : goal.all-init
@@ -30,10 +31,10 @@ all-preserved g c =
     let w = c.in-Some.waiting in
     let was = c.all.invariant in
     let one =
-    failed_one g.given.header g.given.outside g.given.command g.given.past c.args.log.now.items c.all.log.items key c.all.self c.args.ids.now w c.remove.new.self
+    failed_one g.given.header g.given.host g.given.outside g.given.command g.given.past c.args.log.now.items c.all.log.items key c.all.self c.args.ids.now w c.remove.new.self
     (record { works = was.works; fails = was.fails; answered = was.answered; before = was.before; goes = was.goes }) c.in-Some.ensures.row.0 c.in-Some.ensures.row.1 (sym c.in-Some.ensures.oldest)
     (record { entry = c.remove.ensures.entry; order = without_keeps w.task.0 c.all.self.waits.rows c.remove.new.self.rows c.remove.ensures.rows }) in
-    let now = subst (λ (z : List Event). Failing g.given.header g.given.outside g.given.command g.given.past c.args.log.now.items z key (record c.all.self { waits = c.remove.new.self }) c.args.ids.now) (sym c.in_ok-push.ensures.ok) one in
+    let now = subst (λ (z : List Event). Failing g.given.header g.given.host g.given.outside g.given.command g.given.past c.args.log.now.items z key (record c.all.self { waits = c.remove.new.self }) c.args.ids.now) (sym c.in_ok-push.ensures.ok) one in
     record {
       works = now.works;
       fails = now.fails;
@@ -50,7 +51,7 @@ all-preserved g c =
           (since_now key w.task (c.all.log.items ++ g.given.past)));
       quiet =
           quiet_both c.args.self.now.waits.queue c.all.self.waits.queue c.remove.new.self.queue c.args.log.now.items c.all.log.items c.push.new.self.items was.quiet
-          (quiet_unlisted c.all.self.waits.rows c.all.self.waits.queue c.remove.new.self.queue w c.all.log.items c.push.new.self.items _ c.next_on.ensures.line c.in-Some.ensures.row.0 (page_other key w.on c.in-Some.ensures.row.1) c.remove.ensures.queue c.in_ok-push.ensures.ok tt);
+          (quiet_unlisted c.all.self.waits.rows c.all.self.waits.queue c.remove.new.self.queue w c.all.log.items c.push.new.self.items _ c.next_on.ensures.line c.in-Some.ensures.row.0 (page_frame key w.on c.in-Some.ensures.row.1) c.remove.ensures.queue c.in_ok-push.ensures.ok tt);
     }
 
 pub returns-clause-ended : goal.returns-clause-ended

@@ -12,11 +12,11 @@ use Rattle.vm_kernel.proofs.parts.Parts.fail.Given as goal
 
 abbrev pub invariant-all : goal.invariant-all
 invariant-all g l = record {
-  works : Works g.given.header l.self l.ids (woken.Fails l.key) (l.log.items ++ g.given.past);
-  fails : FailsNow g.given.header (woken.Fails l.key) (l.log.items ++ g.given.past);
-  answered : IsAnswered (woken.Fails l.key) l.self.resident;
+  works : Works g.given.header g.given.host l.self l.ids (woken.Fails l.key) (l.log.items ++ g.given.past);
+  fails : FailsNow g.given.header g.given.host (woken.Fails l.key) (l.log.items ++ g.given.past);
+  answered : IsAnswered (woken.Fails l.key) l.self.memory.resident;
   before : EndsBefore l.key l.self.waits.rows (l.log.items ++ g.given.past);
-  goes : Goes g.given.header g.given.outside g.given.command g.given.past l.fn.log.items l.log.items;
+  goes : Goes g.given.header g.given.host g.given.outside g.given.command g.given.past l.fn.log.items l.log.items;
   plays : Plays g.given.header g.given.past l.fn.log.items (paging l.fn.self) l.log.items (paging l.self);
   each : EndsOr l.key l.fn.self.waits.rows l.self.waits.rows (l.log.items ++ g.given.past);
   some : (since (fails_access l.key.object.0 l.key.page.0) (l.log.items ++ g.given.past) ≡ true) ⊎ Asker l.self.waits.rows l.key.object.0 l.key.page.0;

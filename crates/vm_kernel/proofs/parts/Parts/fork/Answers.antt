@@ -13,7 +13,7 @@ pub all-init : goal.all-init
 all-init g c =
     record {
       quiet = quiet_more c.args.self.now.waits.queue c.args.self.now.waits.queue c.args.log.now.items c.push.new.self.items _ refl c.in_ok-push.ensures.ok tt;
-      forked = fork_start g.given.header g.given.outside c.args.task c.args.child g.given.past c.args.self.now c.args.ids.now c.args.log.now.items _ c.add_task.new.self c.requires c.in_ok-add_task.ensures.ok c.in_ok-push.ensures.ok;
+      forked = fork_start g.given.header g.given.host g.given.outside c.args.task c.args.child g.given.past c.args.self.now c.args.ids.now c.args.log.now.items _ c.add_task.new.self c.requires c.in_ok-add_task.ensures.ok c.in_ok-push.ensures.ok;
       plays = plays_told c.in_ok-push.ensures.ok refl;
     }
 
@@ -27,7 +27,7 @@ share-requires g c =
     let same = same_rows _ _ _ c.entries-in-all.ensures.value f.others in
     let sound = subst (AreEntries c.all.self.maps.size) same c.entries-in-all.ensures.sound in
     let found = subst (λ (z : List Entry). slice_get z c.all.i ≡ Some c.at-entry.result.now) same c.at-entry.ensures in
-    can_share g.given.header g.given.outside c.args.task c.args.child rows c.all.i c.at-entry.result.now g.given.past c.all.self c.args.ids.now c.all.log.items f sound found
+    can_share g.given.header g.given.host g.given.outside c.args.task c.args.child rows c.all.i c.at-entry.result.now g.given.past c.all.self c.args.ids.now c.all.log.items f sound found
 
 pub all-preserved : goal.all-preserved
 all-preserved g c =
@@ -43,23 +43,23 @@ all-preserved g c =
             quiet =
                 quiet_both c.args.self.now.waits.queue c.all.self.waits.queue w.share.new.self.waits.queue c.args.log.now.items c.all.log.items w.share.new.log.items c.all.invariant.quiet
                 (quiet_more c.all.self.waits.queue w.share.new.self.waits.queue c.all.log.items w.share.new.log.items _ (ap (λ z. z.queue) w.in_ok-share.ensures.waits) w.in_ok-share.ensures.told tt);
-            forked = fork_shared g.given.header g.given.outside c.args.task c.args.child rows c.all.i c.at-entry.result.now g.given.past c.all.self _ c.args.ids.now c.all.log.items _ f sound found (sym c.is_shared.ensures ∙ w.if-is_shared.true) w.in_ok-share.ensures;
-            plays = plays_both c.all.invariant.plays (plays_told w.in_ok-share.ensures.told (lists_same c.all.self w.share.new.self w.in_ok-share.ensures.resident w.in_ok-share.ensures.queues));
+            forked = fork_shared g.given.header g.given.host g.given.outside c.args.task c.args.child rows c.all.i c.at-entry.result.now g.given.past c.all.self _ c.args.ids.now c.all.log.items _ f sound found (sym c.is_shared.ensures ∙ w.if-is_shared.true) w.in_ok-share.ensures;
+            plays = plays_both c.all.invariant.plays (plays_told w.in_ok-share.ensures.told (lists_same c.all.self w.share.new.self (ap (λ z. z.resident) w.in_ok-share.ensures.memory) (ap (λ z. z.queues) w.in_ok-share.ensures.memory)));
           })
       | else-is_shared w ↦
           rw (w.self-is, w.log-is)
           (record {
             quiet = c.all.invariant.quiet;
-            forked = fork_other g.given.header g.given.outside c.args.task c.args.child rows c.all.i c.at-entry.result.now g.given.past c.all.self c.args.ids.now c.all.log.items f found (sym c.is_shared.ensures ∙ w.if-is_shared.false);
+            forked = fork_other g.given.header g.given.host g.given.outside c.args.task c.args.child rows c.all.i c.at-entry.result.now g.given.past c.all.self c.args.ids.now c.all.log.items f found (sym c.is_shared.ensures ∙ w.if-is_shared.false);
             plays = c.all.invariant.plays;
           })
     ]
 
 pub returns-clause-ran : goal.returns-clause-ran
 returns-clause-ran g c =
-    let may = may_fork g.given.header c.args.task c.args.child g.given.past c.args.self.now c.args.ids.now c.args.log.now.items c.requires in
+    let may = may_fork g.given.header g.given.host c.args.task c.args.child g.given.past c.args.self.now c.args.ids.now c.args.log.now.items c.requires in
     let same = same_rows _ _ _ c.entries.ensures.value (c.in_ok-add_task.ensures.ok.others c.args.task.0 c.all.invariant.forked.apart ∙ may.lives) in
-    ran_fork g.given.header g.given.outside c.args.task c.args.child c.all.i g.given.past c.args.self.now c.all.self c.args.ids.now c.args.log.now.items c.all.log.items c.requires c.all.invariant.forked
+    ran_fork g.given.header g.given.host g.given.outside c.args.task c.args.child c.all.i g.given.past c.args.self.now c.all.self c.args.ids.now c.args.log.now.items c.all.log.items c.requires c.all.invariant.forked
     (omega (arith, ap length same, length-reverse c.entries.result.now.items, c.len-i-end.ensures, c.all-test.false))
 
 pub returns-clause-quiet : goal.returns-clause-quiet

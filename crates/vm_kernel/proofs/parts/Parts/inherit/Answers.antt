@@ -42,9 +42,9 @@ raise-requires-clause-few g c =
 pub returns-clause-ran : goal.returns-clause-ran
 returns-clause-ran g c =
     on_ok c.push.result _ _
-    (λ is. subst (λ (z : List Event). Ran g.given.header g.given.outside (command.Inherit c.args.task c.args.address c.args.bytes c.args.inherit) g.given.past (record c.args.self.now { maps = c.inherit.new.self; chains = c.raise.new.chains }) c.args.ids.now z)
+    (λ is. subst (λ (z : List Event). Ran g.given.header g.given.host g.given.outside (command.Inherit c.args.task c.args.address c.args.bytes c.args.inherit) g.given.past (record c.args.self.now { maps = c.inherit.new.self; chains = c.raise.new.chains }) c.args.ids.now z)
     (sym (is ∙ ap (λ z. event.Inherited c.args.task c.args.address c.args.bytes c.args.inherit ∷ z) c.requires.nothing))
-    (ran_inherit g.given.header g.given.outside c.args.task c.args.address c.args.bytes c.args.inherit g.given.past _ c.args.self.now c.args.ids.now c.inherit.new.self c.lower.new.chains c.raise.new.chains c.inheritance.result _ _
+    (ran_inherit g.given.header g.given.host g.given.outside c.args.task c.args.address c.args.bytes c.args.inherit g.given.past _ c.args.self.now c.args.ids.now c.inherit.new.self c.lower.new.chains c.raise.new.chains c.inheritance.result _ _
     c.requires c.inheritance.ensures c.in_ok-inherit.ensures.changes c.entries.ensures.value c.entries-2.ensures.value c.entries-2.ensures.sound.few c.lower.ensures c.raise.ensures))
     c.push.ensures.ok
 

@@ -8,7 +8,7 @@ use Rattle.vm_kernel.proofs.parts.Parts.pageout.Goals as goal
 pub pages-init : goal.pages-init
 pages-init g c =
     record {
-      reclaiming = reclaiming_start g.given.header g.given.outside g.given.command c.args.count g.given.past c.args.self.now c.args.ids.now c.args.log.now.items c.requires.0 c.requires.1;
+      reclaiming = reclaiming_start g.given.header g.given.host g.given.outside g.given.command c.args.count g.given.past c.args.self.now c.args.ids.now c.args.log.now.items c.requires.0 c.requires.1;
       plays = Still;
       quiet = quiet_none c.args.self.now.waits.queue c.args.log.now.items;
     }
@@ -19,11 +19,11 @@ returns-in-Nothing g c =
     let all = c.in_ok-reclaim.ensures in
     record {
       ran =
-          ran_out g.given.header g.given.outside g.given.command c.args.count c.pages.counter g.given.past c.pages.self c.reclaim.new.self c.args.ids.now c.in_ok-reclaim.field-0 c.pages.log.items c.reclaim.new.log.items was.reclaiming all.rests all.goes all.reclaims all.reclaimed c.in-Nothing.is;
+          ran_out g.given.header g.given.host g.given.outside g.given.command c.args.count c.pages.counter g.given.past c.pages.self c.reclaim.new.self c.args.ids.now c.in_ok-reclaim.field-0 c.pages.log.items c.reclaim.new.log.items was.reclaiming all.rests all.goes all.reclaims all.reclaimed c.in-Nothing.is;
       plays = plays_both was.plays all.plays;
       quiet =
           quiet_both c.args.self.now.waits.queue c.pages.self.waits.queue c.reclaim.new.self.waits.queue c.args.log.now.items c.pages.log.items c.reclaim.new.log.items was.quiet
-          (quiet_gone c.pages.self.waits c.reclaim.new.self.waits c.pages.log.items c.reclaim.new.log.items all.reclaimed.waits all.reclaims);
+          (quiet_gone g.given.host c.pages.self.waits c.reclaim.new.self.waits c.pages.log.items c.reclaim.new.log.items all.reclaimed.waits all.reclaims);
     }
 
 pub pages-preserved : goal.pages-preserved
@@ -32,18 +32,18 @@ pages-preserved g c =
     let all = c.in_ok-reclaim.ensures in
     record {
       reclaiming =
-          reclaiming_more g.given.header g.given.outside g.given.command c.args.count c.pages.counter g.given.past c.pages.self c.reclaim.new.self c.args.ids.now c.in_ok-reclaim.field-0 c.pages.log.items c.reclaim.new.log.items was.reclaiming all.rests all.goes all.reclaims all.reclaimed c.in-Freed.is;
+          reclaiming_more g.given.header g.given.host g.given.outside g.given.command c.args.count c.pages.counter g.given.past c.pages.self c.reclaim.new.self c.args.ids.now c.in_ok-reclaim.field-0 c.pages.log.items c.reclaim.new.log.items was.reclaiming all.rests all.goes all.reclaims all.reclaimed c.in-Freed.is;
       plays = plays_both was.plays all.plays;
       quiet =
           quiet_both c.args.self.now.waits.queue c.pages.self.waits.queue c.reclaim.new.self.waits.queue c.args.log.now.items c.pages.log.items c.reclaim.new.log.items was.quiet
-          (quiet_gone c.pages.self.waits c.reclaim.new.self.waits c.pages.log.items c.reclaim.new.log.items all.reclaimed.waits all.reclaims);
+          (quiet_gone g.given.host c.pages.self.waits c.reclaim.new.self.waits c.pages.log.items c.reclaim.new.log.items all.reclaimed.waits all.reclaims);
     }
 
 pub returns-clause-ran : goal.returns-clause-ran
 returns-clause-ran g c =
     let all : c.pages.counter ≡ c.args.count = omega arith in
-    paged_out g.given.header g.given.outside g.given.command c.args.count g.given.past c.pages.self c.args.ids.now c.pages.log.items
-    (subst (λ (n : ℕ). Reclaiming g.given.header g.given.outside g.given.command c.args.count n g.given.past c.pages.self c.args.ids.now c.pages.log.items) all c.pages.invariant.reclaiming)
+    paged_out g.given.header g.given.host g.given.outside g.given.command c.args.count g.given.past c.pages.self c.args.ids.now c.pages.log.items
+    (subst (λ (n : ℕ). Reclaiming g.given.header g.given.host g.given.outside g.given.command c.args.count n g.given.past c.pages.self c.args.ids.now c.pages.log.items) all c.pages.invariant.reclaiming)
 
 pub returns-clause-quiet : goal.returns-clause-quiet
 returns-clause-quiet g c = c.pages.invariant.quiet

@@ -8,7 +8,7 @@ ghost-reclaim g a = g.given
 
 abbrev pub invariant-pages : goal.invariant-pages
 invariant-pages g l = record {
-  reclaiming : Reclaiming g.given.header g.given.outside g.given.command l.count l.counter g.given.past l.self l.ids l.log.items;
+  reclaiming : Reclaiming g.given.header g.given.host g.given.outside g.given.command l.count l.counter g.given.past l.self l.ids l.log.items;
   plays : Plays g.given.header g.given.past l.fn.log.items (paging l.fn.self) l.log.items (paging l.self);
   quiet : Quiet l.fn.self.waits.queue l.self.waits.queue l.fn.log.items l.log.items;
 }

@@ -42,9 +42,9 @@ raise-requires-clause-few g c =
 pub returns-clause-ran : goal.returns-clause-ran
 returns-clause-ran g c =
     on_ok c.push.result _ _
-    (λ is. subst (λ (z : List Event). Ran g.given.header g.given.outside (command.Protect c.args.task c.args.address c.args.bytes c.args.prot) g.given.past (record c.args.self.now { maps = c.protect.new.self; chains = c.raise.new.chains }) c.args.ids.now z)
+    (λ is. subst (λ (z : List Event). Ran g.given.header g.given.host g.given.outside (command.Protect c.args.task c.args.address c.args.bytes c.args.prot) g.given.past (record c.args.self.now { maps = c.protect.new.self; chains = c.raise.new.chains }) c.args.ids.now z)
     (sym (is ∙ ap (λ z. event.Protected c.args.task c.args.address c.args.bytes c.args.prot ∷ z) c.requires.nothing))
-    (ran_protect g.given.header g.given.outside c.args.task c.args.address c.args.bytes c.args.prot g.given.past _ c.args.self.now c.args.ids.now c.protect.new.self c.lower.new.chains c.raise.new.chains c.protection.result _ _
+    (ran_protect g.given.header g.given.host g.given.outside c.args.task c.args.address c.args.bytes c.args.prot g.given.past _ c.args.self.now c.args.ids.now c.protect.new.self c.lower.new.chains c.raise.new.chains c.protection.result _ _
     c.requires c.protection.ensures c.in_ok-protect.ensures.changes c.entries.ensures.value c.entries-2.ensures.value c.entries-2.ensures.sound.few c.lower.ensures c.raise.ensures))
     c.push.ensures.ok
 

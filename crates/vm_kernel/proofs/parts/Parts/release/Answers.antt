@@ -8,32 +8,32 @@ use Rattle.vm_kernel.proofs.parts.Parts.release.Goals as goal
 pub overflow_sub-count : goal.overflow_sub-count
 overflow_sub-count g c =
     let now = c.args.self.now in
-    let sweeps = sweeps_next g.given.header g.given.outside g.given.command g.given.past now c.args.ids.now (by_address c.args.gone.now) g.given.rest c.args.i c.at.result.now c.args.log.now.items c.at.ensures c.requires.1.0 c.requires.1.1 in
-    let some = some_left g.given.header g.given.outside g.given.command g.given.past now c.args.ids.now c.at.result.now g.given.rest c.args.log.now.items sweeps in
+    let sweeps = sweeps_next g.given.header g.given.host g.given.outside g.given.command g.given.past now c.args.ids.now (by_address c.args.gone.now) g.given.rest c.args.i c.at.result.now c.args.log.now.items c.at.ensures c.requires.1.0 c.requires.1.1 in
+    let some = some_left g.given.header g.given.host g.given.outside g.given.command g.given.past now c.args.ids.now c.at.result.now g.given.rest c.args.log.now.items sweeps in
     let count = c.count_of-count.ensures in
     omega arith
 
 pub set_count-requires : goal.set_count-requires
 set_count-requires g c =
     let now = c.args.self.now in
-    let sweeps = sweeps_next g.given.header g.given.outside g.given.command g.given.past now c.args.ids.now (by_address c.args.gone.now) g.given.rest c.args.i c.at.result.now c.args.log.now.items c.at.ensures c.requires.1.0 c.requires.1.1 in
+    let sweeps = sweeps_next g.given.header g.given.host g.given.outside g.given.command g.given.past now c.args.ids.now (by_address c.args.gone.now) g.given.rest c.args.i c.at.result.now c.args.log.now.items c.at.ensures c.requires.1.0 c.requires.1.1 in
     sweeps.runs.matches.entries.known.0
 
 pub end_region-requires : goal.end_region-requires
 end_region-requires g c =
     let now = c.args.self.now in
     let entry = c.at.result.now in
-    let sweeps = sweeps_next g.given.header g.given.outside g.given.command g.given.past now c.args.ids.now (by_address c.args.gone.now) g.given.rest c.args.i entry c.args.log.now.items c.at.ensures c.requires.1.0 c.requires.1.1 in
+    let sweeps = sweeps_next g.given.header g.given.host g.given.outside g.given.command g.given.past now c.args.ids.now (by_address c.args.gone.now) g.given.rest c.args.i entry c.args.log.now.items c.at.ensures c.requires.1.0 c.requires.1.1 in
     let put = subst (λ (z : ℕ). PutsEntries entry.region.0 (z - 1) now.chains c.set_count.new.chains) c.count_of-count.ensures c.set_count.ensures in
-    ends_less g.given.header g.given.outside g.given.command g.given.past now c.args.ids.now entry g.given.rest c.args.log.now.items c.set_count.new.chains sweeps put (sym c.count_of-count.ensures ∙ c.if-count-eq1.true)
+    ends_less g.given.header g.given.host g.given.outside g.given.command g.given.past now c.args.ids.now entry g.given.rest c.args.log.now.items c.set_count.new.chains sweeps put (sym c.count_of-count.ensures ∙ c.if-count-eq1.true)
 
 pub returns-else-count-eq1-clause-sweeps : goal.returns-else-count-eq1-clause-sweeps
 returns-else-count-eq1-clause-sweeps g c =
     let now = c.args.self.now in
     let entry = c.at.result.now in
-    let sweeps = sweeps_next g.given.header g.given.outside g.given.command g.given.past now c.args.ids.now (by_address c.args.gone.now) g.given.rest c.args.i entry c.args.log.now.items c.at.ensures c.requires.1.0 c.requires.1.1 in
+    let sweeps = sweeps_next g.given.header g.given.host g.given.outside g.given.command g.given.past now c.args.ids.now (by_address c.args.gone.now) g.given.rest c.args.i entry c.args.log.now.items c.at.ensures c.requires.1.0 c.requires.1.1 in
     let put = subst (λ (z : ℕ). PutsEntries entry.region.0 (z - 1) now.chains c.set_count.new.chains) c.count_of-count.ensures c.set_count.ensures in
-    sweeps_less g.given.header g.given.outside g.given.command g.given.past now c.args.ids.now entry g.given.rest c.args.log.now.items c.set_count.new.chains sweeps put (λ one. c.if-count-eq1.false (c.count_of-count.ensures ∙ one))
+    sweeps_less g.given.header g.given.host g.given.outside g.given.command g.given.past now c.args.ids.now entry g.given.rest c.args.log.now.items c.set_count.new.chains sweeps put (λ one. c.if-count-eq1.false (c.count_of-count.ensures ∙ one))
 
 pub returns-else-count-eq1-clause-plays : goal.returns-else-count-eq1-clause-plays
 returns-else-count-eq1-clause-plays g c = Still

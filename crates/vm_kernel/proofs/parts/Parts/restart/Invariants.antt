@@ -3,8 +3,10 @@ use Rattle.vm_kernel.specs.Plays.{Plays, paging}
 use Rattle.vm_legal.specs.Accesses.{FindsPage}
 use Rattle.vm_kernel.specs.Matches.{Works}
 use Rattle.vm_kernel.specs.Serving.{IsNext}
-use Rattle.vm_kernel.specs.Turns.{Joins}
+use Rattle.vm_kernel.specs.Turns.{RunsNone}
 use Rattle.vm_kernel.proofs.Finding.{FirstOf}
+use Rattle.vm_kernel.proofs.Turning.{Restarting}
+use Rattle.vm_legal.specs.Stretches.{EachOf}
 use Rattle.std.proofs.Common.{◌++◌, ℕ}
 use Rattle.vm_supply.specs.declared.woken.Woken.TheVariants as woken
 use Rattle.vm_waits.specs.Waits.{again}
@@ -15,11 +17,11 @@ ghost-attempt g a = g.given
 
 abbrev pub invariant-again : goal.invariant-again
 invariant-again g l = record {
-  works : Works g.given.header l.self l.ids woken.Nobody (l.log.items ++ g.given.past);
-  goes : Goes g.given.header g.given.outside g.given.command g.given.past l.fn.log.items l.log.items;
+  works : Works g.given.header g.given.host l.self l.ids woken.Nobody (l.log.items ++ g.given.past);
+  goes : Goes g.given.header g.given.host g.given.outside g.given.command g.given.past l.fn.log.items l.log.items;
   plays : Plays g.given.header g.given.past l.fn.log.items (paging l.fn.self) l.log.items (paging l.self);
   first : (task : ℕ) → IsNext task l.fn.self.waits.rows → FindsPage g.given.header task (l.fn.log.items ++ g.given.past) → FirstOf task l.fn.self.waits.rows l.self.waits.rows l.fn.log.items l.log.items;
-  joins : Joins g.given.header g.given.past l.fn.self.waits.queue l.self.waits.queue l.fn.log.items l.log.items;
+  restarts : EachOf RunsNone l.fn.log.items → Restarting g.given.header g.given.host g.given.past l.fn.self.waits.queue l.self.waits l.log.items;
 }
 
 abbrev pub decreases-again : goal.decreases-again

@@ -1,4 +1,4 @@
-use Rattle.vm_kernel.specs.Matches.{the_host}
+use Rattle.vm_kernel.specs.Matches.{host_id}
 use Rattle.vm_model.specs.declared.command.Command.TheVariants as command
 use Rattle.vm_kernel.proofs.parts.Parts.run.Given as goal
 
@@ -24,16 +24,16 @@ abbrev pub ghost-unwire : goal.ghost-unwire
 ghost-unwire g a = g.given
 
 abbrev pub ghost-exit : goal.ghost-exit
-ghost-exit g a = record { header = g.given.header; outside = g.given.outside; past = g.given.past; command = command.Exit a.task }
+ghost-exit g a = record { header = g.given.header; host = g.given.host; outside = g.given.outside; past = g.given.past; command = command.Exit a.task }
 
 abbrev pub ghost-deallocate : goal.ghost-deallocate
-ghost-deallocate g a = record { header = g.given.header; outside = g.given.outside; past = g.given.past; command = command.Deallocate a.task a.address a.bytes }
+ghost-deallocate g a = record { header = g.given.header; host = g.given.host; outside = g.given.outside; past = g.given.past; command = command.Deallocate a.task a.address a.bytes }
 
 abbrev pub ghost-load : goal.ghost-load
-ghost-load g a = record { header = g.given.header; outside = g.given.outside; past = g.given.past; command = command.Load a.task a.address a.size }
+ghost-load g a = record { header = g.given.header; host = g.given.host; outside = g.given.outside; past = g.given.past; command = command.Load a.task a.address a.size }
 
 abbrev pub ghost-store : goal.ghost-store
-ghost-store g a = record { header = g.given.header; outside = g.given.outside; past = g.given.past; command = command.Store a.task a.address a.size a.value }
+ghost-store g a = record { header = g.given.header; host = g.given.host; outside = g.given.outside; past = g.given.past; command = command.Store a.task a.address a.size a.value }
 
 abbrev pub ghost-pageout : goal.ghost-pageout
-ghost-pageout g a = record { header = g.given.header; outside = g.given.outside; past = g.given.past; command = command.Pageout the_host a.count }
+ghost-pageout g a = record { header = g.given.header; host = g.given.host; outside = g.given.outside; past = g.given.past; command = command.Pageout (host_id g.given.host) a.count }

@@ -3,6 +3,7 @@ use Rattle.std.proofs.Common.{◌+◌, ◌*◌, ◌++◌}
 use Rattle.vm_frames.specs.Frames.{claimed, frame_count}
 use Rattle.vm_kernel.specs.Begun.{Goes}
 use Rattle.vm_kernel.specs.Matches.{Rests}
+use Rattle.vm_kernel.specs.Turns.{KeepsOthers}
 use Rattle.vm_waits.specs.Waits.{queued}
 use Rattle.vm_kernel.proofs.Turning.{Serving}
 use Rattle.vm_kernel.proofs.parts.Parts.serve.Given as goal
@@ -15,11 +16,12 @@ ghost-stops g a = g.given
 
 abbrev pub invariant-serve : goal.invariant-serve
 invariant-serve g l = record {
-  rests : Rests g.given.header l.self l.ids (l.log.items ++ g.given.past);
-  goes : Goes g.given.header g.given.outside g.given.command g.given.past l.fn.log.items l.log.items;
+  rests : Rests g.given.header g.given.host l.self l.ids (l.log.items ++ g.given.past);
+  goes : Goes g.given.header g.given.host g.given.outside g.given.command g.given.past l.fn.log.items l.log.items;
   plays : Plays g.given.header g.given.past l.fn.log.items (paging l.fn.self) l.log.items (paging l.self);
+  others : KeepsOthers l.fn.self.waits.queue l.fn.self.waits.rows l.self.waits.rows;
   serving : Serving l.fn.self.waits l.self.waits l.fn.log.items l.log.items;
 }
 
 abbrev pub decreases-serve : goal.decreases-serve
-decreases-serve g l = queued l.self.waits.rows * (frame_count l.self.frames + 1) + claimed l.self.frames
+decreases-serve g l = queued l.self.waits.rows * (frame_count l.self.memory.frames + 1) + claimed l.self.memory.frames

@@ -6,11 +6,11 @@ use Rattle.vm_kernel.specs.Turns.{Quiet}
 use Rattle.vm_kernel.proofs.parts.Parts.sweep.Given as goal
 
 abbrev pub ghost-release : goal.ghost-release
-ghost-release g a = record { header = g.given.header; outside = g.given.outside; past = g.given.past; command = g.given.command; rest = drop (a.i + 1) (by_address a.gone.now) }
+ghost-release g a = record { header = g.given.header; host = g.given.host; outside = g.given.outside; past = g.given.past; command = g.given.command; rest = drop (a.i + 1) (by_address a.gone.now) }
 
 abbrev pub invariant-all : goal.invariant-all
 invariant-all g l = record {
-  sweeps : Sweeps g.given.header g.given.outside g.given.command g.given.past l.self l.ids (drop l.i (by_address l.gone)) l.log.items;
+  sweeps : Sweeps g.given.header g.given.host g.given.outside g.given.command g.given.past l.self l.ids (drop l.i (by_address l.gone)) l.log.items;
   plays : Plays g.given.header g.given.past l.fn.log.items (paging l.fn.self) l.log.items (paging l.self);
   quiet : Quiet l.fn.self.waits.queue l.self.waits.queue l.fn.log.items l.log.items;
 }

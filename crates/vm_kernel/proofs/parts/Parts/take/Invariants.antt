@@ -5,7 +5,7 @@ abbrev pub ghost-hear : goal.ghost-hear
 ghost-hear g a = g.given
 
 abbrev pub ghost-wake : goal.ghost-wake
-ghost-wake g a = record { header = g.given.header; outside = g.given.outside; past = g.given.front ++ g.given.past; command = g.given.command }
+ghost-wake g a = record { header = g.given.header; host = g.given.host; outside = g.given.outside; past = g.given.front ++ g.given.past; command = g.given.command }
 
 abbrev pub ghost-restart : goal.ghost-restart
-ghost-restart g a = record { header = g.given.header; outside = g.given.outside; past = g.given.front ++ g.given.past; command = g.given.command }
+ghost-restart g a = record { header = g.given.header; host = g.given.host; outside = g.given.outside; past = g.given.front ++ g.given.past; command = g.given.command }
