@@ -20,14 +20,13 @@ use Rattle.vm_model.specs.declared.message.Channel.TheVariants.{Up, Down}
 use Rattle.vm_model.specs.declared.message.Message.{Message}
 use Rattle.vm_model.specs.declared.message.Message.TheVariants as message
 use Rattle.vm_model.specs.declared.script.Header.{Header}
-use Rattle.vm_legal.specs.Bytes.{CopiesCurrent, OwnBytes}
+use Rattle.vm_legal.specs.Bytes.{OwnBytes}
 use Rattle.vm_legal.specs.Follows.{IsConsequence}
 use Rattle.vm_legal.specs.Frames.{Suffice}
-use Rattle.vm_legal.specs.Outside.{Outside}
-use Rattle.vm_legal.specs.Stretches.{EachIn, EachOf, MomentsIn}
+use Rattle.vm_legal.specs.Stretches.{AllInner, EachIn, EachOf, IsInner, MomentsIn}
 use Rattle.vm_outside.specs.Areas.{SameAreas, Told}
-use Rattle.vm_kernel.specs.Begun.{AllInner, IsForeign, IsInner, IsLaundered}
-use Rattle.vm_kernel.specs.Matches.{the_host}
+use Rattle.vm_kernel.specs.Begun.{IsForeign, IsLaundered}
+use Rattle.vm_system.specs.Hosts.{the_host}
 use Rattle.vm_system.specs.Orderly.{IsWordUp, is_washed}
 use Rattle.vm_system.specs.Steps.{devices}
 
@@ -41,8 +40,11 @@ word_up size made other word = absurd word
 
 -- the event is a pager's: it tells that a page was lost, or sends down
 abbrev pub IsReply : Event → Type 0
-IsReply (event.Sent (Down host object control) (message.Create number size)) = ⊥
-IsReply (event.Sent (Down host object control) m) = Unit {0}
+IsReply (event.Sent (Down host object control) (message.Ready cache strategy)) = Unit {0}
+IsReply (event.Sent (Down host object control) (message.Supply page lock precious bytes)) = Unit {0}
+IsReply (event.Sent (Down host object control) (message.Unavailable page)) = Unit {0}
+IsReply (event.Sent (Down host object control) (message.Error page reason)) = Unit {0}
+IsReply (event.Sent (Down host object control) (message.Lock page count returns flush lock reply)) = Unit {0}
 IsReply (event.NoSlot object page) = Unit {0}
 IsReply (event.DeviceFailed who way object page) = Unit {0}
 IsReply other = ⊥
@@ -85,8 +87,12 @@ inner_one (event.DeviceFailed who way object page) reply = tt
 inner_one other reply = absurd reply
 
 sent_foreign : (host : HostId) (object : ObjectId) (control : ℕ) (m : Message) → IsReply (event.Sent (Down host object control) m) → IsForeign (event.Sent (Down host object control) m)
-sent_foreign host object control (message.Create number size) reply = absurd reply
-sent_foreign host object control other reply = tt
+sent_foreign host object control (message.Ready cache strategy) reply = tt
+sent_foreign host object control (message.Supply page lock precious bytes) reply = tt
+sent_foreign host object control (message.Unavailable page) reply = tt
+sent_foreign host object control (message.Error page reason) reply = tt
+sent_foreign host object control (message.Lock page count returns flush lock wanted) reply = tt
+sent_foreign host object control other reply = absurd reply
 
 foreign_one : (e : Event) → IsReply e → IsForeign e
 foreign_one (event.Sent (Down host object control) m) reply = sent_foreign host object control m reply
@@ -100,12 +106,6 @@ own_one header (event.Sent channel m) past reply = tt
 own_one header (event.NoSlot object page) past reply = tt
 own_one header (event.DeviceFailed who way object page) past reply = tt
 own_one header other past reply = absurd reply
-
-copies_one : (header : Header) (outside : Outside) (e : Event) (past : List Event) → IsReply e → CopiesCurrent header outside e past
-copies_one header outside (event.Sent channel m) past reply = tt
-copies_one header outside (event.NoSlot object page) past reply = tt
-copies_one header outside (event.DeviceFailed who way object page) past reply = tt
-copies_one header outside other past reply = absurd reply
 
 -- it takes no frame
 suffice_one : (header : Header) (e : Event) (past : List Event) → IsReply e → Suffice header 0 past → Suffice header 0 (e ∷ past)
@@ -133,10 +133,6 @@ pub reply_own : (header : Header) (events past : List Event) → EachOf IsReply 
 reply_own header [] past reply = tt
 reply_own header (e ∷ events) past reply = (own_one header e (events ++ past) reply.0, reply_own header events past reply.1)
 
-pub reply_copies : (header : Header) (outside : Outside) (events past : List Event) → EachOf IsReply events → EachIn (CopiesCurrent header outside) events past
-reply_copies header outside [] past reply = tt
-reply_copies header outside (e ∷ events) past reply = (copies_one header outside e (events ++ past) reply.0, reply_copies header outside events past reply.1)
-
 reply_last : (header : Header) (events past : List Event) → EachOf IsReply events → Suffice header 0 past → Suffice header 0 (events ++ past)
 reply_last header [] past reply one = one
 reply_last header (e ∷ events) past reply one = suffice_one header e (events ++ past) reply.0 (reply_last header events past reply.1 one)
@@ -147,10 +143,10 @@ reply_frames header (e ∷ events) past reply one = (reply_last header (e ∷ ev
 
 -- the kernel launders exactly behind the return of a page that isn't kept
 
-pub reply_laundered : (object : ObjectId) (m : Message) (events : List Event) → EachOf IsReply events → is_washed m ≡ true → IsLaundered (events ++ event.Taken (Up the_host object) m ∷ [])
+pub reply_laundered : (object : ObjectId) (m : Message) (events : List Event) → EachOf IsReply events → is_washed m ≡ true → IsLaundered 0 (events ++ event.Taken (Up the_host object) m ∷ [])
 reply_laundered object (message.Return control page dirty keep bytes) events reply washed = by keep washed
   where
-    by : (k : Bool) → not k ≡ true → IsLaundered (events ++ event.Taken (Up the_host object) (message.Return control page dirty k bytes) ∷ [])
+    by : (k : Bool) → not k ≡ true → IsLaundered 0 (events ++ event.Taken (Up the_host object) (message.Return control page dirty k bytes) ∷ [])
     by false is = record { object = object; control = control; page = page; dirty = dirty; bytes = bytes; told = events; is = refl; foreign = reply_foreign events reply }
     by true is = absurd (let bad : false ≡ true = is in cc)
 reply_laundered object other events reply washed = absurd (let bad : false ≡ true = washed in cc)

@@ -1,54 +1,54 @@
 -- A system stands for its history behind the step of a command that takes no message.
-use Rattle.std.proofs.Common.{◌≡◌, ℕ, List, [], ◌∷◌, ◌++◌, append-nil, append_assoc, refl, sym, ◌∙◌, ap, subst, arith, inl, Some, None, false}
+use Rattle.std.proofs.Common.{◌≡◌, ℕ, List, [], ◌∷◌, ◌++◌, append-nil, refl, sym, ◌∙◌, ap, subst, arith, inl, Some, None, false}
 use Rattle.std.specs.Prelude.{OnErr, OnOk, Result, Ok, Err}
 use Rattle.vm_base.specs.declared.code.Code.{Code}
 use Rattle.vm_model.specs.declared.event.Event.{Event}
 use Rattle.vm_model.specs.declared.event.Event.TheVariants as event
 use Rattle.vm_model.specs.declared.command.Command.{Command}
+use Rattle.vm_model.specs.declared.command.Numbered.{Numbered}
 use Rattle.vm_model.specs.declared.command.Command.TheVariants as command
 use Rattle.vm_model.specs.declared.message.Channel.{Channel}
-use Rattle.vm_model.specs.declared.message.Message.{Message}
 use Rattle.vm_model.specs.declared.script.Header.{Header}
-use Rattle.vm_model.specs.Moments.{EachEvent}
-use Rattle.vm_legal.specs.Bytes.{CopiesCurrent}
 use Rattle.vm_legal.specs.Licences.{AllLicensed}
 use Rattle.vm_legal.specs.Outside.{Outside}
 use Rattle.vm_legal.specs.Refusal.{refusal}
-use Rattle.vm_legal.specs.Stretches.{EachIn, EachOf}
-use Rattle.vm_outside.specs.Areas.{Told}
+use Rattle.vm_legal.specs.Stretches.{AllInner, EachOf}
 use Rattle.vm_outside.specs.Arming.{Arming}
-use Rattle.pg_slots.specs.Contents.{Fits}
-use Rattle.pg_default.specs.Stands.{Stands as PagerStands, content_of}
+use Rattle.pg_slots.specs.Contents.{Content, Fits, IsTold}
+use Rattle.pg_default.specs.Stands.{Stands as PagerStands}
 use Rattle.pg_default.proofs.Others.{others}
+use Rattle.vm_kernel.proofs.First.{rests_line}
 use Rattle.vm_shadow.specs.declared.ids.Ids.{Ids}
-use Rattle.vm_kernel.specs.Begun.{AllInner, Goes, Grows, IsSaid}
+use Rattle.vm_kernel.specs.Begun.{Goes, Grows, IsOwn}
 use Rattle.vm_kernel.specs.Matches.{Rests}
 use Rattle.vm_kernel.specs.Serving.{HasQueue}
 use Rattle.vm_kernel.specs.declared.parts.Parts.{Parts}
 use Rattle.vm_system.specs.Orderly.{IsOrderly}
 use Rattle.vm_system.specs.Posts.{CanTellAll, Posts, SameHost}
-use Rattle.vm_system.specs.Stands.{Kept, Stands}
-use Rattle.vm_system.specs.Steps.{DevicesHaveCause, IsLonger, LeavesFiles, LeavesPaging, arms_paging, devices, takes_up}
+use Rattle.vm_system.specs.Stands.{Stands}
+use Rattle.vm_system.specs.Making.{Makes, Spares}
+use Rattle.vm_system.specs.Steps.{DevicesHaveCause, KeepsLegal, LeavesFiles, LeavesPaging, arms_paging, devices, takes_up}
 use Rattle.vm_system.specs.declared.state.State.{State}
-use Rattle.vm_system.proofs.Agreeing.{devices_said, kept_said, pager_said}
-use Rattle.vm_system.proofs.Letters.{orderly_code, orderly_line}
+use Rattle.vm_system.proofs.Agreeing.{content_stays, devices_said, pager_stays}
+use Rattle.vm_system.proofs.Following.{kept_at, kept_same}
+use Rattle.vm_system.proofs.Growth.{front_begun, grew_begun}
+use Rattle.vm_system.proofs.Legal.{legal_refused, legal_settle}
+use Rattle.vm_system.proofs.Letters.{orderly_line}
 use Rattle.vm_system.proofs.Sayings.{can_say, orderly_said}
-use Rattle.vm_system.proofs.Stretched.{each_whole}
-use Rattle.vm_system.proofs.Silent.{rests_code, rests_line}
+use Rattle.vm_system.proofs.Silent.{rests_code}
 
 -- what a kernel says behind a line
 pub record Tells (header : Header) (outside : Outside) (doing : Command) (past events : List Event) : Type 0 where
   pub licensed : AllLicensed header outside doing events past
-  pub copies : EachIn (CopiesCurrent header outside) events past
   pub inner : AllInner events
-  pub said : EachOf (IsSaid header.size) events
+  pub said : EachOf (IsOwn 0 header.size) events
 
-pub tells_grown : (header : Header) (outside : Outside) (doing : Command) (past events : List Event) → Grows header outside doing past events → Tells header outside doing past events
-tells_grown header outside doing past events grows = record { licensed = grows.licensed; copies = grows.copies; inner = grows.inner; said = grows.said }
+pub tells_grown : (header : Header) (outside : Outside) (doing : Command) (past events : List Event) → Grows header 0 outside doing past events → Tells header outside doing past events
+tells_grown header outside doing past events grows = record { licensed = grows.licensed; inner = grows.inner; said = grows.said }
 
-pub tells_gone : (header : Header) (outside : Outside) (doing : Command) (past events : List Event) → Goes header outside doing past [] events → Tells header outside doing past events
+pub tells_gone : (header : Header) (outside : Outside) (doing : Command) (past events : List Event) → Goes header 0 outside doing past [] events → Tells header outside doing past events
 tells_gone header outside doing past events goes =
-    subst (λ (z : List Event). Tells header outside doing past z) (sym (goes.is ∙ append-nil goes.more)) (record { licensed = goes.licensed; copies = goes.copies; inner = goes.inner; said = goes.said })
+    subst (λ (z : List Event). Tells header outside doing past z) (sym (goes.is ∙ append-nil goes.more)) (record { licensed = goes.licensed; inner = goes.inner; said = goes.said })
 
 -- it can be told
 pub can_tell : (header : Header) (outside : Outside) (doing : Command) (line : ℕ) (events : List Event) (s : State) → Stands header outside s → Tells header outside doing (event.Line line ∷ s.history.items) events
@@ -60,7 +60,7 @@ can_tell header outside doing line events s stands tells =
 
 -- the system stands for what was told
 pub stands_told : (header : Header) (outside : Outside) (doing : Command) (line : ℕ) (events : List Event) (k : Parts) (ids : Ids) (old new : State) → Stands header outside old
-    → Tells header outside doing (event.Line line ∷ old.history.items) events → Rests header k ids (events ++ event.Line line ∷ old.history.items) → HasQueue header k (events ++ event.Line line ∷ old.history.items) → SameHost (record old { kernel = k; ids = ids }) new
+    → Tells header outside doing (event.Line line ∷ old.history.items) events → Rests header 0 k ids (events ++ event.Line line ∷ old.history.items) → HasQueue header 0 k (events ++ event.Line line ∷ old.history.items) → SameHost (record old { kernel = k; ids = ids }) new
     → Posts new new.history.items → new.history.items ≡ events ++ event.Line line ∷ old.history.items → Stands header outside new
 stands_told header outside doing line events k ids old new stands tells rests queue host posts grown =
     let h = old.history.items in
@@ -68,9 +68,8 @@ stands_told header outside doing line events k ids old new stands tells rests qu
     let agrees = stands.agrees in
     let orderly : IsOrderly header past = orderly_line header line h agrees.orderly in
     let now : PagerStands header 0 old.pager (events ++ past) =
-    pager_said header outside doing old.pager events past orderly tells.licensed tells.inner tells.said (others header 0 old.pager (event.Line line) h tt agrees.pager) in
+    pager_stays header old.pager events past tells.said tells.inner (others header 0 old.pager (event.Line line) h tt agrees.pager) in
     let orderly_now : IsOrderly header (events ++ past) = orderly_said header outside doing past events stands.plain orderly tells.licensed tells.said tells.inner in
-    let copies : EachEvent (CopiesCurrent header outside) (events ++ past) = each_whole (CopiesCurrent header outside) events past tells.copies (tt, agrees.copies) in
     record {
       plain = stands.plain;
       rests = rw (grown, host.kernel, host.ids) rests;
@@ -80,90 +79,59 @@ stands_told header outside doing line events k ids old new stands tells rests qu
         pager = rw (grown, host.pager) now;
         posts = posts;
         orderly = rw grown orderly_now;
-        copies = rw grown copies;
       };
     }
 
--- and the paging area has what was returned
-pub kept_told : (header : Header) (outside : Outside) (doing : Command) (areas : List ℕ → Told) (line : ℕ) (events : List Event) (old new : State) → Stands header outside old
-    → Tells header outside doing (event.Line line ∷ old.history.items) events → new.history.items ≡ events ++ event.Line line ∷ old.history.items → new.pager ≡ old.pager
-    → Kept header outside areas old → Kept header outside areas new
-kept_told header outside doing areas line events old new stands tells grown pager kept =
+-- the step of a command is what its kernel told behind the line
+pub makes_told : (header : Header) (outside : Outside) (numbered : Numbered) (events : List Event) (k : Parts) (ids : Ids) (old new : State) → Stands header outside old
+    → Tells header outside numbered.command (event.Line numbered.line ∷ old.history.items) events → Rests header 0 k ids (events ++ event.Line numbered.line ∷ old.history.items)
+    → HasQueue header 0 k (events ++ event.Line numbered.line ∷ old.history.items) → KeepsLegal header outside numbered old.history.items (events ++ event.Line numbered.line ∷ old.history.items)
+    → SameHost (record old { kernel = k; ids = ids }) new → Posts new new.history.items → new.history.items ≡ events ++ event.Line numbered.line ∷ old.history.items → Makes header outside numbered old new
+makes_told header outside numbered events k ids old new stands tells rests queue legal host posts grown = record {
+  stands = stands_told header outside numbered.command numbered.line events k ids old new stands tells rests queue host posts grown;
+  legal = rw grown legal;
+  grew = grew_begun numbered.line events old.history.items new.history.items grown tells.inner;
+  front = front_begun numbered.line events old.history.items new.history.items grown tells.inner;
+}
+
+-- the paging area has what was returned, and no backing failed
+pub spares_told : (header : Header) (outside : Outside) (doing : Command) (line : ℕ) (events : List Event) (old new : State) → Tells header outside doing (event.Line line ∷ old.history.items) events
+    → new.history.items ≡ events ++ event.Line line ∷ old.history.items → new.pager ≡ old.pager → Spares header outside old new
+spares_told header outside doing line events old new tells grown pager =
     let h = old.history.items in
     let past = event.Line line ∷ h in
-    let orderly : IsOrderly header past = orderly_line header line h stands.agrees.orderly in
-    let now : PagerStands header 0 old.pager (events ++ past) =
-    pager_said header outside doing old.pager events past orderly tells.licensed tells.inner tells.said (others header 0 old.pager (event.Line line) h tt kept.pager) in
     record {
-      pager = rw (grown, pager) now;
-      fits = λ told.
-          let was = kept.fits told in
-          let fits : Fits areas old.pager (content_of header 0 (events ++ past)) = kept_said header outside doing areas old.pager events past orderly tells.licensed tells.inner tells.said was.1 in
-          rw (grown, pager) (was.0, fits);
+      kept = λ areas kept. kept_at header outside areas new old.pager (events ++ past) pager grown (pager_stays header old.pager events past tells.said tells.inner (others header 0 old.pager (event.Line line) h tt kept.pager))
+          (λ on. subst (λ (z : Content). IsTold areas old.pager × Fits areas old.pager z) (sym (content_stays header events past tells.said tells.inner)) (kept.fits on));
+      devices = ap devices grown ∙ devices_said header.size events past tells.said;
     }
 
--- the history has a line and events more
-pub longer_told : (line : ℕ) (events old new : List Event) → new ≡ events ++ event.Line line ∷ old → IsLonger old new
-longer_told line events old new grown = record { more = events ++ event.Line line ∷ []; is = grown ∙ sym (append_assoc events (event.Line line ∷ []) old) }
+-- nothing was told
+pub spares_same : (header : Header) (outside : Outside) (old new : State) → new.pager ≡ old.pager → new.history.items ≡ old.history.items → Spares header outside old new
+spares_same header outside old new pager items = record { kept = λ areas kept. kept_same header outside areas old new pager items kept; devices = ap devices items }
 
-pub longer_line : (line : ℕ) (old new : List Event) → new ≡ event.Line line ∷ old → IsLonger old new
-longer_line line old new grown = record { more = event.Line line ∷ []; is = grown }
+-- the code of a refusal, or nothing, follows the line
 
-pub longer_code : (line : ℕ) (why : Code) (old new : List Event) → new ≡ event.Refused why ∷ event.Line line ∷ old → IsLonger old new
-longer_code line why old new grown = record { more = event.Refused why ∷ event.Line line ∷ []; is = grown }
+pub tells_code : (header : Header) (outside : Outside) (doing : Command) (why : Code) (line : ℕ) (h : List Event) → Tells header outside doing (event.Line line ∷ h) (event.Refused why ∷ [])
+tells_code header outside doing why line h = record { licensed = ((tt, tt), tt); inner = (tt, tt); said = (tt, tt) }
 
-pub longer_taken : (line : ℕ) (channel : Channel) (m : Message) (more old new : List Event) → new ≡ more ++ event.Taken channel m ∷ event.Line line ∷ old → IsLonger old new
-longer_taken line channel m more old new grown = record { more = more ++ event.Taken channel m ∷ event.Line line ∷ []; is = grown ∙ sym (append_assoc more (event.Taken channel m ∷ event.Line line ∷ []) old) }
-
--- of which none says that a backing failed
-pub devices_told : (header : Header) (outside : Outside) (doing : Command) (line : ℕ) (events old new : List Event) → Tells header outside doing (event.Line line ∷ old) events → new ≡ events ++ event.Line line ∷ old → devices new ≡ devices old
-devices_told header outside doing line events old new tells grown = ap devices grown ∙ devices_said header.size events (event.Line line ∷ old) tells.said
-
--- the code of a refusal follows the line
-pub stands_refused : (header : Header) (outside : Outside) (line : ℕ) (why : Code) (old new : State) → Stands header outside old → SameHost old new → Posts new new.history.items
-    → new.history.items ≡ event.Refused why ∷ event.Line line ∷ old.history.items → Stands header outside new
-stands_refused header outside line why old new stands host posts grown =
+pub makes_refused : (header : Header) (outside : Outside) (numbered : Numbered) (why : Code) (old new : State) → Stands header outside old → refusal header old.history.items numbered.command ≡ Some why → SameHost old new
+    → Posts new new.history.items → new.history.items ≡ event.Refused why ∷ event.Line numbered.line ∷ old.history.items → Makes header outside numbered old new
+makes_refused header outside numbered why old new stands refused host posts grown =
     let h = old.history.items in
-    let past = event.Line line ∷ h in
-    let agrees = stands.agrees in
-    let rests : Rests header old.kernel old.ids (event.Refused why ∷ past) = rests_code header old.kernel old.ids why past (rests_line header old.kernel old.ids line h stands.rests) in
-    let queue : HasQueue header old.kernel (event.Refused why ∷ past) = stands.queue in
-    let now : PagerStands header 0 old.pager (event.Refused why ∷ past) = others header 0 old.pager (event.Refused why) past tt (others header 0 old.pager (event.Line line) h tt agrees.pager) in
-    let orderly : IsOrderly header (event.Refused why ∷ past) = orderly_code header why past (orderly_line header line h agrees.orderly) in
-    let copies : EachEvent (CopiesCurrent header outside) (event.Refused why ∷ past) = (tt, (tt, agrees.copies)) in
-    record {
-      plain = stands.plain;
-      rests = rw (grown, host.kernel, host.ids) rests;
-      queue = rw (grown, host.kernel) queue;
-      agrees = record {
-        size = host.size ∙ agrees.size;
-        pager = rw (grown, host.pager) now;
-        posts = posts;
-        orderly = rw grown orderly;
-        copies = rw grown copies;
-      };
-    }
+    makes_told header outside numbered (event.Refused why ∷ []) old.kernel old.ids old new stands (tells_code header outside numbered.command why numbered.line h)
+    (rests_code header old.kernel old.ids why (event.Line numbered.line ∷ h) (rests_line header 0 old.kernel old.ids numbered.line h stands.rests)) stands.queue
+    (legal_refused header outside numbered why h stands.plain refused) host posts grown
 
-pub kept_refused : (header : Header) (outside : Outside) (areas : List ℕ → Told) (line : ℕ) (why : Code) (old new : State) → new.history.items ≡ event.Refused why ∷ event.Line line ∷ old.history.items → new.pager ≡ old.pager
-    → Kept header outside areas old → Kept header outside areas new
-kept_refused header outside areas line why old new grown pager kept =
+pub tells_none : (header : Header) (outside : Outside) (doing : Command) (past : List Event) → Tells header outside doing past []
+tells_none header outside doing past = record { licensed = tt; inner = tt; said = tt }
+
+pub makes_lined : (header : Header) (outside : Outside) (line count : ℕ) (old new : State) → Stands header outside old → SameHost old new → Posts new new.history.items
+    → new.history.items ≡ event.Line line ∷ old.history.items → Makes header outside (record { line = line; command = command.Settle count }) old new
+makes_lined header outside line count old new stands host posts grown =
     let h = old.history.items in
-    let past = event.Line line ∷ h in
-    let now : PagerStands header 0 old.pager (event.Refused why ∷ past) = others header 0 old.pager (event.Refused why) past tt (others header 0 old.pager (event.Line line) h tt kept.pager) in
-    record { pager = rw (grown, pager) now; fits = λ told. rw (grown, pager) (kept.fits told) }
-
--- a line alone
-pub stands_lined : (header : Header) (outside : Outside) (line : ℕ) (old new : State) → Stands header outside old → SameHost old new → Posts new new.history.items → new.history.items ≡ event.Line line ∷ old.history.items
-    → Stands header outside new
-stands_lined header outside line old new stands host posts grown =
-    let rests : Rests header old.kernel old.ids (event.Line line ∷ old.history.items) = rests_line header old.kernel old.ids line old.history.items stands.rests in
-    stands_told header outside (command.Settle 0) line [] old.kernel old.ids old new stands (record { licensed = tt; copies = tt; inner = tt; said = tt }) rests stands.queue host posts grown
-
-pub kept_lined : (header : Header) (outside : Outside) (areas : List ℕ → Told) (line : ℕ) (old new : State) → new.history.items ≡ event.Line line ∷ old.history.items → new.pager ≡ old.pager
-    → Kept header outside areas old → Kept header outside areas new
-kept_lined header outside areas line old new grown pager kept =
-    let now : PagerStands header 0 old.pager (event.Line line ∷ old.history.items) = others header 0 old.pager (event.Line line) old.history.items tt kept.pager in
-    record { pager = rw (grown, pager) now; fits = λ told. rw (grown, pager) (kept.fits told) }
+    makes_told header outside (record { line = line; command = command.Settle count }) [] old.kernel old.ids old new stands (tells_none header outside (command.Settle count) (event.Line line ∷ h))
+    (rests_line header 0 old.kernel old.ids line h stands.rests) stands.queue (legal_settle header outside line count h stands.plain) host posts grown
 
 -- a part that is as it was is so behind two calls
 pub same_host : (old mid new : State) → SameHost old mid → SameHost mid new → SameHost old new
@@ -187,10 +155,6 @@ on_either (Err e) f g p q = g q
 pub on_errs : {A B : Type 0} {P Q R S : Type 0} (r : Result A B) → (P → Q → R → S) → OnErr r P → OnErr r Q → OnErr r R → OnErr r S
 on_errs (Ok x) f p q s = tt
 on_errs (Err e) f p q s = f p q s
-
--- a settle is never refused
-pub settle_goes_on : {R : Type 0} (header : Header) (past : List Event) (doing : Command) (count : ℕ) (why : Code) → refusal header past doing ≡ Some why → doing ≡ command.Settle count → R
-settle_goes_on header past doing count why refused is = absurd (let bad : None ≡ Some why = subst (λ (z : Command). refusal header past z ≡ Some why) is refused in cc)
 
 -- what a step leaves of the backings
 

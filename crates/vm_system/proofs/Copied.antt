@@ -1,16 +1,8 @@
 -- How many entries a fork copies, and from how many regions, counted one after another.
-use Rattle.std.proofs.Common.{◌≡◌, ℕ, zero, suc, ◌+◌, ◌≤◌, ◌==◌, ◌&&◌, ◌||◌, true, false, not, List, [], ◌∷◌, get_or, length, drop, slice_get, refl, ap, ◌∙◌, arith, Some}
-use Rattle.std.proofs.lemmas.Option.{slice_get_within, get_or_from_slice_get}
-use Rattle.std.proofs.Math.Seq.{drop-cons}
+use Rattle.std.proofs.Common.{◌≡◌, ℕ, zero, suc, ◌+◌, ◌≤◌, ◌==◌, ◌&&◌, ◌||◌, true, false, not, List, [], ◌∷◌, length, drop, slice_get, refl, ap, ◌∙◌, arith, Some}
 use Rattle.vm_base.specs.declared.entry.Entry.{Entry}
+use Rattle.vm_kernel.proofs.Recounts.{next_row}
 use Rattle.vm_model.specs.Tasks.{copies, copies_from, is_copied, sources}
-
-pub next_row : (rows : List Entry) (i : ℕ) (entry : Entry) → slice_get rows i ≡ Some entry → drop i rows ≡ entry ∷ drop (i + 1) rows
-next_row rows i entry found =
-    let inside = slice_get_within rows i entry found in
-    let here : get_or rows i entry ≡ entry = get_or_from_slice_get rows i entry entry found in
-    let next : suc i ≡ i + 1 = omega arith in
-    drop-cons rows i entry inside ∙ (ap (λ z. z ∷ drop (suc i) rows) here ∙ ap (λ z. entry ∷ drop z rows) next)
 
 pub drop_past : (rows : List Entry) (i : ℕ) → length rows ≤ i → drop i rows ≡ []
 drop_past [] zero le = refl

@@ -1,5 +1,5 @@
 -- Whether a channel was made, and whether it is empty, by its number and by the history.
-use Rattle.std.proofs.Common.{◌≡◌, ℕ, suc, ◌<◌, ◌==◌, Bool, true, false, not, List, [], ◌∷◌, length, refl, ap, sym, ◌∙◌, arith, Some, None, Option, subst}
+use Rattle.std.proofs.Common.{◌≡◌, ℕ, suc, ◌==◌, Bool, true, false, not, List, [], ◌∷◌, refl, ap, sym, ◌∙◌, arith, Some, None, Option, subst}
 use Rattle.std.proofs.lemmas.Bool.Decides.{nat_tests}
 use Rattle.std.specs.Prelude.{is_some, if◌then◌else◌, option_map}
 use Rattle.vm_base.specs.declared.code.Code.TheVariants as code
@@ -31,14 +31,6 @@ next_is n (Some m) e = (m, refl, (let is : Some (suc m) ≡ Some n = e in cc))
 
 zero_is : (n : ℕ) → Some 0 ≡ Some n → 0 ≡ n
 zero_is n e = cc
-
-pub number_within : (channel : Channel) (made : List Channel) (n : ℕ) → number_in channel made ≡ Some n → n < length made
-number_within channel [] n is = absurd (let bad : None ≡ Some n = is in cc)
-number_within channel (other ∷ made) n is = by (is_channel channel other) is (number_within channel made)
-  where
-    by : (b : Bool) → (if b then Some 0 else option_map suc (number_in channel made)) ≡ Some n → ((m : ℕ) → number_in channel made ≡ Some m → m < length made) → n < length (other ∷ made)
-    by true e within = omega (arith, zero_is n e)
-    by false e within = let more = next_is n (number_in channel made) e in omega (arith, more.2, within more.0 more.1)
 
 -- two channels with one number are one
 number_tells : (made : List Channel) (c d : Channel) (n : ℕ) → number_in c made ≡ Some n → number_in d made ≡ Some n → is_channel c d ≡ true

@@ -1,14 +1,13 @@
 -- A step makes the history longer, and begins where it may.
 use Rattle.std.proofs.Common.{◌≡◌, ℕ, ◌<◌, ◌≤◌, arith, length-append, List, [], ◌∷◌, ◌++◌, ◌+◌, length, refl, ap, sym, ◌∙◌, subst, append_assoc, Some, None, Option, inl, inr}
-use Rattle.vm_base.specs.declared.code.Code.{Code}
+use Rattle.vm_legal.proofs.Inside.{before_more, takings_more}
 use Rattle.vm_model.specs.declared.event.Event.{Event}
 use Rattle.vm_model.specs.declared.event.Event.TheVariants as event
 use Rattle.vm_model.specs.Moments.{before_last_line}
 use Rattle.vm_legal.specs.Steps.{before_step, takings}
-use Rattle.vm_kernel.specs.Begun.{AllInner, IsInner}
+use Rattle.vm_legal.specs.Stretches.{AllInner, IsInner}
 use Rattle.vm_system.specs.Steps.{Grew, IsBelowLimit, MayBegin, Taking, devices, event_limit, lined}
 use Rattle.vm_system.specs.Takings.{MayBeCut, TakesStep}
-use Rattle.vm_system.proofs.Legal.{takings_all}
 use Rattle.vm_system.proofs.Stretched.{steps_whole}
 
 -- what stands in front of a line, or of a step, is the same behind events inside it
@@ -20,15 +19,6 @@ line_same other past inner = refl
 line_all : (events past : List Event) → AllInner events → before_last_line (events ++ past) ≡ before_last_line past
 line_all [] past inner = refl
 line_all (e ∷ events) past inner = line_same e (events ++ past) inner.0 ∙ line_all events past inner.1
-
-step_same : (e : Event) (past : List Event) → IsInner e → before_step (e ∷ past) ≡ before_step past
-step_same (event.Line line) past inner = absurd inner
-step_same (event.Taken channel m) past inner = absurd inner
-step_same other past inner = refl
-
-step_all : (events past : List Event) → AllInner events → before_step (events ++ past) ≡ before_step past
-step_all [] past inner = refl
-step_all (e ∷ events) past inner = step_same e (events ++ past) inner.0 ∙ step_all events past inner.1
 
 -- nothing was told
 pub grew_none : (old new : List Event) → new ≡ old → Grew old new
@@ -45,20 +35,6 @@ grew_begun line events old new is inner =
 
 pub front_begun : (line : ℕ) (events old new : List Event) → new ≡ events ++ event.Line line ∷ old → AllInner events → before_last_line new ≡ old
 front_begun line events old new is inner = ap before_last_line is ∙ line_all events (event.Line line ∷ old) inner
-
--- the line alone, or the code of a refusal behind it
-
-pub grew_line : (line : ℕ) (old new : List Event) → new ≡ event.Line line ∷ old → Grew old new
-grew_line line old new is = grew_begun line [] old new is tt
-
-pub front_line : (line : ℕ) (old new : List Event) → new ≡ event.Line line ∷ old → before_last_line new ≡ old
-front_line line old new is = front_begun line [] old new is tt
-
-pub grew_code : (line : ℕ) (why : Code) (old new : List Event) → new ≡ event.Refused why ∷ event.Line line ∷ old → Grew old new
-grew_code line why old new is = grew_begun line (event.Refused why ∷ []) old new is (tt, tt)
-
-pub front_code : (line : ℕ) (why : Code) (old new : List Event) → new ≡ event.Refused why ∷ event.Line line ∷ old → before_last_line new ≡ old
-front_code line why old new is = front_begun line (event.Refused why ∷ []) old new is (tt, tt)
 
 -- a taking, behind a line or not
 
@@ -82,14 +58,14 @@ grew_taken given line old new step past =
     }
 
 pub step_taken : (given : Taking) (new : List Event) → TakesStep given new → before_step new ≡ given.past
-step_taken given new step = ap before_step step.is ∙ step_all step.more (event.Taken step.channel step.m ∷ given.past) step.inner
+step_taken given new step = ap before_step step.is ∙ before_more step.more (event.Taken step.channel step.m ∷ given.past) step.inner
 
 pub line_taken : (given : Taking) (line : ℕ) (old new : List Event) → TakesStep given new → given.past ≡ lined (Some line) old → before_last_line new ≡ old
 line_taken given line old new step past =
     ap before_last_line step.is ∙ (line_all step.more (event.Taken step.channel step.m ∷ given.past) step.inner ∙ ap before_last_line past)
 
 pub takings_taken : (given : Taking) (new : List Event) → TakesStep given new → takings new ≡ takings given.past + 1
-takings_taken given new step = ap takings step.is ∙ takings_all step.more (event.Taken step.channel step.m ∷ given.past) step.inner
+takings_taken given new step = ap takings step.is ∙ takings_more step.more (event.Taken step.channel step.m ∷ given.past) step.inner
 
 -- whole or cut
 pub grew_cut : (given : Taking) (line : Option ℕ) (old new : List Event) → MayBeCut given old new → given.past ≡ lined line old → Grew old new

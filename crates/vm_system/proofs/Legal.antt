@@ -1,6 +1,10 @@
 -- The history stays legal with the step of each command.
-use Rattle.std.proofs.Common.{◌≡◌, ℕ, true, false, List, [], ◌∷◌, ◌++◌, append-nil, refl, sym, ◌∙◌, subst, Some, None, inl}
+use Rattle.std.proofs.Common.{◌≡◌, ℕ, zero, suc, ◌+◌, ◌||◌, ◌&&◌, not, nat_lt, nat_le, length, if◌then◌else◌, Bool, Option, ap, true, false, List, [], ◌∷◌, ◌++◌, append-nil, refl, sym, ◌∙◌, subst, Some, None, inl}
+use Rattle.std.specs.Prelude.{◌/◌, IfNone, is_none, is_some}
 use Rattle.vm_base.specs.declared.code.Code.{Code}
+use Rattle.vm_base.specs.declared.code.Code.TheVariants as code
+use Rattle.vm_base.specs.declared.entry.Entry.{Entry}
+use Rattle.vm_base.specs.Entries.{entry_at, is_range, meets_range, most_entries}
 use Rattle.vm_model.specs.declared.event.Event.{Event}
 use Rattle.vm_model.specs.declared.event.Event.TheVariants as event
 use Rattle.vm_model.specs.declared.command.Command.{Command}
@@ -8,34 +12,82 @@ use Rattle.vm_model.specs.declared.command.Command.TheVariants as command
 use Rattle.vm_model.specs.declared.command.Numbered.{Numbered}
 use Rattle.vm_model.specs.declared.script.Header.{Header}
 use Rattle.vm_model.specs.Moments.{EachEvent}
-use Rattle.vm_legal.specs.Bytes.{CopiesCurrent, FlatBytes, OwnBytes}
+use Rattle.vm_model.specs.Regions.{marked_below, marked_regions, next_object, next_region, region_of}
+use Rattle.vm_model.specs.Tasks.{copies, copies_from, entries_of, host_of, is_copied, new_marks}
+use Rattle.vm_model.specs.Waiting.{waiting}
+use Rattle.vm_legal.specs.Bytes.{FlatBytes, OwnBytes}
 use Rattle.vm_legal.specs.Debts.{IsPaid}
-use Rattle.vm_legal.specs.Follows.{Follows, FollowsSoFar, IsDone, IsGroup, IsRun, IsWhole, head}
+use Rattle.vm_legal.specs.Follows.{FollowsSoFar, IsDone, IsDoneSoFar, IsGroup, IsRun, IsWhole, IsWholeSoFar, head}
 use Rattle.vm_legal.specs.Frames.{FramesSuffice, Suffice}
-use Rattle.vm_legal.specs.Legal.{Holds, IsAtRest, LegalFor}
+use Rattle.vm_legal.specs.Legal.{Holds, IsAtRest}
 use Rattle.vm_legal.specs.Licences.{AllLicensed}
 use Rattle.vm_legal.specs.Outside.{Outside}
 use Rattle.vm_legal.specs.Prompt.{Prompt}
-use Rattle.vm_legal.specs.Refusal.{refusal}
-use Rattle.vm_legal.specs.Steps.{takings}
-use Rattle.vm_legal.specs.Stretches.{EachIn, MomentsIn}
+use Rattle.vm_legal.specs.Refusal.{acting, copy_refusal, is_copy_full, is_elsewhere, is_fork_full, is_full, is_marked, refusal, where_true}
+use Rattle.vm_legal.specs.Stretches.{AllInner, EachIn, MomentsIn}
 use Rattle.vm_legal.proofs.Groups.{so_far}
 use Rattle.vm_flat.proofs.Loads.{answers}
 use Rattle.vm_shadow.specs.declared.ids.Ids.{Ids}
-use Rattle.vm_kernel.specs.Begun.{AllInner, Began, IsInner, Passed}
-use Rattle.vm_kernel.specs.Matches.{IsPlain}
+use Rattle.vm_kernel.specs.Begun.{Began, Passed}
+use Rattle.vm_kernel.specs.Built.{copies_entries}
+use Rattle.vm_system.specs.Hosts.{HasOneHost}
 use Rattle.vm_kernel.specs.declared.parts.Parts.{Parts}
-use Rattle.vm_system.specs.Steps.{KeepsLegal, LegalOpen, is_idle, settles}
+use Rattle.vm_system.specs.Steps.{KeepsLegal, is_idle, settles}
+use Rattle.vm_legal.proofs.Inside.{takings_more}
 use Rattle.vm_system.proofs.Silent.{paid_inner, prompt_code, prompt_line}
-use Rattle.vm_system.proofs.Stretched.{each_whole, moment_last, moments_whole, steps_whole}
+use Rattle.vm_system.proofs.Unfilled.{all_current}
+use Rattle.vm_system.proofs.Stretched.{each_whole, moment_last, moments_whole, steps_whole, prompt_whole}
 
 -- a line in front changes no refusal and no head
 
+marks_line : (header : Header) (line n : ℕ) (h : List Event) → marked_below header n (event.Line line ∷ h) ≡ marked_below header n h
+marks_line header line zero h = refl
+marks_line header line (suc n) h = ap (λ (z : ℕ). if (region_of header n h).mark then z + 1 else z) (marks_line header line n h)
+
+new_line : (header : Header) (line : ℕ) (h : List Event) (rows : List Entry) → new_marks (is_marked header (event.Line line ∷ h)) rows ≡ new_marks (is_marked header h) rows
+new_line header line h [] = refl
+new_line header line h (row ∷ rows) =
+    ap (λ (z : ℕ). if is_copied row.inherit && (not (copies_from row.region.0 rows) && not (region_of header row.region.0 h).mark) then z + 1 else z) (new_line header line h rows)
+
+all_marks_line : (header : Header) (line : ℕ) (h : List Event) → marked_regions header (event.Line line ∷ h) ≡ marked_regions header h
+all_marks_line header line h = marks_line header line (next_region header h) h
+
+full_line : (header : Header) (line task : ℕ) (h : List Event) → is_full header task (event.Line line ∷ h) ≡ is_full header task h
+full_line header line task h =
+    ap (λ (m : ℕ). nat_lt most_entries (length (entries_of header.size task h) + 1) || (nat_le 8192 (next_region header h) || nat_le 8192 (next_object header h + m))) (all_marks_line header line h)
+
+fork_line : (header : Header) (line : ℕ) (h : List Event) (rows : List Entry) → is_fork_full header rows (event.Line line ∷ h) ≡ is_fork_full header rows h
+fork_line header line h rows =
+    ap (λ (m : ℕ). nat_lt 8192 (next_region header h + copies rows) || nat_lt 8192 (next_object header h + m + copies rows + new_marks (is_marked header (event.Line line ∷ h)) rows)) (all_marks_line header line h)
+    ∙ ap (λ (n : ℕ). nat_lt 8192 (next_region header h + copies rows) || nat_lt 8192 (next_object header h + marked_regions header h + copies rows + n)) (new_line header line h rows)
+
+copy_line : (header : Header) (line source : ℕ) (h : List Event) → is_copy_full header source (event.Line line ∷ h) ≡ is_copy_full header source h
+copy_line header line source h = rw (all_marks_line header line h) refl
+
+copied_line : (header : Header) (line address bytes target to : ℕ) (h : List Event) (entry : Option Entry) → copy_refusal header address bytes target to (event.Line line ∷ h) entry ≡ copy_refusal header address bytes target to h entry
+copied_line header line address bytes target to h None = refl
+copied_line header line address bytes target to h (Some entry) = rw (copy_line header line entry.region.0 h) refl
+
+-- where a task lives, a file is its host's behind the line as in front of it
+elsewhere_line : (header : Header) (line object : ℕ) (host : Option ℕ) (h : List Event) → is_elsewhere header object host (event.Line line ∷ h) ≡ is_elsewhere header object host h
+elsewhere_line header line object None h = refl
+elsewhere_line header line object (Some host) h = refl
+
+pub enough_line : (header : Header) (line : ℕ) (h : List Event) (c : Command) → copies_entries header (event.Line line ∷ h) c ≡ copies_entries header h c
+enough_line header line h (command.Fork task child) = refl
+enough_line header line h other = refl
+
 pub refusal_line : (header : Header) (line : ℕ) (h : List Event) (c : Command) → refusal header (event.Line line ∷ h) c ≡ refusal header h c
 refusal_line header line h (command.Task task host) = refl
-refusal_line header line h (command.Fork task child) = refl
+refusal_line header line h (command.Fork task child) =
+    ap (λ (b : Bool). where_true (is_none (host_of task.0 h)) code.NoSuchName (where_true (is_some (host_of child.0 h)) code.NameTaken (where_true (is_some (waiting task.0 h)) code.Blocked (where_true b code.TableFull None))))
+    (fork_line header line h (entries_of header.size task.0 h))
 refusal_line header line h (command.Exit task) = refl
-refusal_line header line h (command.Allocate task address bytes) = refl
+refusal_line header line h (command.Allocate task address bytes) =
+    ap (λ (b : Bool). acting h task.0 (where_true (not (is_range header.size address bytes) || nat_lt 4096 (bytes / header.size)) code.InvalidArgument (where_true (meets_range address bytes (entries_of header.size task.0 h)) code.NoSpace (where_true b code.TableFull None))))
+    (full_line header line task.0 h)
+refusal_line header line h (command.Map task address bytes object offset) = rw (elsewhere_line header line object.0 (host_of task.0 h) h) refl
+refusal_line header line h (command.Copy task address bytes target to) = rw (copied_line header line address bytes target.0 to h (entry_at address (entries_of header.size task.0 h))) refl
 refusal_line header line h (command.Deallocate task address bytes) = refl
 refusal_line header line h (command.Protect task address bytes prot) = refl
 refusal_line header line h (command.Inherit task address bytes inherit) = refl
@@ -67,47 +119,38 @@ head_line header line h other = refl
 
 -- events inside a step take nothing
 
-inner_takings : (e : Event) (past : List Event) → IsInner e → takings (e ∷ past) ≡ takings past
-inner_takings (event.Line line) past inner = absurd inner
-inner_takings (event.Taken channel message) past inner = absurd inner
-inner_takings other past inner = refl
-
-pub takings_all : (events past : List Event) → AllInner events → takings (events ++ past) ≡ takings past
-takings_all [] past inner = refl
-takings_all (e ∷ events) past inner = inner_takings e (events ++ past) inner.0 ∙ takings_all events past inner.1
-
 -- where each load answers from its own host's page it answers the flat map's bytes
-pub flat_of : (header : Header) (outside : Outside) (run : List Numbered) (h : List Event) → FollowsSoFar header outside run h → EachEvent (OwnBytes header) h → EachEvent (CopiesCurrent header outside) h → EachEvent (FlatBytes header outside) h
-flat_of header outside run h follows own copies = answers header outside h (so_far header outside run h follows) own copies
+pub flat_of : (header : Header) (outside : Outside) (run : List Numbered) (h : List Event) → HasOneHost header → FollowsSoFar header outside run h → EachEvent (OwnBytes header) h → EachEvent (FlatBytes header outside) h
+flat_of header outside run h plain follows own = let causes = so_far header outside run h follows in answers header outside h causes own (all_current header outside h plain causes)
 
--- what follows its commands whole does so as far as it goes
-pub open_of : (header : Header) (outside : Outside) (run : List Numbered) (h : List Event) → Follows header outside run h → FollowsSoFar header outside run h
-open_of header outside [] h is = is
-open_of header outside (n ∷ before) h (past, group, is, made, whole, follows) = (past, group, is, made, follows)
-
-pub legal_open : (header : Header) (outside : Outside) (run : List Numbered) (h : List Event) → LegalFor header outside run h → LegalOpen header outside run h
-legal_open header outside run h legal = record { follows = open_of header outside run h legal.follows; holds = legal.holds; rests = legal.rests }
+-- a command that is no settle is whole so far, where it is whole
+so_far_of : (header : Header) (c : Numbered) (h events : List Event) → (settles c.command ≡ None → IsWhole header h c events) → IsWholeSoFar header h c events
+so_far_of header c h events whole = by_command (refusal header h c.command) c.command whole
+  where
+    by_command : (refused : Option Code) (doing : Command) → (settles doing ≡ None → IfNone refused (IsDone header doing events (event.Line c.line ∷ h))) → IfNone refused (IsDoneSoFar header doing events (event.Line c.line ∷ h))
+    by_command (Some code) doing whole = tt
+    by_command None (command.Settle count) whole = tt
+    by_command None other whole = whole refl
 
 -- the events behind the line of a command are a step of it that takes no message
 pub record IsStep (header : Header) (outside : Outside) (c : Numbered) (h events : List Event) : Type 0 where
   pub made : IsGroup header outside h c events
   pub whole : settles c.command ≡ None → IsWhole header h c events
   pub own_bytes : EachIn (OwnBytes header) events (event.Line c.line ∷ h)
-  pub copies : EachIn (CopiesCurrent header outside) events (event.Line c.line ∷ h)
   pub frames : Suffice header 0 h → MomentsIn (Suffice header 0) events (event.Line c.line ∷ h)
   pub inner : AllInner events
   pub rests : IsAtRest header h → IsAtRest header (events ++ event.Line c.line ∷ h)
 
-pub legal_step : (header : Header) (outside : Outside) (c : Numbered) (h events : List Event) → IsPlain header → EachEvent (CopiesCurrent header outside) h → IsStep header outside c h events
+pub legal_step : (header : Header) (outside : Outside) (c : Numbered) (h events : List Event) → HasOneHost header → IsStep header outside c h events
     → KeepsLegal header outside c h (events ++ event.Line c.line ∷ h)
-legal_step header outside c h events plain copies step run legal =
+legal_step header outside c h events plain step run legal =
     let past = event.Line c.line ∷ h in
     let now = moment_last (FramesSuffice header) h legal.holds.frames in
-    let follows : FollowsSoFar header outside (c ∷ run) (events ++ past) = (h, events, refl, step.made, legal.follows) in
+    let follows : FollowsSoFar header outside (c ∷ run) (events ++ past) = (h, events, refl, step.made, so_far_of header c h events step.whole, legal.follows) in
     let own : EachEvent (OwnBytes header) (events ++ past) = each_whole (OwnBytes header) events past step.own_bytes (tt, legal.holds.own_bytes) in
     let holds : Holds header outside (events ++ past) = record {
       own_bytes = own;
-      flat_bytes = flat_of header outside (c ∷ run) (events ++ past) follows own (each_whole (CopiesCurrent header outside) events past step.copies (tt, copies));
+      flat_bytes = flat_of header outside (c ∷ run) (events ++ past) plain follows own;
       frames = moments_whole header events past plain (step.frames (now 0)) (now, legal.holds.frames);
       prompt = steps_whole (Prompt header) events past step.inner (legal.rests.prompt, legal.holds.prompt);
       paid = steps_whole (IsPaid header) events past step.inner (legal.rests.paid, legal.holds.paid);
@@ -116,17 +159,16 @@ legal_step header outside c h events plain copies step run legal =
     record {
       so_far = record { follows = follows; holds = holds; rests = rests };
       whole = λ none. record { follows = (h, events, refl, step.made, step.whole none, legal.follows); holds = holds; rests = rests };
-      none = inl (takings_all events past step.inner);
+      none = inl (takings_more events past step.inner);
     }
 
 -- a refused command adds its line and its code
-pub legal_refused : (header : Header) (outside : Outside) (c : Numbered) (why : Code) (h : List Event) → IsPlain header → EachEvent (CopiesCurrent header outside) h
+pub legal_refused : (header : Header) (outside : Outside) (c : Numbered) (why : Code) (h : List Event) → HasOneHost header
     → refusal header h c.command ≡ Some why → KeepsLegal header outside c h (event.Refused why ∷ event.Line c.line ∷ h)
-legal_refused header outside c why h plain copies refused = legal_step header outside c h (event.Refused why ∷ []) plain copies (record {
+legal_refused header outside c why h plain refused = legal_step header outside c h (event.Refused why ∷ []) plain (record {
   made = rw refused refl;
   whole = λ none. rw refused tt;
   own_bytes = (tt, tt);
-  copies = (tt, tt);
   frames = λ now. (now, tt);
   inner = (tt, tt);
   rests = λ rests. record {
@@ -136,20 +178,19 @@ legal_refused header outside c why h plain copies refused = legal_step header ou
 })
 
 -- a command's head, and what follows from it
-pub legal_began : (header : Header) (outside : Outside) (c : Numbered) (h events : List Event) (k : Parts) (ids : Ids) → IsPlain header → EachEvent (CopiesCurrent header outside) h
-    → refusal header h c.command ≡ None → Began header outside c.command (event.Line c.line ∷ h) k ids events → KeepsLegal header outside c h (events ++ event.Line c.line ∷ h)
-legal_began header outside c h events k ids plain copies fine began =
+pub legal_began : (header : Header) (outside : Outside) (c : Numbered) (h events : List Event) (k : Parts) (ids : Ids) → HasOneHost header
+    → refusal header h c.command ≡ None → Began header 0 outside c.command (event.Line c.line ∷ h) k ids events → KeepsLegal header outside c h (events ++ event.Line c.line ∷ h)
+legal_began header outside c h events k ids plain fine began =
     let grows = began.grows in
     let is : head header h c.command ≡ Some grows.first = sym (head_line header c.line h c.command) ∙ grows.head in
     let made : IsRun header outside h c grows.first events = record { more = grows.more; is = grows.is; follows = grows.follows; licensed = grows.licensed } in
-    legal_step header outside c h events plain copies (record {
+    legal_step header outside c h events plain (record {
       made = rw (fine, is) made;
       whole = λ none. rw fine began.done;
       own_bytes = grows.own_bytes;
-      copies = grows.copies;
       frames = λ now. grows.frames;
       inner = grows.inner;
-      rests = λ rests. record { prompt = began.prompt; paid = began.paid };
+      rests = λ rests. record { prompt = prompt_whole header _ plain began.prompt; paid = began.paid };
     })
 
 idle_fine : (header : Header) (h : List Event) (doing : Command) → is_idle doing ≡ true → refusal header h doing ≡ None
@@ -168,9 +209,9 @@ idle_done header group past (command.FailPaging count) is = tt
 idle_done header group past other is = absurd (let bad : false ≡ true = is in cc)
 
 -- a command that is nothing to the host: what its kernel does at the step's end
-pub legal_passed : (header : Header) (outside : Outside) (c : Numbered) (h events : List Event) (k : Parts) (ids : Ids) → IsPlain header → EachEvent (CopiesCurrent header outside) h
-    → is_idle c.command ≡ true → Passed header outside c.command (event.Line c.line ∷ h) k ids events → KeepsLegal header outside c h (events ++ event.Line c.line ∷ h)
-legal_passed header outside c h events k ids plain copies idle passed =
+pub legal_passed : (header : Header) (outside : Outside) (c : Numbered) (h events : List Event) (k : Parts) (ids : Ids) → HasOneHost header
+    → is_idle c.command ≡ true → Passed header 0 outside c.command (event.Line c.line ∷ h) k ids events → KeepsLegal header outside c h (events ++ event.Line c.line ∷ h)
+legal_passed header outside c h events k ids plain idle passed =
     let goes = passed.goes in
     let same : events ≡ goes.more = goes.is ∙ append-nil goes.more in
     let past = event.Line c.line ∷ h in
@@ -179,24 +220,22 @@ legal_passed header outside c h events k ids plain copies idle passed =
     let licensed : AllLicensed header outside c.command events past = subst (λ (z : List Event). AllLicensed header outside c.command z past) (sym same) goes.licensed in
     let made : IsRun header outside h c [] events = record { more = goes.more; is = goes.is; follows = goes.follows; licensed = licensed } in
     let inner : AllInner events = subst AllInner (sym same) goes.inner in
-    legal_step header outside c h events plain copies (record {
+    legal_step header outside c h events plain (record {
       made = rw (fine, is) made;
       whole = λ none. rw fine (idle_done header events past c.command idle);
       own_bytes = subst (λ (z : List Event). EachIn (OwnBytes header) z past) (sym same) goes.own_bytes;
-      copies = subst (λ (z : List Event). EachIn (CopiesCurrent header outside) z past) (sym same) goes.copies;
       frames = λ now. subst (λ (z : List Event). MomentsIn (Suffice header 0) z past) (sym same) goes.frames;
       inner = inner;
-      rests = λ rests. record { prompt = passed.prompt; paid = paid_inner header c.line h events inner passed.returned };
+      rests = λ rests. record { prompt = prompt_whole header _ plain passed.prompt; paid = paid_inner header c.line h events inner passed.returned };
     })
 
 -- a settle begins with its line
-pub legal_settle : (header : Header) (outside : Outside) (line count : ℕ) (h : List Event) → IsPlain header → EachEvent (CopiesCurrent header outside) h
+pub legal_settle : (header : Header) (outside : Outside) (line count : ℕ) (h : List Event) → HasOneHost header
     → KeepsLegal header outside (record { line = line; command = command.Settle count }) h (event.Line line ∷ h)
-legal_settle header outside line count h plain copies = legal_step header outside (record { line = line; command = command.Settle count }) h [] plain copies (record {
+legal_settle header outside line count h plain = legal_step header outside (record { line = line; command = command.Settle count }) h [] plain (record {
   made = record { more = []; is = refl; follows = tt; licensed = tt };
   whole = λ none. absurd (let bad : Some count ≡ None = none in cc);
   own_bytes = tt;
-  copies = tt;
   frames = λ now. tt;
   inner = tt;
   rests = λ rests. record { prompt = prompt_line header line h rests.prompt; paid = paid_inner header line h [] tt refl };

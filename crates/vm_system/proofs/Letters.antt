@@ -1,7 +1,6 @@
 -- The letters on their way under events that begin a step, and the first of a channel.
-use Rattle.std.proofs.Common.{ℕ, ◌≡◌, List, [], ◌∷◌, ◌++◌, Bool, true, false, refl, sym, subst, Some, None, if◌then◌else◌}
+use Rattle.std.proofs.Common.{ℕ, ◌≡◌, List, [], ◌∷◌, ◌++◌, Bool, true, false, refl, sym, subst, Some, None, if◌then◌else◌, ◌∙◌}
 use Rattle.std.specs.Prelude.{◌<◌, ◌==◌}
-use Rattle.vm_base.specs.declared.code.Code.{Code}
 use Rattle.vm_base.specs.declared.ids.HostId.{HostId}
 use Rattle.vm_base.specs.declared.ids.ObjectId.{ObjectId}
 use Rattle.vm_model.specs.declared.event.Event.{Event}
@@ -21,13 +20,14 @@ use Rattle.vm_legal.specs.Steps.{Letter}
 use Rattle.vm_legal.specs.Undelivered.{is_made, undelivered, without_first}
 use Rattle.vm_quiet.specs.Letters.{messages_on}
 use Rattle.vm_quiet.proofs.Letters.{first_is, never, queue_is, same_channel}
-use Rattle.vm_kernel.specs.Matches.{the_host}
+use Rattle.vm_system.specs.Hosts.{the_host}
 use Rattle.vm_kernel.specs.Taking.{IsTempAnswer}
 use Rattle.pg_default.specs.Stands.{is_ended}
 use Rattle.vm_system.specs.Orderly.{AllLetters, Ending, IsLetter, IsOrderly, IsWordUp, is_washed}
 use Rattle.vm_system.proofs.Endings.{ends_taken}
 use Rattle.vm_system.proofs.Makings.{ended_is, made_taken, number_is}
 use Rattle.vm_system.proofs.Washings.{some_washed, washed_taken}
+use Rattle.vm_model.specs.Tasks.{host_of}
 
 -- the channels of one history are made in another
 pub record Grew (old new : List Event) : Type 0 where
@@ -102,6 +102,7 @@ pub orderly_none : (header : Header) → IsOrderly header []
 orderly_none header = record {
   letters = tt;
   washed = refl;
+  tasks = λ task host is. nothing host is;
   home = λ o. refl;
   ending = λ o. record { living = λ control at. tt; last = tt; over = λ gone. never gone };
   made = λ o. record { live = λ control at. nothing control at; never = λ zero. (refl, λ control. refl); ended = λ gone zero. never gone; quiet = λ zero. refl };
@@ -115,18 +116,34 @@ pub orderly_line : (header : Header) (line : ℕ) (past : List Event) → IsOrde
 orderly_line header line past old = record {
   letters = letters_stay header.size past (event.Line line ∷ past) (record { kept = λ c is. is }) (undelivered past) old.letters;
   washed = old.washed;
+  tasks = old.tasks;
   home = old.home;
   ending = old.ending;
   made = λ o. let was = old.made o in record { live = was.live; never = was.never; ended = was.ended; quiet = was.quiet };
   unlocked = refl;
 }
 
--- the event is no message, and begins no step
+-- the event is no message, and begins no step; a task is made on the one host
 abbrev pub IsSilent : Event → Type 0
 IsSilent (event.Line line) = ⊥
 IsSilent (event.Sent channel m) = ⊥
 IsSilent (event.Taken channel m) = ⊥
+IsSilent (event.TaskMade task host) = host.0 ≡ 0
 IsSilent other = Unit {0}
+
+-- tasks live on the one host still
+homes : (e : Event) (past : List Event) → IsSilent e → ((task host : ℕ) → host_of task past ≡ Some host → host ≡ 0) → (task host : ℕ) → host_of task (e ∷ past) ≡ Some host → host ≡ 0
+homes (event.TaskMade made at) past silent old task host is = by (made.0 == task) is
+  where
+    by : (b : Bool) → (if b then Some at.0 else host_of task past) ≡ Some host → host ≡ 0
+    by true same = let it : at.0 ≡ host = cc in sym it ∙ silent
+    by false same = old task host same
+homes (event.TaskEnded gone) past silent old task host is = by (gone.0 == task) is
+  where
+    by : (b : Bool) → (if b then None else host_of task past) ≡ Some host → host ≡ 0
+    by true same = absurd (let bad : None ≡ Some host = same in cc)
+    by false same = old task host same
+homes e past silent old task host is = old task host is
 
 pub orderly_silent : (header : Header) (e : Event) (past : List Event) → IsSilent e → IsOrderly header past → IsOrderly header (e ∷ past)
 orderly_silent header (event.Line line) past silent old = absurd silent
@@ -135,14 +152,12 @@ orderly_silent header (event.Taken channel m) past silent old = absurd silent
 orderly_silent header e past silent old = record {
   letters = letters_stay header.size past (e ∷ past) (record { kept = λ c is. is }) (undelivered past) old.letters;
   washed = old.washed;
+  tasks = homes e past silent old.tasks;
   home = old.home;
   ending = old.ending;
   made = λ o. let was = old.made o in record { live = was.live; never = was.never; ended = was.ended; quiet = was.quiet };
   unlocked = old.unlocked;
 }
-
-pub orderly_code : (header : Header) (why : Code) (past : List Event) → IsOrderly header past → IsOrderly header (event.Refused why ∷ past)
-orderly_code header why past old = orderly_silent header (event.Refused why) past tt old
 
 -- the letters after a taking
 letters_taken : (header : Header) (channel : Channel) (m : Message) (past : List Event) → IsOrderly header past → AllLetters header.size (event.Taken channel m ∷ past) (undelivered (event.Taken channel m ∷ past))
@@ -154,6 +169,7 @@ taken_up : (header : Header) (object : ObjectId) (m : Message) (past : List Even
 taken_up header object m past old head = record {
   letters = letters_taken header (Up the_host object) m past old;
   washed = washed_taken header.size (Up the_host object) m past head old.letters old.washed (letters_taken header (Up the_host object) m past old);
+  tasks = old.tasks;
   home = old.home;
   ending = λ o. lettered o (event.Taken (Up the_host object) m ∷ past)
       (subst (λ (x : Bool). Ending (live_control 0 o past) x (if object.0 == o then rest (queue (up 0 o) past) else queue (up 0 o) past)) (sym (ended_is o object m past))
@@ -168,6 +184,7 @@ taken_down : (header : Header) (host : HostId) (object : ObjectId) (control : �
 taken_down header host object control m past old head answer = record {
   letters = letters_taken header (Down host object control) m past old;
   washed = washed_taken header.size (Down host object control) m past head old.letters old.washed (letters_taken header (Down host object control) m past old);
+  tasks = old.tasks;
   home = old.home;
   ending = λ o. lettered o (event.Taken (Down host object control) m ∷ past) (queued header o past old);
   made = λ o. let was = old.made o in record { live = was.live; never = was.never; ended = was.ended; quiet = was.quiet };

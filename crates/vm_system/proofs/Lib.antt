@@ -1,3 +1,4 @@
+pub mod Acting
 pub mod Agreeing
 pub mod Answering
 pub mod Beginning
@@ -26,5 +27,6 @@ pub mod Taken
 pub mod TakenDown
 pub mod TakenFrom
 pub mod TakenUp
+pub mod Unfilled
 pub mod Untouched
 pub mod Washings

@@ -15,7 +15,7 @@ use Rattle.vm_model.specs.Side.{rest}
 use Rattle.vm_legal.specs.Licences.{up}
 use Rattle.vm_legal.specs.Undelivered.{is_made}
 use Rattle.vm_quiet.proofs.Letters.{never}
-use Rattle.vm_kernel.specs.Matches.{the_host}
+use Rattle.vm_system.specs.Hosts.{the_host}
 use Rattle.pg_default.specs.Stands.{is_ended}
 use Rattle.vm_system.specs.Orderly.{HasMade, is_end}
 

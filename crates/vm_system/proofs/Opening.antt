@@ -12,7 +12,7 @@ use Rattle.vm_model.specs.declared.message.Message.{Message}
 use Rattle.vm_model.specs.declared.script.Header.{Header}
 use Rattle.vm_model.specs.Channels.{queue}
 use Rattle.vm_model.specs.Moments.{BeforeSteps, EachEvent, EachMoment}
-use Rattle.vm_legal.specs.Bytes.{CopiesCurrent, OwnBytes}
+use Rattle.vm_legal.specs.Bytes.{OwnBytes}
 use Rattle.vm_legal.specs.Debts.{IsPaid}
 use Rattle.vm_legal.specs.Follows.{FollowsSoFar, IsConsequence, IsGroup}
 use Rattle.vm_legal.specs.Frames.{FramesSuffice}
@@ -27,10 +27,11 @@ use Rattle.vm_ports.specs.Ports.{oldest as oldest_on}
 use Rattle.vm_ports.specs.declared.letter.Letter.{Letter as Posted}
 use Rattle.vm_quiet.proofs.Letters.{queue_is}
 use Rattle.vm_quiet.specs.Letters.{messages_on}
-use Rattle.vm_legal.proofs.Groups.{so_far}
+use Rattle.vm_legal.proofs.Groups.{cut_of, so_far}
 use Rattle.vm_flat.proofs.Loads.{answers}
-use Rattle.vm_kernel.specs.Begun.{AllInner, IsInner}
-use Rattle.vm_kernel.specs.Matches.{IsPlain}
+use Rattle.vm_system.specs.Hosts.{HasOneHost}
+use Rattle.vm_legal.proofs.Stretched.{licensed_both, of_both}
+use Rattle.vm_legal.proofs.Inside.{takings_more}
 use Rattle.vm_system.specs.Channels.{number_in}
 use Rattle.vm_system.specs.Posts.{AreSame}
 use Rattle.vm_system.specs.Stands.{Stands}
@@ -38,13 +39,13 @@ use Rattle.vm_system.specs.Steps.{HasMore, KeepsOpen, LegalOpen, MayCutOpen, Tak
 use Rattle.vm_system.specs.Takings.{May, MayBeCut, TakesStep, Took}
 use Rattle.vm_system.specs.declared.state.State.{State}
 use Rattle.vm_system.proofs.Taken.{is_itself}
-use Rattle.vm_system.proofs.Stretched.{each_whole, licensed_both, moments_whole, of_both, steps_whole}
+use Rattle.vm_system.proofs.Stretched.{each_whole, moments_whole, steps_whole}
+use Rattle.vm_system.proofs.Unfilled.{all_current}
 
 -- what holds in front of a taking
 pub record HoldsUpTo (header : Header) (outside : Outside) (past : List Event) : Type 0 where
-  pub plain : IsPlain header
+  pub plain : HasOneHost header
   pub own_bytes : EachEvent (OwnBytes header) past
-  pub copies : EachEvent (CopiesCurrent header outside) past
   pub frames : EachMoment (FramesSuffice header) past
   pub prompts : BeforeSteps (Prompt header) past
   pub prompt : Prompt header past
@@ -63,25 +64,15 @@ holds_taken given new step caused front =
     let stretch = step.more ++ event.Taken step.channel step.m ∷ [] in
     let is = step_is given new step in
     let own : EachEvent (OwnBytes header) new = rw is (each_whole (OwnBytes header) stretch past step.own_bytes front.own_bytes) in
-    let copies : EachEvent (CopiesCurrent header outside) new = rw is (each_whole (CopiesCurrent header outside) stretch past step.copies front.copies) in
     record {
       own_bytes = own;
-      flat_bytes = answers header outside new caused own copies;
+      flat_bytes = answers header outside new caused own (all_current header outside new front.plain caused);
       frames = rw is (moments_whole header stretch past front.plain step.frames front.frames);
       prompt = rw step.is (steps_whole (Prompt header) step.more (event.Taken step.channel step.m ∷ past) step.inner (front.prompt, front.prompts));
       paid = rw step.is (steps_whole (IsPaid header) step.more (event.Taken step.channel step.m ∷ past) step.inner (front.paid, front.payments));
     }
 
 -- the number of messages taken
-
-takings_inner : (e : Event) (past : List Event) → IsInner e → takings (e ∷ past) ≡ takings past
-takings_inner (event.Line line) past inner = absurd inner
-takings_inner (event.Taken channel m) past inner = absurd inner
-takings_inner other past inner = refl
-
-takings_more : (events past : List Event) → AllInner events → takings (events ++ past) ≡ takings past
-takings_more [] past inner = refl
-takings_more (e ∷ events) past inner = takings_inner e (events ++ past) inner.0 ∙ takings_more events past inner.1
 
 -- the group of a settle grows
 grown : (header : Header) (outside : Outside) (count line : ℕ) (past group stretch : List Event) → EachOf IsConsequence stretch → AllLicensed header outside (command.Settle count) stretch (group ++ event.Line line ∷ past)
@@ -96,16 +87,15 @@ grown header outside count line past group stretch follows licensed made = recor
 -- and so does what a settle made so far
 pub settled_more : (header : Header) (outside : Outside) (count line : ℕ) (run : List Numbered) (old new stretch : List Event) → new ≡ stretch ++ old → EachOf IsConsequence stretch → AllLicensed header outside (command.Settle count) stretch old
     → FollowsSoFar header outside (record { line = line; command = command.Settle count } ∷ run) old → FollowsSoFar header outside (record { line = line; command = command.Settle count } ∷ run) new
-settled_more header outside count line run old new stretch is follows licensed (past, group, was, made, before) =
+settled_more header outside count line run old new stretch is follows licensed (past, group, was, made, done, before) =
     let licensed_on : AllLicensed header outside (command.Settle count) stretch (group ++ event.Line line ∷ past) = subst (λ (z : List Event). AllLicensed header outside (command.Settle count) stretch z) was licensed in
-    (past, stretch ++ group, is ∙ ap (λ (z : List Event). stretch ++ z) was ∙ sym (append_assoc stretch group (event.Line line ∷ past)), grown header outside count line past group stretch follows licensed_on made, before)
+    (past, stretch ++ group, is ∙ ap (λ (z : List Event). stretch ++ z) was ∙ sym (append_assoc stretch group (event.Line line ∷ past)), grown header outside count line past group stretch follows licensed_on made, tt, before)
 
 -- what holds of an open history that has a kernel
 pub up_to_open : (header : Header) (outside : Outside) (run : List Numbered) (s : State) → Stands header outside s → LegalOpen header outside run s.history.items → HoldsUpTo header outside s.history.items
 up_to_open header outside run s stands legal = record {
   plain = stands.plain;
   own_bytes = legal.holds.own_bytes;
-  copies = stands.agrees.copies;
   frames = legal.holds.frames;
   prompts = legal.holds.prompt;
   prompt = legal.rests.prompt;
@@ -144,7 +134,7 @@ cuts_open header outside count s new stands (inr step) = inr (λ line run legal.
     let given = settling header outside count s.history.items in
     let numbered : Numbered = record { line = line; command = command.Settle count } in
     let follows : FollowsSoFar header outside (numbered ∷ run) new = follows_open header outside count line run s.history.items new step legal.follows in
-    record { follows = follows; holds = holds_taken given new step (so_far header outside (numbered ∷ run) new follows) (up_to_open header outside (numbered ∷ run) s stands legal) })
+    record { follows = cut_of header outside (numbered ∷ run) new follows; holds = holds_taken given new step (so_far header outside (numbered ∷ run) new follows) (up_to_open header outside (numbered ∷ run) s stands legal) })
 
 -- the oldest letter of all has its channel
 pub record Foremost (made : List Channel) (number : ChannelId) (letters : List Letter) : Type 0 where

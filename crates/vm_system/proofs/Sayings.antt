@@ -1,7 +1,6 @@
 -- The letters on their way under what a kernel says, and under what the default pager answers.
-use Rattle.std.proofs.Common.{ℕ, ◌≡◌, inl, inr, List, [], ◌∷◌, ◌++◌, length, Bool, true, false, refl, sym, ap, subst, ◌∙◌, arith, Option, Some, None}
-use Rattle.std.proofs.lemmas.Bool.Decides.{nat_tests}
-use Rattle.std.specs.Prelude.{◌==◌, ◌||◌, ◌&&◌, not, nat_lt}
+use Rattle.std.proofs.Common.{ℕ, ◌≡◌, inl, inr, List, [], ◌∷◌, ◌++◌, length, Bool, true, false, refl, sym, subst, ◌∙◌, Option, Some, None}
+use Rattle.std.specs.Prelude.{◌==◌, ◌||◌, ◌&&◌}
 use Rattle.vm_base.specs.declared.ids.HostId.{HostId}
 use Rattle.vm_base.specs.declared.ids.ObjectId.{ObjectId}
 use Rattle.vm_base.specs.declared.ids.PageNo.{PageNo}
@@ -17,14 +16,13 @@ use Rattle.vm_model.specs.declared.script.Header.{Header}
 use Rattle.vm_model.specs.Channels.{queue}
 use Rattle.vm_model.specs.Controls.{last_control, live_control}
 use Rattle.vm_model.specs.Copies.{HasPageOf}
-use Rattle.vm_model.specs.Named.{named}
-use Rattle.vm_legal.specs.Licences.{AllLicensed, Licensed, MaySendUp, is_paged, up}
-use Rattle.vm_legal.specs.Outside.{Outside, is_file}
-use Rattle.vm_legal.specs.Stretches.{EachOf}
+use Rattle.vm_legal.specs.Licences.{AllLicensed, Licensed, MaySendUp, up}
+use Rattle.vm_legal.specs.Outside.{Outside}
+use Rattle.vm_legal.specs.Stretches.{AllInner, EachOf, IsInner}
 use Rattle.vm_legal.specs.Undelivered.{is_made, makes, undelivered}
 use Rattle.vm_quiet.proofs.Letters.{never}
-use Rattle.vm_kernel.specs.Begun.{AllInner, IsInner, IsSaid}
-use Rattle.vm_kernel.specs.Matches.{IsPlain, the_host}
+use Rattle.vm_kernel.specs.Begun.{IsOwn}
+use Rattle.vm_system.specs.Hosts.{HasOneHost, the_host}
 use Rattle.vm_kernel.specs.Taking.{IsTempAnswer}
 use Rattle.pg_slots.specs.Slots.{SlotTable, held_at}
 use Rattle.pg_slots.specs.declared.answers.Put.{Put}
@@ -61,6 +59,7 @@ sent_up : (header : Header) (object : ObjectId) (m : Message) (past : List Event
 sent_up header object m past old word ending made = record {
   letters = letters_sent header.size (Up the_host object) m past old.letters (refl, word);
   washed = washed_sent header.size (Up the_host object) m past old.letters old.washed (letters_sent header.size (Up the_host object) m past old.letters (refl, word));
+  tasks = old.tasks;
   home = old.home;
   ending = λ o. lettered o (event.Sent (Up the_host object) m ∷ past) (ending o);
   made = made;
@@ -126,35 +125,22 @@ terminated header object control past old lives = record {
   can = ((old.made object.0).live control lives).0;
 }
 
--- nothing is declared
-none_named : (header : Header) → IsPlain header → named header ≡ 0
-none_named header plain = ap length plain.objects
-
-all_paged : (header : Header) (o : ℕ) → IsPlain header → is_paged header o ≡ true
-all_paged header o plain = one (nat_lt o (named header)) (is_file header o) (subst (λ (n : ℕ). nat_lt o n ≡ false) (sym (none_named header plain)) (over o))
-  where
-    over : (n : ℕ) → nat_lt n 0 ≡ false
-    over n = grind (arith, nat_tests)
-
-    one : (b c : Bool) → b ≡ false → not b || c ≡ true
-    one false c is = refl
-    one true c is = never (sym is)
-
 -- what the kernel of the host says up
-said_up : (header : Header) (doing : Command) (object : ObjectId) (m : Message) (past : List Event) → IsPlain header → IsOrderly header past → MaySendUp header doing 0 object.0 m past → IsSaid header.size (event.Sent (Up the_host object) m)
+said_up : (header : Header) (doing : Command) (object : ObjectId) (m : Message) (past : List Event) → HasOneHost header → IsOrderly header past → MaySendUp header doing 0 object.0 m past → IsOwn 0 header.size (event.Sent (Up the_host object) m)
     → Sends header (Up the_host object) m past
 said_up header doing object (message.Create control size) past plain old may said = created header object control size past old may.number may.never
 said_up header doing object (message.Request control page access) past plain old may said = requested header object control access page past old may.live
 said_up header doing object (message.Return control page dirty keep bytes) past plain old may said = returned header object control page dirty keep bytes past old may.live said.1
 said_up header doing object (message.Terminate control) past plain old may said = terminated header object control past old may.live
-said_up header doing object (message.Init control size) past plain old may said = absurd (omega (arith, none_named header plain, may.declared))
-said_up header doing object (message.Completed control page count) past plain old may said = absurd (let bad : None ≡ Some _ = sym old.unlocked ∙ may.4 in cc)
-said_up header doing object m past plain old may said = absurd may
+said_up header doing object m past plain old may said = absurd said
 
 -- the host of what is said
-said_here : (size : ℕ) (host : HostId) (object : ObjectId) (m : Message) → IsSaid size (event.Sent (Up host object) m) → host ≡ the_host
-said_here size host object (message.Return control page dirty keep bytes) said = said.0
-said_here size host object m said = said
+said_here : (size : ℕ) (host : HostId) (object : ObjectId) (m : Message) → IsOwn 0 size (event.Sent (Up host object) m) → host ≡ the_host
+said_here size host object (message.Return control page dirty keep bytes) said = λ i. record { 0 = said.0 i }
+said_here size host object (message.Create control bytes) said = λ i. record { 0 = said i }
+said_here size host object (message.Request control page access) said = λ i. record { 0 = said i }
+said_here size host object (message.Terminate control) said = λ i. record { 0 = said i }
+said_here size host object m said = absurd said
 
 -- what an event does where it is told
 pub record Tells (header : Header) (e : Event) (past : List Event) : Type 0 where
@@ -165,22 +151,23 @@ sends_tells : (header : Header) (c : Channel) (m : Message) (past : List Event) 
 sends_tells header c m past sends = record { orderly = sends.orderly; can = (sends.page, sends.can) }
 
 -- what a kernel says
-said : (header : Header) (outside : Outside) (doing : Command) (e : Event) (past : List Event) → IsPlain header → IsOrderly header past → Licensed header outside doing e past → IsSaid header.size e → IsInner e → Tells header e past
+said : (header : Header) (outside : Outside) (doing : Command) (e : Event) (past : List Event) → HasOneHost header → IsOrderly header past → Licensed header outside doing e past → IsOwn 0 header.size e → IsInner e → Tells header e past
 said header outside doing (event.Line line) past plain old licence is inner = absurd inner
 said header outside doing (event.Taken channel m) past plain old licence is inner = absurd inner
 said header outside doing (event.Sent (Down host object control) m) past plain old licence is inner = absurd is
 said header outside doing (event.Sent (Up host object) m) past plain old licence is inner =
-    subst (λ (h : HostId). MaySendUp header doing h.0 object.0 m past → IsSaid header.size (event.Sent (Up h object) m) → Tells header (event.Sent (Up h object) m) past) (sym (said_here header.size host object m is))
-    (λ may as_said. sends_tells header (Up the_host object) m past (said_up header doing object m past plain old may as_said)) (licence.0 (all_paged header object.0 plain)) is
+    subst (λ (h : HostId). MaySendUp header doing h.0 object.0 m past → IsOwn 0 header.size (event.Sent (Up h object) m) → Tells header (event.Sent (Up h object) m) past) (sym (said_here header.size host object m is))
+    (λ may as_said. sends_tells header (Up the_host object) m past (said_up header doing object m past plain old may as_said)) licence.0 is
+said header outside doing (event.TaskMade task host) past plain old licence is inner = record { orderly = orderly_silent header (event.TaskMade task host) past is old; can = tt }
 said header outside doing e past plain old licence is inner = record { orderly = orderly_silent header e past tt old; can = tt }
 
-pub orderly_said : (header : Header) (outside : Outside) (doing : Command) (past events : List Event) → IsPlain header → IsOrderly header past → AllLicensed header outside doing events past → EachOf (IsSaid header.size) events → AllInner events
+pub orderly_said : (header : Header) (outside : Outside) (doing : Command) (past events : List Event) → HasOneHost header → IsOrderly header past → AllLicensed header outside doing events past → EachOf (IsOwn 0 header.size) events → AllInner events
     → IsOrderly header (events ++ past)
 orderly_said header outside doing past [] plain old licences is inner = old
 orderly_said header outside doing past (e ∷ events) plain old licences is inner =
     (said header outside doing e (events ++ past) plain (orderly_said header outside doing past events plain old licences.1 is.1 inner.1) licences.0 is.0 inner.0).orderly
 
-pub can_say : (header : Header) (outside : Outside) (doing : Command) (past events : List Event) → IsPlain header → IsOrderly header past → AllLicensed header outside doing events past → EachOf (IsSaid header.size) events → AllInner events
+pub can_say : (header : Header) (outside : Outside) (doing : Command) (past events : List Event) → HasOneHost header → IsOrderly header past → AllLicensed header outside doing events past → EachOf (IsOwn 0 header.size) events → AllInner events
     → CanTellAll header.size events past
 can_say header outside doing past [] plain old licences is inner = tt
 can_say header outside doing past (e ∷ events) plain old licences is inner =
@@ -200,6 +187,7 @@ sent_down : (header : Header) (object : ObjectId) (control : ℕ) (m : Message) 
 sent_down header object control m past old answer = record {
   letters = letters_sent header.size (Down the_host object control) m past old.letters (refl, answer);
   washed = washed_sent header.size (Down the_host object control) m past old.letters old.washed (letters_sent header.size (Down the_host object control) m past old.letters (refl, answer));
+  tasks = old.tasks;
   home = old.home;
   ending = λ o. lettered o (sent_to 0 object control m ∷ past) (queued header o past old);
   made = λ o. let was = old.made o in record { live = was.live; never = was.never; ended = was.ended; quiet = was.quiet };

@@ -8,9 +8,10 @@ use Rattle.vm_model.specs.declared.script.Header.{Header}
 use Rattle.vm_legal.specs.Outside.{Outside}
 use Rattle.vm_legal.specs.Steps.{Letter}
 use Rattle.vm_legal.specs.Undelivered.{undelivered}
+use Rattle.vm_legal.proofs.Groups.{cut_of}
 use Rattle.vm_outside.specs.Causes.{Rose}
-use Rattle.vm_system.specs.Settling.{DevicesCounted, EndsCut, StaysOpen}
-use Rattle.vm_system.specs.Steps.{DevicesHaveCause, Grew, KeepsOpen, LegalCut, LegalOpen, MayCutOpen, devices, event_limit}
+use Rattle.vm_system.specs.Settling.{DevicesCounted, StaysOpen}
+use Rattle.vm_system.specs.Steps.{DevicesHaveCause, Grew, KeepsOpen, LegalCut, LegalOpen, MayCutOpen, devices, event_limit, EndsCut}
 use Rattle.vm_system.specs.declared.stop.SystemStop.{SystemStop}
 use Rattle.vm_system.specs.declared.stop.SystemStop.TheVariants as stops
 use Rattle.vm_system.proofs.Growth.{devices_grow, grew_more}
@@ -19,8 +20,8 @@ pub stays_more : (header : Header) (outside : Outside) (doing : Command) (first 
 stays_more header outside doing first old new stays keeps = λ line run legal. (keeps line run (stays line run legal)).so_far
 
 -- what is legal so far is so where its last step may be cut
-may_be_cut : (header : Header) (outside : Outside) (run : List Numbered) (history : List Event) → LegalOpen header outside run history → LegalCut header outside run history
-may_be_cut header outside run history legal = record { follows = legal.follows; holds = legal.holds }
+pub may_be_cut : (header : Header) (outside : Outside) (run : List Numbered) (history : List Event) → LegalOpen header outside run history → LegalCut header outside run history
+may_be_cut header outside run history legal = record { follows = cut_of header outside run history legal.follows; holds = legal.holds }
 
 pub cut_more : (header : Header) (outside : Outside) (doing : Command) (first old new : List Event) → StaysOpen header outside doing first old → MayCutOpen header outside doing old new → EndsCut header outside doing first new
 cut_more header outside doing first old new stays (inl same) = λ line run legal.

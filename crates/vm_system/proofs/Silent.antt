@@ -1,6 +1,7 @@
 -- What holds at the end of a step doesn't change with a line, or with the code of a refusal.
-use Rattle.std.proofs.Common.{◌≡◌, ℕ, Bool, List, [], ◌∷◌, ◌++◌, refl, sym, ◌∙◌, Some, None, Option, inl, inr}
+use Rattle.std.proofs.Common.{◌≡◌, ℕ, Bool, List, [], ◌∷◌, ◌++◌, refl, None, inl, inr}
 use Rattle.vm_base.specs.declared.code.Code.{Code}
+use Rattle.vm_kernel.proofs.Growing.{paid_of}
 use Rattle.vm_model.specs.declared.event.Event.{Event}
 use Rattle.vm_model.specs.declared.event.Event.TheVariants as event
 use Rattle.vm_model.specs.declared.script.Header.{Header}
@@ -9,32 +10,10 @@ use Rattle.vm_legal.specs.Accesses.{Comes, Copies, Elsewhere, HasPlace, Nowhere,
 use Rattle.vm_legal.specs.Debts.{IsPaid}
 use Rattle.vm_legal.specs.Licences.{created}
 use Rattle.vm_legal.specs.Prompt.{AReady, AnAnswer, AnUnlock, Awaits, IsExhausted, IsFull, IsSource, NoneInVain, Prompt, WaitsForPager}
-use Rattle.vm_legal.specs.Steps.{Asked, Letter, absence_taken, error_taken, taken}
 use Rattle.vm_shadow.specs.declared.ids.Ids.{Ids}
-use Rattle.vm_kernel.specs.Begun.{AllInner, IsInner}
 use Rattle.vm_kernel.specs.Matches.{Matches, Rests}
 use Rattle.vm_kernel.specs.declared.parts.Parts.{Parts}
-
--- a line
-matches_line : (header : Header) (k : Parts) (ids : Ids) (line : ℕ) (h : List Event) → Matches header k ids [] h → Matches header k ids [] (event.Line line ∷ h)
-matches_line header k ids line h m = record {
-  plain = m.plain;
-  size = m.size;
-  host = m.host;
-  fits = m.fits;
-  tasks = m.tasks;
-  regions = m.regions;
-  entries = m.entries;
-  pages = m.pages;
-  uses = m.uses;
-  controls = m.controls;
-  settled = refl;
-  laundry = m.laundry;
-  frames = m.frames;
-}
-
-pub rests_line : (header : Header) (k : Parts) (ids : Ids) (line : ℕ) (h : List Event) → Rests header k ids h → Rests header k ids (event.Line line ∷ h)
-rests_line header k ids line h rests = record { matches = matches_line header k ids line h rests.matches; used = rests.used; reached = rests.reached; waits = rests.waits; order = rests.order; idle = rests.idle }
+use Rattle.vm_legal.specs.Stretches.{AllInner}
 
 -- the accesses that wait, and what they wait for
 
@@ -111,15 +90,16 @@ not_in_vain_line header host line h none task access waits on = elim (none task 
 ]
 
 pub prompt_line : (header : Header) (line : ℕ) (h : List Event) → Prompt header h → Prompt header (event.Line line ∷ h)
-prompt_line header line h prompt = record {
-  waits = λ host below. not_in_vain_line header host line h (prompt.waits host below);
-  swept = λ host below. let swept = prompt.swept host below in record { pages = swept.pages; controls = swept.controls };
+prompt_line header line h prompt host below = record {
+  waits = not_in_vain_line header host line h (prompt host below).waits;
+  swept = let swept = (prompt host below).swept in record { pages = swept.pages; controls = swept.controls; declared_pages = swept.declared_pages; declared_controls = swept.declared_controls };
 }
 
 -- a code
-matches_code : (header : Header) (k : Parts) (ids : Ids) (why : Code) (h : List Event) → Matches header k ids [] h → Matches header k ids [] (event.Refused why ∷ h)
+matches_code : (header : Header) (k : Parts) (ids : Ids) (why : Code) (h : List Event) → Matches header 0 k ids [] h → Matches header 0 k ids [] (event.Refused why ∷ h)
 matches_code header k ids why h m = record {
   plain = m.plain;
+  known = m.known;
   size = m.size;
   host = m.host;
   fits = m.fits;
@@ -134,7 +114,7 @@ matches_code header k ids why h m = record {
   frames = m.frames;
 }
 
-pub rests_code : (header : Header) (k : Parts) (ids : Ids) (why : Code) (h : List Event) → Rests header k ids h → Rests header k ids (event.Refused why ∷ h)
+pub rests_code : (header : Header) (k : Parts) (ids : Ids) (why : Code) (h : List Event) → Rests header 0 k ids h → Rests header 0 k ids (event.Refused why ∷ h)
 rests_code header k ids why h rests = record { matches = matches_code header k ids why h rests.matches; used = rests.used; reached = rests.reached; waits = rests.waits; order = rests.order; idle = rests.idle }
 
 -- the accesses that wait, and what they wait for
@@ -212,59 +192,12 @@ not_in_vain_code header host why h none task access waits on = elim (none task a
 ]
 
 pub prompt_code : (header : Header) (why : Code) (h : List Event) → Prompt header h → Prompt header (event.Refused why ∷ h)
-prompt_code header why h prompt = record {
-  waits = λ host below. not_in_vain_code header host why h (prompt.waits host below);
-  swept = λ host below. let swept = prompt.swept host below in record { pages = swept.pages; controls = swept.controls };
+prompt_code header why h prompt host below = record {
+  waits = not_in_vain_code header host why h (prompt host below).waits;
+  swept = let swept = (prompt host below).swept in record { pages = swept.pages; controls = swept.controls; declared_pages = swept.declared_pages; declared_controls = swept.declared_controls };
 }
 
 -- a step that takes nothing owes nothing
 
-taken_inner : (e : Event) (past : List Event) → IsInner e → taken (e ∷ past) ≡ taken past
-taken_inner (event.Line line) past inner = absurd inner
-taken_inner (event.Taken channel m) past inner = absurd inner
-taken_inner other past inner = refl
-
-error_inner : (size : ℕ) (e : Event) (past : List Event) → IsInner e → error_taken size (e ∷ past) ≡ error_taken size past
-error_inner size (event.Line line) past inner = absurd inner
-error_inner size (event.Taken channel m) past inner = absurd inner
-error_inner size other past inner = refl
-
-absence_inner : (size : ℕ) (e : Event) (past : List Event) → IsInner e → absence_taken size (e ∷ past) ≡ absence_taken size past
-absence_inner size (event.Line line) past inner = absurd inner
-absence_inner size (event.Taken channel m) past inner = absurd inner
-absence_inner size other past inner = refl
-
-record TakesNothing (size : ℕ) (past : List Event) : Type 0 where
-  pub taken : taken past ≡ None
-  pub error : error_taken size past ≡ None
-  pub absence : absence_taken size past ≡ None
-
-takes_nothing : (size line : ℕ) (h events : List Event) → AllInner events → TakesNothing size (events ++ event.Line line ∷ h)
-takes_nothing size line h [] inner = record { taken = refl; error = refl; absence = refl }
-takes_nothing size line h (e ∷ events) inner =
-    let past = events ++ event.Line line ∷ h in
-    let nothing = takes_nothing size line h events inner.1 in
-    record {
-      taken = taken_inner e past inner.0 ∙ nothing.taken;
-      error = error_inner size e past inner.0 ∙ nothing.error;
-      absence = absence_inner size e past inner.0 ∙ nothing.absence;
-    }
-
-no_letter : {B : Type 0} (x : Option Letter) (letter : Letter) → x ≡ None → x ≡ Some letter → B
-no_letter x letter none some = absurd (let bad : None ≡ Some letter = sym none ∙ some in cc)
-
-no_asked : {B : Type 0} (x : Option Asked) (asked : Asked) → x ≡ None → x ≡ Some asked → B
-no_asked x asked none some = absurd (let bad : None ≡ Some asked = sym none ∙ some in cc)
-
 pub paid_inner : (header : Header) (line : ℕ) (h events : List Event) → AllInner events → created (events ++ event.Line line ∷ h) ≡ None → IsPaid header (events ++ event.Line line ∷ h)
-paid_inner header line h events inner none =
-    let nothing = takes_nothing header.size line h events inner in
-    record {
-      returned = none;
-      init = λ host object control size paged is. no_letter _ _ nothing.taken is;
-      create = λ host object control size paged is. no_letter _ _ nothing.taken is;
-      request = λ host object control page access paged is. no_letter _ _ nothing.taken is;
-      error = λ host object page is. no_asked _ _ nothing.error is;
-      absence = λ host object page declared is. no_asked _ _ nothing.absence is;
-      slot = λ host object control page dirty keep bytes temporary is lacks. no_letter _ _ nothing.taken is;
-    }
+paid_inner header line h events inner none = paid_of header (event.Line line ∷ h) events (record { line = line; before = h; is = refl }) inner none

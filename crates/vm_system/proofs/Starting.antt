@@ -1,5 +1,7 @@
 -- A new system stands for the empty history.
-use Rattle.std.proofs.Common.{◌≡◌, ℕ, List, [], true, None, refl, sym, subst, inl}
+use Rattle.std.proofs.Common.{◌≡◌, ℕ, ◌<◌, ◌^◌, List, [], length, true, None, refl, ap, sym, subst, arith, inl}
+use Rattle.std.proofs.lemmas.List.Elements.{All-cons, All-nil}
+use Rattle.std.specs.List.{All}
 use Rattle.vm_model.specs.declared.script.Header.{Header}
 use Rattle.vm_legal.specs.Outside.{Outside}
 use Rattle.vm_outside.specs.Areas.{Told}
@@ -10,6 +12,7 @@ use Rattle.pg_default.proofs.Others.{empty}
 use Rattle.pg_default.proofs.Standing.{start}
 use Rattle.vm_waits.specs.Waits.{queued}
 use Rattle.vm_kernel.specs.Matches.{IsPlain, Rests}
+use Rattle.vm_system.specs.Hosts.{HasOneHost}
 use Rattle.vm_system.specs.Posts.{Posts}
 use Rattle.vm_system.specs.Stands.{Kept, Stands}
 use Rattle.vm_system.specs.declared.state.State.{State}
@@ -22,7 +25,7 @@ no_slots header = record { host = 0; size = header.size; count = header.slots; r
 -- a system to which nothing has happened
 pub record IsNew (header : Header) (s : State) : Type 0 where
   pub size : s.size ≡ header.size
-  pub rests : Rests header s.kernel s.ids []
+  pub rests : Rests header 0 s.kernel s.ids []
   pub idle : queued s.kernel.waits.rows ≡ 0
   pub pager : s.pager ≡ no_slots header
   pub channels : s.ports.channels ≡ 0
@@ -39,7 +42,20 @@ new_posts header s new = record {
   buffers = rw new.buffers refl;
 }
 
-pub new_stands : (header : Header) (outside : Outside) (s : State) → IsPlain header → IsNew header s → Stands header outside s
+-- the kernel's host is the one that its header has
+pub plain_host : (header : Header) → HasOneHost header → IsPlain header
+plain_host header one =
+    record {
+      size = one.size;
+      hosts = let count : length header.frames.items ≡ 1 = ap length one.hosts in (omega (arith, count), omega (arith, count));
+      few = subst (All (λ frames. frames < 2 ^ 32)) (sym one.hosts) (All-cons (λ frames. frames < 2 ^ 32) one.frames [] one.few (All-nil (λ frames. frames < 2 ^ 32)));
+      objects = one.objects;
+    }
+
+pub host_below : (header : Header) → HasOneHost header → 0 < length header.frames.items
+host_below header one = let count : length header.frames.items ≡ 1 = ap length one.hosts in omega (arith, count)
+
+pub new_stands : (header : Header) (outside : Outside) (s : State) → HasOneHost header → IsNew header s → Stands header outside s
 new_stands header outside s plain new = record {
   plain = plain;
   rests = rw new.history new.rests;
@@ -49,7 +65,6 @@ new_stands header outside s plain new = record {
     pager = rw (new.history, new.pager) (start header 0);
     posts = new_posts header s new;
     orderly = rw new.history (orderly_none header);
-    copies = rw new.history tt;
   };
 }
 

@@ -1,5 +1,5 @@
--- Stretches on stretches, and on whole histories.
-use Rattle.std.proofs.Common.{append_assoc, ℕ, zero, suc, ◌≤◌, List, [], ◌∷◌, ◌++◌, sym, subst}
+-- Stretches on whole histories.
+use Rattle.std.proofs.Common.{◌≡◌, ◌<◌, arith, length, ℕ, zero, suc, ◌≤◌, List, [], ◌∷◌, ◌++◌, sym, subst}
 use Rattle.std.specs.Prelude.{IfSome, reverse, slice_get}
 use Rattle.vm_model.specs.declared.event.Event.{Event}
 use Rattle.vm_model.specs.declared.event.Event.TheVariants as event
@@ -9,31 +9,9 @@ use Rattle.vm_model.specs.Moments.{BeforeSteps, EachEvent, EachMoment}
 use Rattle.vm_legal.specs.Frames.{FramesSuffice, Suffice, frames_used}
 use Rattle.vm_legal.specs.Licences.{AllLicensed, Licensed}
 use Rattle.vm_legal.specs.Outside.{Outside}
-use Rattle.vm_legal.specs.Stretches.{EachIn, EachOf, MomentsIn}
-use Rattle.vm_kernel.specs.Begun.{AllInner, IsInner}
-use Rattle.vm_kernel.specs.Matches.{IsPlain}
-
--- events behind events
-
-pub each_both : (P : Event → List Event → Type 0) (later front past : List Event) → EachIn P later (front ++ past) → EachIn P front past → EachIn P (later ++ front) past
-each_both P [] front past all before = before
-each_both P (e ∷ later) front past all before = (subst (λ (z : List Event). P e z) (sym (append_assoc later front past)) all.0, each_both P later front past all.1 before)
-
-pub moments_both : (P : List Event → Type 0) (later front past : List Event) → MomentsIn P later (front ++ past) → MomentsIn P front past → MomentsIn P (later ++ front) past
-moments_both P [] front past all before = before
-moments_both P (e ∷ later) front past all before = (subst (λ (z : List Event). P (e ∷ z)) (sym (append_assoc later front past)) all.0, moments_both P later front past all.1 before)
-
-pub of_both : (P : Event → Type 0) (later front : List Event) → EachOf P later → EachOf P front → EachOf P (later ++ front)
-of_both P [] front all before = before
-of_both P (e ∷ later) front all before = (all.0, of_both P later front all.1 before)
-
-pub licensed_both : (header : Header) (outside : Outside) (doing : Command) (later front past : List Event) → AllLicensed header outside doing later (front ++ past) → AllLicensed header outside doing front past → AllLicensed header outside doing (later ++ front) past
-licensed_both header outside doing [] front past all before = before
-licensed_both header outside doing (e ∷ later) front past all before = (subst (λ (z : List Event). Licensed header outside doing e z) (sym (append_assoc later front past)) all.0, licensed_both header outside doing later front past all.1 before)
-
-pub inner_both : (later front : List Event) → AllInner later → AllInner front → AllInner (later ++ front)
-inner_both [] front all before = before
-inner_both (e ∷ later) front all before = (all.0, inner_both later front all.1 before)
+use Rattle.vm_legal.specs.Prompt.{Prompt, PromptAt}
+use Rattle.vm_legal.specs.Stretches.{AllInner, EachIn, IsInner, MomentsIn}
+use Rattle.vm_system.specs.Hosts.{HasOneHost}
 
 -- the oldest event of a stretch has its cause
 pub licensed_front : (header : Header) (outside : Outside) (doing : Command) (more : List Event) (e : Event) (past : List Event) → AllLicensed header outside doing (more ++ e ∷ []) past → Licensed header outside doing e past
@@ -47,14 +25,21 @@ each_whole P [] past some rest = rest
 each_whole P (e ∷ events) past some rest = (some.0, each_whole P events past some.1 rest)
 
 -- the one host has frames enough
-pub suffice_whole : (header : Header) (past : List Event) → IsPlain header → Suffice header 0 past → FramesSuffice header past
+pub suffice_whole : (header : Header) (past : List Event) → HasOneHost header → Suffice header 0 past → FramesSuffice header past
 suffice_whole header past plain one = λ host. subst (λ (z : List ℕ). IfSome (slice_get (reverse z) host) (λ frames. frames_used header.size host past ≤ frames)) (sym plain.hosts) (go host (subst (λ (z : List ℕ). IfSome (slice_get (reverse z) 0) (λ frames. frames_used header.size 0 past ≤ frames)) plain.hosts one))
   where
     go : (host : ℕ) → frames_used header.size 0 past ≤ plain.frames → IfSome (slice_get (plain.frames ∷ []) host) (λ frames. frames_used header.size host past ≤ frames)
     go zero le = le
     go (suc host) le = tt
 
-pub moments_whole : (header : Header) (events past : List Event) → IsPlain header → MomentsIn (Suffice header 0) events past → EachMoment (FramesSuffice header) past → EachMoment (FramesSuffice header) (events ++ past)
+-- and sees to all that the hosts are to see to
+pub prompt_whole : (header : Header) (past : List Event) → HasOneHost header → PromptAt header 0 past → Prompt header past
+prompt_whole header past plain one host below = subst (λ (z : ℕ). PromptAt header z past) (first host (subst (λ (z : List ℕ). host < length z) plain.hosts below)) one
+  where
+    first : (n : ℕ) → n < 1 → 0 ≡ n
+    first n less = omega (arith, less)
+
+pub moments_whole : (header : Header) (events past : List Event) → HasOneHost header → MomentsIn (Suffice header 0) events past → EachMoment (FramesSuffice header) past → EachMoment (FramesSuffice header) (events ++ past)
 moments_whole header [] past plain some rest = rest
 moments_whole header (e ∷ events) past plain some rest = (suffice_whole header (e ∷ (events ++ past)) plain some.0, moments_whole header events past plain some.1 rest)
 

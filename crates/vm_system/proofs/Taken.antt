@@ -1,11 +1,12 @@
 -- A message is taken: what stands in front of that, and its cause.
-use Rattle.std.proofs.Common.{◌≡◌, ℕ, zero, suc, ◌<◌, ◌≤◌, ◌==◌, ◌&&◌, Bool, true, false, List, [], ◌∷◌, ◌++◌, length, Option, Some, None, if◌then◌else◌, option_map, MatchOption, refl, sym, ◌∙◌, ap, subst, arith}
+use Rattle.std.proofs.Common.{◌≡◌, ℕ, zero, suc, ◌<◌, ◌≤◌, ◌==◌, ◌&&◌, Bool, true, false, List, [], ◌∷◌, ◌++◌, length, Option, Some, None, if◌then◌else◌, MatchOption, refl, sym, ◌∙◌, ap, subst, arith}
 use Rattle.std.proofs.lemmas.Bool.Decides.{nat_tests}
 use Rattle.std.specs.Prelude.{IfSome, reverse, slice_get}
 use Rattle.pg_slots.specs.Slots.{SlotTable}
 use Rattle.pg_default.proofs.Others.{others}
 use Rattle.pg_default.specs.Stands.{Stands as PagerStands, content_of}
 use Rattle.vm_base.specs.declared.ids.ChannelId.{ChannelId}
+use Rattle.vm_kernel.proofs.First.{rests_line}
 use Rattle.vm_model.specs.declared.command.Command.{Command}
 use Rattle.vm_model.specs.declared.event.Event.{Event}
 use Rattle.vm_model.specs.declared.event.Event.TheVariants as event
@@ -17,25 +18,25 @@ use Rattle.vm_model.specs.declared.script.Header.{Header}
 use Rattle.vm_model.specs.Channels.{is_channel, queue}
 use Rattle.vm_model.specs.Controls.{is_control, live_control}
 use Rattle.vm_model.specs.Local.{local}
-use Rattle.vm_model.specs.Moments.{EachEvent}
 use Rattle.vm_model.specs.Server.{first}
-use Rattle.vm_legal.specs.Bytes.{CopiesCurrent, OwnBytes}
+use Rattle.vm_legal.specs.Bytes.{OwnBytes}
 use Rattle.vm_legal.specs.Follows.{IsConsequence}
 use Rattle.vm_legal.specs.Frames.{Gives, Suffice, changed, frames_held, frames_used, taken_down, taken_up, where_true}
 use Rattle.vm_legal.specs.Licences.{AllLicensed, Licensed, MayTake, ReturnsOn, created}
 use Rattle.vm_legal.specs.Outside.{Outside}
 use Rattle.vm_legal.specs.Steps.{Letter}
-use Rattle.vm_legal.specs.Stretches.{EachIn, EachOf, MomentsIn}
+use Rattle.vm_legal.specs.Stretches.{AllInner, EachIn, EachOf, MomentsIn}
 use Rattle.vm_legal.specs.Undelivered.{undelivered}
 use Rattle.vm_quiet.proofs.Letters.{queue_is, same_channel}
 use Rattle.vm_quiet.specs.Letters.{messages_on}
 use Rattle.vm_ports.specs.Ports.{queue as queue_on}
 use Rattle.vm_ports.specs.declared.letter.Letter.{Letter as Posted}
 use Rattle.vm_shadow.specs.declared.ids.Ids.{Ids}
-use Rattle.vm_kernel.specs.Begun.{AllInner}
-use Rattle.vm_kernel.specs.Matches.{IsPlain, Rests}
+use Rattle.vm_kernel.specs.Matches.{Rests}
+use Rattle.vm_system.specs.Hosts.{HasOneHost}
 use Rattle.vm_kernel.specs.Serving.{HasQueue}
 use Rattle.vm_kernel.specs.declared.parts.Parts.{Parts}
+use Rattle.vm_legal.proofs.Stretched.{each_both, licensed_both, moments_both}
 use Rattle.vm_system.specs.Channels.{number_in}
 use Rattle.vm_system.specs.Orderly.{IsOrderly}
 use Rattle.vm_system.specs.Posts.{AreSame}
@@ -43,8 +44,7 @@ use Rattle.vm_system.specs.Steps.{Taking, devices, lined}
 use Rattle.vm_system.specs.Takings.{May, TakesStep}
 use Rattle.vm_system.specs.declared.state.State.{State}
 use Rattle.vm_system.proofs.Letters.{orderly_line}
-use Rattle.vm_system.proofs.Silent.{rests_line}
-use Rattle.vm_system.proofs.Stretched.{each_both, licensed_both, moments_both}
+use Rattle.vm_system.proofs.Numbers.{number_read}
 
 -- the numbers of channels
 
@@ -55,23 +55,10 @@ pub is_itself : (c : Channel) → is_channel c c ≡ true
 is_itself (Up host object) = rw (itself host.0, itself object.0) refl
 is_itself (Down host object control) = rw (itself host.0, itself object.0, itself control) refl
 
--- a channel has its number
-pub number_at : (c : Channel) (made : List Channel) (n : ℕ) → number_in c made ≡ Some n → slice_get made n ≡ Some c
-number_at c [] n is = absurd (cc)
-number_at c (k ∷ made) n is = by (is_channel c k) refl (λ m at. number_at c made m at) is
-  where
-    later : (x : Option ℕ) (n : ℕ) → ((m : ℕ) → x ≡ Some m → slice_get made m ≡ Some c) → option_map suc x ≡ Some n → slice_get (k ∷ made) n ≡ Some c
-    later None n all is = absurd (cc)
-    later (Some m) n all is = subst (λ (z : ℕ). slice_get (k ∷ made) z ≡ Some c) (let e : suc m ≡ n = cc in e) (all m refl)
-
-    by : (b : Bool) → is_channel c k ≡ b → ((m : ℕ) → number_in c made ≡ Some m → slice_get made m ≡ Some c) → (if b then Some 0 else option_map suc (number_in c made)) ≡ Some n → slice_get (k ∷ made) n ≡ Some c
-    by true same all is = subst (λ (z : ℕ). slice_get (k ∷ made) z ≡ Some c) (let e : 0 ≡ n = cc in e) (ap (λ (z : Channel). Some z) (same_channel c k same))
-    by false other all is = later (number_in c made) n all is
-
 -- two channels with one number are the same
 same_number : (c d : Channel) (made : List Channel) (n : ℕ) → number_in c made ≡ Some n → number_in d made ≡ Some n → d ≡ c
 same_number c d made n one two =
-    let both : Some d ≡ Some c = sym (number_at d made n two) ∙ number_at c made n one in
+    let both : Some d ≡ Some c = sym (number_read d made n two) ∙ number_read c made n one in
     cc
 
 -- the letters of a number are those of its channel
@@ -109,10 +96,6 @@ pub queue_lined : (c : Channel) (line : Option ℕ) (past : List Event) → queu
 queue_lined c None past = refl
 queue_lined c (Some line) past = refl
 
-pub undelivered_lined : (line : Option ℕ) (past : List Event) → undelivered (lined line past) ≡ undelivered past
-undelivered_lined None past = refl
-undelivered_lined (Some line) past = refl
-
 pub devices_lined : (line : Option ℕ) (past : List Event) → devices (lined line past) ≡ devices past
 devices_lined None past = refl
 devices_lined (Some line) past = refl
@@ -121,12 +104,12 @@ pub content_lined : (header : Header) (line : Option ℕ) (past : List Event) �
 content_lined header None past = refl
 content_lined header (Some line) past = refl
 
-pub rests_lined : (header : Header) (k : Parts) (ids : Ids) (line : Option ℕ) (past : List Event) → Rests header k ids past → Rests header k ids (lined line past)
+pub rests_lined : (header : Header) (k : Parts) (ids : Ids) (line : Option ℕ) (past : List Event) → Rests header 0 k ids past → Rests header 0 k ids (lined line past)
 rests_lined header k ids None past rests = rests
-rests_lined header k ids (Some line) past rests = rests_line header k ids line past rests
+rests_lined header k ids (Some line) past rests = rests_line header 0 k ids line past rests
 
 -- whoever stands in the frame queue does so still
-waits_lined : (header : Header) (k : Parts) (line : Option ℕ) (past : List Event) → HasQueue header k past → HasQueue header k (lined line past)
+waits_lined : (header : Header) (k : Parts) (line : Option ℕ) (past : List Event) → HasQueue header 0 k past → HasQueue header 0 k (lined line past)
 waits_lined header k None past queue = queue
 waits_lined header k (Some line) past queue = queue
 
@@ -138,13 +121,9 @@ pub pager_lined : (header : Header) (slots : SlotTable) (line : Option ℕ) (pas
 pager_lined header slots None past stands = stands
 pager_lined header slots (Some line) past stands = others header 0 slots (event.Line line) past tt stands
 
-pub copies_lined : (header : Header) (outside : Outside) (line : Option ℕ) (past : List Event) → EachEvent (CopiesCurrent header outside) past → EachEvent (CopiesCurrent header outside) (lined line past)
-copies_lined header outside None past copies = copies
-copies_lined header outside (Some line) past copies = (tt, copies)
-
 -- the frames
 
-pub rests_suffice : (header : Header) (k : Parts) (ids : Ids) (past : List Event) → Rests header k ids past → Suffice header 0 past
+pub rests_suffice : (header : Header) (k : Parts) (ids : Ids) (past : List Event) → Rests header 0 k ids past → Suffice header 0 past
 rests_suffice header k ids past rests =
     let has = rests.matches.frames in
     subst (λ (z : Option ℕ). IfSome z (λ frames. frames_used header.size 0 past ≤ frames)) (sym has.total) (omega (arith, has.held, has.wired, has.fits))
@@ -190,9 +169,9 @@ taken_licensed header outside doing channel m past is may settled = ((is, may), 
 -- a step that begins with a taking, from what it says behind that
 pub takes_step : (given : Taking) (channel : Channel) (m : Message) (more new : List Event) → new ≡ more ++ event.Taken channel m ∷ given.past → first (queue channel given.past) ≡ Some m → MayTake given.command channel given.past
     → created given.past ≡ None → Suffice given.header 0 given.past → EachOf IsConsequence more → AllLicensed given.header given.outside given.command more (event.Taken channel m ∷ given.past)
-    → EachIn (OwnBytes given.header) more (event.Taken channel m ∷ given.past) → EachIn (CopiesCurrent given.header given.outside) more (event.Taken channel m ∷ given.past)
+    → EachIn (OwnBytes given.header) more (event.Taken channel m ∷ given.past)
     → MomentsIn (Suffice given.header 0) more (event.Taken channel m ∷ given.past) → AllInner more → TakesStep given new
-takes_step given channel m more new is head may settled suffice follows licensed own copies frames inner =
+takes_step given channel m more new is head may settled suffice follows licensed own frames inner =
     let taken : List Event = event.Taken channel m ∷ [] in
     let past = given.past in
     record {
@@ -203,19 +182,17 @@ takes_step given channel m more new is head may settled suffice follows licensed
       follows = follows;
       licensed = licensed_both given.header given.outside given.command more taken past licensed (taken_licensed given.header given.outside given.command channel m past head may settled, tt);
       own_bytes = each_both (OwnBytes given.header) more taken past own (tt, tt);
-      copies = each_both (CopiesCurrent given.header given.outside) more taken past copies (tt, tt);
       frames = moments_both (Suffice given.header 0) more taken past frames (taken_suffice given.header channel m past suffice, tt);
       inner = inner;
     }
 
 -- what stands in front of a taking
 pub record Front (given : Taking) (s : State) : Type 0 where
-  pub plain : IsPlain given.header
-  pub rests : Rests given.header s.kernel s.ids given.past
-  pub queue : HasQueue given.header s.kernel given.past
+  pub plain : HasOneHost given.header
+  pub rests : Rests given.header 0 s.kernel s.ids given.past
+  pub queue : HasQueue given.header 0 s.kernel given.past
   pub pager : PagerStands given.header 0 s.pager given.past
   pub orderly : IsOrderly given.header given.past
-  pub copies : EachEvent (CopiesCurrent given.header given.outside) given.past
 
 pub front_of : (given : Taking) (line : Option ℕ) (number : ChannelId) (channel : Channel) (s : State) → May given line number channel s → Front given s
 front_of given line number channel s may =
@@ -228,7 +205,6 @@ front_of given line number channel s may =
       queue = rw may.past (waits_lined given.header s.kernel line items stands.queue);
       pager = rw may.past (pager_lined given.header s.pager line items agrees.pager);
       orderly = rw may.past (orderly_lined given.header line items agrees.orderly);
-      copies = rw may.past (copies_lined given.header given.outside line items agrees.copies);
     }
 
 -- the channel's queue is that of its number
@@ -251,12 +227,12 @@ inside (y ∷ xs) zero x is = omega arith
 inside (y ∷ xs) (suc n) x is = let low = inside xs n x is in omega (arith, low)
 
 pub may_there : (given : Taking) (line : Option ℕ) (number : ChannelId) (channel : Channel) (s : State) → May given line number channel s → number.0 < length s.channels.made
-may_there given line number channel s may = inside s.channels.made number.0 channel (number_at channel s.channels.made number.0 may.made)
+may_there given line number channel s may = inside s.channels.made number.0 channel (number_read channel s.channels.made number.0 may.made)
 
 -- no other channel has the number
 pub may_only : (given : Taking) (line : Option ℕ) (number : ChannelId) (channel other : Channel) (s : State) → May given line number channel s → slice_get s.channels.made number.0 ≡ Some other → other ≡ channel
 may_only given line number channel other s may is =
-    let both : Some other ≡ Some channel = sym is ∙ number_at channel s.channels.made number.0 may.made in
+    let both : Some other ≡ Some channel = sym is ∙ number_read channel s.channels.made number.0 may.made in
     cc
 
 -- the message that was taken is the one that was looked at
@@ -265,7 +241,7 @@ pub first_told : (given : Taking) (line : Option ℕ) (number : ChannelId) (chan
     → ((c : Channel) → slice_get mid.channels.made number.0 ≡ Some c → (n : Message) × (first (queue c mid.history.items) ≡ Some n) × (new.history.items ≡ event.Taken c n ∷ lined line mid.history.items))
     → new.history.items ≡ event.Taken channel m ∷ given.past
 first_told given line number channel m s mid new may head items made told =
-    let at : slice_get mid.channels.made number.0 ≡ Some channel = ap (λ (z : List Channel). slice_get z number.0) made ∙ number_at channel s.channels.made number.0 may.made in
+    let at : slice_get mid.channels.made number.0 ≡ Some channel = ap (λ (z : List Channel). slice_get z number.0) made ∙ number_read channel s.channels.made number.0 may.made in
     let t = told channel at in
     let past : given.past ≡ lined line mid.history.items = may.past ∙ ap (λ (z : List Event). lined line z) (sym items) in
     let queued : first (queue channel given.past) ≡ Some t.0 = ap (λ (z : List Event). first (queue channel z)) past ∙ ap (λ (z : List Message). first z) (queue_lined channel line mid.history.items) ∙ t.1 in

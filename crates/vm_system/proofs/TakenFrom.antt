@@ -9,13 +9,14 @@ use Rattle.vm_model.specs.declared.message.Channel.{Channel}
 use Rattle.vm_model.specs.declared.script.Header.{Header}
 use Rattle.vm_model.specs.Channels.{queue}
 use Rattle.vm_model.specs.Server.{first}
+use Rattle.vm_legal.proofs.Locks.{no_request}
 use Rattle.vm_legal.specs.Debts.{IsPaid}
 use Rattle.vm_legal.specs.Follows.{Follows, FollowsSoFar, IsGroup, IsRun, IsWhole, head, take_head}
 use Rattle.vm_legal.specs.Frames.{FramesSuffice}
 use Rattle.vm_legal.specs.Legal.{Holds, IsAtRest, LegalFor}
 use Rattle.vm_legal.specs.Outside.{Outside}
 use Rattle.vm_legal.specs.Refusal.{refusal}
-use Rattle.vm_legal.proofs.Groups.{so_far}
+use Rattle.vm_legal.proofs.Groups.{cut_of, open_of, so_far}
 use Rattle.vm_system.specs.Stands.{Stands}
 use Rattle.vm_system.specs.Steps.{KeepsLegal, MayCut, Taking}
 use Rattle.vm_system.specs.Takings.{MayBeCut, TakesStep, Took}
@@ -46,9 +47,6 @@ follows_take header outside line channel run old new fine step follows =
     let whole : IsWhole header old numbered stretch = rw fine tt in
     (old, stretch, step_is (taking_of header outside line channel old) new step, group, whole, follows)
 
-open_take : (header : Header) (outside : Outside) (numbered : Numbered) (run : List Numbered) (new : List Event) → Follows header outside (numbered ∷ run) new → FollowsSoFar header outside (numbered ∷ run) new
-open_take header outside numbered run new (past, group, is, made, whole, follows) = (past, group, is, made, follows)
-
 -- a line owes nothing
 paid_line : (header : Header) (line : ℕ) (past : List Event) → IsPaid header (event.Line line ∷ past)
 paid_line header line past = record {
@@ -58,6 +56,7 @@ paid_line header line past = record {
   request = λ host object control page access paged is. absurd (some_none (sym is));
   error = λ host object page is. absurd (some_none (sym is));
   absence = λ host object page declared is. absurd (some_none (sym is));
+  lock = λ request is. no_request request (event.Line line ∷ past) refl is;
   slot = λ host object control page dirty keep bytes temporary is lacks. absurd (some_none (sym is));
 }
 
@@ -67,7 +66,6 @@ up_to_line header outside line run s stands legal =
     record {
       plain = stands.plain;
       own_bytes = (tt, legal.holds.own_bytes);
-      copies = (tt, stands.agrees.copies);
       frames = (moment_last (FramesSuffice header) items legal.holds.frames, legal.holds.frames);
       prompts = (legal.rests.prompt, legal.holds.prompt);
       prompt = prompt_line header line items legal.rests.prompt;
@@ -82,7 +80,7 @@ keeps_taken header outside line channel s new stands fine took run legal =
     let numbered : Numbered = record { line = line; command = command.Take channel } in
     let items = new.history.items in
     let follows : Follows header outside (numbered ∷ run) items = follows_take header outside line channel run s.history.items items fine took.step legal.follows in
-    let opened : FollowsSoFar header outside (numbered ∷ run) items = open_take header outside numbered run items follows in
+    let opened : FollowsSoFar header outside (numbered ∷ run) items = open_of header outside (numbered ∷ run) items follows in
     let holds : Holds header outside items = holds_taken given items took.step (so_far header outside (numbered ∷ run) items opened) (up_to_line header outside line run s stands legal) in
     let rests : IsAtRest header items = record { prompt = took.prompt; paid = took.paid } in
     record {
@@ -97,5 +95,5 @@ cuts_taken header outside line channel s new stands fine (inl same) = inl same
 cuts_taken header outside line channel s new stands fine (inr step) = inr (λ run legal.
     let given = taking_of header outside line channel s.history.items in
     let numbered : Numbered = record { line = line; command = command.Take channel } in
-    let opened : FollowsSoFar header outside (numbered ∷ run) new = open_take header outside numbered run new (follows_take header outside line channel run s.history.items new fine step legal.follows) in
-    record { follows = opened; holds = holds_taken given new step (so_far header outside (numbered ∷ run) new opened) (up_to_line header outside line run s stands legal) })
+    let opened : FollowsSoFar header outside (numbered ∷ run) new = open_of header outside (numbered ∷ run) new (follows_take header outside line channel run s.history.items new fine step legal.follows) in
+    record { follows = cut_of header outside (numbered ∷ run) new opened; holds = holds_taken given new step (so_far header outside (numbered ∷ run) new opened) (up_to_line header outside line run s stands legal) })

@@ -22,7 +22,7 @@ use Rattle.vm_model.specs.declared.script.Header.{Header}
 use Rattle.vm_model.specs.Channels.{queue}
 use Rattle.vm_model.specs.Named.{named}
 use Rattle.vm_model.specs.Server.{first}
-use Rattle.vm_legal.specs.Bytes.{CopiesCurrent, OwnBytes}
+use Rattle.vm_legal.specs.Bytes.{OwnBytes}
 use Rattle.vm_legal.specs.Follows.{IsConsequence}
 use Rattle.vm_legal.specs.Frames.{Suffice}
 use Rattle.vm_legal.specs.Licences.{AllLicensed}
@@ -31,19 +31,19 @@ use Rattle.vm_legal.specs.Stretches.{EachIn, MomentsIn}
 use Rattle.vm_outside.specs.Areas.{Told}
 use Rattle.vm_outside.specs.Causes.{Rose}
 use Rattle.vm_kernel.specs.Begun.{Passing}
-use Rattle.vm_kernel.specs.Matches.{the_host}
+use Rattle.vm_system.specs.Hosts.{the_host}
+use Rattle.vm_legal.proofs.Stretched.{each_both, inner_both, licensed_both, moments_both, of_both}
 use Rattle.vm_system.specs.Orderly.{IsLetter, is_washed}
 use Rattle.vm_system.specs.Posts.{CanTellAll, HasRoom, Posts, SameHost}
 use Rattle.vm_system.specs.Stands.{Kept}
 use Rattle.vm_system.specs.Steps.{DevicesHaveCause, Taking, devices, lined}
 use Rattle.vm_system.specs.Takings.{Answered, Followed, May, TakesStep, Took}
 use Rattle.vm_system.specs.declared.state.State.{State}
-use Rattle.vm_system.proofs.Answering.{Faults, failed_fits, faults, front_foreign, replies, reply_consequences, reply_copies, reply_frames, reply_inner, reply_laundered, reply_own, told_after, word_up}
+use Rattle.vm_system.proofs.Answering.{Faults, failed_fits, faults, front_foreign, replies, reply_consequences, reply_frames, reply_inner, reply_laundered, reply_own, told_after, word_up}
 use Rattle.vm_system.proofs.Following.{kept_at}
 use Rattle.vm_system.proofs.Letters.{letter_first, orderly_taken, unended_first, washed_out}
 use Rattle.vm_system.proofs.Paying.{paid_more}
 use Rattle.vm_system.proofs.Sayings.{can_answer, orderly_answered}
-use Rattle.vm_system.proofs.Stretched.{each_both, each_whole, inner_both, licensed_both, moments_both, of_both}
 use Rattle.vm_system.proofs.Taken.{Front, content_lined, devices_lined, front_of, front_suffice, takes_step, taken_suffice}
 
 -- the channel is the host's own
@@ -110,7 +110,7 @@ can_reply given object m s new events reply =
 
 -- the kernel's part begins
 abbrev pub passing : Taking → ObjectId → Message → List Event → Passing
-passing given object m events = record { header = given.header; outside = given.outside; past = given.past; front = events ++ event.Taken (Up the_host object) m ∷ []; command = given.command }
+passing given object m events = record { header = given.header; host = 0; outside = given.outside; past = given.past; front = events ++ event.Taken (Up the_host object) m ∷ []; command = given.command }
 
 some_held : {A : Type 0} → (xs : List A) (n : ℕ) → n ≡ length xs → 0 < n → xs ≡ [] → ⊥
 some_held xs n count some none =
@@ -134,7 +134,6 @@ answered_up given object m s now slots events reply pager kernel ids size items 
         pager = rw (pager, items) (stands header 0 given.past object m s.pager slots events (serves_of given object m s slots events front reply.head reply.answered));
         posts = posts;
         orderly = rw items (orderly_answered header object m given.past s.pager slots events taken (reply_letter given object m s slots events reply) front.pager.host_is front.pager.size reply.answered);
-        copies = rw items (each_whole (CopiesCurrent header given.outside) events past (reply_copies header given.outside events past told) (tt, front.copies));
       };
       laundered = λ washed. reply_laundered object m events told washed;
       held = λ washed. rw kernel (some_held s.kernel.laundry.held _ front.rests.matches.laundry.count (washed_out header object m given.past front.orderly reply.head washed));
@@ -151,7 +150,7 @@ cut_up given line number object m s slots events new may reply items =
     let past = event.Taken (Up the_host object) m ∷ given.past in
     let suffice = front_suffice given s front in
     takes_step given (Up the_host object) m events new items reply.head may.may front.rests.matches.settled suffice (reply_consequences events told) reply.licensed (reply_own header events past told)
-    (reply_copies header given.outside events past told) (reply_frames header events past told (taken_suffice header (Up the_host object) m given.past suffice)) (reply_inner events told)
+    (reply_frames header events past told (taken_suffice header (Up the_host object) m given.past suffice)) (reply_inner events told)
 
 -- the host went on behind the answer
 pub took_up : (given : Taking) (line : Option ℕ) (number : ChannelId) (object : ObjectId) (m : Message) (s new : State) (slots : SlotTable) (events : List Event) → May given line number (Up the_host object) s → Reply given object m s slots events
@@ -169,13 +168,12 @@ took_up given line number object m s new slots events may reply followed =
     let items : new.history.items ≡ more ++ (events ++ past) = followed.is ∙ ap (λ (z : List Event). more ++ z) same in
     let licensed = licensed_both header outside doing more events past (subst (λ (z : List Event). AllLicensed header outside doing more z) same followed.licensed) reply.licensed in
     let own = each_both (OwnBytes header) more events past (subst (λ (z : List Event). EachIn (OwnBytes header) more z) same followed.own_bytes) (reply_own header events past told) in
-    let copies = each_both (CopiesCurrent header outside) more events past (subst (λ (z : List Event). EachIn (CopiesCurrent header outside) more z) same followed.copies) (reply_copies header outside events past told) in
     let frames = moments_both (Suffice header 0) more events past (subst (λ (z : List Event). MomentsIn (Suffice header 0) more z) same followed.frames) (reply_frames header events past told (taken_suffice header (Up the_host object) m given.past suffice)) in
     let owed = paid header 0 given.past object m s.pager slots events (serves_of given object m s slots events front reply.head reply.answered) in
     record {
       stands = followed.stands;
       step = takes_step given (Up the_host object) m (more ++ events) new.history.items (items ∙ sym (append_assoc more events past)) reply.head may.may front.rests.matches.settled suffice
-          (of_both IsConsequence more events followed.follows (reply_consequences events told)) licensed own copies frames (inner_both more events followed.inner (reply_inner events told));
+          (of_both IsConsequence more events followed.follows (reply_consequences events told)) licensed own frames (inner_both more events followed.inner (reply_inner events told));
       prompt = followed.prompt;
       paid = rw items (paid_more header more (events ++ past) followed.inner owed (rw (sym items) followed.stands.rests.matches.settled));
     }
@@ -267,7 +265,6 @@ may_reserved given line number channel s t may same items made numbers letters b
             buffers = buffers ∙ posts.buffers ∙ sym same.size;
           };
           orderly = rw items agrees.orderly;
-          copies = rw items agrees.copies;
         };
       };
       past = may.past ∙ ap (λ (z : List Event). lined line z) (sym items);

@@ -11,7 +11,7 @@ use Rattle.vm_model.specs.declared.message.Message.{Message}
 use Rattle.vm_model.specs.declared.script.Header.{Header}
 use Rattle.vm_legal.specs.Licences.{MayTake}
 use Rattle.vm_legal.specs.Outside.{Outside}
-use Rattle.vm_kernel.specs.Begun.{AllInner, IsInner}
+use Rattle.vm_legal.specs.Stretches.{AllInner, IsInner}
 use Rattle.vm_model.specs.Moments.{before_last_line}
 use Rattle.vm_outside.specs.Arming.{Arming}
 use Rattle.vm_system.specs.Steps.{StopsAt, Taking, takes_up, took_up}

@@ -15,7 +15,7 @@ use Rattle.vm_legal.specs.Frames.{returns_out}
 use Rattle.vm_legal.specs.Steps.{Letter}
 use Rattle.vm_legal.specs.Undelivered.{undelivered}
 use Rattle.vm_quiet.proofs.Letters.{is_out, never, outs, outs_sent, outs_taken, some_out}
-use Rattle.vm_kernel.specs.Matches.{the_host}
+use Rattle.vm_system.specs.Hosts.{the_host}
 use Rattle.vm_kernel.specs.Taking.{IsTempAnswer}
 use Rattle.vm_system.specs.Orderly.{AllLetters, IsLetter, is_washed, washed_in}
 

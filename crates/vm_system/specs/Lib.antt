@@ -1,5 +1,7 @@
 pub mod Channels
+pub mod Hosts
 pub mod Keeping
+pub mod Making
 pub mod Noted
 pub mod Orderly
 pub mod Posts

@@ -8,13 +8,14 @@ use Rattle.vm_model.specs.declared.message.Message.TheVariants as message
 use Rattle.vm_model.specs.declared.script.Header.{Header}
 use Rattle.vm_model.specs.Channels.{queue}
 use Rattle.vm_model.specs.Controls.{last_control, live_control}
+use Rattle.vm_model.specs.Tasks.{host_of}
 use Rattle.vm_legal.specs.Frames.{returns_out}
 use Rattle.vm_legal.specs.Licences.{lock_taken, up}
 use Rattle.vm_legal.specs.Steps.{Letter}
 use Rattle.vm_legal.specs.Undelivered.{is_made, undelivered}
 use Rattle.vm_quiet.specs.Letters.{messages_on}
 use Rattle.pg_default.specs.Stands.{is_elsewhere, is_ended}
-use Rattle.vm_kernel.specs.Matches.{the_host}
+use Rattle.vm_system.specs.Hosts.{the_host}
 use Rattle.vm_kernel.specs.Taking.{IsTempAnswer}
 
 -- what a kernel says to the default pager, where a page has so many bytes; the control that is to be answered has its channel
@@ -78,6 +79,7 @@ pub record HasMade (o : ℕ) (past : List Event) : Type 0 where
 pub record IsOrderly (header : Header) (past : List Event) : Type 0 where
   pub letters : AllLetters header.size past (undelivered past)
   pub washed : returns_out 0 past ≡ washed_in (undelivered past)
+  pub tasks : (task host : ℕ) → host_of task past ≡ Some host → host ≡ 0
   pub home : (o : ℕ) → is_elsewhere 0 o past ≡ false
   pub ending : (o : ℕ) → Ending (live_control 0 o past) (is_ended 0 o past) (messages_on (up 0 o) (undelivered past))
   pub made : (o : ℕ) → HasMade o past

@@ -8,7 +8,7 @@ use Rattle.vm_model.specs.declared.script.Header.{Header}
 use Rattle.vm_legal.specs.Outside.{Outside}
 use Rattle.vm_legal.specs.Steps.{takings}
 use Rattle.vm_outside.specs.Causes.{Rose}
-use Rattle.vm_system.specs.Steps.{LegalCut, LegalOpen, devices}
+use Rattle.vm_system.specs.Steps.{LegalOpen, devices}
 
 -- a settle has so many takings left, or more
 pub record HasLeft (doing : Command) (n : ℕ) (history : List Event) : Type 0 where
@@ -19,10 +19,6 @@ pub record HasLeft (doing : Command) (n : ℕ) (history : List Event) : Type 0 w
 -- legal with these commands, of which the settle is the last, it stays so
 abbrev pub StaysOpen : Header → Outside → Command → List Event → List Event → Type 0
 StaysOpen header outside doing old new = (line : ℕ) (run : List Numbered) → LegalOpen header outside (record { line = line; command = doing } ∷ run) old → LegalOpen header outside (record { line = line; command = doing } ∷ run) new
-
--- the same, where memory ended and the last step may be cut
-abbrev pub EndsCut : Header → Outside → Command → List Event → List Event → Type 0
-EndsCut header outside doing old new = (line : ℕ) (run : List Numbered) → LegalOpen header outside (record { line = line; command = doing } ∷ run) old → LegalCut header outside (record { line = line; command = doing } ∷ run) new
 
 -- the failures that are told are at most as many as the count of faults rose, unless that stands at its last value; and where none is told the count stays
 pub record DevicesCounted (before now : ℕ) (old new : List Event) : Type 0 where

@@ -1,13 +1,12 @@
 -- A system stands for its history, and the paging area has what was returned.
 use Rattle.std.specs.Prelude.{ℕ, ◌≡◌, true, List}
 use Rattle.vm_model.specs.declared.script.Header.{Header}
-use Rattle.vm_model.specs.Moments.{EachEvent}
-use Rattle.vm_legal.specs.Bytes.{CopiesCurrent}
 use Rattle.vm_legal.specs.Outside.{Outside}
 use Rattle.vm_outside.specs.Areas.{Told}
 use Rattle.pg_slots.specs.Contents.{Fits, IsTold}
 use Rattle.pg_default.specs.Stands.{Stands as PagerStands, content_of}
-use Rattle.vm_kernel.specs.Matches.{IsPlain, Rests}
+use Rattle.vm_kernel.specs.Matches.{Rests}
+use Rattle.vm_system.specs.Hosts.{HasOneHost}
 use Rattle.vm_kernel.specs.Serving.{HasQueue}
 use Rattle.vm_system.specs.Orderly.{IsOrderly}
 use Rattle.vm_system.specs.Posts.{Posts}
@@ -19,13 +18,12 @@ pub record Agrees (header : Header) (outside : Outside) (s : State) : Type 0 whe
   pub pager : PagerStands header 0 s.pager s.history.items
   pub posts : Posts s s.history.items
   pub orderly : IsOrderly header s.history.items
-  pub copies : EachEvent (CopiesCurrent header outside) s.history.items
 
 -- and so is the kernel, at a step's end
 pub record Stands (header : Header) (outside : Outside) (s : State) : Type 0 where
-  pub plain : IsPlain header
-  pub rests : Rests header s.kernel s.ids s.history.items
-  pub queue : HasQueue header s.kernel s.history.items
+  pub plain : HasOneHost header
+  pub rests : Rests header 0 s.kernel s.ids s.history.items
+  pub queue : HasQueue header 0 s.kernel s.history.items
   pub agrees : Agrees header outside s
 
 -- The pager stands for the history; and where the paging area tells, each page that was returned and not lost stands at its slot. This holds

@@ -8,7 +8,7 @@ use Rattle.vm_model.specs.declared.command.Numbered.{Numbered}
 use Rattle.vm_model.specs.declared.message.Channel.TheVariants.{Up}
 use Rattle.vm_model.specs.declared.script.Header.{Header}
 use Rattle.vm_model.specs.Moments.{BeforeSteps}
-use Rattle.vm_legal.specs.Follows.{FollowsSoFar}
+use Rattle.vm_legal.specs.Follows.{FollowsCut, FollowsSoFar}
 use Rattle.vm_legal.specs.Refusal.{refusal}
 use Rattle.vm_kernel.specs.Built.{copies_entries}
 use Rattle.vm_legal.specs.Legal.{Holds, IsAtRest, LegalFor}
@@ -40,15 +40,15 @@ pub record Taking : Type 0 where
   pub command : Command
   pub past : List Event
 
--- legal for these commands, of which the last may have more to do
+-- legal for these commands, of which the last, where it is a settle, may have more to take
 pub record LegalOpen (header : Header) (outside : Outside) (run : List Numbered) (history : List Event) : Type 0 where
   pub follows : FollowsSoFar header outside run history
   pub holds : Holds header outside history
   pub rests : IsAtRest header history
 
--- the same, where the last step may be cut: what it owes, and who waits then, is not claimed
+-- the same, where the last step may be cut: that it did all, what it owes, and who waits then, is not claimed
 pub record LegalCut (header : Header) (outside : Outside) (run : List Numbered) (history : List Event) : Type 0 where
-  pub follows : FollowsSoFar header outside run history
+  pub follows : FollowsCut header outside run history
   pub holds : Holds header outside history
 
 -- the number of messages that a settle is to take
@@ -78,9 +78,12 @@ abbrev pub KeepsOpen : Header → Outside → Command → List Event → List Ev
 KeepsOpen header outside doing old new = (line : ℕ) (run : List Numbered) → LegalOpen header outside (record { line = line; command = doing } ∷ run) old
     → TakesMore header outside (record { line = line; command = doing }) run old new
 
+-- memory ended, and the last step may be cut
+abbrev pub EndsCut : Header → Outside → Command → List Event → List Event → Type 0
+EndsCut header outside doing old new = (line : ℕ) (run : List Numbered) → LegalOpen header outside (record { line = line; command = doing } ∷ run) old → LegalCut header outside (record { line = line; command = doing } ∷ run) new
+
 abbrev pub MayCutOpen : Header → Outside → Command → List Event → List Event → Type 0
-MayCutOpen header outside doing old new =
-    (new ≡ old) ⊎ ((line : ℕ) (run : List Numbered) → LegalOpen header outside (record { line = line; command = doing } ∷ run) old → LegalCut header outside (record { line = line; command = doing } ∷ run) new)
+MayCutOpen header outside doing old new = (new ≡ old) ⊎ EndsCut header outside doing old new
 
 -- a settle has more to take
 pub record HasMore (doing : Command) (history : List Event) : Type 0 where
@@ -108,12 +111,7 @@ MayBegin past = (length past < event_limit) ⊎ ((line : ℕ) × (before : List 
 abbrev pub IsBelowLimit : List Event → Type 0
 IsBelowLimit history = BeforeSteps MayBegin history
 
--- the new history has events more
-pub record IsLonger (old new : List Event) : Type 0 where
-  pub more : List Event
-  pub is : new ≡ more ++ old
-
--- so it does, and each step began where it might
+-- the new history has events more, and each step began where it might
 pub record Grew (old new : List Event) : Type 0 where
   pub more : List Event
   pub is : new ≡ more ++ old

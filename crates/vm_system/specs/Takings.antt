@@ -6,15 +6,16 @@ use Rattle.vm_model.specs.declared.event.Event.TheVariants as event
 use Rattle.vm_model.specs.declared.message.Channel.{Channel}
 use Rattle.vm_model.specs.declared.message.Message.{Message}
 use Rattle.vm_model.specs.Channels.{queue}
-use Rattle.vm_legal.specs.Bytes.{CopiesCurrent, OwnBytes}
+use Rattle.vm_legal.specs.Bytes.{OwnBytes}
 use Rattle.vm_legal.specs.Debts.{IsPaid}
 use Rattle.vm_legal.specs.Follows.{IsConsequence}
 use Rattle.vm_legal.specs.Frames.{Suffice}
 use Rattle.vm_legal.specs.Licences.{AllLicensed, MayTake}
 use Rattle.vm_legal.specs.Prompt.{Prompt}
-use Rattle.vm_legal.specs.Stretches.{EachIn, EachOf, MomentsIn}
-use Rattle.vm_kernel.specs.Begun.{AllInner, IsForeign, IsLaundered, Passing}
-use Rattle.vm_kernel.specs.Matches.{IsPlain, Rests}
+use Rattle.vm_legal.specs.Stretches.{AllInner, EachIn, EachOf, MomentsIn}
+use Rattle.vm_kernel.specs.Begun.{IsForeign, IsLaundered, Passing}
+use Rattle.vm_kernel.specs.Matches.{Rests}
+use Rattle.vm_system.specs.Hosts.{HasOneHost}
 use Rattle.vm_system.specs.Channels.{number_in}
 use Rattle.vm_system.specs.Stands.{Agrees, Stands}
 use Rattle.vm_system.specs.Steps.{Taking, lined}
@@ -37,7 +38,6 @@ pub record TakesStep (given : Taking) (new : List Event) : Type 0 where
   pub follows : EachOf IsConsequence more
   pub licensed : AllLicensed given.header given.outside given.command (more ++ event.Taken channel m ∷ []) given.past
   pub own_bytes : EachIn (OwnBytes given.header) (more ++ event.Taken channel m ∷ []) given.past
-  pub copies : EachIn (CopiesCurrent given.header given.outside) (more ++ event.Taken channel m ∷ []) given.past
   pub frames : MomentsIn (Suffice given.header 0) (more ++ event.Taken channel m ∷ []) given.past
   pub inner : AllInner more
 
@@ -54,11 +54,11 @@ MayBeCut given old new = (new ≡ old) ⊎ TakesStep given new
 
 -- the pager took a message and answered, and the kernel did nothing yet
 pub record Answered (given : Passing) (washed : Bool) (s : State) : Type 0 where
-  pub plain : IsPlain given.header
+  pub plain : HasOneHost given.header
   pub is : s.history.items ≡ given.front ++ given.past
-  pub rests : Rests given.header s.kernel s.ids given.past
+  pub rests : Rests given.header 0 s.kernel s.ids given.past
   pub agrees : Agrees given.header given.outside s
-  pub laundered : washed ≡ true → IsLaundered given.front
+  pub laundered : washed ≡ true → IsLaundered 0 given.front
   pub held : washed ≡ true → s.kernel.laundry.held ≢ []
   pub foreign : washed ≡ false → EachOf IsForeign given.front
 
@@ -70,7 +70,6 @@ pub record Followed (given : Passing) (new : State) : Type 0 where
   pub follows : EachOf IsConsequence more
   pub licensed : AllLicensed given.header given.outside given.command more (given.front ++ given.past)
   pub own_bytes : EachIn (OwnBytes given.header) more (given.front ++ given.past)
-  pub copies : EachIn (CopiesCurrent given.header given.outside) more (given.front ++ given.past)
   pub frames : MomentsIn (Suffice given.header 0) more (given.front ++ given.past)
   pub inner : AllInner more
   pub prompt : Prompt given.header new.history.items

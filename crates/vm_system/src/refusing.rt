@@ -76,10 +76,11 @@ impl State {
         }
     }
 
-    /// Whether a fork would copy an entry of its task.
+    /// Whether a fork that isn't refused would copy an entry of its task.
     pub fn copies_entries(&self, command: &Command) -> bool
         ghost given: { Setting }
         requires stands { Stands given.header given.outside self.now }
+        requires accepted { refusal given.header self.now.history.items command.now ≡ None }
         ensures { result ≡ copies_entries given.header self.now.history.items command.now }
     {
         match command {
@@ -207,7 +208,7 @@ impl State {
     }
 
     fn wire_refusal(&self, count: u32) -> Option<Code>
-        ensures { result ≡ where_true (nat_lt (free self.now.kernel.frames) count) code.ResourceShortage None }
+        ensures { result ≡ where_true (nat_lt (free self.now.kernel.memory.frames) count) code.ResourceShortage None }
     {
         if self.kernel.free() < count {
             Some(Code::ResourceShortage)
@@ -217,7 +218,7 @@ impl State {
     }
 
     fn unwire_refusal(&self, count: u32) -> Option<Code>
-        ensures { result ≡ where_true (nat_lt self.now.kernel.frames.wired count) code.InvalidArgument None }
+        ensures { result ≡ where_true (nat_lt self.now.kernel.memory.frames.wired count) code.InvalidArgument None }
     {
         if self.kernel.wired() < count {
             Some(Code::InvalidArgument)

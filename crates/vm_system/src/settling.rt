@@ -2,9 +2,9 @@
 ghost use Rattle.std.specs.Prelude.{◌≡◌, ◌≢◌, ◌+◌, ◌<◌, ◌≤◌, [], IfOk, IsErrOf, OnOk, length};
 ghost use Rattle.vm_legal.specs.Steps.{takings};
 ghost use Rattle.vm_legal.specs.Undelivered.{undelivered};
-ghost use Rattle.vm_system.specs.Settling.{DevicesCounted, EndsCut, HasLeft, StaysOpen};
+ghost use Rattle.vm_system.specs.Settling.{DevicesCounted, HasLeft, StaysOpen};
 ghost use Rattle.vm_system.specs.Stands.{Kept, Stands};
-ghost use Rattle.vm_system.specs.Steps.{Grew, Stepping, event_limit};
+ghost use Rattle.vm_system.specs.Steps.{EndsCut, Grew, Stepping, event_limit};
 
 use crate::stop::SystemStop;
 use crate::system::System;

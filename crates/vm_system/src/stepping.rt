@@ -6,8 +6,9 @@ ghost use Rattle.vm_legal.specs.Refusal.{refusal};
 ghost use Rattle.vm_model.specs.declared.message.Channel.{Channel};
 ghost use Rattle.vm_model.specs.declared.command.Command.TheVariants as command;
 ghost use Rattle.vm_model.specs.declared.event.Event.TheVariants as event;
+ghost use Rattle.vm_system.specs.Making.{Makes};
 ghost use Rattle.vm_system.specs.Stands.{Kept, Stands};
-ghost use Rattle.vm_system.specs.Steps.{DevicesHaveCause, Grew, IsLonger, KeepsLegal, LeavesFiles, LeavesPaging, MayCut, Setting, Stepping, StopsAt, arms_paging, is_built, is_held_up, takes_up, took_up};
+ghost use Rattle.vm_system.specs.Steps.{DevicesHaveCause, Grew, LeavesFiles, LeavesPaging, MayCut, Setting, Stepping, StopsAt, arms_paging, is_built, is_held_up, takes_up, took_up};
 
 use crate::state::State;
 use vm_base::NoMemory;
@@ -29,11 +30,8 @@ impl State {
         requires range { InRange given.header command.now }
         requires built { is_built command.now ≡ true }
         requires free { is_held_up given.header self.old.history.items command.now ≡ false }
-        ensures stands { OnOk result (Stands given.header given.outside self.new) }
-        ensures legal { OnOk result (KeepsLegal given.header given.outside (record { line = line; command = command.now }) self.old.history.items self.new.history.items) }
-        ensures longer { OnOk result (IsLonger self.old.history.items self.new.history.items) }
+        ensures made { OnOk result (Makes given.header given.outside (record { line = line; command = command.now }) self.old self.new) }
         ensures grew { Grew self.old.history.items self.new.history.items }
-        ensures front { OnOk result (before_last_line self.new.history.items ≡ self.old.history.items) }
         ensures memory { OnErr result (MayCut given.header given.outside (record { line = line; command = command.now }) self.old.history.items self.new.history.items) }
         ensures kept { Kept given.header given.outside (P.area paging.new.inner) self.new }
         ensures alone { OnOk result ((count : ℕ) → command.now ≡ Command.Settle count → self.new.history.items ≡ event.Line line ∷ self.old.history.items) }
@@ -78,11 +76,8 @@ impl State {
         requires stands { Stands given.header given.outside self.old }
         requires kept { Kept given.header given.outside (P.area paging.old.inner) self.old }
         requires accepted { refusal given.header self.old.history.items (command.Take channel) ≡ None }
-        ensures stands { OnOk result (Stands given.header given.outside self.new) }
-        ensures legal { OnOk result (KeepsLegal given.header given.outside (record { line = line; command = command.Take channel }) self.old.history.items self.new.history.items) }
-        ensures longer { OnOk result (IsLonger self.old.history.items self.new.history.items) }
+        ensures made { OnOk result (Makes given.header given.outside (record { line = line; command = command.Take channel }) self.old self.new) }
         ensures grew { Grew self.old.history.items self.new.history.items }
-        ensures front { OnOk result (before_last_line self.new.history.items ≡ self.old.history.items) }
         ensures memory { OnErr result (MayCut given.header given.outside (record { line = line; command = command.Take channel }) self.old.history.items self.new.history.items) }
         ensures kept { Kept given.header given.outside (P.area paging.new.inner) self.new }
         ensures paging { takes_up (command.Take channel) ≡ false → paging.new ≡ paging.old }

@@ -4,6 +4,7 @@ ghost use Rattle.vm_base.specs.declared.code.Code.{Code};
 ghost use Rattle.vm_model.specs.Ranges.{InRange};
 ghost use Rattle.vm_legal.specs.Refusal.{refusal};
 ghost use Rattle.vm_legal.specs.Outside.{Outside};
+ghost use Rattle.vm_model.specs.declared.script.Header.{Header};
 ghost use Rattle.vm_legal.specs.Undelivered.{undelivered};
 ghost use Rattle.vm_outside.specs.Areas.{Told};
 ghost use Rattle.vm_outside.specs.Arming.{ReachesOne};
@@ -11,7 +12,7 @@ ghost use Rattle.vm_model.specs.declared.event.Event.TheVariants as event;
 ghost use Rattle.pg_slots.specs.Contents.{IsTold};
 ghost use Rattle.vm_legal.specs.Steps.{before_step, takings};
 ghost use Rattle.vm_model.specs.Moments.{before_last_line};
-ghost use Rattle.vm_kernel.specs.Matches.{IsPlain};
+ghost use Rattle.vm_system.specs.Hosts.{HasOneHost};
 ghost use Rattle.vm_system.specs.Stands.{Kept, Stands};
 ghost use Rattle.vm_system.specs.Steps.{DevicesHaveCause, Grew, HasMore, KeepsLegal, KeepsOpen, LeavesFiles, LeavesPaging, MayCut, MayCutOpen, Setting, StopsAt, Taking, arms_paging, event_limit, is_built, is_held_up, takes_up, took_up};
 
@@ -50,7 +51,7 @@ impl Model for System {
 impl System {
     /// Nothing has happened yet; the host's frames are taken.
     pub fn new(alloc: Global, header: &Header) -> Result<System, NoMemory>
-        requires plain { IsPlain header.now }
+        requires plain { HasOneHost header.now }
         requires few { header.now.slots ≤ 65536 }
         ensures stands { (outside : Outside) → IfOk result (λ system. Stands header.now outside system) }
         ensures kept { (outside : Outside) → (areas : List ℕ → Told) → IfOk result (λ system. (outside.paging ≡ true → IsTold areas system.pager) → Kept header.now outside areas system) }
@@ -209,9 +210,7 @@ impl System {
 
     /// Whether nothing is undelivered.
     pub fn quiet(&self) -> bool
-        ghost given: { Setting }
-        requires { Stands given.header given.outside self.now }
-        ensures { IsTrue result ↔ (undelivered self.now.history.items ≡ []) }
+        ensures { (header : Header) (outside : Outside) → Stands header outside self.now → IsTrue result ↔ (undelivered self.now.history.items ≡ []) }
     {
         self.state.ports.oldest().is_none()
     }

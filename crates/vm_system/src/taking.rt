@@ -4,14 +4,14 @@ ghost use Rattle.vm_model.specs.declared.command.Command.TheVariants as command;
 ghost use Rattle.vm_model.specs.declared.message.Channel.{Channel};
 ghost use Rattle.vm_model.specs.declared.message.Channel.TheVariants as channels;
 ghost use Rattle.vm_model.specs.Channels.{queue};
-ghost use Rattle.vm_outside.specs.Areas.{Told};
 ghost use Rattle.vm_legal.specs.Stretches.{EachOf};
 ghost use Rattle.vm_kernel.specs.Begun.{IsForeign, IsLaundered, Passed, Passing};
 ghost use Rattle.vm_kernel.specs.Matches.{Rests};
+ghost use Rattle.vm_system.specs.Making.{Spares};
 ghost use Rattle.vm_system.specs.Stands.{Kept, Stands};
 ghost use Rattle.vm_base.specs.declared.ids.HostId.{HostId};
 ghost use Rattle.vm_system.specs.Orderly.{is_washed};
-ghost use Rattle.vm_system.specs.Steps.{DevicesHaveCause, Taking, devices, takes_up};
+ghost use Rattle.vm_system.specs.Steps.{DevicesHaveCause, Taking, takes_up};
 ghost use Rattle.vm_system.specs.Takings.{Answered, Followed, May, MayBeCut, Took};
 
 use crate::state::State;
@@ -74,8 +74,7 @@ impl State {
         requires { (host : HostId) × May given line number (channels.Down host object control) self.old }
         ensures took { OnOk result (Took given self.new) }
         ensures err { OnErr result (self.new.history.items ≡ self.old.history.items) }
-        ensures kept { (areas : List ℕ → Told) → Kept given.header given.outside areas self.old → Kept given.header given.outside areas self.new }
-        ensures devices { OnOk result (devices self.new.history.items ≡ devices self.old.history.items) }
+        ensures spares { Spares given.header given.outside self.old self.new }
     {
         let Some(message) = self.ports.head(number) else {
             unreachable!()
@@ -128,8 +127,7 @@ impl State {
         ensures followed { OnOk result (Followed given self.new) }
         ensures err { OnErr result (self.new.history.items ≡ self.old.history.items) }
         ensures pager { self.new.pager ≡ self.old.pager }
-        ensures kept { (areas : List ℕ → Told) → Kept given.header given.outside areas self.old → Kept given.header given.outside areas self.new }
-        ensures devices { devices self.new.history.items ≡ devices self.old.history.items }
+        ensures spares { Spares given.header given.outside self.old self.new }
     {
         let events = go_on(&mut self.kernel, washed, &mut self.ids)?;
         self.reserve(events.len())?;
@@ -141,11 +139,11 @@ impl State {
 // What the kernel gives behind the taking of a message by a pager.
 fn go_on(kernel: &mut Kernel, washed: bool, ids: &mut Ids) -> Result<Events, NoMemory>
     ghost given: { Passing }
-    requires rests { Rests given.header kernel.old ids.old given.past }
-    requires laundered { washed ≡ true → IsLaundered given.front }
+    requires rests { Rests given.header 0 kernel.old ids.old given.past }
+    requires laundered { washed ≡ true → IsLaundered 0 given.front }
     requires held { washed ≡ true → kernel.old.laundry.held ≢ [] }
     requires foreign { washed ≡ false → EachOf IsForeign given.front }
-    ensures { IfOk result (λ events. Passed given.header given.outside given.command (given.front ++ given.past) kernel.new ids.new events.items) }
+    ensures { IfOk result (λ events. Passed given.header 0 given.outside given.command (given.front ++ given.past) kernel.new ids.new events.items) }
 {
     if washed {
         let events = kernel.laundered(ids)?;

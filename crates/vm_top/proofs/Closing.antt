@@ -6,10 +6,10 @@ use Rattle.vm_model.specs.declared.command.Numbered.{Numbered}
 use Rattle.vm_model.specs.declared.script.Header.{Header}
 use Rattle.vm_model.specs.declared.script.Script.{Script}
 use Rattle.vm_legal.specs.Debts.{IsPaid}
-use Rattle.vm_legal.specs.Follows.{Follows, FollowsSoFar}
 use Rattle.vm_legal.specs.Legal.{LegalSoFar}
 use Rattle.vm_legal.specs.Outside.{Outside}
 use Rattle.vm_legal.specs.Prompt.{NoneInVain}
+use Rattle.vm_legal.proofs.Groups.{open_of}
 use Rattle.vm_top.specs.Run.{IsFull, IsPart, IsWhole}
 
 some_frames : (frames : Option ℕ) → IfSome frames (λ count. 0 ≤ count)
@@ -28,6 +28,7 @@ none_owed header = record {
   request = λ host object control page access paged is. absurd (nothing is);
   error = λ host object page is. absurd (nothing is);
   absence = λ host object page declared is. absurd (nothing is);
+  lock = λ request is. absurd (nothing is);
   slot = λ host object control page dirty keep bytes temporary is lacks. absurd (nothing is);
 }
   where
@@ -49,18 +50,10 @@ none_legal script outside = record {
     paid = tt;
   };
   rests = record {
-    prompt = record {
-      waits = λ host below. none_waits script.header host;
-      swept = λ host below. record { pages = λ object page temporary away. refl; controls = λ object temporary away. refl };
-    };
+    prompt = λ host below. record { waits = none_waits script.header host; swept = record { pages = λ object page temporary away. refl; controls = λ object temporary away. refl; declared_pages = λ object page below unheld. refl; declared_controls = λ object below unheld. refl } };
     paid = none_owed script.header;
   };
 }
-
--- what follows its commands whole does so as far as it goes
-follows_so_far : (header : Header) (outside : Outside) (run : List Numbered) (h : List Event) → Follows header outside run h → FollowsSoFar header outside run h
-follows_so_far header outside [] h is = is
-follows_so_far header outside (n ∷ before) h (past, group, is, made, whole, follows) = (past, group, is, made, follows)
 
 -- a run that was made of a part is legal as far as it goes
 pub part_so_far : (script : Script) (outside : Outside) (later run : List Numbered) (h : List Event) → IsPart script outside later run h → LegalSoFar script outside h
@@ -68,7 +61,7 @@ part_so_far script outside later run h part = record {
   later = later;
   run = run;
   order = part.order;
-  follows = follows_so_far script.header outside run h part.legal.follows;
+  follows = open_of script.header outside run h part.legal.follows;
   holds = part.legal.holds;
   rests = part.legal.rests;
 }
@@ -79,7 +72,7 @@ whole_so_far script outside h is = record {
   later = [];
   run = script.commands.items;
   order = refl;
-  follows = follows_so_far script.header outside script.commands.items h is.legal.follows;
+  follows = open_of script.header outside script.commands.items h is.legal.follows;
   holds = is.legal.holds;
   rests = is.legal.rests;
 }

@@ -1,5 +1,5 @@
 -- What was read is what the source had, and how a run ends tells the status.
-use Rattle.std.proofs.Common.{◌≡◌, ℕ, ◌<◌, ◌≤◌, ◌^◌, ◌⊎◌, inl, inr, List, [], ◌∷◌, ◌++◌, length, true, refl, ap, sym, ◌∙◌, subst, arith, Some, None, Option, Ok, Err, nat_lt, length-append}
+use Rattle.std.proofs.Common.{◌≡◌, ℕ, ◌<◌, ◌≤◌, ◌^◌, ◌⊎◌, inl, inr, List, [], ◌∷◌, ◌++◌, length, true, refl, ap, sym, ◌∙◌, subst, arith, Some, None, Option, Ok, Err, nat_lt}
 use Rattle.std.specs.Prelude.{IfSome, IsErrOf, OnOk, Result}
 use Rattle.vm_base.specs.declared.failure.WriteStop.{WriteStop}
 use Rattle.vm_base.specs.declared.failure.WriteStop.TheVariants as stop
@@ -23,10 +23,12 @@ use Rattle.vm_top.specs.Reading.{ReadWhole}
 use Rattle.vm_top.specs.Run.{CutIn, IsFull, IsRunnable, IsStuck, IsWhole, report_text}
 use Rattle.vm_legal.specs.Legal.{LegalSoFar}
 use Rattle.vm_legal.specs.Outside.{Outside}
-use Rattle.vm_kernel.specs.Matches.{IsPlain}
+use Rattle.vm_legal.proofs.Groups.{cut_of}
+use Rattle.vm_system.specs.Hosts.{HasOneHost}
 use Rattle.vm_top.specs.Top.{IsBad, IsReadFrom, IsBadFrom, IsUnbuiltFrom, IsHeaderBuilt, NothingRun, IsDone, IsEventLimit, IsStopped, IsNotBuilt, IsOutputFault, IsNoMemory, WroteFailed, WroteStopped, bad_text, not_built_text, stopped_text}
 use Rattle.vm_top.specs.Writing.{WroteStart}
 use Rattle.vm_top.proofs.Closing.{full_so_far, none_legal, part_so_far, whole_so_far}
+use Rattle.vm_top.proofs.Readings.{no_longer}
 use Rattle.vm_top.proofs.Writings.{start_all}
 
 long_bad : (bytes : List ℕ) → 1048576 < length bytes → script_of bytes ≡ Err (0, fault.TooLong)
@@ -37,10 +39,6 @@ whole_read told after bytes whole consumed end is =
     let all : IfSome told (λ xs. bytes ≡ [] ++ xs) = Consumes-all told after bytes [] bytes consumed end refl in
     subst (λ (z : Option (List ℕ)). IfSome z (λ xs. bytes ≡ [] ++ xs)) is all
 
-front_read : (after : Option (List ℕ)) (bytes whole : List ℕ) → Consumes (Some whole) after bytes → length bytes ≤ length whole
-front_read None bytes whole consumed = absurd consumed
-front_read (Some rest) bytes whole consumed = omega (arith, ap length consumed, length-append bytes rest)
-
 -- the bytes of the source, and those that were read of them, spell the same
 read_same : (told after : Option (List ℕ)) (bytes whole : List ℕ) → ReadWhole told after bytes → told ≡ Some whole → script_of whole ≡ script_of bytes
 read_same told after bytes whole read is =
@@ -49,7 +47,7 @@ read_same told after bytes whole read is =
       | inl short ↦ ap script_of (sym (whole_read told after bytes whole read.consumed (read.all short) is))
       | inr long ↦
           let consumed : Consumes (Some whole) after bytes = subst (λ (z : Option (List ℕ)). Consumes z after bytes) is read.consumed in
-          let longer = front_read after bytes whole consumed in
+          let longer = no_longer after bytes whole consumed in
           long_bad whole (omega arith) ∙ sym (long_bad bytes long)
     ]
 
@@ -194,14 +192,14 @@ runnable script keeps built = record { plain = plain_of script.header.frames.ite
     few_of : (f : ℕ) → script.header.frames.items ≡ f ∷ [] → f < 2 ^ 32
     few_of f is = let both = subst (λ (z : List ℕ). All (IsBetween 2 4096) z) is keeps.frames 0 0 (omega arith) in let most = both.1 in omega arith
 
-    plain_of : (frames : List ℕ) → script.header.frames.items ≡ frames → IsPlain script.header
+    plain_of : (frames : List ℕ) → script.header.frames.items ≡ frames → HasOneHost script.header
     plain_of [] is = absurd (omega (arith, ap length is, built.one_host))
     plain_of (f ∷ []) is = record { size = keeps.size; frames = f; hosts = is; few = few_of f is; objects = built.no_object }
     plain_of (f ∷ g ∷ more) is = absurd (omega (arith, ap length is, built.one_host))
 
 -- the history of a run that has ended is also one whose last step is not cut
 uncut : (run : Script) (outside : Outside) (h : List Event) → LegalSoFar run outside h → CutIn run outside h
-uncut run outside h legal = record { later = legal.later; run = legal.run; order = legal.order; legal = record { follows = legal.follows; holds = legal.holds } }
+uncut run outside h legal = record { later = legal.later; run = legal.run; order = legal.order; legal = record { follows = cut_of run.header outside legal.run h legal.follows; holds = legal.holds } }
 
 summary_failed : (report : Report) (run : Script) (outside : Outside) (h : List Event) (start after : Option (List ℕ)) → LegalSoFar run outside h
     → (report ≡ reports.Summary) × WroteStart start after (report_text report h) → WroteFailed report run outside h start after

@@ -35,7 +35,7 @@ lengths : (after : Option (List ℕ)) (bytes whole : List ℕ) → Consumes (Som
 lengths None bytes whole consumed end = absurd consumed
 lengths (Some rest) bytes whole consumed end = (omega (arith, ap length consumed, length-append bytes rest, ap length end), ap Some end)
 
-no_longer : (after : Option (List ℕ)) (bytes whole : List ℕ) → Consumes (Some whole) after bytes → length bytes ≤ length whole
+pub no_longer : (after : Option (List ℕ)) (bytes whole : List ℕ) → Consumes (Some whole) after bytes → length bytes ≤ length whole
 no_longer None bytes whole consumed = absurd consumed
 no_longer (Some rest) bytes whole consumed = omega (arith, ap length consumed, length-append bytes rest)
 

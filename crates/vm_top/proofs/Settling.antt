@@ -14,6 +14,7 @@ use Rattle.vm_legal.specs.Outside.{Outside}
 use Rattle.vm_legal.specs.Steps.{before_step, takings}
 use Rattle.vm_legal.specs.Undelivered.{undelivered}
 use Rattle.vm_outside.specs.Arming.{Arming, ArmedLater}
+use Rattle.vm_system.proofs.Settled.{may_be_cut}
 use Rattle.vm_system.specs.Steps.{DevicesHaveCause, Grew, HasMore, KeepsOpen, LegalCut, LegalOpen, MayCutOpen, StopsAt, TakesMore, event_limit, settles, took_up}
 use Rattle.vm_top.specs.Arming.{FilesLeft, is_untouched, ran_of}
 use Rattle.vm_top.specs.Run.{CutIn, RanAs, front_of, shown, unbuilt_line}
@@ -26,7 +27,7 @@ use Rattle.vm_top.specs.declared.words.Report.TheVariants as reports
 use Rattle.vm_top.proofs.Arms.{arms_later, arms_of, failures_step, paging_taking}
 use Rattle.vm_top.proofs.Counting.{lines_same, lines_up, untouched_up}
 use Rattle.vm_top.proofs.Starts.{order_at}
-use Rattle.vm_top.proofs.Turns.{Left, cut_of, shown_grown}
+use Rattle.vm_top.proofs.Turns.{Left, shown_grown}
 
 -- the command in whose step messages are taken, at a line
 abbrev pub settle_at : {F P : Type 0} → Taking F P → ℕ → Numbered
@@ -117,7 +118,7 @@ take_unshown report given line run old new now f1 p1 e1 grew step wrote = (
     later = behind given new;
     run = settle_at given line ∷ run;
     order = order_of given (settle_at given line) run new step.here;
-    legal = cut_of given.running.script.header given.running.outside (settle_at given line ∷ run) new step.legal.so_far;
+    legal = may_be_cut given.running.script.header given.running.outside (settle_at given line ∷ run) new step.legal.so_far;
   },
   shown_grown report given.running.start now old new grew wrote,
 )
@@ -160,7 +161,7 @@ take_stops report given old new now f0 f1 p0 p1 e0 e1 settles grew below may fil
       run = settle_at given settles.line ∷ settles.run;
       order = order_of given (settle_at given settles.line) settles.run old settles.here;
       legal = subst (LegalCut given.running.script.header given.running.outside (settle_at given settles.line ∷ settles.run)) (sym same)
-          (cut_of given.running.script.header given.running.outside (settle_at given settles.line ∷ settles.run) old settles.legal);
+          (may_be_cut given.running.script.header given.running.outside (settle_at given settles.line ∷ settles.run) old settles.legal);
     }
     by_way (inr cut) = record {
       later = behind given old;
@@ -210,7 +211,7 @@ settled : (header : Header) (outside : Outside) (line count : ℕ) (run : List N
 settled header outside line count run h end legal = record { follows = whole_of legal.follows; holds = legal.holds; rests = legal.rests }
   where
     whole_of : FollowsSoFar header outside (record { line = line; command = command.Settle count } ∷ run) h → Follows header outside (record { line = line; command = command.Settle count } ∷ run) h
-    whole_of (past, group, is, made, follows) = (past, group, is, made, subst (λ z. (takings z ≡ count) ⊎ (undelivered z ≡ [])) is end, follows)
+    whole_of (past, group, is, made, done, follows) = (past, group, is, made, subst (λ z. (takings z ≡ count) ⊎ (undelivered z ≡ [])) is end, follows)
 
 -- a settle has ended
 pub settle_runs : {F P : Type 0} (report : Report) (given : Taking F P) (count : ℕ) (h : List Event) (now : Option (List ℕ)) (f : Arming F) (p : Arming P) (e : ℕ) → given.command ≡ command.Settle count

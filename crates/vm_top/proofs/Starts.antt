@@ -4,13 +4,11 @@ use Rattle.std.specs.Prelude.{IfSome}
 use Rattle.std.proofs.lemmas.List.Elements.{All-get_or}
 use Rattle.std.proofs.lemmas.List.{take-append-drop, get_or-reverse, length-reverse}
 use Rattle.std.proofs.lemmas.Option.{slice_get_within, get_or_from_slice_get}
-use Rattle.vm_model.specs.declared.event.Event.{Event}
 use Rattle.vm_model.specs.declared.command.Numbered.{Numbered}
 use Rattle.vm_model.specs.declared.script.Header.{Header}
 use Rattle.vm_model.specs.declared.script.Script.{Script}
 use Rattle.vm_model.specs.Ranges.{InRange}
 use Rattle.vm_legal.specs.Debts.{IsPaid}
-use Rattle.vm_legal.specs.Follows.{Follows, FollowsSoFar}
 use Rattle.vm_legal.specs.Legal.{LegalFor}
 use Rattle.vm_legal.specs.Outside.{Outside}
 use Rattle.vm_legal.specs.Prompt.{NoneInVain}
@@ -34,6 +32,7 @@ start_paid header = record {
   request = λ host object control page access paged is. absurd (nothing is);
   error = λ host object page is. absurd (nothing is);
   absence = λ host object page declared is. absurd (nothing is);
+  lock = λ request is. absurd (nothing is);
   slot = λ host object control page dirty keep bytes temporary is lacks. absurd (nothing is);
 }
   where
@@ -51,10 +50,7 @@ legal_start header outside = record {
     paid = tt;
   };
   rests = record {
-    prompt = record {
-      waits = λ host below. start_waits header host;
-      swept = λ host below. record { pages = λ object page temporary away. refl; controls = λ object temporary away. refl };
-    };
+    prompt = λ host below. record { waits = start_waits header host; swept = record { pages = λ object page temporary away. refl; controls = λ object temporary away. refl; declared_pages = λ object page below unheld. refl; declared_controls = λ object below unheld. refl } };
     paid = start_paid header;
   };
 }
@@ -86,11 +82,6 @@ next_built n before none is = rw (none, is) refl
 
 pub next_unbuilt : (n : Numbered) (before : List Numbered) → unbuilt_line before ≡ None → is_built n.command ≡ false → unbuilt_line (n ∷ before) ≡ Some n.line
 next_unbuilt n before none is = rw (none, is) refl
-
--- what follows its commands whole does so as far as it goes
-pub open_of : (header : Header) (outside : Outside) (run : List Numbered) (h : List Event) → Follows header outside run h → FollowsSoFar header outside run h
-open_of header outside [] h is = is
-open_of header outside (n ∷ before) h (past, group, is, made, whole, follows) = (past, group, is, made, follows)
 
 -- the commands behind so many
 pub order_at : {A : Type 0} (items : List A) (i : ℕ) → items ≡ take (length items - i) items ++ oldest i items

@@ -16,7 +16,9 @@ use Rattle.vm_model.specs.Text.{text, line_of}
 use Rattle.vm_legal.specs.Legal.{LegalFor}
 use Rattle.vm_legal.specs.Outside.{Outside}
 use Rattle.vm_legal.specs.Steps.{takings}
+use Rattle.vm_legal.proofs.Groups.{cut_of as follows_cut, open_of}
 use Rattle.vm_outside.specs.Arming.{Arming, ArmedLater}
+use Rattle.vm_system.proofs.Settled.{may_be_cut}
 use Rattle.vm_system.specs.Steps.{DevicesHaveCause, Grew, IsNext, KeepsLegal, LeavesFiles, LeavesPaging, LegalCut, LegalOpen, MayCut, IsBelowLimit, StopsAt, arms_paging, event_limit, is_built, is_held_up, settles, takes_up, took_up}
 use Rattle.vm_system.specs.declared.stop.SystemStop.{SystemStop}
 use Rattle.vm_system.specs.declared.stop.SystemStop.TheVariants as stops
@@ -30,7 +32,7 @@ use Rattle.vm_top.specs.declared.words.Report.{Report}
 use Rattle.vm_top.specs.declared.words.Report.TheVariants as reports
 use Rattle.vm_top.proofs.Arms.{arms_later, arms_of, arms_up, failures_step, files_step, paging_step, up_unarmed}
 use Rattle.vm_top.proofs.Counting.{lines_more, takings_none, untouched_up}
-use Rattle.vm_top.proofs.Starts.{legal_start, next_built, next_unbuilt, oldest_all, oldest_none, open_of, order_at, order_left, order_next, range_at}
+use Rattle.vm_top.proofs.Starts.{legal_start, next_built, next_unbuilt, oldest_all, oldest_none, order_at, order_left, order_next, range_at}
 use Rattle.vm_top.proofs.Writings.{front_start, oldest_step, start_all}
 
 -- what a command's step does, where it is made
@@ -107,12 +109,8 @@ shown_grown reports.History start now old new grew wrote =
     subst (WroteStart start now) (sym (ap text grew.is ∙ grown.1)) (front_start start now (text old) grown.0 wrote)
 shown_grown reports.Summary start now old new grew wrote = start_all start now [] wrote
 
--- an open history is one that may be cut
-pub cut_of : (header : Header) (outside : Outside) (run : List Numbered) (h : List Event) → LegalOpen header outside run h → LegalCut header outside run h
-cut_of header outside run h legal = record { follows = legal.follows; holds = legal.holds }
-
 pub cut_whole : (header : Header) (outside : Outside) (run : List Numbered) (h : List Event) → LegalFor header outside run h → LegalCut header outside run h
-cut_whole header outside run h legal = record { follows = open_of header outside run h legal.follows; holds = legal.holds }
+cut_whole header outside run h legal = record { follows = follows_cut header outside run h (open_of header outside run h legal.follows); holds = legal.holds }
 
 -- the commands that are left behind the next one
 abbrev pub left_of : {F P : Type 0} → Running F P → List Event → List Numbered
@@ -146,7 +144,7 @@ turn_unshown report given n old new now f1 p1 e1 follows grew step wrote = (
     later = left_of given old;
     run = n ∷ ran_of given.script old;
     order = order_made given n old follows;
-    legal = cut_of given.script.header given.outside (n ∷ ran_of given.script old) new step.next.so_far;
+    legal = may_be_cut given.script.header given.outside (n ∷ ran_of given.script old) new step.next.so_far;
   },
   shown_grown report given.start now old new grew wrote,
 )

@@ -29,13 +29,15 @@ last_arming arms (numbered ∷ before) = elim (arms numbered.command) [ Some cou
 -- how many commands arm
 abbrev pub armings : (Command → Option ℕ) → List Numbered → ℕ
 armings arms [] = 0
-armings arms (numbered ∷ before) = if is_some (arms numbered.command) then armings arms before + 1 else armings arms before
+armings arms (numbered ∷ before) =
+    if is_some (arms numbered.command) then armings arms before + 1 else armings arms before
 
 -- no pager took a message since the last command that armed the paging area
 abbrev pub is_untouched : List Numbered → List Event → Bool
 is_untouched run [] = true
 is_untouched [] (event.Line line ∷ past) = true
-is_untouched (numbered ∷ before) (event.Line line ∷ past) = if is_some (arms_paging numbered.command) then true else is_untouched before past
+is_untouched (numbered ∷ before) (event.Line line ∷ past) =
+    if is_some (arms_paging numbered.command) then true else is_untouched before past
 is_untouched run (event.Taken (Up host object) m ∷ past) = false
 is_untouched run (e ∷ past) = is_untouched run past
 
@@ -46,21 +48,27 @@ pub record FilesLeft {B : Type 0} (run : List Numbered) (old new : Arming B) : T
   pub none : last_arming arms_files run ≡ None → new.left ≡ 0
   pub some : (count : ℕ) → last_arming arms_files run ≡ Some count → new.left ≡ count
 
--- where no `fail` of the paging area was run it isn't armed; else it is, or an armed failure was reached; it is armed with the last one's number
--- where no pager took a message since; and the armed failures that were reached, with one that is still armed, are at most as many as `fail` commands
+-- where no `fail` of the paging area was run it isn't armed; else it is, or an armed failure was reached; it is
+-- armed with the last one's number
+-- where no pager took a message since; and the armed failures that were reached, with one that is still armed, are
+-- at most as many as `fail` commands
 -- were run
 pub record PagingLeft {B : Type 0} (run : List Numbered) (history : List Event) (old new : Arming B) : Type 0 where
   pub none : last_arming arms_paging run ≡ None → (new.left ≡ 0) × (new.reached ≡ old.reached)
   pub some : (count : ℕ) → last_arming arms_paging run ≡ Some count → (0 < new.left) ⊎ Rose old.reached new.reached
-  pub untouched : (count : ℕ) → last_arming arms_paging run ≡ Some count → is_untouched run history ≡ true → new.left ≡ count
+  pub untouched : (count : ℕ) → last_arming arms_paging run ≡ Some count → is_untouched run history ≡ true
+      → new.left ≡ count
   pub few : new.reached + min 1 new.left ≤ old.reached + armings arms_paging run
 
--- the failures of the paging area that were told are at most as many as its count of faults rose, unless that stands at its last value; and where
+-- the failures of the paging area that were told are at most as many as its count of faults rose, unless that
+-- stands at its last value; and where
 -- none is told the count stays
 pub record FailuresCounted (before now : ℕ) (history : List Event) : Type 0 where
   pub few : (devices history + before ≤ now) ⊎ Rose now now
   pub none : devices history ≡ 0 → now ≡ before
 
--- and at most as many as the backing within failed of its own and `fail` commands were run, unless the whole count stands at its last value
+-- and at most as many as the backing within failed of its own and `fail` commands were run, unless the whole count
+-- stands at its last value
 abbrev pub FailuresBounded : List Numbered → ℕ → ℕ → ℕ → List Event → Type 0
-FailuresBounded run before now whole history = (devices history + before ≤ now + armings arms_paging run) ⊎ Rose whole whole
+FailuresBounded run before now whole history =
+    (devices history + before ≤ now + armings arms_paging run) ⊎ Rose whole whole

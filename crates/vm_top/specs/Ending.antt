@@ -26,15 +26,22 @@ Tells told text before after status =
 
 -- a run stopped at a line that isn't built, and a first part of what tells that was written
 abbrev pub WroteStuck : Script → Outside → List Event → Option (List ℕ) → Option (List ℕ) → Type 0
-WroteStuck run outside history before after = (line : ℕ) × IsStuck run outside line history × WroteStart before after (stopped_text history line)
+WroteStuck run outside history before after =
+    (line : ℕ) × IsStuck run outside line history × WroteStart before after (stopped_text history line)
 
 -- a script was run, and that is the status
 abbrev pub EndsAs : Report → Script → Outside → List Event → Option (List ℕ) → Option (List ℕ) → Status → Type 0
-EndsAs report run outside history before after Done = IsWhole run outside history × Appends before after (report_text report history)
-EndsAs report run outside history before after EventLimit = IsFull run outside history × Appends before after (report_text report history)
-EndsAs report run outside history before after (NotBuilt line) = IsStuck run outside line history × Appends before after (stopped_text history line)
-EndsAs report run outside history before after OutputFault = WroteFailed report run outside history before after ⊎ WroteStuck run outside history before after
-EndsAs report run outside history before after NoMemory = (CutIn run outside history × WroteStart before after (report_text report history)) ⊎ WroteStuck run outside history before after
+EndsAs report run outside history before after Done =
+    IsWhole run outside history × Appends before after (report_text report history)
+EndsAs report run outside history before after EventLimit =
+    IsFull run outside history × Appends before after (report_text report history)
+EndsAs report run outside history before after (NotBuilt line) =
+    IsStuck run outside line history × Appends before after (stopped_text history line)
+EndsAs report run outside history before after OutputFault =
+    WroteFailed report run outside history before after ⊎ WroteStuck run outside history before after
+EndsAs report run outside history before after NoMemory =
+    (CutIn run outside history × WroteStart before after (report_text report history))
+    ⊎ WroteStuck run outside history before after
 EndsAs report run outside history before after other = ⊥
 
 -- the script is held

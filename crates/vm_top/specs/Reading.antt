@@ -1,6 +1,7 @@
 -- What reading a source gives, and what it leaves.
 use Rattle.std.specs.Prelude.{ℕ, ◌<◌, ◌≤◌, ◌≡◌, List, [], drop, length, Option, Some, None}
 use Rattle.std.specs.Io.KnownBytes.{Consumes, IsAtEnd}
+use Rattle.vm_model.specs.Limits.{most_script_bytes}
 use Rattle.vm_model.specs.declared.script.Script.{Script}
 use Rattle.vm_top.specs.Top.{OfBytes}
 use Rattle.vm_top.specs.declared.top.Status.{Status}
@@ -8,17 +9,22 @@ use Rattle.vm_top.specs.declared.top.Status.TheVariants.{NoMemory, ReadFault}
 use Rattle.vm_top.specs.declared.words.Job.{Job}
 use Rattle.vm_top.specs.declared.words.Job.TheVariants.{Run}
 
+-- the most bytes that are read of a source: those that a script may have, and a piece of 4,096 behind them
+abbrev pub most_read : ℕ
+most_read = 1052672
+
 -- some bytes that were left were read, at most so many
 pub record ReadAtMost (most : ℕ) (before after : Option (List ℕ)) : Type 0 where
   pub bytes : List ℕ
   pub consumed : Consumes before after bytes
   pub few : length bytes ≤ most
 
--- the bytes that were left were read: all of them, unless there are more than a script may have; and then at most 4,096 more than that
+-- the bytes that were left were read: all of them, unless there are more than a script may have; and then at most
+-- 4,096 more than that
 pub record ReadWhole (before after : Option (List ℕ)) (bytes : List ℕ) : Type 0 where
   pub consumed : Consumes before after bytes
-  pub all : length bytes ≤ 1048576 → IsAtEnd after
-  pub few : length bytes ≤ 1052672
+  pub all : length bytes ≤ most_script_bytes → IsAtEnd after
+  pub few : length bytes ≤ most_read
 
 -- what is left is what stands behind a first part, of at most so many bytes
 pub record LeavesBehind (most : ℕ) (bytes : List ℕ) (left : Option (List ℕ)) : Type 0 where
@@ -26,15 +32,18 @@ pub record LeavesBehind (most : ℕ) (bytes : List ℕ) (left : Option (List ℕ
   pub few : read ≤ most
   pub is : left ≡ Some (drop read bytes)
 
--- nothing is left; but of more bytes than a script may have, what stands behind some number of bytes from the 1,048,577th to the 1,052,672nd
+-- nothing is left; but of more bytes than a script may have, what stands behind some number of bytes from the
+-- 1,048,577th to the 1,052,672nd
 pub record LeavesNone (bytes : List ℕ) (left : Option (List ℕ)) : Type 0 where
-  pub short : length bytes ≤ 1048576 → left ≡ Some []
-  pub long : 1048576 < length bytes → (read : ℕ) × (1048576 < read) × (read ≤ 1052672) × (left ≡ Some (drop read bytes))
+  pub short : length bytes ≤ most_script_bytes → left ≡ Some []
+  pub long : most_script_bytes < length bytes
+      → (read : ℕ) × (most_script_bytes < read) × (read ≤ most_read) × (left ≡ Some (drop read bytes))
 
--- what a run leaves of the source's bytes: the read that failed came while more might follow; memory may have ended anywhere in reading
+-- what a run leaves of the source's bytes: the read that failed came while more might follow; memory may have ended
+-- anywhere in reading
 abbrev pub LeavesBytes : Status → Option Script → List ℕ → Option (List ℕ) → Type 0
-LeavesBytes ReadFault script bytes left = LeavesBehind 1048576 bytes left
-LeavesBytes NoMemory None bytes left = LeavesBehind 1052672 bytes left
+LeavesBytes ReadFault script bytes left = LeavesBehind most_script_bytes bytes left
+LeavesBytes NoMemory None bytes left = LeavesBehind most_read bytes left
 LeavesBytes other script bytes left = LeavesNone bytes left
 
 -- what the call leaves of the source; words that ask for no run leave it as it was

@@ -6,7 +6,8 @@ use Rattle.vm_legal.specs.Undelivered.{undelivered}
 use Rattle.vm_quiet.specs.Carried.{IsCarried}
 use Rattle.vm_quiet.specs.Quiet.{NobodyWaitsInVain}
 
--- once nothing is undelivered no access of the run waits while frames are reclaimable: whoever waits does so since its host is short of frames
+-- once nothing is undelivered no access of the run waits while frames are reclaimable: whoever waits does so since
+-- its host is short of frames
 abbrev pub WaitsForFramesAlone : Option Script → List Event → Type 0
 WaitsForFramesAlone script history = IfSome script (λ run. undelivered history ≡ [] → NobodyWaitsInVain run.header history)
 

@@ -2,6 +2,7 @@
 use Rattle.std.specs.Prelude.{ℕ, ◌≡◌, ◌≢◌, ◌⊎◌, ◌<◌, ◌≤◌, true, if◌then◌else◌, List, [], ◌∷◌, ◌++◌, length, Option, Some, None, is_some}
 use Rattle.std.specs.Io.KnownBytes.{Appends}
 use Rattle.std.specs.List.{All}
+use Rattle.vm_base.specs.Limits.{most_slots}
 use Rattle.vm_model.specs.declared.event.Event.{Event}
 use Rattle.vm_model.specs.declared.command.Command.{Command}
 use Rattle.vm_model.specs.declared.command.Command.TheVariants as command
@@ -18,7 +19,7 @@ use Rattle.vm_legal.specs.Steps.{before_step}
 use Rattle.vm_legal.specs.Undelivered.{undelivered}
 use Rattle.vm_outside.specs.Areas.{Told}
 use Rattle.pg_slots.specs.Contents.{area_name}
-use Rattle.vm_kernel.specs.Matches.{IsPlain}
+use Rattle.vm_system.specs.Hosts.{HasOneHost}
 use Rattle.vm_system.specs.Steps.{HasMore, LegalCut, LegalOpen, event_limit, is_built, is_held_up}
 use Rattle.vm_top.specs.Writing.{WroteStart, WroteBeyond}
 use Rattle.vm_top.specs.declared.run.RunEnd.{RunEnd}
@@ -32,8 +33,8 @@ outside_of areas = record { files = Untold; paging = is_some (areas (area_name 0
 
 -- a script with one host and no objects, all whose numbers are in their ranges
 pub record IsRunnable (script : Script) : Type 0 where
-  pub plain : IsPlain script.header
-  pub slots : script.header.slots ≤ 65536
+  pub plain : HasOneHost script.header
+  pub slots : script.header.slots ≤ most_slots
   pub ranges : All (λ numbered. InRange script.header numbered.command) script.commands.items
 
 -- the line of the first command that isn't built
@@ -125,11 +126,17 @@ abbrev pub report_text : Report → List Event → List ℕ
 report_text History history = text history
 report_text Summary history = summary_text history
 
--- how a run ends: the whole script ran; or a write failed, in the text of the last step; or memory ended; or the history
+-- how a run ends: the whole script ran; or a write failed, in the text of the last step; or memory ended; or the
+-- history
 -- is full; or a command isn't built
 abbrev pub RanAs : Report → Script → Outside → List Event → RunEnd → Option (List ℕ) → Option (List ℕ) → Type 0
-RanAs report script outside history end.Done before after = IsWhole script outside history × Appends before after (shown report history)
-RanAs report script outside history end.Failed before after = (report ≡ History) × FailedIn script outside history before after
-RanAs report script outside history end.NoMemory before after = CutIn script outside history × WroteStart before after (shown report history)
-RanAs report script outside history end.EventLimit before after = IsFull script outside history × Appends before after (shown report history)
-RanAs report script outside history (end.NotBuilt line) before after = IsStuck script outside line history × Appends before after (shown report history)
+RanAs report script outside history end.Done before after =
+    IsWhole script outside history × Appends before after (shown report history)
+RanAs report script outside history end.Failed before after =
+    (report ≡ History) × FailedIn script outside history before after
+RanAs report script outside history end.NoMemory before after =
+    CutIn script outside history × WroteStart before after (shown report history)
+RanAs report script outside history end.EventLimit before after =
+    IsFull script outside history × Appends before after (shown report history)
+RanAs report script outside history (end.NotBuilt line) before after =
+    IsStuck script outside line history × Appends before after (shown report history)

@@ -17,7 +17,8 @@ use Rattle.vm_top.specs.Writing.{oldest}
 use Rattle.vm_top.specs.declared.run.RunEnd.{RunEnd}
 use Rattle.vm_top.specs.declared.words.Report.{Report}
 
--- what is told to a run: its script, what is told of the outside, and what stood in the sink and in the backings in front of it
+-- what is told to a run: its script, what is told of the outside, and what stood in the sink and in the backings in
+-- front of it
 pub record Running (F P : Type 0) : Type 0 where
   pub script : Script
   pub outside : Outside
@@ -33,7 +34,9 @@ pub record Taking (F P : Type 0) : Type 0 where
 
 -- the command is the one behind those that have a line in the history
 abbrev pub IsNextOf : Script → Numbered → List Event → Type 0
-IsNextOf script numbered history = oldest (count_of is_line history + 1) script.commands.items ≡ numbered ∷ oldest (count_of is_line history) script.commands.items
+IsNextOf script numbered history =
+    oldest (count_of is_line history + 1) script.commands.items
+    ≡ numbered ∷ oldest (count_of is_line history) script.commands.items
 
 -- the arming of the paging area between two steps; its count of reached failures rose where one was reached
 pub record PagingRuns {B : Type 0} (run : List Numbered) (history : List Event) (old new : Arming B) : Type 0 where

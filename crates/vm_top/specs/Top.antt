@@ -95,7 +95,8 @@ pub record IsEventLimit (told : Option (List ℕ)) (outside : Outside) (report :
 -- this line isn't built: one of the header, and nothing was run; or that of the first such command, and those in front
 -- of it were run
 abbrev pub Stops : Option (List ℕ) → Outside → Script → ℕ → List Event → Type 0
-Stops told outside run line history = (IsUnbuiltFrom told (Some line) × (history ≡ [])) ⊎ (IsHeaderBuilt told run × IsStuck run outside line history)
+Stops told outside run line history =
+    (IsUnbuiltFrom told (Some line) × (history ≡ [])) ⊎ (IsHeaderBuilt told run × IsStuck run outside line history)
 
 -- a script was read, and run up to the line that isn't built
 pub record IsStopped (told : Option (List ℕ)) (outside : Outside) (line : ℕ) (script : Option Script) (history : List Event) : Type 0 where
@@ -122,7 +123,8 @@ pub record IsBad (told : Option (List ℕ)) (line : ℕ) (kind : ScriptFault) (s
 -- a write of a run's report failed: of events, in the last step; of a summary, when the run had ended
 abbrev pub WroteFailed : Report → Script → Outside → List Event → Option (List ℕ) → Option (List ℕ) → Type 0
 WroteFailed History run outside history before after = FailedIn run outside history before after
-WroteFailed Summary run outside history before after = LegalSoFar run outside history × WroteStart before after (report_text Summary history)
+WroteFailed Summary run outside history before after =
+    LegalSoFar run outside history × WroteStart before after (report_text Summary history)
 
 -- a script was run, and a write of its report failed
 pub record IsFailed (told : Option (List ℕ)) (outside : Outside) (report : Report) (script : Option Script) (history : List Event) (before after : Option (List ℕ)) : Type 0 where
@@ -139,22 +141,27 @@ pub record IsCut (told : Option (List ℕ)) (outside : Outside) (script : Option
   pub cut : CutIn run outside history
 
 -- a first part of what tells the line that isn't built
-abbrev pub WroteStopped : Option (List ℕ) → Outside → Option Script → List Event → Option (List ℕ) → Option (List ℕ) → Type 0
-WroteStopped told outside script history before after = (line : ℕ) × IsStopped told outside line script history × WroteStart before after (stopped_text history line)
+abbrev pub WroteStopped : Option (List ℕ) → Outside → Option Script → List Event → Option (List ℕ) → Option (List ℕ)
+    → Type 0
+WroteStopped told outside script history before after =
+    (line : ℕ) × IsStopped told outside line script history × WroteStart before after (stopped_text history line)
 
 -- a first part of what tells the first fault
 abbrev pub WroteBad : Option (List ℕ) → Option Script → List Event → Option (List ℕ) → Option (List ℕ) → Type 0
 WroteBad told script history before after =
-    NothingRun script history × (line : ℕ) × (kind : ScriptFault) × IsBadFrom told line kind × WroteStart before after (bad_text line kind)
+    NothingRun script history × (line : ℕ) × (kind : ScriptFault) × IsBadFrom told line kind
+    × WroteStart before after (bad_text line kind)
 
 -- a write failed: of the run's report, or of the line that isn't built, or of the script's fault
-abbrev pub IsOutputFault : Option (List ℕ) → Outside → Report → Option Script → List Event → Option (List ℕ) → Option (List ℕ) → Type 0
+abbrev pub IsOutputFault : Option (List ℕ) → Outside → Report → Option Script → List Event → Option (List ℕ)
+    → Option (List ℕ) → Type 0
 IsOutputFault told outside report script history before after =
     IsFailed told outside report script history before after
     ⊎ (WroteStopped told outside script history before after ⊎ WroteBad told script history before after)
 
 -- memory ended: nothing was read, or a first part of one of these was written
-abbrev pub IsNoMemory : Option (List ℕ) → Outside → Report → Option Script → List Event → Option (List ℕ) → Option (List ℕ) → Type 0
+abbrev pub IsNoMemory : Option (List ℕ) → Outside → Report → Option Script → List Event → Option (List ℕ)
+    → Option (List ℕ) → Type 0
 IsNoMemory told outside report script history before after =
     NothingDone script history before after
     ⊎ ((IsCut told outside script history × WroteStart before after (report_text report history))

@@ -1,13 +1,13 @@
 // Reads a source to its end, or beyond the bytes that a script may have, by 4,096 at most.
 ghost use Rattle.std.specs.Prelude.{◌≤◌, IfOk, IsErrOf};
 ghost use Rattle.vm_outside.specs.Causes.{Rose};
-ghost use Rattle.vm_top.specs.Reading.{ReadAtMost, ReadWhole};
+ghost use Rattle.vm_model.specs.Limits.{most_script_bytes};
+ghost use Rattle.vm_top.specs.Reading.{ReadAtMost, ReadWhole, most_read};
 ghost use Rattle.vm_top.specs.declared.reading.ReadStop.TheVariants.{Failed, NoMemory};
 
 use std::alloc::Global;
+use vm_model::limits::MOST_SCRIPT_BYTES;
 use vm_outside::Source;
-
-const MOST: usize = 1_048_576;
 
 /// Why a source was not read whole.
 #[derive(Clone, Copy, Debug, PartialEq, Eq)]
@@ -21,14 +21,14 @@ pub enum ReadStop {
 /// All that is left of the source, or a first part of more than 1,048,576 bytes.
 pub fn read_all<S: Source>(alloc: Global, source: &mut S) -> Result<Vec<u8>, ReadStop>
     ensures whole { IfOk result (λ bytes. ReadWhole (S.left source.old) (S.left source.new) bytes.items) }
-    ensures failed { IsErrOf result Failed → ReadAtMost 1048576 (S.left source.old) (S.left source.new) }
-    ensures stopped { IsErrOf result NoMemory → ReadAtMost 1052672 (S.left source.old) (S.left source.new) }
+    ensures failed { IsErrOf result Failed → ReadAtMost most_script_bytes (S.left source.old) (S.left source.new) }
+    ensures stopped { IsErrOf result NoMemory → ReadAtMost most_read (S.left source.old) (S.left source.new) }
     ensures later { S.faults source.old ≤ S.faults source.new }
     ensures cause { IsErrOf result Failed → Rose (S.faults source.old) (S.faults source.new) }
 {
     let mut bytes = Vec::new(alloc);
     let mut piece = [0u8; 4096];
-    'all: while bytes.len() <= MOST {
+    'all: while bytes.len() <= MOST_SCRIPT_BYTES {
         let Ok(count) = source.read(&mut piece) else {
             return Err(ReadStop::Failed);
         };

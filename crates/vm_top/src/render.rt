@@ -40,11 +40,15 @@ pub fn write_step<K: Sink>(
     requires { from ≤ length history.now.items }
     ensures later { K.faults out.old ≤ K.faults out.new }
     ensures cause { IsErrOf result WriteStop.Failed → Rose (K.faults out.old) (K.faults out.new) }
-    ensures written { (start : Option (List ℕ)) → Appends start (K.written out.old) (text (oldest from history.now.items))
+    ensures written { (start : Option (List ℕ))
+        → Appends start (K.written out.old) (text (oldest from history.now.items))
         → OnOk result (Appends start (K.written out.new) (text history.now.items)) }
-    ensures failed { (start : Option (List ℕ)) → Appends start (K.written out.old) (text (oldest from history.now.items))
-        → IsErrOf result WriteStop.Failed → WroteBeyond start (K.written out.new) (text (oldest from history.now.items)) (text history.now.items) }
-    ensures memory { (start : Option (List ℕ)) → Appends start (K.written out.old) (text (oldest from history.now.items))
+    ensures failed { (start : Option (List ℕ))
+        → Appends start (K.written out.old) (text (oldest from history.now.items))
+        → IsErrOf result WriteStop.Failed
+        → WroteBeyond start (K.written out.new) (text (oldest from history.now.items)) (text history.now.items) }
+    ensures memory { (start : Option (List ℕ))
+        → Appends start (K.written out.old) (text (oldest from history.now.items))
         → IsErrOf result WriteStop.NoMemory → Appends start (K.written out.new) (text (oldest from history.now.items)) }
 {
     let Ok(bytes) = step_text(alloc, history, from) else {
@@ -116,7 +120,8 @@ fn stop_text(
     history: &History,
     line: u32,
 ) -> Result<Vec<u8>, NoMemory>
-    ensures { IfOk result (λ bytes. shown report history.now.items ++ bytes.items ≡ stopped_text history.now.items line) }
+    ensures { IfOk result (λ bytes. shown report history.now.items ++ bytes.items
+        ≡ stopped_text history.now.items line) }
 {
     let from = match report {
         Report::History => history.len(),
@@ -139,9 +144,11 @@ pub fn write_report<K: Sink>(
     ensures written { (start : Option (List ℕ)) → Appends start (K.written out.old) (shown report history.now.items)
         → OnOk result (Appends start (K.written out.new) (report_text report history.now.items)) }
     ensures failed { (start : Option (List ℕ)) → Appends start (K.written out.old) (shown report history.now.items)
-        → IsErrOf result WriteStop.Failed → (report ≡ Report.Summary) × WroteStart start (K.written out.new) (report_text report history.now.items) }
+        → IsErrOf result WriteStop.Failed
+        → (report ≡ Report.Summary) × WroteStart start (K.written out.new) (report_text report history.now.items) }
     ensures memory { (start : Option (List ℕ)) → Appends start (K.written out.old) (shown report history.now.items)
-        → IsErrOf result WriteStop.NoMemory → WroteStart start (K.written out.new) (report_text report history.now.items) }
+        → IsErrOf result WriteStop.NoMemory
+        → WroteStart start (K.written out.new) (report_text report history.now.items) }
 {
     match report {
         Report::History => Ok(()),

@@ -20,12 +20,10 @@ use crate::render::write_step;
 use crate::words::Report;
 use std::alloc::Global;
 use vm_base::WriteStop;
+use vm_model::limits::MOST_EVENTS;
 use vm_model::{Command, History, Numbered, Script};
 use vm_outside::{Armed, Backing, Sink};
 use vm_system::{System, SystemStop};
-
-// No step begins once the history has so many events.
-const MOST_EVENTS: u32 = 200_000;
 
 /// How a run ended.
 #[derive(Clone, Copy, Debug, PartialEq, Eq)]
@@ -95,12 +93,16 @@ fn show<K: Sink>(
     requires { from ≤ length system.now.history.items }
     ensures later { K.faults out.old ≤ K.faults out.new }
     ensures cause { IsErrOf result RunEnd.Failed → Rose (K.faults out.old) (K.faults out.new) }
-    ensures written { (start : Option (List ℕ)) → Appends start (K.written out.old) (shown report (oldest from system.now.history.items))
+    ensures written { (start : Option (List ℕ))
+        → Appends start (K.written out.old) (shown report (oldest from system.now.history.items))
         → OnOk result (Appends start (K.written out.new) (shown report system.now.history.items)) }
-    ensures failed { (start : Option (List ℕ)) → Appends start (K.written out.old) (shown report (oldest from system.now.history.items))
+    ensures failed { (start : Option (List ℕ))
+        → Appends start (K.written out.old) (shown report (oldest from system.now.history.items))
         → IsErrOf result RunEnd.Failed → (report ≡ Report.History) × WroteBeyond start (K.written out.new) (text (oldest from system.now.history.items)) (text system.now.history.items) }
-    ensures memory { (start : Option (List ℕ)) → Appends start (K.written out.old) (shown report (oldest from system.now.history.items))
-        → IsErrOf result RunEnd.NoMemory → Appends start (K.written out.new) (shown report (oldest from system.now.history.items)) }
+    ensures memory { (start : Option (List ℕ))
+        → Appends start (K.written out.old) (shown report (oldest from system.now.history.items))
+        → IsErrOf result RunEnd.NoMemory
+        → Appends start (K.written out.new) (shown report (oldest from system.now.history.items)) }
     ensures ends { (end : RunEnd) → IsErrOf result end → (end ≡ RunEnd.Failed) ⊎ (end ≡ RunEnd.NoMemory) }
 {
     match report {
@@ -135,7 +137,8 @@ fn turn<K: Sink, F: Backing, P: Backing>(
     ensures stands { OnOk result (Stands given.script.header given.outside system.new) }
     ensures kept { Kept given.script.header given.outside (P.area paging.new.inner) system.new }
     ensures turned { OnOk result (Turned report given numbered.now system.new.history.items (K.written out.new) files.new paging.new (⟦<Armed<P> as Backing>⟧.faults paging.new)) }
-    ensures lines { OnOk result (count_of is_line system.new.history.items ≡ count_of is_line system.old.history.items + 1) }
+    ensures lines { OnOk result (count_of is_line system.new.history.items
+        ≡ count_of is_line system.old.history.items + 1) }
     ensures stops { (end : RunEnd) → IsErrOf result end → Stops report given system.new.history.items (K.written out.new) files.new paging.new (⟦<Armed<P> as Backing>⟧.faults paging.new) end }
     ensures later { K.faults out.old ≤ K.faults out.new }
     ensures cause { IsErrOf result RunEnd.Failed → Rose (K.faults out.old) (K.faults out.new) }
@@ -165,9 +168,11 @@ fn take_one<K: Sink, F: Backing, P: Backing>(
     ensures stands { OnOk result (Stands given.running.script.header given.running.outside system.new) }
     ensures kept { Kept given.running.script.header given.running.outside (P.area paging.new.inner) system.new }
     ensures settles { OnOk result (Settles report given system.new.history.items (K.written out.new) files.new paging.new (⟦<Armed<P> as Backing>⟧.faults paging.new)) }
-    ensures more { IfOk result (λ took. took ≡ true → takings system.new.history.items ≡ takings system.old.history.items + 1) }
+    ensures more { IfOk result (λ took. took ≡ true
+        → takings system.new.history.items ≡ takings system.old.history.items + 1) }
     ensures quiet { IfOk result (λ took. took ≡ false → undelivered system.new.history.items ≡ []) }
-    ensures lines { OnOk result (count_of is_line system.new.history.items ≡ count_of is_line system.old.history.items) }
+    ensures lines { OnOk result (count_of is_line system.new.history.items
+        ≡ count_of is_line system.old.history.items) }
     ensures stops { (end : RunEnd) → IsErrOf result end → Stops report given.running system.new.history.items (K.written out.new) files.new paging.new (⟦<Armed<P> as Backing>⟧.faults paging.new) end }
     ensures later { K.faults out.old ≤ K.faults out.new }
     ensures cause { IsErrOf result RunEnd.Failed → Rose (K.faults out.old) (K.faults out.new) }
@@ -202,7 +207,8 @@ fn settle<K: Sink, F: Backing, P: Backing>(
     ensures stands { OnOk result (Stands given.running.script.header given.running.outside system.new) }
     ensures kept { Kept given.running.script.header given.running.outside (P.area paging.new.inner) system.new }
     ensures runs { OnOk result (Runs report given.running system.new.history.items (K.written out.new) files.new paging.new (⟦<Armed<P> as Backing>⟧.faults paging.new)) }
-    ensures lines { OnOk result (count_of is_line system.new.history.items ≡ count_of is_line system.old.history.items) }
+    ensures lines { OnOk result (count_of is_line system.new.history.items
+        ≡ count_of is_line system.old.history.items) }
     ensures stops { (end : RunEnd) → IsErrOf result end → Stops report given.running system.new.history.items (K.written out.new) files.new paging.new (⟦<Armed<P> as Backing>⟧.faults paging.new) end }
     ensures later { K.faults out.old ≤ K.faults out.new }
     ensures cause { IsErrOf result RunEnd.Failed → Rose (K.faults out.old) (K.faults out.new) }
@@ -304,7 +310,8 @@ fn run_one<K: Sink, F: Backing, P: Backing>(
     ensures stands { OnOk result (Stands given.script.header given.outside system.new) }
     ensures kept { Kept given.script.header given.outside (P.area paging.new.inner) system.new }
     ensures runs { OnOk result (Runs report given system.new.history.items (K.written out.new) files.new paging.new (⟦<Armed<P> as Backing>⟧.faults paging.new)) }
-    ensures lines { OnOk result (count_of is_line system.new.history.items ≡ count_of is_line system.old.history.items + 1) }
+    ensures lines { OnOk result (count_of is_line system.new.history.items
+        ≡ count_of is_line system.old.history.items + 1) }
     ensures stops { (end : RunEnd) → IsErrOf result end → Stops report given system.new.history.items (K.written out.new) files.new paging.new (⟦<Armed<P> as Backing>⟧.faults paging.new) end }
     ensures later { K.faults out.old ≤ K.faults out.new }
     ensures cause { IsErrOf result RunEnd.Failed → Rose (K.faults out.old) (K.faults out.new) }

@@ -139,10 +139,12 @@ fn tell_bad<K: Sink>(alloc: Global, line: u32, kind: ScriptFault, out: &mut K) -
 
 // Writes what is left to be written of a run.
 fn finish<K: Sink>(alloc: Global, report: Report, ran: &Ran, out: &mut K) -> Status
-    ensures ends { (run : Script) → (outside : Outside) → (start : Option (List ℕ)) → RanAs report run outside ran.now.history.items ran.now.end start (K.written out.old)
+    ensures ends { (run : Script) → (outside : Outside) → (start : Option (List ℕ))
+        → RanAs report run outside ran.now.history.items ran.now.end start (K.written out.old)
         → EndsAs report run outside ran.now.history.items start (K.written out.new) result }
     ensures memory { ran.now.end ≡ RunEnd.NoMemory → result ≡ Status.NoMemory }
-    ensures cause { result ≡ Status.OutputFault → (ran.now.end ≡ RunEnd.Failed) ⊎ Rose (K.faults out.old) (K.faults out.new) }
+    ensures cause { result ≡ Status.OutputFault
+        → (ran.now.end ≡ RunEnd.Failed) ⊎ Rose (K.faults out.old) (K.faults out.new) }
     ensures later { K.faults out.old ≤ K.faults out.new }
 {
     match ran.end {
@@ -209,7 +211,8 @@ fn run<S: Source, K: Sink, F: Backing, P: Backing>(
     ensures done { result.status ≡ Status.Done → IsDone (S.left source.old) (outside_of (P.area paging.old.inner)) report result.script result.history.items (K.written out.old) (K.written out.new) }
     ensures bad { (line : ℕ) → (kind : ScriptFault) → result.status ≡ Status.BadScript line kind → IsBad (S.left source.old) line kind result.script result.history.items (K.written out.old) (K.written out.new) }
     ensures usage { ¬ (result.status ≡ Status.Usage) }
-    ensures read { result.status ≡ Status.ReadFault → NothingDone result.script result.history.items (K.written out.old) (K.written out.new) }
+    ensures read { result.status ≡ Status.ReadFault
+        → NothingDone result.script result.history.items (K.written out.old) (K.written out.new) }
     ensures output { result.status ≡ Status.OutputFault → IsOutputFault (S.left source.old) (outside_of (P.area paging.old.inner)) report result.script result.history.items (K.written out.old) (K.written out.new) }
     ensures memory { result.status ≡ Status.NoMemory → IsNoMemory (S.left source.old) (outside_of (P.area paging.old.inner)) report result.script result.history.items (K.written out.old) (K.written out.new) }
     ensures full { result.status ≡ Status.EventLimit → IsEventLimit (S.left source.old) (outside_of (P.area paging.old.inner)) report result.script result.history.items (K.written out.old) (K.written out.new) }
@@ -280,18 +283,25 @@ pub fn pagers_main<S: Source, K: Sink, F: Backing, P: Backing>(
         → (report : Report) × (asked_by words.now ≡ Some (jobs.Run report)) × IsBad (S.left script.old) line kind result.script result.history.items (K.written out.old) (K.written out.new) }
 
     // The words are no command, and then nothing else can come of them but a fault of the sink or want of memory.
-    ensures usage { result.status ≡ Status.Usage → (asked_by words.now ≡ None) × NothingRun result.script result.history.items × Appends (K.written out.old) (K.written out.new) usage_text }
-    ensures no_command { asked_by words.now ≡ None → NothingRun result.script result.history.items × Tells Status.Usage usage_text (K.written out.old) (K.written out.new) result.status }
+    ensures usage { result.status ≡ Status.Usage
+        → (asked_by words.now ≡ None) × NothingRun result.script result.history.items
+        × Appends (K.written out.old) (K.written out.new) usage_text }
+    ensures no_command { asked_by words.now ≡ None
+        → NothingRun result.script result.history.items
+        × Tells Status.Usage usage_text (K.written out.old) (K.written out.new) result.status }
 
     // A script was to be made, which isn't built.
     ensures generate { (number : ℕ) → (lines : ℕ) → asked_by words.now ≡ Some (jobs.Generate number lines)
-        → NothingRun result.script result.history.items × Tells (Status.NotBuilt 0) (not_built_text 0) (K.written out.old) (K.written out.new) result.status }
+        → NothingRun result.script result.history.items
+        × Tells (Status.NotBuilt 0) (not_built_text 0) (K.written out.old) (K.written out.new) result.status }
 
     // The source failed, or the sink.
     ensures read { result.status ≡ Status.ReadFault
-        → (report : Report) × (asked_by words.now ≡ Some (jobs.Run report)) × NothingDone result.script result.history.items (K.written out.old) (K.written out.new) }
+        → (report : Report) × (asked_by words.now ≡ Some (jobs.Run report))
+        × NothingDone result.script result.history.items (K.written out.old) (K.written out.new) }
     ensures read_cause { result.status ≡ Status.ReadFault → Rose (S.faults script.old) (S.faults script.new) }
-    ensures output { result.status ≡ Status.OutputFault → (report : Report) → asked_by words.now ≡ Some (jobs.Run report)
+    ensures output { result.status ≡ Status.OutputFault → (report : Report)
+        → asked_by words.now ≡ Some (jobs.Run report)
         → IsOutputFault (S.left script.old) (outside_of (P.area paging.old.inner)) report result.script result.history.items (K.written out.old) (K.written out.new) }
     ensures output_cause { result.status ≡ Status.OutputFault → Rose (K.faults out.old) (K.faults out.new) }
 
@@ -305,7 +315,8 @@ pub fn pagers_main<S: Source, K: Sink, F: Backing, P: Backing>(
     ensures limit { IsBelowLimit result.history.items }
 
     // The script isn't built from exactly this line on.
-    ensures not_built { (line : ℕ) → result.status ≡ Status.NotBuilt line → (report : Report) → asked_by words.now ≡ Some (jobs.Run report)
+    ensures not_built { (line : ℕ) → result.status ≡ Status.NotBuilt line → (report : Report)
+        → asked_by words.now ≡ Some (jobs.Run report)
         → IsNotBuilt (S.left script.old) (outside_of (P.area paging.old.inner)) line result.script result.history.items (K.written out.old) (K.written out.new) }
 
     // Words that ask for no run leave the source as it was; a run reads it to its end, or beyond what a script may have.

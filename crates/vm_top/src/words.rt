@@ -53,7 +53,8 @@ fn word_alone(word: &[u8]) -> Option<Job>
 }
 
 fn generate(number: &[u8], lines: &[u8]) -> Option<Job>
-    ensures { result ≡ generate_of (short 20 number.now (number_of number.now)) (short 5 lines.now (number_in 1 10000 lines.now)) }
+    ensures { result
+        ≡ generate_of (short 20 number.now (number_of number.now)) (short 5 lines.now (number_in 1 10000 lines.now)) }
 {
     if number.len() > 20 || lines.len() > 5 {
         return None;

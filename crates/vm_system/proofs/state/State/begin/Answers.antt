@@ -1,51 +1,40 @@
-use Rattle.std.proofs.Common.{ap}
-use Rattle.std.proofs.lemmas.Result.{on_ok_weaker}
-use Rattle.vm_system.specs.Steps.{devices}
-use Rattle.vm_system.proofs.Beginning.{can_tell, devices_told, kept_told, longer_told, on_both, on_either, stands_told, tells_grown}
-use Rattle.vm_system.proofs.Following.{kept_same}
-use Rattle.vm_system.proofs.Growth.{front_begun, grew_begun, grew_none}
+use Rattle.std.proofs.Common.{[], sym, subst}
+use Rattle.vm_kernel.specs.Begun.{Began, Given, Starts}
+use Rattle.vm_system.proofs.Beginning.{can_tell, makes_told, on_both, on_either, spares_same, spares_told, tells_grown}
+use Rattle.vm_system.proofs.Acting.{starts_of}
 use Rattle.vm_system.proofs.Legal.{legal_began}
 use Rattle.vm_system.proofs.state.State.begin.Goals as goal
 
+pub begin-requires : goal.begin-requires
+begin-requires g c =
+    let s = c.args.self.now in
+    let starts = starts_of g.given.header g.given.outside c.args.command.now c.args.line s c.requires.1.0 c.requires.1.1.0 c.requires.1.1.1.0 c.requires.1.1.1.1.0 c.requires.1.1.1.1.1 in
+    (subst (λ (z : Given). Starts z.header z.host c.args.command.now z.past s.kernel s.ids []) (sym c.requires.0) starts, c.requires.1.1.1.0)
+
 pub append-requires-clause-can : goal.append-requires-clause-can
-append-requires-clause-can g c = can_tell g.given.header g.given.outside c.args.command.now c.args.line c.in_ok-events.events.items c.args.self.now c.requires.0 (tells_grown _ _ _ _ _ c.in_ok-events.ensures.grows)
+append-requires-clause-can g c =
+    let given = g.given in
+    let began = subst (λ (z : Given). Began z.header z.host z.outside c.args.command.now z.past c.begin.new.self c.begin.new.ids c.in_ok-events.events.items) c.requires.0 c.in_ok-events.ensures.began in
+    can_tell given.header given.outside c.args.command.now c.args.line c.in_ok-events.events.items c.args.self.now c.requires.1.0 (tells_grown _ _ _ _ _ began.grows)
 
-pub returns-clause-stands : goal.returns-clause-stands
-returns-clause-stands g c =
-    let began = c.in_ok-events.ensures in
-    on_both c.append.result (λ posts grown. stands_told g.given.header g.given.outside c.args.command.now c.args.line c.in_ok-events.events.items c.begin_on.new.kernel c.begin_on.new.ids c.args.self.now c.append.new.self
-    c.requires.0 (tells_grown _ _ _ _ _ began.grows) began.rests began.queue c.append.ensures.host posts grown) c.append.ensures.posts c.append.ensures.history
+pub returns-clause-made : goal.returns-clause-made
+returns-clause-made g c =
+    let given = g.given in
+    let s = c.args.self.now in
+    let k = c.begin.new.self in
+    let ids = c.begin.new.ids in
+    let events = c.in_ok-events.events.items in
+    let stands = c.requires.1.0 in
+    let began = subst (λ (z : Given). Began z.header z.host z.outside c.args.command.now z.past k ids events) c.requires.0 c.in_ok-events.ensures.began in
+    let legal = legal_began given.header given.outside (record { line = c.args.line; command = c.args.command.now }) s.history.items events k ids stands.plain c.requires.1.1.1.1.1 began in
+    on_both c.append.result (λ posts grown. makes_told given.header given.outside (record { line = c.args.line; command = c.args.command.now }) events k ids s c.append.new.self stands
+    (tells_grown _ _ _ _ _ began.grows) began.rests began.queue legal c.append.ensures.host posts grown) c.append.ensures.posts c.append.ensures.history
 
-pub returns-clause-legal : goal.returns-clause-legal
-returns-clause-legal g c =
-    let stands = c.requires.0 in
-    on_both c.append.result (λ posts grown. rw grown (legal_began g.given.header g.given.outside (record { line = c.args.line; command = c.args.command.now }) c.args.self.now.history.items c.in_ok-events.events.items
-    c.begin_on.new.kernel c.begin_on.new.ids stands.plain stands.agrees.copies c.requires.1.1.1.1 c.in_ok-events.ensures)) c.append.ensures.posts c.append.ensures.history
-
-pub returns-clause-kept : goal.returns-clause-kept
-returns-clause-kept g c = λ areas kept.
+pub returns-clause-spares : goal.returns-clause-spares
+returns-clause-spares g c =
+    let given = g.given in
+    let s = c.args.self.now in
+    let began = subst (λ (z : Given). Began z.header z.host z.outside c.args.command.now z.past c.begin.new.self c.begin.new.ids c.in_ok-events.events.items) c.requires.0 c.in_ok-events.ensures.began in
     on_either c.append.result
-    (λ grown. kept_told g.given.header g.given.outside c.args.command.now areas c.args.line c.in_ok-events.events.items c.args.self.now c.append.new.self c.requires.0 (tells_grown _ _ _ _ _ c.in_ok-events.ensures.grows) grown c.append.ensures.host.pager kept)
-    (λ same. kept_same g.given.header g.given.outside areas c.args.self.now c.append.new.self c.append.ensures.host.pager same kept)
-    c.append.ensures.history c.append.ensures.err
-
-pub returns-clause-longer : goal.returns-clause-longer
-returns-clause-longer g c = on_ok_weaker c.append.result (λ grown. longer_told c.args.line c.in_ok-events.events.items _ _ grown) c.append.ensures.history
-
-pub returns-clause-devices : goal.returns-clause-devices
-returns-clause-devices g c =
-    on_either c.append.result
-    (λ grown. devices_told g.given.header g.given.outside c.args.command.now c.args.line c.in_ok-events.events.items c.args.self.now.history.items _ (tells_grown _ _ _ _ _ c.in_ok-events.ensures.grows) grown)
-    (λ same. ap devices same)
-    c.append.ensures.history c.append.ensures.err
-
-pub returns-clause-grew : goal.returns-clause-grew
-returns-clause-grew g c =
-    on_either c.append.result
-    (λ grown. grew_begun c.args.line c.in_ok-events.events.items c.args.self.now.history.items c.append.new.self.history.items grown (tells_grown _ _ _ _ _ c.in_ok-events.ensures.grows).inner)
-    (λ same. grew_none _ _ same)
-    c.append.ensures.history c.append.ensures.err
-
-pub returns-clause-front : goal.returns-clause-front
-returns-clause-front g c =
-    on_ok_weaker c.append.result (λ grown. front_begun c.args.line c.in_ok-events.events.items c.args.self.now.history.items c.append.new.self.history.items grown (tells_grown _ _ _ _ _ c.in_ok-events.ensures.grows).inner) c.append.ensures.history
+    (λ grown. spares_told given.header given.outside c.args.command.now c.args.line c.in_ok-events.events.items s c.append.new.self (tells_grown _ _ _ _ _ began.grows) grown c.append.ensures.host.pager)
+    (λ same. spares_same given.header given.outside s c.append.new.self c.append.ensures.host.pager same) c.append.ensures.history c.append.ensures.err

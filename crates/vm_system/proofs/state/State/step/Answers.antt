@@ -3,14 +3,18 @@ use Rattle.vm_model.specs.declared.command.Command.{Command}
 use Rattle.vm_system.specs.Steps.{MayCut}
 use Rattle.std.proofs.lemmas.Result.{on_err_weaker, on_ok_weaker}
 use Rattle.vm_outside.specs.Arming.{armed_later_same}
-use Rattle.vm_system.proofs.Beginning.{causes_same, files_same, paging_same, paging_taken}
+use Rattle.vm_system.proofs.Beginning.{causes_same, files_same, on_either, paging_same, paging_taken}
+use Rattle.vm_system.proofs.Growth.{grew_none}
 use Rattle.vm_system.proofs.state.State.step.Goals as goal
 
 pub returns-in-Some-clause-devices : goal.returns-in-Some-clause-devices
-returns-in-Some-clause-devices g c = causes_same _ _ _ c.refuse.ensures.devices
+returns-in-Some-clause-devices g c = causes_same _ _ _ c.refuse.ensures.spares.devices
+
+pub returns-in-Some-clause-grew : goal.returns-in-Some-clause-grew
+returns-in-Some-clause-grew g c = on_either c.refuse.result (λ made. made.grew) (λ same. grew_none _ _ same) c.refuse.ensures.made c.refuse.ensures.err
 
 pub returns-in-Take-clause-paging : goal.returns-in-Take-clause-paging
-returns-in-Take-clause-paging g c = on_ok_weaker c.take_from.result (λ stands. paging_taken c.args.command.now c.in-Take.channel _ _ c.in-Take.is c.take_from.ensures.paging) c.take_from.ensures.stands
+returns-in-Take-clause-paging g c = on_ok_weaker c.take_from.result (λ made. paging_taken c.args.command.now c.in-Take.channel _ _ c.in-Take.is c.take_from.ensures.paging) c.take_from.ensures.made
 
 pub returns-in-Take-clause-memory : goal.returns-in-Take-clause-memory
 returns-in-Take-clause-memory g c =
@@ -20,20 +24,17 @@ returns-in-Take-clause-memory g c =
 
 pub returns-in_default-command : goal.returns-in_default-command
 returns-in_default-command g c = record {
-  stands = c.begin.ensures.stands;
-  legal = c.begin.ensures.legal;
-  longer = c.begin.ensures.longer;
-  grew = c.begin.ensures.grew;
-  front = c.begin.ensures.front;
+  made = c.begin.ensures.made;
+  grew = on_either c.begin.result (λ made. made.grew) (λ same. grew_none _ _ same) c.begin.ensures.made c.begin.ensures.err;
   memory = on_err_weaker c.begin.result (λ same. inl same) c.begin.ensures.err;
-  kept = c.begin.ensures.kept (g.P.Backing.area c.args.paging.now.inner) c.requires.1.1.1.0;
-  files = on_ok_weaker c.begin.result (λ stands. files_same c.args.command.now c.args.files.now c.in_default-command.not-FailFiles) c.begin.ensures.stands;
-  paging = on_ok_weaker c.begin.result (λ stands. paging_same c.args.command.now c.args.paging.now c.in_default-command.not-FailPaging) c.begin.ensures.stands;
-  unasked = on_ok_weaker c.begin.result (λ stands unarmed none. refl) c.begin.ensures.stands;
+  kept = c.begin.ensures.spares.kept (g.P.Backing.area c.args.paging.now.inner) c.requires.1.1.1.0;
+  files = on_ok_weaker c.begin.result (λ made. files_same c.args.command.now c.args.files.now c.in_default-command.not-FailFiles) c.begin.ensures.made;
+  paging = on_ok_weaker c.begin.result (λ made. paging_same c.args.command.now c.args.paging.now c.in_default-command.not-FailPaging) c.begin.ensures.made;
+  unasked = on_ok_weaker c.begin.result (λ made unarmed none. refl) c.begin.ensures.made;
   later = λ unarmed. (g.met.P.Backing.later_same c.args.paging.now.inner, armed_later_same c.args.paging.now.left c.args.paging.now.reached);
-  alone = on_ok_weaker c.begin.result (λ stands count is. absurd (c.in_default-command.not-Settle count is)) c.begin.ensures.stands;
+  alone = on_ok_weaker c.begin.result (λ made count is. absurd (c.in_default-command.not-Settle count is)) c.begin.ensures.made;
   unarmed = on_err_weaker c.begin.result (λ same. refl) c.begin.ensures.err;
   calm = on_err_weaker c.begin.result (λ same up. (same, refl)) c.begin.ensures.err;
   stops = on_err_weaker c.begin.result (λ same. inl (same, refl)) c.begin.ensures.err;
-  devices = causes_same _ _ _ c.begin.ensures.devices;
+  devices = causes_same _ _ _ c.begin.ensures.spares.devices;
 }

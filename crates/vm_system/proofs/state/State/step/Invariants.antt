@@ -1,4 +1,6 @@
+use Rattle.std.proofs.Common.{[], ◌∷◌}
 use Rattle.vm_model.specs.declared.command.Command.TheVariants as command
+use Rattle.vm_model.specs.declared.event.Event.TheVariants as event
 use Rattle.vm_system.proofs.state.State.step.Given as goal
 
 abbrev pub ghost-refusal : goal.ghost-refusal
@@ -14,7 +16,7 @@ abbrev pub ghost-settle : goal.ghost-settle
 ghost-settle g a = g.given
 
 abbrev pub ghost-pass : goal.ghost-pass
-ghost-pass g a = g.given
+ghost-pass g a = record { header = g.given.header; host = 0; outside = g.given.outside; past = a.self.now.history.items; front = event.Line a.line ∷ []; command = a.command.now }
 
 abbrev pub ghost-begin : goal.ghost-begin
-ghost-begin g a = g.given
+ghost-begin g a = record { header = g.given.header; host = 0; outside = g.given.outside; past = event.Line a.line ∷ a.self.now.history.items }

@@ -6,7 +6,7 @@ use Rattle.vm_model.specs.declared.message.Channel.{Channel}
 use Rattle.vm_model.specs.declared.message.Channel.TheVariants.{Down}
 use Rattle.vm_model.specs.Channels.{queue}
 use Rattle.vm_kernel.specs.Begun.{Passed}
-use Rattle.vm_kernel.specs.Matches.{the_host}
+use Rattle.vm_system.specs.Hosts.{the_host}
 use Rattle.vm_system.specs.Posts.{HasRoom}
 use Rattle.vm_system.proofs.Taken.{first_told, front_of, may_head, may_only, may_port, may_some, may_there}
 use Rattle.vm_system.proofs.TakenDown.{can_down, devices_down, down_letter, down_may, kept_down, took_down}
@@ -27,7 +27,7 @@ take-requires g c =
     let head = may_head g.given c.args.line c.args.number channel c.in-Some.message.now s may c.in-Some.ensures in
     let front = front_of g.given c.args.line c.args.number channel s may in
     let letter = down_letter g.given c.args.line c.args.number host c.args.object c.args.control c.in-Some.message.now s may head in
-    (front.rests, (front.queue, (refl, letter.1)))
+    (front.rests, (refl, letter.1))
 
 pub take_first-requires-clause-there : goal.take_first-requires-clause-there
 take_first-requires-clause-there g c = rw c.reserve.ensures.made (may_there g.given c.args.line c.args.number (Down c.requires.0 c.args.object c.args.control) c.args.self.now c.requires.1)
@@ -66,18 +66,19 @@ returns-clause-took g c =
     let channel = Down c.requires.0 c.args.object c.args.control in
     let head = may_head given c.args.line c.args.number channel m s c.requires.1 c.in-Some.ensures in
     let own = down_may given c.args.line c.args.number c.requires.0 c.args.object c.args.control m s c.requires.1 head in
+    let front = front_of given c.args.line c.args.number channel s c.requires.1 in
     let told = first_told given c.args.line c.args.number (Down the_host c.args.object c.args.control) m s c.reserve.new.self c.take_first.new.self own.0 own.1 c.reserve.ensures.history c.reserve.ensures.made c.take_first.ensures.history in
     let one = c.reserve.ensures.host in
     let two = c.take_first.ensures.host in
     let three = c.commit.ensures.host in
     let events = c.in_ok-events.events.items in
-    let passed : Passed given.header given.outside given.command (event.Taken (Down the_host c.args.object c.args.control) m ∷ given.past) new.kernel new.ids events =
+    let passed : Passed given.header 0 given.outside given.command (event.Taken (Down the_host c.args.object c.args.control) m ∷ given.past) new.kernel new.ids events =
     rw (three.kernel ∙ two.kernel ∙ one.kernel, three.ids ∙ two.ids ∙ one.ids) c.in_ok-events.ensures.passed in
-    took_down given c.args.line c.args.number c.args.object c.args.control m s new events own.0 own.1 passed c.in_ok-events.ensures.failed c.in_ok-events.ensures.ended (three.size ∙ two.size ∙ one.size) (three.pager ∙ two.pager ∙ one.pager)
+    took_down given c.args.line c.args.number c.args.object c.args.control m s new events own.0 own.1 passed c.in_ok-events.ensures.failed (c.in_ok-events.ensures.ended front.queue) (three.size ∙ two.size ∙ one.size) (three.pager ∙ two.pager ∙ one.pager)
     (c.commit.ensures.history ∙ ap (λ (z : List Event). events ++ z) told) c.commit.ensures.posts
 
-pub returns-clause-kept : goal.returns-clause-kept
-returns-clause-kept g c =
+pub returns-clause-spares : goal.returns-clause-spares
+returns-clause-spares g c =
     let given = g.given in
     let s = c.args.self.now in
     let m = c.in-Some.message.now in
@@ -86,17 +87,9 @@ returns-clause-kept g c =
     let own = down_may given c.args.line c.args.number c.requires.0 c.args.object c.args.control m s c.requires.1 head in
     let told = first_told given c.args.line c.args.number (Down the_host c.args.object c.args.control) m s c.reserve.new.self c.take_first.new.self own.0 own.1 c.reserve.ensures.history c.reserve.ensures.made c.take_first.ensures.history in
     let events = c.in_ok-events.events.items in
-    λ areas kept. kept_down given c.args.line c.args.number c.args.object c.args.control m s c.commit.new.self events c.take.new.self c.take.new.ids areas own.0 c.in_ok-events.ensures.passed
-    (c.commit.ensures.host.pager ∙ c.take_first.ensures.host.pager ∙ c.reserve.ensures.host.pager) (c.commit.ensures.history ∙ ap (λ (z : List Event). events ++ z) told) kept
-
-pub returns-clause-devices : goal.returns-clause-devices
-returns-clause-devices g c =
-    let given = g.given in
-    let s = c.args.self.now in
-    let m = c.in-Some.message.now in
-    let channel = Down c.requires.0 c.args.object c.args.control in
-    let head = may_head given c.args.line c.args.number channel m s c.requires.1 c.in-Some.ensures in
-    let own = down_may given c.args.line c.args.number c.requires.0 c.args.object c.args.control m s c.requires.1 head in
-    let told = first_told given c.args.line c.args.number (Down the_host c.args.object c.args.control) m s c.reserve.new.self c.take_first.new.self own.0 own.1 c.reserve.ensures.history c.reserve.ensures.made c.take_first.ensures.history in
-    let events = c.in_ok-events.events.items in
-    devices_down given c.args.line c.args.number c.args.object c.args.control m s c.commit.new.self events c.take.new.self c.take.new.ids own.0 c.in_ok-events.ensures.passed (c.commit.ensures.history ∙ ap (λ (z : List Event). events ++ z) told)
+    let grown = c.commit.ensures.history ∙ ap (λ (z : List Event). events ++ z) told in
+    record {
+      kept = λ areas kept. kept_down given c.args.line c.args.number c.args.object c.args.control m s c.commit.new.self events c.take.new.self c.take.new.ids areas own.0 c.in_ok-events.ensures.passed
+          (c.commit.ensures.host.pager ∙ c.take_first.ensures.host.pager ∙ c.reserve.ensures.host.pager) grown kept;
+      devices = devices_down given c.args.line c.args.number c.args.object c.args.control m s c.commit.new.self events c.take.new.self c.take.new.ids own.0 c.in_ok-events.ensures.passed grown;
+    }

@@ -5,25 +5,28 @@ use Rattle.vm_model.specs.declared.event.Event.{Event}
 use Rattle.vm_model.specs.declared.event.Event.TheVariants as event
 use Rattle.vm_system.specs.Steps.{Taking}
 use Rattle.vm_system.specs.Takings.{MayBeCut, Took}
-use Rattle.vm_system.proofs.Beginning.{longer_taken, on_either, on_errs}
+use Rattle.vm_system.proofs.Beginning.{on_either, on_errs}
 use Rattle.vm_system.proofs.Growth.{grew_cut, grew_taken, line_taken}
 use Rattle.vm_system.proofs.Numbers.{number_read}
 use Rattle.vm_system.proofs.TakenFrom.{cuts_taken, keeps_taken}
 use Rattle.vm_system.proofs.Untouched.{not_up_from, stops_from}
 use Rattle.vm_system.proofs.state.State.take_from.Goals as goal
 
-pub returns-clause-legal : goal.returns-clause-legal
-returns-clause-legal g c =
+pub returns-clause-made : goal.returns-clause-made
+returns-clause-made g c =
     let given = g.given in
-    let is = c.requires.1.0 in
-    let stands = c.requires.1.1.0 in
-    let fine = c.requires.1.1.1.1 in
     let old = c.args.self.now in
     let new = c.take.new.self in
     let past : List Event = event.Line c.args.line ∷ old.history.items in
     let taking : Command → Taking = λ z. record { header = given.header; outside = given.outside; command = z; past = past } in
     on_ok_weaker c.take.result
-    (λ took. keeps_taken given.header given.outside c.args.line c.args.channel old new stands fine (subst (λ (z : Command). Took (taking z) new) is took)) c.take.ensures.took
+    (λ took. record {
+      stands = took.stands;
+      legal = keeps_taken given.header given.outside c.args.line c.args.channel old new c.requires.1.1.0 c.requires.1.1.1.1 (subst (λ (z : Command). Took (taking z) new) c.requires.1.0 took);
+      grew = grew_taken _ (Some c.args.line) old.history.items _ took.step refl;
+      front = line_taken _ c.args.line old.history.items _ took.step refl;
+    })
+    c.take.ensures.took
 
 pub returns-clause-memory : goal.returns-clause-memory
 returns-clause-memory g c =
@@ -38,18 +41,12 @@ returns-clause-memory g c =
     on_err_weaker c.take.result
     (λ cut. cuts_taken given.header given.outside c.args.line c.args.channel old new.history.items stands fine (subst (λ (z : Command). MayBeCut (taking z) old.history.items new.history.items) is cut)) c.take.ensures.cut
 
-pub returns-clause-longer : goal.returns-clause-longer
-returns-clause-longer g c = on_ok_weaker c.take.result (λ took. longer_taken c.args.line took.step.channel took.step.m took.step.more c.args.self.now.history.items _ took.step.is) c.take.ensures.took
-
 pub returns-clause-grew : goal.returns-clause-grew
 returns-clause-grew g c =
     on_either c.take.result
     (λ took. grew_taken _ (Some c.args.line) c.args.self.now.history.items _ took.step refl)
     (λ cut. grew_cut _ (Some c.args.line) c.args.self.now.history.items _ cut refl)
     c.take.ensures.took c.take.ensures.cut
-
-pub returns-clause-front : goal.returns-clause-front
-returns-clause-front g c = on_ok_weaker c.take.result (λ took. line_taken _ c.args.line c.args.self.now.history.items _ took.step refl) c.take.ensures.took
 
 pub returns-clause-paging : goal.returns-clause-paging
 returns-clause-paging g c = λ down. c.take.ensures.paging c.args.channel (number_read c.args.channel c.args.self.now.channels.made c.in-Some.number.0 (sym c.in-Some.ensures)) down

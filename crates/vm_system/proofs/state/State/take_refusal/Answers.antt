@@ -1,5 +1,5 @@
 use Rattle.std.proofs.Common.{sym, arith}
-use Rattle.vm_system.proofs.Empty.{number_within}
+use Rattle.vm_system.proofs.Numbers.{number_within}
 use Rattle.vm_system.proofs.state.State.take_refusal.Goals as goal
 
 pub head-requires : goal.head-requires

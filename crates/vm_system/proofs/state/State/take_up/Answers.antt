@@ -6,7 +6,7 @@ use Rattle.vm_model.specs.declared.message.Channel.{Channel}
 use Rattle.vm_model.specs.declared.message.Channel.TheVariants.{Up}
 use Rattle.vm_model.specs.Channels.{queue}
 use Rattle.vm_kernel.specs.Begun.{Passing}
-use Rattle.vm_kernel.specs.Matches.{the_host}
+use Rattle.vm_system.specs.Hosts.{the_host}
 use Rattle.vm_system.specs.Steps.{devices}
 use Rattle.vm_system.specs.Takings.{Answered, Followed}
 use Rattle.vm_system.proofs.Following.{kept_same}
@@ -129,7 +129,7 @@ follow-requires g c =
     let n = c.len-fresh.result + 1 in
     let count : n ≡ length events + 1 = ap (λ (z : ℕ). z + 1) c.len-fresh.ensures in
     let front : take n now.history.items ≡ events ++ event.Taken channel m ∷ [] = front_is n events (event.Taken channel m) given.past now.history.items count items in
-    let done : Answered (record { header = given.header; outside = given.outside; past = given.past; front = take n now.history.items; command = given.command }) c.is_washed-washed.result now =
+    let done : Answered (record { header = given.header; host = 0; outside = given.outside; past = given.past; front = take n now.history.items; command = given.command }) c.is_washed-washed.result now =
     rw (front, c.is_washed-washed.ensures) (answered_up given c.args.object m t now slots events reply pager (said.kernel ∙ taken.kernel) (said.ids ∙ taken.ids) (said.size ∙ taken.size ∙ own.0.stands.agrees.size) items c.commit.ensures.posts) in
     (front_length n now.history.items events (event.Taken channel m) front count, done)
 
@@ -179,7 +179,7 @@ returns-clause-kept g c =
     let now = c.commit.new.self in
     let pager : now.pager ≡ slots = said.pager ∙ taken.pager in
     let items : now.history.items ≡ events ++ event.Taken channel m ∷ given.past = c.commit.ensures.history ∙ ap (λ (z : List Event). events ++ z) told in
-    c.follow.ensures.kept _ (kept_up given c.args.line c.args.number c.args.object m t now slots _ _ c.in_ok-answers.answers own.0 reply e.shape e.fits e.told had pager items)
+    c.follow.ensures.spares.kept _ (kept_up given c.args.line c.args.number c.args.object m t now slots _ _ c.in_ok-answers.answers own.0 reply e.shape e.fits e.told had pager items)
 
 pub returns-clause-devices : goal.returns-clause-devices
 returns-clause-devices g c =
@@ -202,7 +202,7 @@ returns-clause-devices g c =
     let now = c.commit.new.self in
     let pager : now.pager ≡ slots = said.pager ∙ taken.pager in
     let items : now.history.items ≡ events ++ event.Taken channel m ∷ given.past = c.commit.ensures.history ∙ ap (λ (z : List Event). events ++ z) told in
-    rw (sym r.history) (devices_up given c.args.line c.args.number c.args.object m t slots c.in_ok-answers.answers _ _ c.follow.new.self.history.items own.0 e.answered e.cause (c.follow.ensures.devices ∙ ap devices items))
+    rw (sym r.history) (devices_up given c.args.line c.args.number c.args.object m t slots c.in_ok-answers.answers _ _ c.follow.new.self.history.items own.0 e.answered e.cause (c.follow.ensures.spares.devices ∙ ap devices items))
 
 pub returns-clause-took : goal.returns-clause-took
 returns-clause-took g c =
@@ -229,7 +229,7 @@ returns-clause-took g c =
     let count : n ≡ length events + 1 = ap (λ (z : ℕ). z + 1) c.len-fresh.ensures in
     let front : take n now.history.items ≡ events ++ event.Taken channel m ∷ [] = front_is n events (event.Taken channel m) given.past now.history.items count items in
     let new = c.follow.new.self in
-    let passing : List Event → Passing = λ z. record { header = given.header; outside = given.outside; past = given.past; front = z; command = given.command } in
+    let passing : List Event → Passing = λ z. record { header = given.header; host = 0; outside = given.outside; past = given.past; front = z; command = given.command } in
     on_ok_weaker c.follow.result
     (λ followed. took_up given c.args.line c.args.number c.args.object m t new slots events own.0 reply (subst (λ (z : List Event). Followed (passing z) new) front followed)) c.follow.ensures.followed
 

@@ -1,6 +1,12 @@
 use Rattle.std.proofs.Common.{refl}
-use Rattle.vm_system.proofs.Starting.{new_kept, new_stands}
+use Rattle.vm_system.proofs.Starting.{host_below, new_kept, new_stands, plain_host}
 use Rattle.vm_system.proofs.system.System.new.Goals as goal
+
+pub new-requires-clause-plain : goal.new-requires-clause-plain
+new-requires-clause-plain c = plain_host c.args.header.now c.requires.plain
+
+pub new-requires-clause-host : goal.new-requires-clause-host
+new-requires-clause-host c = host_below c.args.header.now c.requires.plain
 
 pub returns-clause-stands : goal.returns-clause-stands
 returns-clause-stands c = λ outside. new_stands c.args.header.now outside _ c.requires.plain (record {
