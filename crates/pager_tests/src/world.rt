@@ -41,11 +41,13 @@ fn take(world: &mut World, steps: &[WorldStep]) -> Result<(), NoMemory>
     world.run(steps)
 }
 
-#[test]
-fn an_unlock_and_a_flush_cross(rt: HostRuntime) -> Result<(), NoMemory> {
-    let mut world = two_hosts(rt.alloc())?;
+// Each host has read the page.
+fn read_on_both(world: &mut World) -> Result<(), NoMemory>
+    requires { world.old.hosts ≡ 2 }
+    ensures { world.new.hosts ≡ world.old.hosts }
+{
     take(
-        &mut world,
+        world,
         &[
             WorldStep::Load { host: A },
             WorldStep::Load { host: B },
@@ -53,6 +55,17 @@ fn an_unlock_and_a_flush_cross(rt: HostRuntime) -> Result<(), NoMemory> {
             WorldStep::TakeUp { host: B },
             WorldStep::TakeDown { host: A },
             WorldStep::TakeDown { host: B },
+        ],
+    )
+}
+
+#[test]
+fn an_unlock_and_a_flush_cross(rt: HostRuntime) -> Result<(), NoMemory> {
+    let mut world = two_hosts(rt.alloc())?;
+    read_on_both(&mut world)?;
+    take(
+        &mut world,
+        &[
             WorldStep::Store { host: A, value: 5 },
             WorldStep::Store { host: B, value: 6 },
             WorldStep::TakeUp { host: A },
@@ -79,15 +92,10 @@ fn an_unlock_and_a_flush_cross(rt: HostRuntime) -> Result<(), NoMemory> {
 #[test]
 fn the_end_of_a_control_stands_for_its_answer(rt: HostRuntime) -> Result<(), NoMemory> {
     let mut world = two_hosts(rt.alloc())?;
+    read_on_both(&mut world)?;
     take(
         &mut world,
         &[
-            WorldStep::Load { host: A },
-            WorldStep::Load { host: B },
-            WorldStep::TakeUp { host: A },
-            WorldStep::TakeUp { host: B },
-            WorldStep::TakeDown { host: A },
-            WorldStep::TakeDown { host: B },
             WorldStep::Store { host: A, value: 8 },
             WorldStep::TakeUp { host: A },
             WorldStep::Leave { host: B },

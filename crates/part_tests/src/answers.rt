@@ -1,18 +1,15 @@
 // Answers on a host of two frames, one of them held for page 1 of an object, which is asked.
 ghost use Rattle.std.specs.Prelude.{◌≡◌, IfOk, OnOk};
-ghost use Rattle.vm_parts.specs.Fits.{Fit};
+ghost use Rattle.vm_parts.specs.Fits.{Fit, object_pages};
 ghost use Rattle.vm_supply.specs.Answers.{IsAnswer};
 
 use std::alloc::Global;
 use std::test::Fail;
-use vm_base::{
-    Buffers, HostId, Lock, NoMemory, ObjectId, ObjectKind, PageBytes, PageKey, PageNo, PageSize,
-};
-use vm_frames::Frames;
+use vm_base::{HostId, Lock, NoMemory, ObjectId, ObjectKind, PageBytes, PageKey, PageNo, PageSize};
 use vm_model::{Events, Message};
 use vm_objects::Objects;
-use vm_queues::PageQueues;
-use vm_resident::{PageRow, Resident};
+use vm_parts::HostParts;
+use vm_resident::PageRow;
 use vm_supply::{Woken, answer};
 
 const HOST: HostId = HostId(0);
@@ -24,50 +21,29 @@ const KEY: PageKey = PageKey {
     page: PageNo(1),
 };
 
-const UNLOCKED: Lock = Lock {
-    read: false,
-    write: false,
-};
-
-#[derive(Drop)]
-struct Host {
-    frames: Frames,
-    resident: Resident,
-    queues: PageQueues,
-    objects: Objects,
-    buffers: Buffers,
+// The object has two pages, and its pager was told of control 1.
+fn object_of(alloc: Global, kind: ObjectKind) -> Result<Objects, Fail>
+    ensures { IfOk result (λ objects. object_pages objects 3 ≡ 2) }
+{
+    let mut objects = Objects::new(alloc);
+    objects.make(OBJECT, kind, 2)?;
+    let _ = objects.begin_control(OBJECT);
+    Ok(objects)
 }
 
-// The object has two pages, and its pager was told of control 1.
-fn host_of(alloc: Global, kind: ObjectKind) -> Result<Host, Fail>
-    ensures fit { IfOk result (λ host. Fit host.buffers.size host.frames host.resident host.queues host.objects) }
+fn host_of(alloc: Global, kind: ObjectKind) -> Result<HostParts, Fail>
+    ensures fit { IfOk result (λ host. Fit host) }
     ensures size { IfOk result (λ host. host.buffers.size ≡ 16) }
 {
     let size = PageSize::of(16).ok_or("16 is a page size")?;
-    let mut frames = Frames::new(alloc, 2, size)?;
-    let mut resident = Resident::new(alloc);
-    let queues = PageQueues::new(alloc, 2)?;
-    let mut objects = Objects::new(alloc);
-    resident.reserve(1)?;
-    objects.make(OBJECT, kind, 2)?;
-    let _ = objects.begin_control(OBJECT);
-    let frame = frames.claim().ok_or("no frame is claimed yet")?;
-    let row = PageRow {
-        frame,
-        lock: UNLOCKED,
-        dirty: false,
-        precious: false,
-        here: false,
-        unlock_sent: false,
-    };
-    resident.insert(KEY, row);
-    Ok(Host {
-        frames,
-        resident,
-        queues,
-        objects,
-        buffers: Buffers::new(alloc, size),
-    })
+    let mut host = HostParts::new(alloc, 2, size)?;
+    host.objects = object_of(alloc, kind)?;
+    host.reserve(1)?;
+    if host.frames.free() == 0 {
+        return Err("no frame is claimed yet".into());
+    }
+    host.ask(KEY);
+    Ok(host)
 }
 
 #[derive(Clone, Copy, Debug)]
@@ -115,31 +91,19 @@ struct Seen {
 
 fn tell(
     alloc: Global,
-    host: &mut Host,
+    host: &mut HostParts,
     control: u32,
     said: Said,
     page: PageNo,
 ) -> Result<Seen, Fail>
-    requires fit { Fit host.old.buffers.size host.old.frames host.old.resident host.old.queues host.old.objects }
+    requires fit { Fit host.old }
     requires size { host.old.buffers.size ≡ 16 }
-    ensures fit { OnOk result (Fit host.new.buffers.size host.new.frames host.new.resident host.new.queues host.new.objects) }
+    ensures fit { OnOk result (Fit host.new) }
     ensures size { OnOk result (host.new.buffers.size ≡ 16) }
 {
     let message = message_of(alloc, said, page)?;
     let mut log = Events::new(alloc);
-    let woken = answer(
-        alloc,
-        HOST,
-        OBJECT,
-        control,
-        &message,
-        &mut host.frames,
-        &mut host.resident,
-        &mut host.queues,
-        &mut host.objects,
-        &mut host.buffers,
-        &mut log,
-    )?;
+    let woken = answer(HOST, OBJECT, control, &message, host, &mut log)?;
     let absent = host.objects.find(OBJECT).is_some() && host.objects.known_absent(KEY);
     Ok(Seen {
         woken,
@@ -150,67 +114,61 @@ fn tell(
     })
 }
 
+// Page 1 is asked, and nothing came of the answer.
+const ASKED: Seen = Seen {
+    woken: Woken::Nobody,
+    events: 0,
+    here: Some(false),
+    free: 1,
+    absent: false,
+};
+
+const READY: Seen = Seen {
+    woken: Woken::ReadyOf { object: OBJECT },
+    ..ASKED
+};
+
+const SUPPLIED: Seen = Seen {
+    woken: Woken::Page { key: KEY },
+    here: Some(true),
+    ..ASKED
+};
+
+const ZEROED: Seen = Seen {
+    events: 1,
+    ..SUPPLIED
+};
+
+const ABSENT: Seen = Seen {
+    woken: Woken::Page { key: KEY },
+    here: None,
+    free: 2,
+    absent: true,
+    ..ASKED
+};
+
+const FAILED: Seen = Seen {
+    woken: Woken::Fails { key: KEY },
+    absent: false,
+    ..ABSENT
+};
+
 #[test]
 fn each_answer(rt: HostRuntime) -> Result<(), Fail> {
     use ObjectKind::{File, Temp};
 
-    let asked = Seen {
-        woken: Woken::Nobody,
-        events: 0,
-        here: Some(false),
-        free: 1,
-        absent: false,
-    };
-    let here = Seen {
-        woken: Woken::Page { key: KEY },
-        here: Some(true),
-        ..asked
-    };
-    let gone = Seen {
-        here: None,
-        free: 2,
-        ..asked
-    };
     let cases = [
-        (
-            Temp,
-            1,
-            Said::Ready,
-            1,
-            Seen {
-                woken: Woken::ReadyOf { object: OBJECT },
-                ..asked
-            },
-        ),
-        (Temp, 2, Said::Ready, 1, asked),
-        (File, 1, Said::Supply, 1, here),
-        (File, 2, Said::Supply, 1, asked),
-        (File, 1, Said::Supply, 0, asked),
-        (File, 1, Said::Supply, 7, asked),
-        (File, 1, Said::Unavailable, 1, Seen { events: 1, ..here }),
-        (
-            Temp,
-            1,
-            Said::Unavailable,
-            1,
-            Seen {
-                woken: Woken::Page { key: KEY },
-                absent: true,
-                ..gone
-            },
-        ),
-        (Temp, 1, Said::Unavailable, 0, asked),
-        (
-            File,
-            1,
-            Said::Error,
-            1,
-            Seen {
-                woken: Woken::Fails { key: KEY },
-                ..gone
-            },
-        ),
-        (File, 0, Said::Error, 1, asked),
+        (Temp, 1, Said::Ready, 1, READY),
+        (Temp, 2, Said::Ready, 1, ASKED),
+        (File, 1, Said::Supply, 1, SUPPLIED),
+        (File, 2, Said::Supply, 1, ASKED),
+        (File, 1, Said::Supply, 0, ASKED),
+        (File, 1, Said::Supply, 7, ASKED),
+        (File, 1, Said::Unavailable, 1, ZEROED),
+        (Temp, 1, Said::Unavailable, 1, ABSENT),
+        (Temp, 1, Said::Unavailable, 0, ASKED),
+        (File, 1, Said::Error, 1, FAILED),
+        (File, 0, Said::Error, 1, ASKED),
     ];
     'cases: for (kind, control, said, page, want) in cases {
         let mut host = host_of(rt.alloc(), kind)?;

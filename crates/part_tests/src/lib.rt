@@ -9,6 +9,8 @@ mod chains;
 #[cfg(test)]
 mod frames;
 #[cfg(test)]
+mod holding;
+#[cfg(test)]
 mod maps;
 #[cfg(test)]
 mod messages;

@@ -1,6 +1,7 @@
 // Each call once, and what is known after it.
 ghost use Rattle.std.specs.Prelude.{◌≡◌, ◌+◌, ◌<◌, ◌≤◌, [], ◌∷◌, ◌++◌, vec_capacity, vec_len};
 
+use crate::holding::hold_two;
 use std::test::Fail;
 use vm_base::{FrameNo, ObjectId, ObjectKind, PageKey, PageNo};
 use vm_objects::{Holder, ObjectRow, Objects, PagerState};
@@ -72,14 +73,6 @@ fn marks(rt: HostRuntime) -> Result<(), Fail> {
     objects.clear_absent(last);
     assert!(rt; !objects.known_absent(last));
     Ok(())
-}
-
-fn hold_two<H: Holder>(holder: &mut H, first: FrameNo, second: FrameNo)
-    requires { 1 < H.room holder.old }
-    ensures { H.held holder.new ≡ H.held holder.old ++ first ∷ [] ++ second ∷ [] }
-{
-    holder.hold(first);
-    holder.hold(second);
 }
 
 #[test]

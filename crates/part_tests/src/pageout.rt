@@ -3,17 +3,14 @@ ghost use Rattle.std.specs.Prelude.{◌≡◌, ◌<◌, [], ◌∷◌, ◌++◌,
 ghost use Rattle.vm_parts.specs.Controls.{AllLive, HasNumbers};
 ghost use Rattle.vm_parts.specs.Fits.{Fit, object_pages};
 
+use crate::holding::hold_two;
 use std::alloc::Global;
 use std::test::Fail;
-use vm_base::{
-    Buffers, FrameNo, HostId, Lock, NoMemory, ObjectId, ObjectKind, PageKey, PageNo, PageSize,
-};
-use vm_frames::Frames;
+use vm_base::{FrameNo, HostId, Lock, NoMemory, ObjectId, ObjectKind, PageKey, PageNo, PageSize};
 use vm_model::{Channel, Event, Events, Message};
 use vm_objects::{Holder, Objects};
 use vm_pageout::{Laundry, Reclaim, reclaim};
-use vm_queues::PageQueues;
-use vm_resident::{PageRow, Resident};
+use vm_parts::HostParts;
 
 const HOST: HostId = HostId(1);
 
@@ -25,11 +22,7 @@ const KEY: PageKey = PageKey {
 // A host of two frames, with one page of an object.
 #[derive(Drop)]
 struct Host {
-    frames: Frames,
-    resident: Resident,
-    queues: PageQueues,
-    objects: Objects,
-    buffers: Buffers,
+    parts: HostParts,
     laundry: Laundry,
     log: Events,
 }
@@ -57,45 +50,29 @@ fn host_with(
     told: bool,
 ) -> Result<Host, NoMemory>
     requires { size ≡ 16 }
-    ensures fit { IfOk result (λ host. Fit host.buffers.size host.frames host.resident host.queues host.objects) }
-    ensures live { IfOk result (λ host. AllLive host.objects) }
-    ensures numbers { IfOk result (λ host. HasNumbers host.objects) }
+    ensures fit { IfOk result (λ host. Fit host.parts) }
+    ensures live { IfOk result (λ host. AllLive host.parts.objects) }
+    ensures numbers { IfOk result (λ host. HasNumbers host.parts.objects) }
     ensures room { IfOk result (λ host. host.laundry.room ≡ 2) }
 {
-    let mut frames = Frames::new(alloc, 2, size)?;
-    let mut resident = Resident::new(alloc);
-    let mut queues = PageQueues::new(alloc, 2)?;
-    let objects = objects(alloc, told)?;
-    let buffers = Buffers::new(alloc, size);
-    let laundry = Laundry::new(alloc, 2)?;
-    resident.reserve(1)?;
-    let Some(frame) = frames.claim() else {
-        return Err(NoMemory);
-    };
-    frames.bytes_mut(frame).put(0, 1, 7);
     let lock = Lock {
         read: false,
         write: false,
     };
-    resident.insert(
-        KEY,
-        PageRow {
-            frame,
-            lock,
-            dirty,
-            precious,
-            here: true,
-            unlock_sent: false,
-        },
-    );
-    queues.add(frame);
+    let mut parts = HostParts::new(alloc, 2, size)?;
+    parts.objects = objects(alloc, told)?;
+    parts.reserve(1)?;
+    if parts.frames.free() == 0 {
+        return Err(NoMemory);
+    }
+    parts.ask(KEY);
+    parts.fill(KEY, lock, precious, &[7]);
+    if dirty {
+        parts.write(KEY, 0, 1, 7);
+    }
     Ok(Host {
-        frames,
-        resident,
-        queues,
-        objects,
-        buffers,
-        laundry,
+        parts,
+        laundry: Laundry::new(alloc, 2)?,
         log: Events::new(alloc),
     })
 }
@@ -148,13 +125,8 @@ fn all_skipped(rt: HostRuntime) -> Result<(), Fail> {
     let mut host = host_with(alloc, size, false, false, false)?;
     let both = [FrameNo(0), FrameNo(1)];
     let skipped = reclaim(
-        alloc,
         HOST,
-        &mut host.frames,
-        &mut host.resident,
-        &mut host.queues,
-        &mut host.objects,
-        &mut host.buffers,
+        &mut host.parts,
         &both,
         &mut host.laundry,
         &mut host.log,
@@ -174,22 +146,11 @@ fn one_page(rt: HostRuntime) -> Result<(), Fail> {
         (false, true, true, Reclaim::Returned, 0),
     ] {
         let mut host = host_with(alloc, size, dirty, precious, told)?;
-        let answer = reclaim(
-            alloc,
-            HOST,
-            &mut host.frames,
-            &mut host.resident,
-            &mut host.queues,
-            &mut host.objects,
-            &mut host.buffers,
-            &[],
-            &mut host.laundry,
-            &mut host.log,
-        )?;
+        let answer = reclaim(HOST, &mut host.parts, &[], &mut host.laundry, &mut host.log)?;
         assert_eq!(rt; answer, wanted);
         assert_eq!(rt; host.log.len().checked_sub(1), Some(last));
         assert!(rt; last < host.log.len());
-        assert!(rt; host.resident.get(KEY).is_none());
+        assert!(rt; host.parts.resident.get(KEY).is_none());
         let event = host.log.at(last);
         if answer == Reclaim::Freed {
             assert!(rt; is_dropped(event));
@@ -201,14 +162,6 @@ fn one_page(rt: HostRuntime) -> Result<(), Fail> {
         }
     }
     Ok(())
-}
-
-fn hold_two<H: Holder>(holder: &mut H, first: FrameNo, second: FrameNo)
-    requires { 1 < H.room holder.old }
-    ensures { H.held holder.new ≡ H.held holder.old ++ first ∷ [] ++ second ∷ [] }
-{
-    holder.hold(first);
-    holder.hold(second);
 }
 
 #[test]

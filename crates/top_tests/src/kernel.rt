@@ -3,7 +3,7 @@ ghost use Rattle.std.specs.Prelude.{◌≡◌, [], ◌∷◌, IfOk};
 ghost use Rattle.vm_model.specs.declared.command.Command.TheVariants as command;
 ghost use Rattle.vm_model.specs.declared.event.Event.TheVariants as event;
 ghost use Rattle.vm_kernel.specs.Begun.{Began, Given};
-ghost use Rattle.vm_kernel.specs.Matches.{IsPlain, Rests, the_host};
+ghost use Rattle.vm_kernel.specs.Matches.{IsPlain, Rests, host_id};
 
 use std::alloc::Global;
 use std::test::Fail;
@@ -41,8 +41,8 @@ fn make_task(header: &Header, kernel: &mut Kernel, ids: &mut Ids) -> Result<Even
     ghost given: { Given }
     requires header { given.header ≡ header.now }
     requires past { given.past ≡ event.Line 1 ∷ [] }
-    requires rests { Rests header.now kernel.old ids.old [] }
-    ensures { IfOk result (λ events. Began header.now given.outside (command.Task TASK the_host) (event.Line 1 ∷ []) kernel.new ids.new events.items) }
+    requires rests { Rests header.now 0 kernel.old ids.old [] }
+    ensures { IfOk result (λ events. Began header.now 0 given.outside (command.Task TASK (host_id 0)) (event.Line 1 ∷ []) kernel.new ids.new events.items) }
 {
     let command = Command::Task {
         task: TASK,

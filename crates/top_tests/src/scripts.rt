@@ -5,6 +5,16 @@ use vm_base::{HostId, Inherit, ObjectId, ObjectKind, PageNo, Prot, TaskId};
 use vm_model::{Channel, Command, Commands, Header, Message};
 use vm_text::{Line, read_script, unbuilt_header};
 
+const READ: Prot = Prot {
+    read: true,
+    write: false,
+};
+
+const WRITE: Prot = Prot {
+    read: false,
+    write: true,
+};
+
 const SAID: &str = "hosts 3 4
 frames 2 9
 frames 2 7
@@ -40,7 +50,7 @@ say 1 w error 3 4
 say 1 w lock 3 4 2 1 8 0
 ";
 
-fn is_memory_command(line: u32, command: &Command) -> bool {
+fn is_task_command(line: u32, command: &Command) -> bool {
     match line {
         7 => matches!(
             command,
@@ -57,6 +67,12 @@ fn is_memory_command(line: u32, command: &Command) -> bool {
             }
         ),
         9 => matches!(command, Command::Exit { task: TaskId(5) }),
+        _ => false,
+    }
+}
+
+fn is_map_command(line: u32, command: &Command) -> bool {
+    match line {
         10 => matches!(
             command,
             Command::Allocate {
@@ -83,48 +99,46 @@ fn is_memory_command(line: u32, command: &Command) -> bool {
                 bytes: 4
             }
         ),
-        13 => matches!(
-            command,
-            Command::Protect {
-                task: TaskId(2),
-                address: 3,
-                bytes: 4,
-                prot: Prot {
-                    read: true,
-                    write: false
-                }
-            }
-        ),
-        14 => matches!(
-            command,
-            Command::Protect {
-                task: TaskId(2),
-                address: 3,
-                bytes: 4,
-                prot: Prot {
-                    read: false,
-                    write: true
-                }
-            }
-        ),
-        15 => matches!(
-            command,
-            Command::Inherit {
-                task: TaskId(2),
-                address: 3,
-                bytes: 4,
-                inherit: Inherit::Share
-            }
-        ),
-        16 => matches!(
-            command,
-            Command::Inherit {
-                task: TaskId(2),
-                address: 3,
-                bytes: 4,
-                inherit: Inherit::Never
-            }
-        ),
+        _ => false,
+    }
+}
+
+fn protection(command: &Command) -> Option<Prot> {
+    match command {
+        Command::Protect {
+            task: TaskId(2),
+            address: 3,
+            bytes: 4,
+            prot,
+        } => Some(*prot),
+        _ => None,
+    }
+}
+
+fn inheritance(command: &Command) -> Option<Inherit> {
+    match command {
+        Command::Inherit {
+            task: TaskId(2),
+            address: 3,
+            bytes: 4,
+            inherit,
+        } => Some(*inherit),
+        _ => None,
+    }
+}
+
+fn is_change_of_entries(line: u32, command: &Command) -> bool {
+    match line {
+        13 => protection(command) == Some(READ),
+        14 => protection(command) == Some(WRITE),
+        15 => inheritance(command) == Some(Inherit::Share),
+        16 => inheritance(command) == Some(Inherit::Never),
+        _ => false,
+    }
+}
+
+fn is_access(line: u32, command: &Command) -> bool {
+    match line {
         17 => matches!(
             command,
             Command::Load {
@@ -156,7 +170,7 @@ fn is_memory_command(line: u32, command: &Command) -> bool {
     }
 }
 
-fn is_system_command(line: u32, command: &Command) -> bool {
+fn is_taking(line: u32, command: &Command) -> bool {
     match line {
         20 => matches!(
             command,
@@ -178,6 +192,12 @@ fn is_system_command(line: u32, command: &Command) -> bool {
             }
         ),
         22 => matches!(command, Command::Settle { count: 4 }),
+        _ => false,
+    }
+}
+
+fn is_host_command(line: u32, command: &Command) -> bool {
+    match line {
         23 => matches!(
             command,
             Command::Pageout {
@@ -262,7 +282,14 @@ fn is_said(line: u32, command: &Command) -> bool {
             object: ObjectId(2),
             message,
         } => is_message(line, message),
-        _ => is_memory_command(line, command) || is_system_command(line, command),
+        _ => match line {
+            7..=9 => is_task_command(line, command),
+            10..=12 => is_map_command(line, command),
+            13..=16 => is_change_of_entries(line, command),
+            17..=19 => is_access(line, command),
+            20..=22 => is_taking(line, command),
+            _ => is_host_command(line, command),
+        },
     }
 }
 
