@@ -1,6 +1,7 @@
 pub mod Chains
 pub mod Facts
 pub mod Heads
+pub mod Home
 pub mod Own
 pub mod Pages
 pub mod Regions

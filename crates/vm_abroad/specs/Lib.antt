@@ -1,3 +1,4 @@
+pub mod Home
 pub mod Own
 pub mod Run
 pub mod Same
