@@ -44,6 +44,7 @@ use Rattle.vm_kernel.proofs.Walking.{comes_top}
 use Rattle.vm_kernel.proofs.Own.{lives_in, own_host}
 use Rattle.vm_kernel.proofs.Uses.{holds_waits, uses_still}
 use Rattle.vm_maps.specs.Maps.{rows_in}
+use Rattle.vm_kernel.proofs.Mine.{own_lives, own_named}
 
 -- a page of zeros comes
 
@@ -67,6 +68,8 @@ zeroed_follows header h outside doing past task what key plain to passes frames 
       frames = frames;
       inner = tt;
       said = tt;
+      own = own_named h;
+      creates = tt;
     }
 
 pub matches_zeroed : (header : Header) (h : ℕ) (k mid : Parts) (ids : Ids) (lost : List Entry) (past : List Event) (key : PageKey) (frame : FrameNo) → Matches header h k ids lost past → Brought key frame k mid → Lies k key
@@ -89,7 +92,8 @@ matches_zeroed header h k mid ids lost past key frame m b lies =
       pages = rw (b.plan.chains, b.plan.objects, own_host h) pages2;
       uses = rw b.plan.maps m.uses;
       controls = rw b.plan.objects m.controls;
-      settled = refl;
+      homeless = m.homeless;
+      settled = record { returned = refl; shut = λ region. refl };
       laundry = rw b.plan.laundry (laundry_changed key frame _ _ _ _ _ k.memory mid.memory k.laundry (returns_out h past) m.laundry b.page);
       frames = rw (own_host h) (frames_changed (slice_get (reverse header.frames.items) h) key frame _ _ _ _ _ k.memory mid.memory (frames_held header.size h past) (frames_held header.size h past + 1) (frames_wired h past) m.frames b.page (λ held. let more = b.page.claims in omega arith));
     }
@@ -127,6 +131,8 @@ loaded_follows header h outside doing past task address n value key bytes to sho
       frames = frames;
       inner = tt;
       said = tt;
+      own = own_lives h task.0 past to.lives;
+      creates = tt;
     }
 
 pub matches_loaded : (header : Header) (h : ℕ) (k : Parts) (ids : Ids) (lost : List Entry) (past : List Event) (task : TaskId) (object : ObjectId) (page : PageNo) (value : ℕ) → Matches header h k ids lost past → host_of task.0 past ≡ Some h
@@ -145,7 +151,8 @@ matches_loaded header h k ids lost past task object page value m lives =
       pages = m.pages;
       uses = uses_still k.maps _ _ _ _ _ m.uses (λ t r none. holds_waits header.size task.0 t r k.maps (rows_in task.0 k.maps) past None there none);
       controls = m.controls;
-      settled = refl;
+      homeless = m.homeless;
+      settled = record { returned = refl; shut = λ region. refl };
       laundry = m.laundry;
       frames = m.frames;
     }
@@ -174,6 +181,8 @@ stored_follows header h outside doing past task address n value key bytes to sho
       frames = frames;
       inner = tt;
       said = tt;
+      own = own_lives h task.0 past to.lives;
+      creates = tt;
     }
 
 pub matches_stored : (header : Header) (h : ℕ) (k mid : Parts) (ids : Ids) (lost : List Entry) (past : List Event) (task : TaskId) (at n value : ℕ) (key : PageKey) (frame : FrameNo) → Matches header h k ids lost past → host_of task.0 past ≡ Some h → IsHere key frame k
@@ -202,7 +211,8 @@ matches_stored header h k mid ids lost past task at n value key frame m lives st
       pages = rw (w.plan.chains, w.plan.objects) pages3;
       uses = rw w.plan.maps (uses_still k.maps _ _ _ _ _ m.uses (λ t r none. holds_waits header.size task.0 t r k.maps (rows_in task.0 k.maps) past None (lives_in task.0 m.tasks (ap (is_on h) lives ∙ own_host h)) none));
       controls = rw w.plan.objects m.controls;
-      settled = refl;
+      homeless = m.homeless;
+      settled = record { returned = refl; shut = λ region. refl };
       laundry = rw w.plan.laundry (laundry_changed key row.frame _ _ _ _ _ k.memory mid.memory k.laundry (returns_out h past) m.laundry w.page);
       frames = frames_changed (slice_get (reverse header.frames.items) h) key row.frame _ _ _ _ _ k.memory mid.memory (frames_held header.size h past) (frames_held header.size h past) (frames_wired h past) m.frames w.page (λ held. let same = w.page.claims in omega arith);
     }
@@ -225,6 +235,7 @@ matches_touched frame header h k new ids lost past m touched = subst (λ (z : Pa
           pages = m.pages;
           uses = m.uses;
           controls = m.controls;
+          homeless = m.homeless;
           settled = m.settled;
           laundry = m.laundry;
           frames = m.frames;
@@ -245,6 +256,7 @@ matches_waits header h k ids lost past waits m =
       pages = m.pages;
       uses = m.uses;
       controls = m.controls;
+      homeless = m.homeless;
       settled = m.settled;
       laundry = m.laundry;
       frames = m.frames;

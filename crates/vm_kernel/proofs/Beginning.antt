@@ -31,7 +31,7 @@ use Rattle.vm_waits.specs.declared.waiting.Waiting.{Waiting}
 use Rattle.vm_waits.specs.declared.waiting.Want.{Want}
 use Rattle.vm_waits.specs.declared.waiting.Want.TheVariants as want
 use Rattle.vm_waits.proofs.Entries.{none_again, puts_cases, puts_elsewhere}
-use Rattle.vm_kernel.specs.Begun.{Goes, Grows, IsLined, Ran, Starts}
+use Rattle.vm_kernel.specs.Begun.{Goes, Grows, IsLined, Ran, Starts, acts_on}
 use Rattle.vm_kernel.specs.Changes.{IsAllowed}
 use Rattle.vm_kernel.specs.Matches.{Matches, Rests, Works}
 use Rattle.vm_kernel.specs.Serving.{IsNext, RunsFirst}
@@ -45,6 +45,7 @@ use Rattle.vm_kernel.proofs.Making.{idle_of}
 use Rattle.vm_kernel.proofs.Own.{lives_in, rows_here}
 use Rattle.vm_legal.specs.Living.{lives_on}
 use Rattle.vm_kernel.proofs.Uses.{uses_still, holds_waits}
+use Rattle.vm_kernel.proofs.Mine.{own_task}
 
 -- what tests find of an access that isn't refused
 
@@ -143,7 +144,8 @@ begun_matches header h k ids past waits task (want.Load address size) rows m liv
       pages = m.pages;
       uses = uses_still k.maps _ _ _ _ _ m.uses (λ t r none. holds_waits header.size task.0 t r k.maps rows past _ lives none);
       controls = m.controls;
-      settled = refl;
+      homeless = m.homeless;
+      settled = record { returned = refl; shut = λ region. refl };
       laundry = m.laundry;
       frames = m.frames;
     }
@@ -160,7 +162,8 @@ begun_matches header h k ids past waits task (want.Store address size value) row
       pages = m.pages;
       uses = uses_still k.maps _ _ _ _ _ m.uses (λ t r none. holds_waits header.size task.0 t r k.maps rows past _ lives none);
       controls = m.controls;
-      settled = refl;
+      homeless = m.homeless;
+      settled = record { returned = refl; shut = λ region. refl };
       laundry = m.laundry;
       frames = m.frames;
     }
@@ -176,13 +179,13 @@ begun_when task (want.Store address size value) past t = refl
 lined_below : (t : ℕ) (past : List Event) → IsLined past → begun_at t past < length past
 lined_below t past is = subst (λ (z : List Event). begun_at t z < length z) (sym is.is) (begun_below t (event.Line is.line) is.before)
 
-begun_grows : (header : Header) (h : ℕ) (outside : Outside) (k : Parts) (ids : Ids) (past : List Event) (task : TaskId) (what : Want) → Matches header h k ids [] past → refusal header past (asks task what) ≡ None → Grows header h outside (asks task what) past (begun task what ∷ [])
-begun_grows header h outside k ids past task (want.Load address size) m fine =
+begun_grows : (header : Header) (h : ℕ) (outside : Outside) (k : Parts) (ids : Ids) (past : List Event) (task : TaskId) (what : Want) → Matches header h k ids [] past → refusal header past (asks task what) ≡ None → acts_on h (asks task what) past ≡ true → Grows header h outside (asks task what) past (begun task what ∷ [])
+begun_grows header h outside k ids past task (want.Load address size) m fine here =
     grows_one header h outside (command.Load task address size) past (event.BegunLoad task address size) refl
-    (record { quiet = m.settled; cause = acts task.0 past _ fine; own_bytes = tt; frames = suffices header h k.memory.frames past m.frames; inner = tt; said = tt })
-begun_grows header h outside k ids past task (want.Store address size value) m fine =
+    (record { settled = m.settled; cause = acts task.0 past _ fine; own_bytes = tt; frames = suffices header h k.memory.frames past m.frames; inner = tt; said = tt; own = own_task h task.0 past here; creates = tt })
+begun_grows header h outside k ids past task (want.Store address size value) m fine here =
     grows_one header h outside (command.Store task address size value) past (event.BegunStore task address size value) refl
-    (record { quiet = m.settled; cause = acts task.0 past _ fine; own_bytes = tt; frames = suffices header h k.memory.frames past m.frames; inner = tt; said = tt })
+    (record { settled = m.settled; cause = acts task.0 past _ fine; own_bytes = tt; frames = suffices header h k.memory.frames past m.frames; inner = tt; said = tt; own = own_task h task.0 past here; creates = tt })
 
 -- a task that didn't wait waits with an access that is to be run
 pub waits_begun : (maps : Mapped) (chains : ChainTable) (resident : ResidentTable) (objects : ObjectTable) (rows new : List Waiting) (task : TaskId) (what : Want) (was : ℕ → Option Access) (now : ℕ → Option Access)
@@ -264,7 +267,7 @@ pub begun_ran : (header : Header) (h : ℕ) (outside : Outside) (doing : Command
     → Starts header h doing past k ids before → log ≡ begun task what ∷ before → IsNext task.0 rows → Rests header h new ids (after ++ past) → Goes header h outside doing past log after → RunsFirst header rows past log after
     → Ran header h outside doing past new ids after
 begun_ran header h outside doing task what past k new ids before log after rows is starts told next rests goes runs =
-    let first : Grows header h outside (asks task what) past (begun task what ∷ []) = begun_grows header h outside k ids past task what starts.rests.matches (subst (λ (z : Command). refusal header past z ≡ None) is starts.accepted) in
+    let first : Grows header h outside (asks task what) past (begun task what ∷ []) = begun_grows header h outside k ids past task what starts.rests.matches (subst (λ (z : Command). refusal header past z ≡ None) is starts.accepted) (subst (λ (z : Command). acts_on h z past ≡ true) is starts.acts) in
     let same = begun_log task what before log starts.nothing told in
     let grows : Grows header h outside doing past log =
     subst (λ (z : Command). Grows header h outside z past log) (sym is) (subst (λ (z : List Event). Grows header h outside (asks task what) past z) (sym same) first) in

@@ -47,6 +47,7 @@ use Rattle.vm_kernel.proofs.Regions.{region_row, tops_recounted}
 use Rattle.vm_kernel.proofs.Rewrites.{entries_changed, lives_below, on_among, recount_known, recount_pages, recount_regions, recount_used, tasks_changed}
 use Rattle.vm_kernel.proofs.Uses.{uses_same, holds_rows}
 use Rattle.vm_kernel.proofs.Waited.{waits_changed, told_changed}
+use Rattle.vm_kernel.proofs.Mine.{own_task}
 
 -- how many entries lead to a region
 
@@ -206,7 +207,8 @@ ran_protect header h outside task address bytes prot past events k ids maps mid 
             pages = c.pages;
             uses = uses_kept header h past k ids maps task.0 two s.rests (record { size = changes.size; changed = now; others = changes.others }) live.1 cuts (λ t. protected header.size address bytes prot (entries_of header.size t past));
             controls = m.controls;
-            settled = refl;
+            homeless = m.homeless;
+            settled = record { returned = refl; shut = λ region. refl };
             laundry = m.laundry;
             frames = m.frames;
           };
@@ -218,7 +220,7 @@ ran_protect header h outside task address bytes prot past events k ids maps mid 
     } in
     record {
       rests = rests;
-      grows = grows_one header h outside (command.Protect task address bytes prot) past (event.Protected task address bytes prot) refl (record { quiet = m.settled; cause = idle; own_bytes = tt; frames = suffices header h k.memory.frames (event.Protected task address bytes prot ∷ past) m.frames; inner = tt; said = tt });
+      grows = grows_one header h outside (command.Protect task address bytes prot) past (event.Protected task address bytes prot) refl (record { settled = m.settled; cause = idle; own_bytes = tt; frames = suffices header h k.memory.frames (event.Protected task address bytes prot ∷ past) m.frames; inner = tt; said = tt; own = own_task h task.0 past s.acts; creates = tt });
       done = tt;
     }
 
@@ -251,7 +253,8 @@ ran_inherit header h outside task address bytes inherit past events k ids maps m
             pages = c.pages;
             uses = uses_kept header h past k ids maps task.0 two s.rests (record { size = changes.size; changed = now; others = changes.others }) live.1 cuts (λ t. inherited header.size address bytes inherit (entries_of header.size t past));
             controls = m.controls;
-            settled = refl;
+            homeless = m.homeless;
+            settled = record { returned = refl; shut = λ region. refl };
             laundry = m.laundry;
             frames = m.frames;
           };
@@ -263,6 +266,6 @@ ran_inherit header h outside task address bytes inherit past events k ids maps m
     } in
     record {
       rests = rests;
-      grows = grows_one header h outside (command.Inherit task address bytes inherit) past (event.Inherited task address bytes inherit) refl (record { quiet = m.settled; cause = idle; own_bytes = tt; frames = suffices header h k.memory.frames (event.Inherited task address bytes inherit ∷ past) m.frames; inner = tt; said = tt });
+      grows = grows_one header h outside (command.Inherit task address bytes inherit) past (event.Inherited task address bytes inherit) refl (record { settled = m.settled; cause = idle; own_bytes = tt; frames = suffices header h k.memory.frames (event.Inherited task address bytes inherit ∷ past) m.frames; inner = tt; said = tt; own = own_task h task.0 past s.acts; creates = tt });
       done = tt;
     }

@@ -43,6 +43,7 @@ use Rattle.vm_kernel.proofs.Rewrites.{recount_known, tasks_changed}
 use Rattle.vm_kernel.proofs.Uses.{uses_cut, ApartFrom, elsewhere, holds_rows}
 use Rattle.vm_model.specs.Local.{is_on}
 use Rattle.vm_model.specs.Regions.{next_region}
+use Rattle.vm_kernel.proofs.Mine.{own_task}
 
 -- a task ends
 
@@ -117,14 +118,15 @@ sweeps_exit header h outside task past events k ids maps gone s value changes =
               (record { rows = shown_tasks.rows; waiting = k.waits.rows; waits = record { is = shown_waits.is } }) c.entries.most
               (apart_ended header.size k.maps maps (λ r. in_use header h r past) _ (next_region header past) task past m.uses changes);
           controls = m.controls;
-          settled = refl;
+          homeless = m.homeless;
+          settled = record { returned = refl; shut = λ region. refl };
           laundry = m.laundry;
           frames = m.frames;
         };
         waits = shown_waits;
         order = s.rests.order;
         idle = s.rests.idle;
-        grows = grows_one header h outside (command.Exit task) past (event.TaskEnded task) refl (record { quiet = m.settled; cause = idle; own_bytes = tt; frames = suffices header h k.memory.frames (event.TaskEnded task ∷ past) m.frames; inner = tt; said = tt });
+        grows = grows_one header h outside (command.Exit task) past (event.TaskEnded task) refl (record { settled = m.settled; cause = idle; own_bytes = tt; frames = suffices header h k.memory.frames (event.TaskEnded task ∷ past) m.frames; inner = tt; said = tt; own = own_task h task.0 past s.acts; creates = tt });
       };
       used = c.used;
       reached = c.reached;
@@ -191,14 +193,15 @@ sweeps_removed header h outside task address bytes past events k ids maps mid hi
               let was = sym (changes.others t (λ e. other (sym e))) ∙ none in
               holds_rows header.size task.0 t r k.maps rows _ past live.1 was ∙ m.uses.apart t r was why);
           controls = m.controls;
-          settled = refl;
+          homeless = m.homeless;
+          settled = record { returned = refl; shut = λ region. refl };
           laundry = m.laundry;
           frames = m.frames;
         };
         waits = c.waits;
         order = s.rests.order;
         idle = s.rests.idle;
-        grows = grows_one header h outside (command.Deallocate task address bytes) past (event.Removed task address bytes) refl (record { quiet = m.settled; cause = idle; own_bytes = tt; frames = suffices header h k.memory.frames (event.Removed task address bytes ∷ past) m.frames; inner = tt; said = tt });
+        grows = grows_one header h outside (command.Deallocate task address bytes) past (event.Removed task address bytes) refl (record { settled = m.settled; cause = idle; own_bytes = tt; frames = suffices header h k.memory.frames (event.Removed task address bytes ∷ past) m.frames; inner = tt; said = tt; own = own_task h task.0 past s.acts; creates = tt });
       };
       used = c.used;
       reached = c.reached;

@@ -42,6 +42,7 @@ use Rattle.vm_kernel.proofs.Strands.{waiters_lost, itself, none_left}
 use Rattle.vm_kernel.proofs.Waited.{waits_kept}
 use Rattle.vm_kernel.proofs.Walking.{unreached}
 use Rattle.vm_kernel.proofs.Own.{named_host, own_host}
+use Rattle.vm_kernel.proofs.Mine.{own_named}
 
 -- a page of a region without entries goes
 pub ends_lost : (header : Header) (h : ℕ) (outside : Outside) (doing : Command) (past : List Event) (k k2 : Parts) (ids : Ids) (rest : List Entry) (region : ℕ) (key : PageKey) (events after : List Event)
@@ -63,14 +64,15 @@ ends_lost header h outside doing past k k2 ids rest region key events after e sa
           pages = rw (lost.plan.chains, lost.plan.objects) pages2;
           uses = rw lost.plan.maps m.uses;
           controls = rw lost.plan.objects m.controls;
-          settled = refl;
+          homeless = m.homeless;
+          settled = record { returned = refl; shut = λ region. refl };
           laundry = rw lost.plan.laundry laundry2;
           frames = frames2;
         };
         waits = rw (lost.plan.maps, lost.plan.chains, lost.plan.objects, lost.plan.waits) waits2;
         order = rw lost.plan.waits e.runs.order;
         idle = rw lost.plan.waits e.runs.idle;
-        grows = grows_more header h outside doing past events gone e.runs.grows m.settled (record { consequence = tt; cause = cause; own_bytes = tt; frames = suffices header h k2.memory.frames (gone ∷ moment) frames2; inner = tt; said = tt });
+        grows = grows_more header h outside doing past events gone e.runs.grows m.settled (record { consequence = tt; cause = cause; own_bytes = tt; frames = suffices header h k2.memory.frames (gone ∷ moment) frames2; inner = tt; said = tt; own = own_named h; creates = tt });
       };
       there = rw lost.plan.chains e.there;
       none = rw lost.plan.chains e.none;
@@ -184,6 +186,7 @@ runs_less header h outside doing past k ids entry rest events chains s put =
         pages = recount_pages count k.memory.frames k.memory.resident k.memory.objects k.chains chains (λ o p. local header.size h (place_of o p) moment) is m.pages;
         uses = m.uses;
         controls = m.controls;
+        homeless = m.homeless;
         settled = m.settled;
         laundry = m.laundry;
         frames = m.frames;

@@ -42,6 +42,7 @@ use Rattle.vm_kernel.proofs.Own.{lives_here, rows_here}
 use Rattle.vm_maps.specs.Maps.{Mapped, entries_in, rows_in}
 use Rattle.vm_kernel.proofs.Waited.{AreTold}
 use Rattle.vm_model.specs.Regions.{next_region}
+use Rattle.vm_kernel.proofs.Mine.{own_lives}
 
 -- who waits for the page
 pub waits_for : (key : PageKey) (reason : On) → woken_page key reason ≡ true → reason ≡ on.Page key
@@ -193,7 +194,8 @@ failed_one header h outside doing past old events key k ids w waits f found pass
                   pages = was.pages;
                   uses = uses_failed header h k ids moment key w.task waits.rows f.works is (has.allowed w.task.0 w found).lives;
                   controls = was.controls;
-                  settled = refl;
+                  homeless = was.homeless;
+                  settled = record { returned = refl; shut = λ region. refl };
                   laundry = was.laundry;
                   frames = was.frames;
                 };
@@ -215,7 +217,7 @@ failed_one header h outside doing past old events key k ids w waits f found pass
       answered = f.answered;
       before = ends_before key w k.waits.rows waits.rows moment f.before f.works.order first puts;
       goes = goes_more header h outside doing past old events e f.goes was.settled
-          (record { consequence = tt; cause = cause; own_bytes = tt; frames = suffices header h k.memory.frames (e ∷ moment) was.frames; inner = tt; said = tt });
+          (record { consequence = tt; cause = cause; own_bytes = tt; frames = suffices header h k.memory.frames (e ∷ moment) was.frames; inner = tt; said = tt; own = own_lives h w.task.0 moment (lives_here was.tasks (has.allowed w.task.0 w found).lives); creates = tt });
     }
   where
     asker_stays : (o p : ℕ) → Asker k.waits.rows o p → woken_page key (on.Page (page_key o p)) ≡ false → Asker waits.rows o p

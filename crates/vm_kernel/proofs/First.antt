@@ -92,8 +92,10 @@ first_rests header h k count plain known size host hosts start maps regions held
                   all_live = record { at = λ o row is. none_of (object_at k.memory.objects o) row (objects o) is };
                   numbers = record { at = λ o row is. none_of (object_at k.memory.objects o) row (objects o) is };
                   ended = λ o row is. none_of (object_at k.memory.objects o) row (objects o) is;
+                  home = λ o row is. none_of (object_at k.memory.objects o) row (objects o) is;
                 };
-            settled = refl;
+            homeless = λ r le. refl;
+            settled = record { returned = refl; shut = λ region. refl };
             laundry =
                 record {
                   count = sym (ap length held);
@@ -137,7 +139,8 @@ rests_line header h k ids line past rests =
             pages = m.pages;
             uses = m.uses;
             controls = m.controls;
-            settled = refl;
+            homeless = m.homeless;
+            settled = record { returned = refl; shut = λ region. refl };
             laundry = m.laundry;
             frames = m.frames;
           };

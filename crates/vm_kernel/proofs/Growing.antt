@@ -16,8 +16,10 @@ use Rattle.vm_legal.specs.Outside.{Outside}
 use Rattle.vm_legal.specs.Steps.{absence_taken, error_taken, taken}
 use Rattle.vm_frames.specs.Frames.{FrameTable, free}
 use Rattle.vm_legal.specs.Stretches.{AllInner, EachIn, IsInner, MomentsIn}
-use Rattle.vm_kernel.specs.Begun.{Goes, Grows, IsLined, IsOwn}
-use Rattle.vm_kernel.specs.Matches.{HasFrames}
+use Rattle.vm_abroad.specs.Whose.{IsOwn}
+use Rattle.vm_kernel.specs.Begun.{CreatesHere, Goes, Grows, IsLined, IsMine, KernelSays}
+use Rattle.vm_kernel.specs.Matches.{HasFrames, IsSettled}
+use Rattle.vm_kernel.proofs.Mine.{mine_of}
 use Rattle.vm_legal.proofs.Inside.{absence_more, error_more, taken_more}
 use Rattle.vm_legal.proofs.Stretched.{each_both, inner_both, licensed_both, moments_both, of_both}
 
@@ -39,47 +41,51 @@ pub record Follows (header : Header) (h : ℕ) (outside : Outside) (doing : Comm
   pub own_bytes : OwnBytes header e past
   pub frames : Suffice header h (e ∷ past)
   pub inner : IsInner e
-  pub said : IsOwn h header.size e
+  pub said : KernelSays h header.size e
+  pub own : IsOwn header h e past
+  pub creates : CreatesHere h e past
 
-pub grows_more : (header : Header) (h : ℕ) (outside : Outside) (doing : Command) (past events : List Event) (e : Event) → Grows header h outside doing past events → created (events ++ past) ≡ None → Follows header h outside doing e (events ++ past)
+pub grows_more : (header : Header) (h : ℕ) (outside : Outside) (doing : Command) (past events : List Event) (e : Event) → Grows header h outside doing past events → IsSettled (events ++ past) → Follows header h outside doing e (events ++ past)
     → Grows header h outside doing past (e ∷ events)
-grows_more header h outside doing past events e grows none all =
+grows_more header h outside doing past events e grows settled all =
     record {
       first = grows.first;
       more = e ∷ grows.more;
       head = grows.head;
       is = ap (λ z. e ∷ z) grows.is;
       follows = (all.consequence, grows.follows);
-      licensed = (licensed header outside doing e (events ++ past) none all.cause, grows.licensed);
+      licensed = (licensed header outside doing e (events ++ past) settled.returned all.cause, grows.licensed);
       own_bytes = (all.own_bytes, grows.own_bytes);
       frames = (all.frames, grows.frames);
       inner = (all.inner, grows.inner);
       said = (all.said, grows.said);
+      mine = (mine_of header h e (events ++ past) settled.shut all.own all.creates, grows.mine);
     }
 
 -- nothing was added
 pub goes_none : (header : Header) (h : ℕ) (outside : Outside) (doing : Command) (past old : List Event) → Goes header h outside doing past old old
-goes_none header h outside doing past old = record { more = []; is = refl; follows = tt; licensed = tt; own_bytes = tt; frames = tt; inner = tt; said = tt }
+goes_none header h outside doing past old = record { more = []; is = refl; follows = tt; licensed = tt; own_bytes = tt; frames = tt; inner = tt; said = tt; mine = tt }
 
 -- one event more
-pub goes_more : (header : Header) (h : ℕ) (outside : Outside) (doing : Command) (past old events : List Event) (e : Event) → Goes header h outside doing past old events → created (events ++ past) ≡ None → Follows header h outside doing e (events ++ past)
+pub goes_more : (header : Header) (h : ℕ) (outside : Outside) (doing : Command) (past old events : List Event) (e : Event) → Goes header h outside doing past old events → IsSettled (events ++ past) → Follows header h outside doing e (events ++ past)
     → Goes header h outside doing past old (e ∷ events)
-goes_more header h outside doing past old events e goes none all =
+goes_more header h outside doing past old events e goes settled all =
     let same : events ++ past ≡ goes.more ++ (old ++ past) = ap (λ z. z ++ past) goes.is ∙ append_assoc goes.more old past in
     record {
       more = e ∷ goes.more;
       is = ap (λ z. e ∷ z) goes.is;
       follows = (all.consequence, goes.follows);
-      licensed = (subst (λ (z : List Event). Licensed header outside doing e z) same (licensed header outside doing e (events ++ past) none all.cause), goes.licensed);
+      licensed = (subst (λ (z : List Event). Licensed header outside doing e z) same (licensed header outside doing e (events ++ past) settled.returned all.cause), goes.licensed);
       own_bytes = (subst (λ (z : List Event). OwnBytes header e z) same all.own_bytes, goes.own_bytes);
       frames = (subst (λ (z : List Event). Suffice header h (e ∷ z)) same all.frames, goes.frames);
       inner = (all.inner, goes.inner);
       said = (all.said, goes.said);
+      mine = (subst (λ (z : List Event). IsMine header h e z) same (mine_of header h e (events ++ past) settled.shut all.own all.creates), goes.mine);
     }
 
 -- one event
-pub goes_one : (header : Header) (h : ℕ) (outside : Outside) (doing : Command) (past old : List Event) (e : Event) → created (old ++ past) ≡ None → Follows header h outside doing e (old ++ past) → Goes header h outside doing past old (e ∷ old)
-goes_one header h outside doing past old e none all = goes_more header h outside doing past old old e (goes_none header h outside doing past old) none all
+pub goes_one : (header : Header) (h : ℕ) (outside : Outside) (doing : Command) (past old : List Event) (e : Event) → IsSettled (old ++ past) → Follows header h outside doing e (old ++ past) → Goes header h outside doing past old (e ∷ old)
+goes_one header h outside doing past old e settled all = goes_more header h outside doing past old old e (goes_none header h outside doing past old) settled all
 
 -- one stretch behind another
 pub goes_both : (header : Header) (h : ℕ) (outside : Outside) (doing : Command) (past old mid new : List Event) → Goes header h outside doing past old mid → Goes header h outside doing past mid new → Goes header h outside doing past old new
@@ -93,7 +99,8 @@ goes_both header h outside doing past old mid new one two =
       own_bytes = each_both (OwnBytes header) two.more one.more (old ++ past) (subst (λ (z : List Event). EachIn (OwnBytes header) two.more z) same two.own_bytes) one.own_bytes;
       frames = moments_both (Suffice header h) two.more one.more (old ++ past) (subst (λ (z : List Event). MomentsIn (Suffice header h) two.more z) same two.frames) one.frames;
       inner = inner_both two.more one.more two.inner one.inner;
-      said = of_both (IsOwn h header.size) two.more one.more two.said one.said;
+      said = of_both (KernelSays h header.size) two.more one.more two.said one.said;
+      mine = each_both (IsMine header h) two.more one.more (old ++ past) (subst (λ (z : List Event). EachIn (IsMine header h) two.more z) same two.mine) one.mine;
     }
 
 -- what a command's step does goes on
@@ -110,7 +117,8 @@ grows_goes header h outside doing past old new grows goes =
       own_bytes = each_both (OwnBytes header) goes.more old past goes.own_bytes grows.own_bytes;
       frames = moments_both (Suffice header h) goes.more old past goes.frames grows.frames;
       inner = inner_both goes.more old goes.inner grows.inner;
-      said = of_both (IsOwn h header.size) goes.more old goes.said grows.said;
+      said = of_both (KernelSays h header.size) goes.more old goes.said grows.said;
+      mine = each_both (IsMine header h) goes.more old past goes.mine grows.mine;
     })
 
 -- a command's step took no message

@@ -8,15 +8,17 @@ use Rattle.vm_model.specs.declared.script.Header.{Header}
 use Rattle.vm_legal.specs.Bytes.{OwnBytes}
 use Rattle.vm_legal.specs.Follows.{IsDone, head}
 use Rattle.vm_legal.specs.Frames.{Suffice}
-use Rattle.vm_legal.specs.Licences.{AllLicensed, Caused, created}
+use Rattle.vm_legal.specs.Licences.{AllLicensed, Caused}
 use Rattle.vm_legal.specs.Outside.{Outside}
 use Rattle.vm_legal.specs.Refusal.{where_true}
 use Rattle.vm_legal.specs.Stretches.{AllInner, EachIn, EachOf, IsInner, MomentsIn}
 use Rattle.vm_shadow.specs.declared.ids.Ids.{Ids}
-use Rattle.vm_kernel.specs.Begun.{Grows, IsOwn, Ran}
-use Rattle.vm_kernel.specs.Matches.{Rests}
+use Rattle.vm_abroad.specs.Whose.{IsOwn}
+use Rattle.vm_kernel.specs.Begun.{CreatesHere, Grows, IsMine, KernelSays, Ran}
+use Rattle.vm_kernel.specs.Matches.{IsSettled, Rests}
 use Rattle.vm_kernel.specs.declared.parts.Parts.{Parts}
 use Rattle.vm_kernel.proofs.Growing.{licensed}
+use Rattle.vm_kernel.proofs.Mine.{mine_of}
 
 -- of a list of tests that finds nothing, each found nothing
 pub passed : (b : Bool) (why : Code) (later : Option Code) → where_true b why later ≡ None → (b ≡ false) × (later ≡ None)
@@ -29,7 +31,8 @@ pub record Heads (header : Header) (h : ℕ) (outside : Outside) (doing : Comman
   pub own_bytes : EachIn (OwnBytes header) events past
   pub frames : MomentsIn (Suffice header h) events past
   pub inner : AllInner events
-  pub said : EachOf (IsOwn h header.size) events
+  pub said : EachOf (KernelSays h header.size) events
+  pub mine : EachIn (IsMine header h) events past
 
 pub grows_head : (header : Header) (h : ℕ) (outside : Outside) (doing : Command) (past events first : List Event) → head header past doing ≡ Some first → events ≡ reverse first → Heads header h outside doing past events → Grows header h outside doing past events
 grows_head header h outside doing past events first is same all =
@@ -44,20 +47,30 @@ grows_head header h outside doing past events first is same all =
       frames = all.frames;
       inner = all.inner;
       said = all.said;
+      mine = all.mine;
     }
 
 -- what holds of a command's one event
 pub record IsOne (header : Header) (h : ℕ) (outside : Outside) (doing : Command) (past : List Event) (e : Event) : Type 0 where
-  pub quiet : created past ≡ None
+  pub settled : IsSettled past
   pub cause : Caused header outside doing e past
   pub own_bytes : OwnBytes header e past
   pub frames : Suffice header h (e ∷ past)
   pub inner : IsInner e
-  pub said : IsOwn h header.size e
+  pub said : KernelSays h header.size e
+  pub own : IsOwn header h e past
+  pub creates : CreatesHere h e past
 
 pub heads_one : (header : Header) (h : ℕ) (outside : Outside) (doing : Command) (past : List Event) (e : Event) → IsOne header h outside doing past e → Heads header h outside doing past (e ∷ [])
 heads_one header h outside doing past e is =
-    record { licensed = (licensed header outside doing e past is.quiet is.cause, tt); own_bytes = (is.own_bytes, tt); frames = (is.frames, tt); inner = (is.inner, tt); said = (is.said, tt) }
+    record {
+      licensed = (licensed header outside doing e past is.settled.returned is.cause, tt);
+      own_bytes = (is.own_bytes, tt);
+      frames = (is.frames, tt);
+      inner = (is.inner, tt);
+      said = (is.said, tt);
+      mine = (mine_of header h e past is.settled.shut is.own is.creates, tt);
+    }
 
 pub grows_one : (header : Header) (h : ℕ) (outside : Outside) (doing : Command) (past : List Event) (e : Event) → head header past doing ≡ Some (e ∷ []) → IsOne header h outside doing past e → Grows header h outside doing past (e ∷ [])
 grows_one header h outside doing past e first is = grows_head header h outside doing past (e ∷ []) (e ∷ []) first refl (heads_one header h outside doing past e is)

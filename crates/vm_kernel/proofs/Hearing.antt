@@ -17,6 +17,7 @@ use Rattle.vm_model.specs.Regions.{Backing, Region, backing_of, next_object, nex
 use Rattle.vm_model.specs.Waiting.{Access, waiting}
 use Rattle.vm_legal.specs.Accesses.{is_ready}
 use Rattle.vm_legal.specs.Frames.{frames_held, frames_wired, returns_out}
+use Rattle.vm_abroad.specs.Home.{home_of}
 use Rattle.vm_frames.specs.Frames.{FrameTable}
 use Rattle.vm_maps.specs.Maps.{Mapped}
 use Rattle.vm_objects.specs.Objects.{ObjectTable, PutsObject, SameMarks, SameObjects, absent_at, object_at}
@@ -88,7 +89,7 @@ pub record Changed (header : Header) (h : ℕ) (k : Parts) (ids : Ids) (who : Wo
   pub plain : ArePlain new.resident
   pub regions : HasRegions k.chains new.objects ids (λ r. region_of header r past) (λ o. backing_of header o past) (next_region header past) (next_object header past)
   pub pages : HasPages new.frames new.resident new.objects k.chains (λ o p. local header.size h (place_of o p) (e ∷ past))
-  pub controls : HasControls new.objects (λ o. last_control h o past) (λ o. live_control h o past) (λ o. is_ready h o (e ∷ past))
+  pub controls : HasControls h new.objects (λ o. last_control h o past) (λ o. live_control h o past) (λ o. is_ready h o (e ∷ past)) (λ o. home_of o past)
   pub laundry : HasLaundry new.frames new.resident k.laundry (returns_out h past)
   pub frames : HasFrames (slice_get (reverse header.frames.items) h) new.frames (frames_held header.size h (e ∷ past)) (frames_wired h past)
   pub reached : AllReached k.chains new.objects
@@ -116,7 +117,8 @@ works_of header h k ids who new past object control m rests fit same c =
             pages = c.pages;
             uses = was.uses;
             controls = c.controls;
-            settled = refl;
+            homeless = was.homeless;
+            settled = record { returned = refl; shut = λ region. refl };
             laundry = c.laundry;
             frames = c.frames;
           };
@@ -144,8 +146,8 @@ regions_of cs os os2 ids region_from backing_from regions_made objects_made has 
       under = λ r row found. subst (IsUnder row) (sym (same.at r)) (has.under r row found);
     }
 
-controls_of : (os os2 : ObjectTable) (last_at : ℕ → ℕ) (live_at : ℕ → Option ℕ) (ready_at ready_at2 : ℕ → Bool) → HasControls os last_at live_at ready_at → SameObjects os os2
-    → ((o live : ℕ) → live_at o ≡ Some live → ready_at2 o ≡ ready_at o) → HasControls os2 last_at live_at ready_at2
+controls_of : {h : ℕ} {home_at : ℕ → Option ℕ} (os os2 : ObjectTable) (last_at : ℕ → ℕ) (live_at : ℕ → Option ℕ) (ready_at ready_at2 : ℕ → Bool) → HasControls h os last_at live_at ready_at home_at → SameObjects os os2
+    → ((o live : ℕ) → live_at o ≡ Some live → ready_at2 o ≡ ready_at o) → HasControls h os2 last_at live_at ready_at2 home_at
 controls_of os os2 last_at live_at ready_at ready_at2 has same ready =
     record {
       last = λ o. has.last o ∙ ap last_in (sym (same.at o));
@@ -154,6 +156,7 @@ controls_of os os2 last_at live_at ready_at ready_at2 has same ready =
       all_live = record { at = λ o row found told. has.all_live.at o row (sym (same.at o) ∙ found) told };
       numbers = record { at = λ o row found. has.numbers.at o row (sym (same.at o) ∙ found) };
       ended = λ o row found live. has.ended o row (sym (same.at o) ∙ found) live;
+      home = λ o row found. has.home o row (sym (same.at o) ∙ found);
     }
 
 reached_of : (cs : ChainTable) (os os2 : ObjectTable) → AllReached cs os → SameObjects os os2 → AllReached cs os2
@@ -228,10 +231,10 @@ regions_ready cs os os2 ids region_from backing_from regions_made objects_made o
           number = subst (λ (z : ObjectRow). z.control ≡ (if has_pager z.state then 1 else 0)) same has_under.number ∙ ap (λ b. if b then 1 else 0) pager;
         }
 
-controls_ready : (os os2 : ObjectTable) (last_at : ℕ → ℕ) (live_at : ℕ → Option ℕ) (ready_at : ℕ → Bool) (o control : ℕ) (known : ObjectRow) → HasControls os last_at live_at ready_at
+controls_ready : {h : ℕ} {home_at : ℕ → Option ℕ} (os os2 : ObjectTable) (last_at : ℕ → ℕ) (live_at : ℕ → Option ℕ) (ready_at : ℕ → Bool) (o control : ℕ) (known : ObjectRow) → HasControls h os last_at live_at ready_at home_at
     → object_at os o ≡ Some known → known.live ≡ true → is_control control (live_at o) ≡ true → PutsObject o (Some (record known { state = state.Ready })) os os2
-    → HasControls os2 last_at live_at (λ o2. if o == o2 && is_control control (live_at o2) then true else ready_at o2)
-controls_ready os os2 last_at live_at ready_at o control known has found live lives put =
+    → HasControls h os2 last_at live_at (λ o2. if o == o2 && is_control control (live_at o2) then true else ready_at o2) home_at
+controls_ready {h = h} {home_at = home_at} os os2 last_at live_at ready_at o control known has found live lives put =
     record {
       last = λ o2. elim (cases o2) [
         | inl same ↦ has.last o2 ∙ (ap last_in (sym (ap (object_at os) same.0) ∙ found) ∙ sym (ap last_in same.1))
@@ -266,6 +269,10 @@ controls_ready os os2 last_at live_at ready_at o control known has found live li
       ended = λ o2 row is lives_on. elim (cases o2) [
         | inl now ↦ λ none. absurd (let bad : state.Ready ≡ state.Without = ap (λ z. z.state) (some_is ready row (sym now.1 ∙ is)) ∙ none in cc)
         | inr other ↦ has.ended o2 row (sym other.1 ∙ is) lives_on
+      ];
+      home = λ o2 row is. elim (cases o2) [
+        | inl now ↦ subst (λ (z : ℕ). home_at z ≡ Some h) now.0 (has.home o known found)
+        | inr other ↦ has.home o2 row (sym other.1 ∙ is)
       ];
     }
   where

@@ -1,5 +1,5 @@
 -- The frame of the oldest return is free, once its pager took it.
-use Rattle.std.proofs.Common.{append_assoc, ◌≡◌, ℕ, zero, suc, ◌+◌, ◌-◌, ◌<◌, Bool, true, false, List, [], ◌∷◌, ◌++◌, get_or, set, length, refl, ap, sym, ◌∙◌, subst, arith, inl, inr}
+use Rattle.std.proofs.Common.{◌≡◌, ℕ, zero, suc, ◌+◌, ◌-◌, ◌<◌, Bool, true, false, List, [], ◌∷◌, ◌++◌, get_or, set, length, refl, ap, sym, ◌∙◌, subst, arith, inl, inr}
 use Rattle.std.proofs.lemmas.Bool.Decides.{eqb_tells}
 use Rattle.std.specs.Prelude.{All, reverse, slice_get}
 use Rattle.vm_base.specs.declared.ids.FrameNo.{FrameNo}
@@ -24,7 +24,6 @@ use Rattle.vm_kernel.specs.Begun.{IsLaundered}
 use Rattle.vm_kernel.specs.Matches.{EachApart, HasLaundry, HasPages, IsWashed, Rests, host_id}
 use Rattle.vm_kernel.specs.Places.{place_of}
 use Rattle.vm_kernel.specs.declared.parts.Parts.{Parts}
-use Rattle.vm_kernel.proofs.Foreign.{rests_foreign}
 use Rattle.vm_parts.proofs.Rows.{claimed_inside, one_case, set_cases}
 use Rattle.vm_frames.specs.Frames.{frame_count}
 use Rattle.vm_kernel.specs.Matches.{HasFrames}
@@ -109,7 +108,8 @@ rests_taken header h k ids past object control page dirty bytes f fs laundry res
             pages = pages_same k.memory.frames fs k.memory.resident k.memory.objects k.chains (λ o p. local header.size h (place_of o p) past) f.0 was.pages releases;
             uses = was.uses;
             controls = was.controls;
-            settled = refl;
+            homeless = was.homeless;
+            settled = record { returned = refl; shut = λ region. refl };
             laundry = rw (own_host h) (laundry_less k.memory.frames fs k.memory.resident k.laundry laundry (returns_out h past) f was.laundry held room washed.claimed releases);
             frames = rw (own_host h) (frames_less (slice_get (reverse header.frames.items) h) k.memory.frames fs f.0 (frames_held header.size h past) (frames_wired h past) was.frames releases);
           };
@@ -124,7 +124,5 @@ pub rests_laundered : (header : Header) (h : ℕ) (k : Parts) (ids : Ids) (front
     → Rests header h k ids past → IsLaundered h front → k.laundry.held ≡ f ∷ laundry.held → laundry.room ≡ k.laundry.room + 1 → Releases f.0 k.memory.frames fs
     → Rests header h (record k { memory = record k.memory { frames = fs }; laundry = laundry }) ids (front ++ past)
 rests_laundered header h k ids front past f fs laundry rests is held room releases =
-    let e = event.Taken (Up (host_id h) is.object) (message.Return is.control is.page is.dirty false is.bytes) in
-    subst (λ (z : List Event). Rests header h (record k { memory = record k.memory { frames = fs }; laundry = laundry }) ids z) (sym (ap (λ z. z ++ past) is.is ∙ append_assoc is.told (e ∷ []) past))
-    (rests_foreign header h (record k { memory = record k.memory { frames = fs }; laundry = laundry }) ids is.told (e ∷ past)
-    (rests_taken header h k ids past is.object is.control is.page is.dirty is.bytes f fs laundry rests held room releases) is.foreign)
+    subst (λ (z : List Event). Rests header h (record k { memory = record k.memory { frames = fs }; laundry = laundry }) ids z) (sym (ap (λ z. z ++ past) is.is))
+    (rests_taken header h k ids past is.object is.control is.page is.dirty is.bytes f fs laundry rests held room releases)

@@ -1,3 +1,4 @@
+pub mod Abroad
 pub mod Accessing
 pub mod Answers
 pub mod Attempting
@@ -6,17 +7,18 @@ pub mod Brings
 pub mod Built
 pub mod Changing
 pub mod Claiming
+pub mod Copied
 pub mod Counts
 pub mod Cutting
 pub mod Departing
 pub mod Done
+pub mod Elsewhere
 pub mod Endings
 pub mod Ends
 pub mod Failing
 pub mod Finding
 pub mod First
 pub mod Fitting
-pub mod Foreign
 pub mod Forks
 pub mod Growing
 pub mod Heads
@@ -26,6 +28,7 @@ pub mod Laundering
 pub mod Leading
 pub mod Losing
 pub mod Making
+pub mod Mine
 pub mod Missing
 pub mod Ordering
 pub mod Own
@@ -36,6 +39,7 @@ pub mod Prompting
 pub mod Ranges
 pub mod Reclaims
 pub mod Recounts
+pub mod Refusals
 pub mod Regions
 pub mod Requesting
 pub mod Returning

@@ -33,12 +33,13 @@ use Rattle.vm_kernel.specs.declared.parts.Parts.{Parts}
 use Rattle.vm_kernel.proofs.Counts.{most_is}
 use Rattle.vm_kernel.proofs.Growing.{suffices}
 use Rattle.vm_kernel.proofs.Heads.{heads_one, ran_head}
-use Rattle.vm_kernel.proofs.Tasks.{can_make, entries_made, tasks_made}
+use Rattle.vm_kernel.proofs.Tasks.{can_make, entries_made, tasks_made, unmade}
 use Rattle.vm_kernel.proofs.Uses.{uses_made}
 use Rattle.vm_kernel.proofs.Waited.{tops_same, waits_changed}
 use Rattle.vm_parts.proofs.Rows.{one_case, some_is}
 use Rattle.vm_kernel.proofs.Own.{named_host}
 use Rattle.vm_model.specs.Regions.{next_region}
+use Rattle.vm_kernel.proofs.Mine.{own_new}
 
 -- who doesn't wait in the history has no row
 pub idle_of : (x : Option Waiting) (w : Option Access) → w ≡ waiting_in x → is_some w ≡ false → x ≡ None
@@ -79,7 +80,7 @@ ran_task header h outside task past k ids before after maps s changes told =
     let log : after ≡ e ∷ [] = told ∙ (ap (λ z. event.TaskMade task z ∷ before) (named_host k.host h m.host) ∙ ap (λ z. e ∷ z) s.nothing) in
     subst (λ (z : List Event). Ran header h outside (command.Task task (host_id h)) past (record k { maps = maps }) ids z) (sym log)
     (ran_head header h outside (command.Task task (host_id h)) past (record k { maps = maps }) ids (e ∷ []) (e ∷ []) refl refl
-    (heads_one header h outside (command.Task task (host_id h)) past e (record { quiet = m.settled; cause = tt; own_bytes = tt; frames = suffices header h k.memory.frames past m.frames; inner = tt; said = refl }))
+    (heads_one header h outside (command.Task task (host_id h)) past e (record { settled = m.settled; cause = tt; own_bytes = tt; frames = suffices header h k.memory.frames past m.frames; inner = tt; said = refl; own = own_new h task.0 past (unmade header h task past k ids before s); creates = tt }))
     tt
     (record {
       matches =
@@ -95,7 +96,8 @@ ran_task header h outside task past k ids before after maps s changes told =
             pages = m.pages;
             uses = uses_made k.maps maps _ (tasks past) _ _ (next_region header past) task.0 m.uses changes free (rw most_is s.range.0) (holds_made header.size task (host_id h) past);
             controls = m.controls;
-            settled = refl;
+            homeless = m.homeless;
+            settled = record { returned = refl; shut = λ region. refl };
             laundry = m.laundry;
             frames = m.frames;
           };
@@ -111,9 +113,9 @@ abbrev pub new_object : ℕ → ObjectRow
 new_object pages = record { kind = Temp; pages = pages; state = Without; control = 0; live = false; references = 1 }
 
 -- a new object has no control
-pub controls_made : (os os2 : ObjectTable) (last_at : ℕ → ℕ) (live_at : ℕ → Option ℕ) (ready_at : ℕ → Bool) (n pages : ℕ) → HasControls os last_at live_at ready_at → object_at os n ≡ None
-    → PutsObject n (Some (new_object pages)) os os2 → HasControls os2 last_at live_at ready_at
-controls_made os os2 last_at live_at ready_at n pages has none put =
+pub controls_made : {h : ℕ} {home_at home_at2 : ℕ → Option ℕ} (os os2 : ObjectTable) (last_at : ℕ → ℕ) (live_at : ℕ → Option ℕ) (ready_at : ℕ → Bool) (n pages : ℕ) → HasControls h os last_at live_at ready_at home_at → object_at os n ≡ None
+    → PutsObject n (Some (new_object pages)) os os2 → ((o : ℕ) → home_at o ≡ Some h → home_at2 o ≡ Some h) → home_at2 n ≡ Some h → HasControls h os2 last_at live_at ready_at home_at2
+controls_made {h = h} {home_at2 = home_at2} os os2 last_at live_at ready_at n pages has none put stay home =
     let cases = λ (o : ℕ). one_case n o (Some (new_object pages)) (object_at os o) (object_at os2 o) (put.at o) in
     record {
       last = λ o. elim (cases o) [
@@ -143,6 +145,10 @@ controls_made os os2 last_at live_at ready_at n pages has none put =
       ended = λ o row found live. elim (cases o) [
         | inl same ↦ absurd (let bad : false ≡ true = ap (λ z. z.live) (some_is (new_object pages) row (sym same.1 ∙ found)) ∙ live in cc)
         | inr apart ↦ has.ended o row (sym apart.1 ∙ found) live
+      ];
+      home = λ o row found. elim (cases o) [
+        | inl same ↦ subst (λ (z : ℕ). home_at2 z ≡ Some h) same.0 home
+        | inr apart ↦ stay o (has.home o row (sym apart.1 ∙ found))
       ];
     }
   where

@@ -39,7 +39,7 @@ reclaiming_start header h outside doing count past k ids events is s =
     (record {
       is = is;
       rests = s.rests;
-      grows = record { first = []; more = []; head = ap (head header past) is; is = refl; follows = tt; licensed = tt; own_bytes = tt; frames = tt; inner = tt; said = tt };
+      grows = record { first = []; more = []; head = ap (head header past) is; is = refl; follows = tt; licensed = tt; own_bytes = tt; frames = tt; inner = tt; said = tt; mine = tt };
       reclaims = tt;
       only = subst (ReclaimsOnly h) (sym s.begins.is) tt;
       went = ap (gone h) s.begins.is;

@@ -52,10 +52,6 @@ pub plays_none : (header : Header) (past before after : List Event) (old new : P
 plays_none header past before after old new told same =
     subst (λ (z : List Event). Plays header past before old z new) (sym told) (subst (λ (z : Paging). Plays header past before old before z) (sym same) Still)
 
--- from the same lists
-pub plays_after : {header : Header} {past before after : List Event} {k old new : Paging} → k ≡ old → Plays header past before k after new → Plays header past before old after new
-plays_after {header} {past} {before} {after} {k} {old} {new} same plays = subst (λ (z : Paging). Plays header past before z after new) same plays
-
 -- from the start of a call
 pub called_plays : {header : Header} {past before after : List Event} {k now : Parts} {new : Paging} → k ≡ now → before ≡ [] → Plays header past before (paging k) after new → Plays header past [] (paging now) after new
 called_plays {header} {past} {before} {after} {k} {now} {new} same none plays =

@@ -25,6 +25,11 @@ use Rattle.vm_legal.specs.Accesses.{is_ready}
 use Rattle.vm_legal.specs.Living.{lives_on, tasks}
 use Rattle.vm_legal.specs.Outside.{Outside}
 use Rattle.vm_legal.specs.Used.{in_use, made_here}
+use Rattle.vm_legal.specs.Homes.{begins_here, starts_copy}
+use Rattle.vm_legal.specs.Stretches.{EachIn}
+use Rattle.vm_abroad.specs.Home.{home_of}
+use Rattle.vm_abroad.proofs.Home.{home_entered, home_stays, homeless_next}
+use Rattle.vm_abroad.proofs.Sounds.{both_left}
 use Rattle.vm_frames.specs.Frames.{FrameTable}
 use Rattle.vm_maps.specs.declared.change.MapChange.{MapChange}
 use Rattle.vm_maps.specs.Maps.{ChangesOnly, Mapped, entries_in, rows_in}
@@ -35,11 +40,11 @@ use Rattle.vm_shadow.specs.Chains.{ChainTable, PutsRegion, region_at}
 use Rattle.vm_shadow.specs.declared.ids.Ids.{Ids}
 use Rattle.vm_shadow.specs.declared.region_row.RegionRow.{RegionRow}
 use Rattle.vm_waits.specs.Waits.{entry}
-use Rattle.vm_kernel.specs.Begun.{IsLined, Ran, Starts}
+use Rattle.vm_kernel.specs.Begun.{IsLined, IsMine, Ran, Starts}
 use Rattle.vm_kernel.specs.Changes.{MadeRange, entering, whole_entry}
 use Rattle.vm_kernel.specs.Counts.{count_by, most_tasks}
 use Rattle.vm_kernel.specs.Forking.{got}
-use Rattle.vm_kernel.specs.Matches.{AllReached, AllUsed, HasEntries, HasPages, HasRegions, HasUse, IsInside, IsOwn, IsUnder, Rests, holds}
+use Rattle.vm_kernel.specs.Matches.{AllReached, AllUsed, HasEntries, HasPages, HasRegions, HasUse, IsInside, IsOverOwn, IsUnder, Rests, holds}
 use Rattle.vm_parts.specs.Fits.{Fit, pages_kept}
 use Rattle.vm_kernel.specs.Places.{has_region, pages_in, place_of, region_pages, shown}
 use Rattle.vm_kernel.specs.Waiters.{waiting_in}
@@ -48,6 +53,7 @@ use Rattle.vm_kernel.proofs.Counts.{by_none, most_is, on_entered}
 use Rattle.vm_kernel.proofs.Growing.{licensed, suffices}
 use Rattle.vm_kernel.proofs.Heads.{passed, ran_head}
 use Rattle.vm_kernel.proofs.Making.{controls_made, idle_of, knows_made, new_object, waits_known}
+use Rattle.vm_kernel.proofs.Mine.{mine_of, own_task}
 use Rattle.vm_kernel.proofs.Rows.{region_cases}
 use Rattle.vm_kernel.proofs.Tasks.{Keeps, entries_changed, inside_kept, tasks_entered}
 use Rattle.vm_kernel.proofs.Uses.{unfilled, uses_entered, ApartFrom, holds_rows}
@@ -150,7 +156,7 @@ keeps_new old new n row none put =
     }
 
 -- a region that is made over the object with its number
-own_made : (b : Bool) (object pages region : ℕ) (was : Region) → (b ≡ true → object ≡ region) → IsOwn was region → IsOwn (R.made b object pages was) region
+own_made : (b : Bool) (object pages region : ℕ) (was : Region) → (b ≡ true → object ≡ region) → IsOverOwn was region → IsOverOwn (R.made b object pages was) region
 own_made true object pages region was is own = record { unmarked = refl; top = is refl; shift = refl }
 own_made false object pages region was is own = record { unmarked = own.unmarked; top = own.top; shift = own.shift }
 
@@ -366,18 +372,16 @@ range_uses header h task address bytes past k ids maps object pages lined rests 
     (m.tasks.hosts task.0 ∙ ap is_some may.lives)
     (range_apart header h task address bytes past k ids maps object pages lined rests may)
 
-range_licensed : (header : Header) (h : ℕ) (outside : Outside) (task : TaskId) (address bytes : ℕ) (past : List Event) (k : Parts) (ids : Ids) → IsLined past → Rests header h k ids past → MayRange header.size k ids task.0 address bytes
-    → AllLicensed header outside (command.Allocate task address bytes) (ranged task ids address bytes (bytes / header.size)) past
-range_licensed header h outside task address bytes past k ids lined rests may =
+range_enters : (header : Header) (h : ℕ) (task : TaskId) (address bytes : ℕ) (past : List Event) (k : Parts) (ids : Ids) → IsLined past → Rests header h k ids past → MayRange header.size k ids task.0 address bytes
+    → Enters header task.0 bytes ids.next_region 0 (event.RegionMade (record { 0 = ids.next_region }) (record { 0 = ids.next_object }) (bytes / header.size) ∷ past)
+range_enters header h task address bytes past k ids lined rests may =
     let m = rests.matches in
     let n = ids.next_region in
     let pages = bytes / header.size in
     let object : ObjectId = record { 0 = ids.next_object } in
     let made : Event = event.RegionMade (record { 0 = n }) object pages in
-    let numbers : (n ≡ next_region header past) × (ids.next_object ≡ next_object header past) = (m.regions.region, m.regions.object) in
     let sized : (region_of header n (made ∷ past)).pages ≡ pages = ap (λ z. z.pages) (made_test n n ids.next_object pages (region_of header n past) refl) in
     let own = made_use header h n n pages object past lined refl in
-    let enters : Enters header task.0 bytes n 0 (made ∷ past) =
     record {
       idle = rests.waits.is task.0 (ap is_some may.lives) ∙ ap waiting_in may.idle;
       host = h;
@@ -388,19 +392,46 @@ range_licensed header h outside task address bytes past k ids lined rests may =
       used = λ temporary. own;
       file = λ is. own;
       unfilled = unfilled header.size n (tasks past) k.maps k.waits.rows (made ∷ past) (record { is = rests.waits.is }) (λ t none. holds_range header task past t n lined object n pages ∙ m.uses.apart t n none (inr (omega (arith, m.regions.region))));
-    } in (
-      licensed header outside (command.Allocate task address bytes) (got task (whole_entry address bytes (record { 0 = n }))) (made ∷ past) refl enters,
-      (licensed header outside (command.Allocate task address bytes) made past m.settled numbers, tt),
+    }
+
+range_licensed : (header : Header) (h : ℕ) (outside : Outside) (task : TaskId) (address bytes : ℕ) (past : List Event) (k : Parts) (ids : Ids) → IsLined past → Rests header h k ids past → MayRange header.size k ids task.0 address bytes
+    → AllLicensed header outside (command.Allocate task address bytes) (ranged task ids address bytes (bytes / header.size)) past
+range_licensed header h outside task address bytes past k ids lined rests may =
+    let m = rests.matches in
+    let n = ids.next_region in
+    let made : Event = event.RegionMade (record { 0 = n }) (record { 0 = ids.next_object }) (bytes / header.size) in
+    let numbers : (n ≡ next_region header past) × (ids.next_object ≡ next_object header past) = (m.regions.region, m.regions.object) in (
+      licensed header outside (command.Allocate task address bytes) (got task (whole_entry address bytes (record { 0 = n }))) (made ∷ past) refl (range_enters header h task address bytes past k ids lined rests may),
+      (licensed header outside (command.Allocate task address bytes) made past m.settled.returned numbers, tt),
     )
 
-rests_range : (header : Header) (h : ℕ) (task : TaskId) (address bytes : ℕ) (past : List Event) (k k2 : Parts) (ids : Ids) (maps : Mapped) → IsLined past → Rests header h k ids past → MayRange header.size k ids task.0 address bytes → task.0 < 1024
+-- the range's two events are the host's, and its region has its home
+range_mine : (header : Header) (h : ℕ) (task : TaskId) (address bytes : ℕ) (past : List Event) (k : Parts) (ids : Ids) → IsLined past → Rests header h k ids past → lives_on h task.0 past ≡ true
+    → EachIn (IsMine header h) (ranged task ids address bytes (bytes / header.size)) past
+range_mine header h task address bytes past k ids lined rests here =
+    let n = ids.next_region in
+    let made : Event = event.RegionMade (record { 0 = n }) (record { 0 = ids.next_object }) (bytes / header.size) in (
+      record { enters = λ r is. both_left (r == n) (not (starts_copy past)) is; own = own_task h task.0 (made ∷ past) here; creates = tt },
+      (mine_of header h made past rests.matches.settled.shut (λ g is. absurd (let bad : false ≡ true = sym (ap (begins_here g) lined.is) ∙ is in cc)) tt, tt),
+    )
+
+range_homeless : (header : Header) (h : ℕ) (outside : Outside) (task : TaskId) (address bytes : ℕ) (past : List Event) (k : Parts) (ids : Ids) → IsLined past → Rests header h k ids past → MayRange header.size k ids task.0 address bytes
+    → (r : ℕ) → next_region header past + 1 ≤ r → home_of r (ranged task ids address bytes (bytes / header.size) ++ past) ≡ None
+range_homeless header h outside task address bytes past k ids lined rests may =
+    let m = rests.matches in
+    let made : Event = event.RegionMade (record { 0 = ids.next_region }) (record { 0 = ids.next_object }) (bytes / header.size) in
+    homeless_next header outside (got task (whole_entry address bytes (record { 0 = ids.next_region }))) (made ∷ past) (command.Allocate task address bytes, range_enters header h task address bytes past k ids lined rests may)
+    (homeless_next header outside made past (command.Allocate task address bytes, (m.regions.region, m.regions.object)) m.homeless)
+
+rests_range : (header : Header) (h : ℕ) (outside : Outside) (task : TaskId) (address bytes : ℕ) (past : List Event) (k k2 : Parts) (ids : Ids) (maps : Mapped) → IsLined past → Rests header h k ids past → MayRange header.size k ids task.0 address bytes → task.0 < 1024
     → MadeRange (record { 0 = ids.next_region }) (record { 0 = ids.next_object }) (bytes / header.size) k k2 → ChangesOnly k.maps maps task.0 (Some (entered (whole_entry address bytes (record { 0 = ids.next_region })) (rows_in task.0 k.maps)))
     → Rests header h (with_range k k2 maps) (ids_after ids) (ranged task ids address bytes (bytes / header.size) ++ past)
-rests_range header h task address bytes past k k2 ids maps lined rests may below made changes =
+rests_range header h outside task address bytes past k k2 ids maps lined rests may below made changes =
     let m = rests.matches in
     let pages = bytes / header.size in
     let n = ids.next_region in
     let object : ObjectId = record { 0 = ids.next_object } in
+    let row = whole_entry address bytes (record { 0 = n }) in
     let none = region_free header h k ids past rests in
     let keeps = keeps_new k.chains k2.chains n (new_region object pages) none made.region_row in
     let local_at = λ (o p : ℕ). local header.size h (place_of o p) past in
@@ -419,8 +450,12 @@ rests_range header h task address bytes past k k2 ids maps lined rests may below
             entries = entries_range header.size k.maps maps k.chains k2.chains task.0 n address bytes object m.entries none made.region_row changes below may.whole may.some may.below may.room;
             pages = pages_range k.memory.frames k.memory.resident k.memory.objects k2.memory.objects k.chains k2.chains local_at m.pages made.marks keeps;
             uses = range_uses header h task address bytes past k ids maps object (bytes / header.size) lined rests may (rw most_is below) changes;
-            controls = controls_made k.memory.objects k2.memory.objects (λ o. last_control h o past) (λ o. live_control h o past) (λ o. is_ready h o past) ids.next_object pages m.controls unknown made.object_row;
-            settled = refl;
+            controls = controls_made k.memory.objects k2.memory.objects (λ o. last_control h o past) (λ o. live_control h o past) (λ o. is_ready h o past) ids.next_object pages m.controls unknown made.object_row
+                (λ o is. home_stays o h (got task row) (event.RegionMade (record { 0 = n }) object pages ∷ past) is)
+                (subst (λ (z : ℕ). home_of z (ranged task ids address bytes pages ++ past) ≡ Some h) (sym number)
+                (home_entered h task row.address row.bytes row.region row.offset row.prot row.inherit (event.RegionMade (record { 0 = n }) object pages ∷ past) (m.homeless n (omega (arith, m.regions.region))) (lives_here m.tasks may.lives)));
+            homeless = range_homeless header h outside task address bytes past k ids lined rests may;
+            settled = record { returned = refl; shut = λ region. refl };
             laundry = m.laundry;
             frames = m.frames;
           };
@@ -446,13 +481,13 @@ ran_range header h outside task address bytes pages past k k2 ids before after m
     let log : after ≡ events = told ∙ (ap (λ z. ranged task ids address bytes z ++ before) whole ∙ ap (λ z. events ++ z) s.nothing) in
     let made_whole = subst (λ (z : ℕ). MadeRange (record { 0 = ids.next_region }) (record { 0 = ids.next_object }) z k k2) whole made in
     let changed = subst (λ (z : Mapped). ChangesOnly z maps task.0 (Some (entered (whole_entry address bytes (record { 0 = ids.next_region })) (rows_in task.0 z)))) made.maps changes in
-    let rests = rests_range header h task address bytes past k k2 ids maps s.begins s.rests (may_range header h task address bytes past k ids before s) s.range.task made_whole changed in
+    let rests = rests_range header h outside task address bytes past k k2 ids maps s.begins s.rests (may_range header h task address bytes past k ids before s) s.range.task made_whole changed in
     let first = event.RegionMade (record { 0 = ids.next_region }) (record { 0 = ids.next_object }) (bytes / header.size) ∷ got task (whole_entry address bytes (record { 0 = ids.next_region })) ∷ [] in
     let is : head header past (command.Allocate task address bytes) ≡ Some first = rw (← m.regions.region, ← m.regions.object) refl in
     let fine = suffices header h k.memory.frames past m.frames in
     let ran : Ran header h outside (command.Allocate task address bytes) past (with_range k k2 maps) (ids_after ids) events =
     ran_head header h outside (command.Allocate task address bytes) past (with_range k k2 maps) (ids_after ids) events first is refl
-    (record { licensed = range_licensed header h outside task address bytes past k ids s.begins s.rests (may_range header h task address bytes past k ids before s); own_bytes = (tt, (tt, tt)); frames = (fine, (fine, tt)); inner = (tt, (tt, tt)); said = (tt, (tt, tt)) })
+    (record { licensed = range_licensed header h outside task address bytes past k ids s.begins s.rests (may_range header h task address bytes past k ids before s); own_bytes = (tt, (tt, tt)); frames = (fine, (fine, tt)); inner = (tt, (tt, tt)); said = (tt, (tt, tt)); mine = range_mine header h task address bytes past k ids s.begins s.rests s.acts })
     tt rests in
     let same : record k2 { maps = maps } ≡ with_range k k2 maps =
     λ i. record { alloc = k2.alloc; host = made.host i; size = made.size i; memory = made.memory i; maps = maps; chains = k2.chains; laundry = made.laundry i; waits = made.waits i } in

@@ -59,6 +59,8 @@ use Rattle.vm_kernel.proofs.Washing.{laundry_room, laundry_returned}
 use Rattle.vm_parts.proofs.Rows.{claimed_inside, if_true}
 use Rattle.vm_legal.proofs.LockNames.{unnamed}
 use Rattle.vm_kernel.proofs.Own.{named_host, own_host}
+use Rattle.vm_kernel.proofs.Mine.{mine_of, own_named}
+use Rattle.vm_abroad.specs.Home.{home_of}
 
 -- all but what a reclaim changes is as it was, and what it changes fits
 pub record Beside (k k2 : Parts) : Type 0 where
@@ -116,6 +118,7 @@ took_nothing header h outside doing past ids k k2 before after rests beside is =
                   pages = rw (beside.chains, is.objects, is.frames, is.resident) m.pages;
                   uses = rw beside.maps m.uses;
                   controls = rw is.objects m.controls;
+                  homeless = m.homeless;
                   settled = m.settled;
                   laundry = rw (is.frames, is.resident, is.laundry) m.laundry;
                   frames = rw is.frames m.frames;
@@ -160,7 +163,7 @@ took_freed header h outside doing past ids k k2 before after rests beside keeps 
     rw (own_host h) (frames_changed (slice_get (reverse header.frames.items) h) key row.frame _ _ _ _ _ (looked k.memory) k2.memory (frames_held header.size h moment) (frames_held header.size h moment - 1) (frames_wired h moment) m.frames page (λ held. let less = page.claims in omega arith)) in
     let drops : Drops header doing h o p moment = record { here = seen.here; why = ForFrames (seen.dirty ∙ freed.clean) seen.precious (may_take header h doing o p moment seen.lock may) } in
     let follows : Follows header h outside doing e moment =
-    record { consequence = tt; cause = drops; own_bytes = tt; frames = suffices header h k2.memory.frames (e ∷ moment) frames; inner = tt; said = tt } in
+    record { consequence = tt; cause = drops; own_bytes = tt; frames = suffices header h k2.memory.frames (e ∷ moment) frames; inner = tt; said = tt; own = own_named h; creates = tt } in
     let fit = fit_touched k.memory (searched k.memory.queues) m.fits.parts keeps refl in
     subst (λ (z : List Event). Took header h outside doing past ids reclaim.Freed k k2 before z) (sym log)
     (record {
@@ -180,7 +183,8 @@ took_freed header h outside doing past ids k k2 before after rests beside keeps 
                       (ap (λ z. record away { asked = not z; absent = absent_at k.memory.objects o p }) here) (λ o p apart. refl));
                   uses = rw beside.maps m.uses;
                   controls = rw freed.objects m.controls;
-                  settled = refl;
+                  homeless = m.homeless;
+                  settled = record { returned = refl; shut = λ region. refl };
                   laundry = rw freed.laundry (laundry_changed key row.frame _ _ _ _ _ (looked k.memory) k2.memory k.laundry (returns_out h moment) m.laundry page);
                   frames = frames;
                 };
@@ -217,6 +221,7 @@ record Before (header : Header) (h : ℕ) (k : Parts) (ids : Ids) (past : List E
   regions : HasRegions k.chains k.memory.objects ids (λ r. region_of header r past) (λ o. backing_of header o past) (next_region header past) (next_object header past)
   pages : HasPages k.memory.frames k.memory.resident k.memory.objects k.chains (λ o p. local header.size h (place_of o p) past)
   uses : HasUse k.maps (λ r. in_use header h r past) (made_tasks past) (λ t r. holds header.size t r past) (next_region header past)
+  homeless : (r : ℕ) → next_region header past ≤ r → home_of r past ≡ None
   laundry : HasLaundry k.memory.frames k.memory.resident k.laundry (returns_out h past)
   frames : HasFrames (slice_get (reverse header.frames.items) h) k.memory.frames (frames_held header.size h past) (frames_wired h past)
   waits : HasWaits k woken.Nobody past
@@ -232,7 +237,7 @@ creating h key control size = event.Sent (Up (host_id h) key.object) (message.Cr
 
 -- what a return leaves of the kernel
 returned_rests : (header : Header) (h : ℕ) (ids : Ids) (k k2 : Parts) (before after moment past : List Event) (control : ℕ) → Rests header h k ids past → Beside k k2 → KeepsPages k.memory.queues (searched k.memory.queues) → (is : IsReturned k.host [] k.memory k2.memory k.laundry k2.laundry before after) → Before header h k ids moment
-    → HasControls k2.memory.objects (λ o. last_control h o moment) (λ o. live_control h o moment) (λ o. is_ready h o moment)
+    → HasControls h k2.memory.objects (λ o. last_control h o moment) (λ o. live_control h o moment) (λ o. is_ready h o moment) (λ o. home_of o moment)
     → Rests header h k2 ids (returning h is.key control is.row.dirty (page_in k.memory.frames is.row.frame.0) ∷ moment)
 returned_rests header h ids k k2 before after moment past control rests beside keeps is b controls =
     let m = rests.matches in
@@ -262,7 +267,8 @@ returned_rests header h ids k k2 before after moment past control rests beside k
                 (λ o2 p2. ap (λ e. moved header.size e (local_at o2 p2)) (nested (o == o2) (p == p2))));
             uses = rw beside.maps b.uses;
             controls = controls;
-            settled = refl;
+            homeless = b.homeless;
+            settled = record { returned = refl; shut = λ region. refl };
             laundry = rw (own_host h) (laundry_returned key row _ _ (looked k.memory) k2.memory k.laundry k2.laundry (returns_out h moment) b.laundry page is.held is.room);
             frames = frames_changed (slice_get (reverse header.frames.items) h) key row.frame _ _ _ _ _ (looked k.memory) k2.memory (frames_held header.size h moment) (frames_held header.size h moment) (frames_wired h moment) b.frames page (λ held. let same = page.claims in omega arith);
           };
@@ -289,7 +295,7 @@ back_follows header h outside doing ids k key row f control past moment m found 
     record { live = live; here = seen.here; due = either (local header.size h (place_of key.object.0 key.page.0) moment).precious (seen.dirty ∙ dirty); same = ap (page_in k.memory.frames) (sym framed) ∙ sym seen.bytes_are; flag = sym seen.dirty; why = why } in
     let inside : f < frame_count k.memory.frames = claimed_inside k.memory.frames.claims f (subst (λ (z : ℕ). is_claimed k.memory.frames z ≡ true) framed (m.fits.parts.held key.object.0 key.page.0 row found)) in
     let long : length (page_in k.memory.frames f) ≡ header.size = m.fits.parts.all_sized f inside ∙ (m.fits.buffers ∙ m.size) in
-    record { consequence = tt; cause = back; own_bytes = tt; frames = suffices header h k.memory.frames (returning h key control row.dirty (page_in k.memory.frames f) ∷ moment) frames; inner = tt; said = (refl, long) }
+    record { consequence = tt; cause = back; own_bytes = tt; frames = suffices header h k.memory.frames (returning h key control row.dirty (page_in k.memory.frames f) ∷ moment) frames; inner = tt; said = (refl, long); own = own_named h; creates = tt }
 
 -- what is said where a page goes back
 abbrev sent_back : PageKey → Bool → ObjectRow → List ℕ → List Event → ℕ → PagerState → HostId → List Event
@@ -315,7 +321,7 @@ took_told header h outside doing past ids k k2 before after rests beside keeps m
     let lives : live_control h o moment ≡ Some is.object.control = m.controls.live o ∙ (ap live_in is.known ∙ ap (λ b. if b then Some is.object.control else None) (first.live ∙ paged)) in
     let why : Gives header doing h o p false moment = ForFrames refl (may_take header h doing o p moment seen.lock may) in
     let follows = back_follows header h outside doing ids k key row is.row.frame.0 is.object.control moment moment m page.found refl seen dirty lives why m.frames in
-    let b : Before header h k ids moment = record { tasks = m.tasks; regions = m.regions; pages = m.pages; uses = m.uses; laundry = m.laundry; frames = m.frames; waits = rests.waits; order = rests.order } in
+    let b : Before header h k ids moment = record { tasks = m.tasks; regions = m.regions; pages = m.pages; uses = m.uses; homeless = m.homeless; laundry = m.laundry; frames = m.frames; waits = rests.waits; order = rests.order } in
     let controls = controls_same k.memory.objects k2.memory.objects _ _ _ m.controls (controls_told k.memory.objects k2.memory.objects o is.object is.known same is.objects) in
     subst (λ (z : List Event). Took header h outside doing past ids reclaim.Returned k k2 before z) (sym log)
     (record {
@@ -350,13 +356,13 @@ took_first header h outside doing past ids k k2 before after rests beside keeps 
     let seen0 = seen_here k.memory.frames row (absent_at k.memory.objects o p) (local header.size h (place_of o p) h0) (m.pages.shown o p ∙ ap (λ z. shown k.memory.frames z (absent_at k.memory.objects o p)) page.found) is.victim.here plain in
     let seen = seen_here k.memory.frames row (absent_at k.memory.objects o p) (local header.size h (place_of o p) moment) (pages.shown o p ∙ ap (λ z. shown k.memory.frames z (absent_at k.memory.objects o p)) page.found) is.victim.here plain in
     let put : PutsObject o (Some (with_control state.Without is.object)) k.memory.objects k2.memory.objects = subst (λ (z : PagerState). PutsObject o (Some (with_control z is.object)) k.memory.objects k2.memory.objects) without is.objects in
-    let controls : HasControls k2.memory.objects (λ o. last_control h o moment) (λ o. live_control h o moment) (λ o. is_ready h o moment) = rw (own_host h) (controls_begun k.memory.objects k2.memory.objects _ _ _ o is.object m.controls beside.live none put) in
+    let controls : HasControls h k2.memory.objects (λ o. last_control h o moment) (λ o. live_control h o moment) (λ o. is_ready h o moment) (λ o. home_of o moment) = rw (own_host h) (controls_begun k.memory.objects k2.memory.objects _ _ _ o is.object m.controls beside.live is.known none put) in
     let lives : live_control h o moment ≡ Some control = if_true o (Some control) (live_control h o h0) (live_control h o moment) (rw (own_host h) refl) in
     let why : Gives header doing h o p false moment = Created control header.size h0 refl refl (may_take header h doing o p h0 seen0.lock may) in
     let follows = back_follows header h outside doing ids k key row is.row.frame.0 control h0 moment m page.found refl seen dirty lives why m.frames in
     let creates : Creates header h control o header.size h0 =
     record { number = ap (λ z. z + 1) none; sized = refl; temporary = subst (λ (z : List Declared). length z ≤ o) (sym m.plain.objects) (omega arith); never = m.controls.last o ∙ (ap last_in is.known ∙ none); page = p; here = seen0.here } in
-    let b : Before header h k ids moment = record { tasks = m.tasks; regions = m.regions; pages = pages; uses = m.uses; laundry = m.laundry; frames = m.frames; waits = rests.waits; order = rests.order } in
+    let b : Before header h k ids moment = record { tasks = m.tasks; regions = m.regions; pages = pages; uses = m.uses; homeless = m.homeless; laundry = m.laundry; frames = m.frames; waits = rests.waits; order = rests.order } in
     subst (λ (z : List Event). Took header h outside doing past ids reclaim.Returned k k2 before z) (sym log)
     (record {
       rests = returned_rests header h ids k k2 before after moment h0 control rests beside keeps is b controls;
@@ -365,11 +371,12 @@ took_first header h outside doing past ids k k2 before after rests beside keeps 
             more = e2 ∷ e1 ∷ [];
             is = refl;
             follows = (tt, (tt, tt));
-            licensed = ((follows.cause, refl), ((creates, subst (λ (z : Option Channel). MatchOption z (Unit {0}) (λ channel. ReturnsOn channel e1)) (sym m.settled) tt), tt));
+            licensed = ((follows.cause, refl), ((creates, subst (λ (z : Option Channel). MatchOption z (Unit {0}) (λ channel. ReturnsOn channel e1)) (sym m.settled.returned) tt), tt));
             own_bytes = (tt, (tt, tt));
             frames = (follows.frames, (suffices header h k.memory.frames moment m.frames, tt));
             inner = (tt, (tt, tt));
             said = (follows.said, (refl, tt));
+            mine = (mine_of header h e2 moment (λ region. refl) follows.own tt, (mine_of header h e1 h0 m.settled.shut (own_named h) (m.controls.home o is.object is.known), tt));
           };
       gone = record { more = e2 ∷ e1 ∷ []; is = refl; each = (refl, (refl, tt)) };
       reclaimed = on_its_way h k k2 h0 (e2 ∷ moment) beside page.claims page.left (rw (own_host h) refl) (rw (own_host h) (omega arith));
@@ -427,6 +434,7 @@ rests_touched header h ids k queues past rests keeps count =
             pages = m.pages;
             uses = m.uses;
             controls = m.controls;
+            homeless = m.homeless;
             settled = m.settled;
             laundry = m.laundry;
             frames = m.frames;

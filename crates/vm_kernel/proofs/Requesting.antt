@@ -28,6 +28,7 @@ use Rattle.vm_model.specs.Controls.{is_control}
 use Rattle.vm_model.specs.Local.{Asks, moved}
 use Rattle.vm_kernel.proofs.Standing.{MayAnswer, Misses}
 use Rattle.vm_kernel.proofs.Own.{own_host}
+use Rattle.vm_kernel.proofs.Mine.{own_named}
 
 -- a request of the host for the page
 abbrev pub requesting : ℕ → PageKey → ℕ → ℕ → Event
@@ -56,6 +57,8 @@ request_follows header h outside doing past task what key control access lacked 
       frames = frames;
       inner = tt;
       said = refl;
+      own = own_named h;
+      creates = tt;
     }
 
 pub matches_asked : (header : Header) (h : ℕ) (k new : Parts) (ids : Ids) (lost : List Entry) (past before after : List Event) (key : PageKey) (access : ℕ) → Matches header h k ids lost past → (asked : Requested key access k new before after) → Lies k key
@@ -80,7 +83,8 @@ matches_asked header h k new ids lost past before after key access m a lies live
       pages = rw (a.plan.chains, a.plan.objects, own_host h) pages2;
       uses = rw a.plan.maps m.uses;
       controls = rw a.plan.objects m.controls;
-      settled = refl;
+      homeless = m.homeless;
+      settled = record { returned = refl; shut = λ region. refl };
       laundry = rw a.plan.laundry (laundry_changed key a.frame _ _ _ _ _ k.memory new.memory k.laundry (returns_out h past) m.laundry a.page);
       frames = rw (own_host h) (frames_changed (slice_get (reverse header.frames.items) h) key a.frame _ _ _ _ _ k.memory new.memory (frames_held header.size h past) (frames_held header.size h past + 1) (frames_wired h past) m.frames a.page (λ held. let more = a.page.claims in omega arith));
     }

@@ -186,7 +186,7 @@ ready_controlled os os2 o row found put object is = elim (one_case o object (Som
 
 -- the objects are as they were, as the pager was told of this one
 
-pub controls_same : (os os2 : ObjectTable) (last_at : ℕ → ℕ) (live_at : ℕ → Option ℕ) (ready_at : ℕ → Bool) → HasControls os last_at live_at ready_at → ((o : ℕ) → object_at os2 o ≡ object_at os o) → HasControls os2 last_at live_at ready_at
+pub controls_same : {h : ℕ} {home_at : ℕ → Option ℕ} (os os2 : ObjectTable) (last_at : ℕ → ℕ) (live_at : ℕ → Option ℕ) (ready_at : ℕ → Bool) → HasControls h os last_at live_at ready_at home_at → ((o : ℕ) → object_at os2 o ≡ object_at os o) → HasControls h os2 last_at live_at ready_at home_at
 controls_same os os2 last_at live_at ready_at has same =
     record {
       last = λ o. has.last o ∙ sym (ap last_in (same o));
@@ -195,6 +195,7 @@ controls_same os os2 last_at live_at ready_at has same =
       all_live = record { at = λ o row is sent. has.all_live.at o row (sym (same o) ∙ is) sent };
       numbers = record { at = λ o row is. has.numbers.at o row (sym (same o) ∙ is) };
       ended = λ o row is. has.ended o row (sym (same o) ∙ is);
+      home = λ o row is. has.home o row (sym (same o) ∙ is);
     }
 
 pub controls_told : (os os2 : ObjectTable) (o : ℕ) (row : ObjectRow) → object_at os o ≡ Some row → (with_control row.state row ≡ row) → PutsObject o (Some (with_control row.state row)) os os2 → (k : ℕ) → object_at os2 k ≡ object_at os k
@@ -204,10 +205,10 @@ controls_told os os2 o row found told put k = elim (one_case o k (Some (with_con
 ]
 
 -- a control begins, of an object that had none
-pub controls_begun : (os os2 : ObjectTable) (last_at : ℕ → ℕ) (live_at : ℕ → Option ℕ) (ready_at : ℕ → Bool) (o : ℕ) (row : ObjectRow) → HasControls os last_at live_at ready_at
-    → AllLive os2 → row.control ≡ 0 → PutsObject o (Some (with_control state.Without row)) os os2
-    → HasControls os2 (λ k. if o == k then row.control + 1 else last_at k) (λ k. if o == k then Some (row.control + 1) else live_at k) (λ k. if o == k then false else ready_at k)
-controls_begun os os2 last_at live_at ready_at o row has live none put =
+pub controls_begun : {h : ℕ} {home_at : ℕ → Option ℕ} (os os2 : ObjectTable) (last_at : ℕ → ℕ) (live_at : ℕ → Option ℕ) (ready_at : ℕ → Bool) (o : ℕ) (row : ObjectRow) → HasControls h os last_at live_at ready_at home_at
+    → AllLive os2 → object_at os o ≡ Some row → row.control ≡ 0 → PutsObject o (Some (with_control state.Without row)) os os2
+    → HasControls h os2 (λ k. if o == k then row.control + 1 else last_at k) (λ k. if o == k then Some (row.control + 1) else live_at k) (λ k. if o == k then false else ready_at k) home_at
+controls_begun {h = h} {home_at = home_at} os os2 last_at live_at ready_at o row has live found none put =
     record {
       last = λ k. elim (eqb_tells o k) [
         | inl same ↦ ap (λ b. if b then row.control + 1 else last_at k) same.0 ∙ sym (ap last_in (now k same.0))
@@ -237,6 +238,10 @@ controls_begun os os2 last_at live_at ready_at o row has live none put =
             let bad : state.Sent ≡ state.Without = ap (λ z. z.state) one ∙ without in
             cc
         | inr apart ↦ has.ended k r (sym (was k apart.0) ∙ is) alive
+      ];
+      home = λ k r is. elim (eqb_tells o k) [
+        | inl same ↦ subst (λ (z : ℕ). home_at z ≡ Some h) same.1 (has.home o row found)
+        | inr apart ↦ has.home k r (sym (was k apart.0) ∙ is)
       ];
     }
   where

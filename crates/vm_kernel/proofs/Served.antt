@@ -1,14 +1,18 @@
 -- Accesses are run again, and the frame queue is served.
-use Rattle.std.proofs.Common.{ℕ, ◌≡◌, Bool, true, false, List, arith}
+use Rattle.std.proofs.Common.{ℕ, ◌≡◌, Bool, true, false, List, ◌++◌, arith}
 use Rattle.std.specs.Prelude.{OnOk, Result, Ok, Err}
+use Rattle.vm_model.specs.declared.command.Command.{Command}
 use Rattle.vm_model.specs.declared.event.Event.{Event}
 use Rattle.vm_model.specs.declared.script.Header.{Header}
+use Rattle.vm_legal.specs.Outside.{Outside}
+use Rattle.vm_legal.specs.Prompt.{PromptAt}
 use Rattle.vm_shadow.specs.declared.ids.Ids.{Ids}
 use Rattle.vm_supply.specs.declared.woken.Woken.TheVariants as woken
 use Rattle.vm_waits.specs.Waits.{again}
 use Rattle.vm_waits.specs.declared.waiting.Waiting.{Waiting}
+use Rattle.vm_kernel.specs.Begun.{Goes, Served}
 use Rattle.vm_kernel.specs.Matches.{Rests, Works}
-use Rattle.vm_kernel.specs.Serving.{Attempts}
+use Rattle.vm_kernel.specs.Serving.{Attempts, HasQueue}
 use Rattle.vm_kernel.specs.declared.parts.Parts.{Parts}
 
 -- what follows from two facts, where a call was Ok
@@ -20,6 +24,12 @@ both_ok (Err e) P Q R f p q = tt
 pub three_ok : {A B : Type 0} (r : Result A B) (P Q R S : Type 0) → (P → Q → R → S) → OnOk r P → OnOk r Q → OnOk r R → OnOk r S
 three_ok (Ok x) P Q R S f p q s = f p q s
 three_ok (Err e) P Q R S f p q s = tt
+
+-- the queue was served
+pub served_ok : {A B : Type 0} (r : Result A B) (header : Header) (h : ℕ) (outside : Outside) (doing : Command) (past old : List Event) (k : Parts) (ids : Ids) (new : List Event)
+    → OnOk r (Rests header h k ids (new ++ past)) → OnOk r (Goes header h outside doing past old new) → OnOk r (HasQueue header h k (new ++ past)) → OnOk r (PromptAt header h (new ++ past)) → OnOk r (Served header h outside doing past old k ids new)
+served_ok (Ok x) header h outside doing past old k ids new rests goes queue prompt = record { rests = rests; goes = goes; queue = queue; prompt = prompt }
+served_ok (Err e) header h outside doing past old k ids new rests goes queue prompt = tt
 
 -- nothing is left that is to be run again
 pub rests_of : (header : Header) (h : ℕ) (k : Parts) (ids : Ids) (past : List Event) → Works header h k ids woken.Nobody past → again k.waits.rows ≡ 0 → Rests header h k ids past

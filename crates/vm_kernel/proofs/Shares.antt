@@ -26,16 +26,16 @@ use Rattle.vm_legal.specs.Living.{lives_on, tasks}
 use Rattle.vm_legal.specs.Outside.{Outside}
 use Rattle.vm_legal.specs.Used.{in_use}
 use Rattle.vm_maps.specs.Maps.{ChangesOnly, Mapped, entries_in, rows_in}
-use Rattle.vm_objects.specs.Objects.{object_at}
+use Rattle.vm_objects.specs.Objects.{ObjectTable, object_at}
 use Rattle.vm_shadow.specs.Chains.{ChainTable, region_at}
 use Rattle.vm_shadow.specs.declared.ids.Ids.{Ids}
 use Rattle.vm_supply.specs.declared.woken.Woken.TheVariants as woken
 use Rattle.vm_waits.specs.Waits.{again, entry}
-use Rattle.vm_kernel.specs.Begun.{IsOwn, Ran, Starts}
+use Rattle.vm_kernel.specs.Begun.{IsMine, KernelSays, Ran, Starts}
 use Rattle.vm_kernel.specs.Counts.{count_by, most_tasks}
 use Rattle.vm_kernel.specs.Fits.{ArePlain}
 use Rattle.vm_kernel.specs.Forking.{CanShare, HasForked, Shares, got, with_child}
-use Rattle.vm_kernel.specs.Matches.{HasEntries, HasOrder, HasWaits, IsInside, Matches, host_id}
+use Rattle.vm_kernel.specs.Matches.{HasControls, HasEntries, HasOrder, HasWaits, IsInside, IsSettled, Matches, host_id}
 use Rattle.vm_kernel.specs.Waiters.{HasWaiters}
 use Rattle.vm_kernel.specs.Places.{entries_in_row, has_region, pages_in, place_of, region_entries, region_pages}
 use Rattle.vm_kernel.specs.declared.parts.Parts.{Parts}
@@ -44,6 +44,7 @@ use Rattle.vm_kernel.proofs.Forks.{behind, entered_behind, few_shared, free_behi
 use Rattle.vm_kernel.proofs.Growing.{licensed, suffices}
 use Rattle.vm_kernel.proofs.Heads.{Heads, passed, ran_head}
 use Rattle.vm_kernel.proofs.Making.{holds_made, idle_of, waits_made}
+use Rattle.vm_kernel.proofs.Mine.{mine_of, own_new, own_task}
 use Rattle.vm_kernel.proofs.Recounts.{Recounts, has_same, more_taken, recounts_put}
 use Rattle.vm_kernel.proofs.Regions.{region_row, tops_recounted}
 use Rattle.vm_kernel.proofs.Rewrites.{entries_changed, lives_below, recount_pages, recount_regions, recount_used}
@@ -52,17 +53,22 @@ use Rattle.vm_kernel.proofs.Uses.{unfilled, uses_entered, uses_made, holds_rows}
 use Rattle.vm_kernel.proofs.Waited.{waits_changed, told_changed}
 use Rattle.vm_parts.specs.Fits.{Fit}
 use Rattle.vm_parts.specs.declared.parts.HostParts.{HostParts}
-use Rattle.vm_legal.specs.Stretches.{IsInner}
+use Rattle.vm_legal.specs.Stretches.{EachIn, IsInner}
+use Rattle.vm_legal.proofs.Stretched.{each_both}
+use Rattle.vm_abroad.specs.Home.{home_of}
+use Rattle.vm_abroad.specs.Whose.{IsShut}
+use Rattle.vm_abroad.proofs.Home.{home_stays, homeless_next}
 use Rattle.vm_maps.proofs.Entering.{length_entered}
-use Rattle.vm_kernel.proofs.Own.{free_in, lives_here, lives_in, named_host, rows_here}
+use Rattle.vm_kernel.proofs.Own.{free_in, lives_here, lives_in, named_host, own_host, rows_here}
 
 -- a task that can be forked lives, its child doesn't, and nothing is copied
-pub record MayFork (k : Parts) (task child : ℕ) : Type 0 where
+pub record MayFork (k : Parts) (task child : ℕ) (past : List Event) : Type 0 where
   pub lives : entries_in task k.maps ≡ Some (rows_in task k.maps)
   pub free : entries_in child k.maps ≡ None
+  pub new : is_some (host_of child past) ≡ false
   pub shares : (copies (rows_in task k.maps) == 0) ≡ true
 
-pub may_fork : (header : Header) (h : ℕ) (task child : TaskId) (past : List Event) (k : Parts) (ids : Ids) (events : List Event) → Starts header h (command.Fork task child) past k ids events → MayFork k task.0 child.0
+pub may_fork : (header : Header) (h : ℕ) (task child : TaskId) (past : List Event) (k : Parts) (ids : Ids) (events : List Event) → Starts header h (command.Fork task child) past k ids events → MayFork k task.0 child.0 past
 may_fork header h task child past k ids events s =
     let m = s.rests.matches in
     let rows = entries_of header.size task.0 past in
@@ -74,6 +80,7 @@ may_fork header h task child past k ids events s =
     record {
       lives = lives;
       free = free_in child.0 m.tasks second.0;
+      new = second.0;
       shares = turned (copies (rows_in task.0 k.maps) == 0) (ap (λ z. not (copies z == 0)) (sym (rows_here m.tasks lives)) ∙ s.enough);
     }
   where
@@ -112,7 +119,8 @@ fork_start header h outside task child past k ids before after maps s changes to
             pages = m.pages;
             uses = uses_made k.maps maps (λ r. in_use header h r past) (tasks past) _ _ (next_region header past) child.0 m.uses changes may.free (rw most_is s.range.1) (holds_made header.size child (host_id h) past);
             controls = m.controls;
-            settled = refl;
+            homeless = m.homeless;
+            settled = record { returned = refl; shut = λ region. refl };
             laundry = m.laundry;
             frames = m.frames;
           });
@@ -126,7 +134,7 @@ fork_start header h outside task child past k ids before after maps s changes to
       others = changes.others task.0 apart ∙ may.lives;
       own = changes.changed;
       told = log;
-      licensed = subst (λ (z : List Event). AllLicensed header outside (command.Fork task child) z past) (sym log) (licensed header outside (command.Fork task child) (event.TaskMade child (host_id h)) past m.settled tt, tt);
+      licensed = subst (λ (z : List Event). AllLicensed header outside (command.Fork task child) z past) (sym log) (licensed header outside (command.Fork task child) (event.TaskMade child (host_id h)) past m.settled.returned tt, tt);
     }
 
 -- the child doesn't wait
@@ -184,6 +192,11 @@ can_share header h outside task child rows i row past k ids events f sound found
       region = inside.region;
       few = few_entries header.size k.maps k.chains row.region.0 f.matches.entries inside.region;
     }
+
+-- regions that have a home keep it
+controls_home : {h : ℕ} {os : ObjectTable} {last_at : ℕ → ℕ} {live_at : ℕ → Option ℕ} {ready_at : ℕ → Bool} {was : ℕ → Option ℕ} (now : ℕ → Option ℕ) → HasControls h os last_at live_at ready_at was → ((o : ℕ) → was o ≡ Some h → now o ≡ Some h) → HasControls h os last_at live_at ready_at now
+controls_home now has stay =
+    record { last = has.last; live = has.live; ready = has.ready; all_live = has.all_live; numbers = has.numbers; ended = has.ended; home = λ o row found. stay o (has.home o row found) }
 
 -- an entry more was shared
 pub fork_shared : (header : Header) (h : ℕ) (outside : Outside) (task child : TaskId) (rows : List Entry) (i : ℕ) (row : Entry) (past : List Event) (k k2 : Parts) (ids : Ids) (events after : List Event) → HasForked header h outside task child rows i past k ids events → AreEntries k.maps.size rows → slice_get rows i ≡ Some row
@@ -261,8 +274,9 @@ fork_shared header h outside task child rows i row past k k2 ids events after f 
             pages = rw s.memory (recount_pages count_at k.memory.frames k.memory.resident k.memory.objects k.chains k2.chains (λ o p. local size h (place_of o p) (events ++ past)) recounts m.pages);
             uses = uses_entered k.maps k2.maps (λ q. in_use header h q (events ++ past)) (tasks (events ++ past)) _ (next_region header (events ++ past)) child.0 row (lives_on h child.0 (events ++ past)) (λ q apart. m.uses.used q) used m.uses.among s.maps lives below on_host
                 (λ t q none why. holds_rows header.size child.0 t q k.maps (rows_in child.0 k.maps) _ (events ++ past) lives none ∙ m.uses.apart t q none why);
-            controls = rw s.memory m.controls;
-            settled = refl;
+            controls = rw s.memory (controls_home (λ o. home_of o (e ∷ (events ++ past))) m.controls (λ o at_home. home_stays o h e (events ++ past) at_home));
+            homeless = homeless_next header outside e (events ++ past) (command.Fork task child, enters) m.homeless;
+            settled = record { returned = refl; shut = λ region. refl };
             laundry = rw (s.memory, s.laundry) m.laundry;
             frames = rw s.memory m.frames;
           });
@@ -274,7 +288,7 @@ fork_shared header h outside task child rows i row past k k2 ids events after f 
       others = s.maps.others task.0 f.apart ∙ f.others;
       own = s.maps.changed ∙ ap Some (ap (entered row) own ∙ (last ∙ sym more));
       told = s.told ∙ (ap (λ z. e ∷ z) f.told ∙ sym (with_one (shared front) (shared (take (i + 1) rows)) more));
-      licensed = subst (λ (z : List Event). AllLicensed header outside (command.Fork task child) z past) (sym s.told) (licensed header outside (command.Fork task child) e (events ++ past) m.settled enters, f.licensed);
+      licensed = subst (λ (z : List Event). AllLicensed header outside (command.Fork task child) z past) (sym s.told) (licensed header outside (command.Fork task child) e (events ++ past) m.settled.returned enters, f.licensed);
     }
   where
     some_use : (n : ℕ) → 0 < n → nat_lt 0 n ≡ true
@@ -330,7 +344,7 @@ record Quiet (header : Header) (h : ℕ) (e : Event) : Type 0 where
   own : (past : List Event) → OwnBytes header e past
   frames : (past : List Event) → frames_used header.size h (e ∷ past) ≡ frames_used header.size h past
   inner : IsInner e
-  said : (size : ℕ) → IsOwn h size e
+  said : (size : ℕ) → KernelSays h size e
 
 abbrev AllQuiet : Header → ℕ → List Event → Type 0
 AllQuiet header h [] = Unit {0}
@@ -355,17 +369,33 @@ quiet_used : (header : Header) (h : ℕ) (events past : List Event) → AllQuiet
 quiet_used header h [] past all = refl
 quiet_used header h (e ∷ events) past all = all.0.frames (events ++ past) ∙ quiet_used header h events past all.1
 
-heads_quiet : (header : Header) (h : ℕ) (outside : Outside) (doing : Command) (events past : List Event) → AllLicensed header outside doing events past → AllQuiet header h events → Suffice header h past → Heads header h outside doing past events
-heads_quiet header h outside doing [] past causes all fine = record { licensed = tt; own_bytes = tt; frames = tt; inner = tt; said = tt }
-heads_quiet header h outside doing (e ∷ events) past causes all fine =
-    let later = heads_quiet header h outside doing events past causes.1 all.1 fine in
+heads_quiet : (header : Header) (h : ℕ) (outside : Outside) (doing : Command) (events past : List Event) → AllLicensed header outside doing events past → EachIn (IsMine header h) events past → AllQuiet header h events → Suffice header h past → Heads header h outside doing past events
+heads_quiet header h outside doing [] past causes mine all fine = record { licensed = tt; own_bytes = tt; frames = tt; inner = tt; said = tt; mine = tt }
+heads_quiet header h outside doing (e ∷ events) past causes mine all fine =
+    let later = heads_quiet header h outside doing events past causes.1 mine.1 all.1 fine in
     record {
       licensed = causes;
       own_bytes = (all.0.own (events ++ past), later.own_bytes);
       frames = (subst (λ (z : ℕ). IfSome (slice_get (reverse header.frames.items) h) (λ frames. z ≤ frames)) (sym (quiet_used header h (e ∷ events) past all)) fine, later.frames);
       inner = (all.0.inner, later.inner);
       said = (all.0.said header.size, later.said);
+      mine = mine;
     }
+
+-- they are the host's: the child was made there
+
+gets_mine : (header : Header) (h : ℕ) (child : TaskId) (rows : List Entry) (past : List Event) → IsShut past → lives_on h child.0 past ≡ true → EachIn (IsMine header h) (reverse (gets child rows)) past
+gets_mine header h child [] past shut here = tt
+gets_mine header h child (row ∷ rows) past shut here =
+    let e = got child row in
+    subst (λ (z : List Event). EachIn (IsMine header h) z past) (sym (reverse-append (e ∷ []) (gets child rows)))
+    (each_both (IsMine header h) (reverse (gets child rows)) (e ∷ []) past (gets_mine header h child rows (e ∷ past) (λ region. refl) here) (mine_of header h e past shut (own_task h child.0 past here) tt, tt))
+
+fork_mine : (header : Header) (h : ℕ) (child : TaskId) (rows : List Entry) (past : List Event) → IsSettled past → is_some (host_of child.0 past) ≡ false → EachIn (IsMine header h) (with_child h child rows) past
+fork_mine header h child rows past settled free =
+    let e = event.TaskMade child (host_id h) in
+    let here : lives_on h child.0 (e ∷ past) ≡ true = rw (own_host child.0, own_host h) refl in
+    each_both (IsMine header h) (reverse (gets child rows)) (e ∷ []) past (gets_mine header h child rows (e ∷ past) (λ region. refl) here) (mine_of header h e past settled.shut (own_new h child.0 past free) tt, tt)
 
 -- all that is shared was given
 pub ran_fork : (header : Header) (h : ℕ) (outside : Outside) (task child : TaskId) (i : ℕ) (past : List Event) (k k2 : Parts) (ids : Ids) (before events : List Event) → Starts header h (command.Fork task child) past k ids before → HasForked header h outside task child (rows_in task.0 k.maps) i past k2 ids events → length (rows_in task.0 k.maps) ≤ i
@@ -378,5 +408,6 @@ ran_fork header h outside task child i past k k2 ids before events s f end =
     let turned : reverse first ≡ with_child h child (shared rows) = reverse-append (event.TaskMade child (host_id h) ∷ []) (gets child (shared rows)) in
     let whole : events ≡ reverse first = f.told ∙ (ap (λ z. with_child h child (shared z)) (take_all rows i end) ∙ sym turned) in
     let quiet : AllQuiet header h events = subst (AllQuiet header h) (sym (whole ∙ turned)) (quiet_append header h (reverse (gets child (shared rows))) (event.TaskMade child (host_id h) ∷ []) (quiet_gets header h child (shared rows)) (quiet_made header h child, tt)) in
+    let mine : EachIn (IsMine header h) events past = subst (λ (z : List Event). EachIn (IsMine header h) z past) (sym (whole ∙ turned)) (fork_mine header h child (shared rows) past m.settled may.new) in
     let is : head header past (command.Fork task child) ≡ Some first = rw (lives_here m.tasks may.lives, rows_here m.tasks may.lives, may.shares) refl in
-    ran_head header h outside (command.Fork task child) past k2 ids events first is whole (heads_quiet header h outside (command.Fork task child) events past f.licensed quiet (suffices header h k.memory.frames past m.frames)) tt (record { matches = f.matches; used = f.used; reached = f.reached; waits = f.waits; order = f.order; idle = f.idle })
+    ran_head header h outside (command.Fork task child) past k2 ids events first is whole (heads_quiet header h outside (command.Fork task child) events past f.licensed mine quiet (suffices header h k.memory.frames past m.frames)) tt (record { matches = f.matches; used = f.used; reached = f.reached; waits = f.waits; order = f.order; idle = f.idle })

@@ -236,8 +236,8 @@ same_but f same r left was os os2 found put o = elim (one_case r o (Some (record
   | inr other ↦ sym (ap f other.1)
 ]
 
-controls_referred : (r left : ℕ) (was : ObjectRow) (os os2 : ObjectTable) (last_at : ℕ → ℕ) (live_at : ℕ → Option ℕ) (ready_at : ℕ → Bool) → object_at os r ≡ Some was → PutsObject r (Some (record was { references = left })) os os2
-    → HasControls os last_at live_at ready_at → HasControls os2 last_at live_at ready_at
+controls_referred : {h : ℕ} {home_at : ℕ → Option ℕ} (r left : ℕ) (was : ObjectRow) (os os2 : ObjectTable) (last_at : ℕ → ℕ) (live_at : ℕ → Option ℕ) (ready_at : ℕ → Bool) → object_at os r ≡ Some was → PutsObject r (Some (record was { references = left })) os os2
+    → HasControls h os last_at live_at ready_at home_at → HasControls h os2 last_at live_at ready_at home_at
 controls_referred r left was os os2 last_at live_at ready_at found put has =
     record {
       last = λ o. has.last o ∙ same_but last_in (λ row n. refl) r left was os os2 found put o;
@@ -245,6 +245,7 @@ controls_referred r left was os os2 last_at live_at ready_at found put has =
       ready = λ o control is. has.ready o control is ∙ same_but ready_in (λ row n. refl) r left was os os2 found put o;
       all_live = record { at = λ o row is told. let b = before o row is in ap (λ z. z.live) b.is ∙ has.all_live.at o b.was b.found (λ none. told (ap (λ z. z.state) b.is ∙ none)) };
       numbers = record { at = λ o row is. let b = before o row is in subst (λ (z : ℕ). z < 2 ^ 32 - 1) (sym (ap (λ z. z.control) b.is)) (has.numbers.at o b.was b.found) };
+      home = λ o row is. let b = before o row is in has.home o b.was b.found;
       ended = λ o row is live none. let b = before o row is in has.ended o b.was b.found (sym (ap (λ z. z.live) b.is) ∙ live) (sym (ap (λ z. z.state) b.is) ∙ none);
     }
   where
@@ -318,6 +319,7 @@ strands_ended header h outside doing past k ids rest r left events chains object
           };
           uses = m.uses;
           controls = controls_referred r left was k.memory.objects objects _ _ _ found put_object m.controls;
+          homeless = m.homeless;
           settled = m.settled;
           laundry = m.laundry;
           frames = m.frames;

@@ -12,10 +12,10 @@ use Rattle.vm_base.specs.declared.ids.PageKey.{PageKey}
 use Rattle.vm_model.specs.declared.message.Message.{Message}
 use Rattle.vm_model.specs.declared.script.Header.{Header}
 use Rattle.vm_objects.specs.Objects.{object_at}
-use Rattle.vm_kernel.specs.Plays.{AnswerBrings, Paging, Plays, PlaysAnswer, frame_here, paging}
+use Rattle.vm_kernel.specs.Plays.{AnswerBrings, Paging, PlaysAnswer, frame_here, paging}
 use Rattle.vm_kernel.specs.declared.parts.Parts.{Parts}
 use Rattle.vm_kernel.proofs.Hearing.{heard}
-use Rattle.vm_kernel.proofs.Playing.{frames_kept, frames_put, plays_both, same_paging}
+use Rattle.vm_kernel.proofs.Playing.{frames_kept, frames_put, same_paging}
 use Rattle.vm_parts.specs.declared.parts.HostParts.{HostParts}
 use Rattle.vm_parts.specs.Changes.{Cancels, asked_row}
 use Rattle.vm_parts.proofs.Rows.{asked_is}
@@ -48,10 +48,9 @@ answer_brings host object (Zeroed page) who k events after new is none = absurd 
 answer_brings host object (Lacked page) who k events after new is none = ended_same _ k is.was new is.asked is.page
 answer_brings host object (Failed page) who k events after new is none = ended_same _ k is.was new is.asked is.page
 
--- what stands in front of the events of a call
-pub taken_plays : {header : Header} {past : List Event} (object : ObjectId) (control : ℕ) (m : Message) {k now : Parts} {events : List Event} {mid : Paging} {after : List Event} {new : Paging} → k ≡ now
-    → PlaysAnswer header past object (outcome_of (object_at k.memory.objects object.0) control (row_at k.memory.resident object.0) m) (paging k) events mid → Plays header past events mid after new
-    → PlaysAnswer header past object (outcome_of (object_at now.memory.objects object.0) control (row_at now.memory.resident object.0) m) (paging now) after new
-taken_plays {header} {past} object control m {k} {now} {events} {mid} {after} {new} same taken more =
-    subst (λ (z : Parts). PlaysAnswer header past object (outcome_of (object_at z.memory.objects object.0) control (row_at z.memory.resident object.0) m) (paging z) after new) same
-    (record { heard = taken.heard; brings = taken.brings; plays = plays_both taken.plays more })
+-- from the start of a call
+pub taken_plays : {header : Header} {past : List Event} (object : ObjectId) (control : ℕ) (m : Message) {k now : Parts} {events : List Event} {new : Paging} → k ≡ now
+    → PlaysAnswer header past object (outcome_of (object_at k.memory.objects object.0) control (row_at k.memory.resident object.0) m) (paging k) events new
+    → PlaysAnswer header past object (outcome_of (object_at now.memory.objects object.0) control (row_at now.memory.resident object.0) m) (paging now) events new
+taken_plays {header} {past} object control m {k} {now} {events} {new} same taken =
+    subst (λ (z : Parts). PlaysAnswer header past object (outcome_of (object_at z.memory.objects object.0) control (row_at z.memory.resident object.0) m) (paging z) events new) same taken

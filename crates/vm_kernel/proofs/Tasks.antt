@@ -1,5 +1,5 @@
 -- A task is made, or its entries become others.
-use Rattle.std.proofs.Common.{◌≡◌, ℕ, ◌+◌, ◌<◌, ◌≤◌, true, List, [], ◌∷◌, length, refl, ap, sym, ◌∙◌, subst, arith, Some, None, inl, inr}
+use Rattle.std.proofs.Common.{◌≡◌, ℕ, ◌+◌, ◌<◌, ◌≤◌, true, List, [], ◌∷◌, length, refl, ap, sym, ◌∙◌, subst, arith, Some, None, inl, inr, false}
 use Rattle.std.proofs.lemmas.Bool.Decides.{eqb_tells}
 use Rattle.std.specs.Prelude.{is_some, unwrap_or}
 use Rattle.vm_base.specs.declared.code.Code.TheVariants as code
@@ -96,8 +96,11 @@ entries_changed size maps new old chains task rows has keeps changes below all s
     others t apart = ap (λ z. unwrap_or z []) (changes.others t (λ e. apart (sym e)))
 
 -- a task that can be made isn't there yet
+pub unmade : (header : Header) (h : ℕ) (task : TaskId) (past : List Event) (k : Parts) (ids : Ids) (events : List Event) → Starts header h (command.Task task (host_id h)) past k ids events → is_some (host_of task.0 past) ≡ false
+unmade header h task past k ids events s = (passed (is_some (host_of task.0 past)) code.NameTaken None s.accepted).0
+
 pub can_make : (header : Header) (h : ℕ) (task : TaskId) (past : List Event) (k : Parts) (ids : Ids) (events : List Event) → Starts header h (command.Task task (host_id h)) past k ids events → entries_in task.0 k.maps ≡ None
-can_make header h task past k ids events s = free_in task.0 s.rests.matches.tasks (passed (is_some (host_of task.0 past)) code.NameTaken None s.accepted).0
+can_make header h task past k ids events s = free_in task.0 s.rests.matches.tasks (unmade header h task past k ids events s)
 
 -- a new task has no entries among the counts
 pub entries_made : (size : ℕ) (maps new : Mapped) (chains : ChainTable) (task : ℕ) → HasEntries size maps chains [] → ChangesOnly maps new task (Some []) → entries_in task maps ≡ None → task < 1024 → HasEntries size new chains []

@@ -36,6 +36,7 @@ use Rattle.vm_kernel.proofs.Strands.{StillTold, at_region, itself, waits_told}
 use Rattle.vm_kernel.proofs.Walking.{unreached}
 use Rattle.vm_parts.proofs.Rows.{one_case, some_is}
 use Rattle.vm_kernel.proofs.Own.{named_host, own_host}
+use Rattle.vm_kernel.proofs.Mine.{own_named}
 
 -- a control ends
 
@@ -62,9 +63,9 @@ pages_quiet size control o fs rs os os2 cs local_at live_at has live bare marks 
       live = has.live;
     }
 
-controls_quiet : (control o : ℕ) (row : ObjectRow) (os os2 : ObjectTable) (last_at : ℕ → ℕ) (live_at : ℕ → Option ℕ) (ready_at : ℕ → Bool) → HasControls os last_at live_at ready_at → object_at os o ≡ Some row → live_at o ≡ Some control
-    → PutsObject o (Some (quiet_row row)) os os2 → HasControls os2 last_at (λ o2. if o == o2 then without_control control (live_at o2) else live_at o2) ready_at
-controls_quiet control o row os os2 last_at live_at ready_at has found live put =
+controls_quiet : {h : ℕ} {home_at : ℕ → Option ℕ} (control o : ℕ) (row : ObjectRow) (os os2 : ObjectTable) (last_at : ℕ → ℕ) (live_at : ℕ → Option ℕ) (ready_at : ℕ → Bool) → HasControls h os last_at live_at ready_at home_at → object_at os o ≡ Some row → live_at o ≡ Some control
+    → PutsObject o (Some (quiet_row row)) os os2 → HasControls h os2 last_at (λ o2. if o == o2 then without_control control (live_at o2) else live_at o2) ready_at home_at
+controls_quiet {h = h} {home_at = home_at} control o row os os2 last_at live_at ready_at has found live put =
     record {
       last = λ o2. elim (cases o2) [
         | inl this ↦ has.last o2 ∙ (ap last_in (was o2 this.0) ∙ sym (ap last_in this.1))
@@ -99,6 +100,10 @@ controls_quiet control o row os os2 last_at live_at ready_at has found live put 
       ended = λ o2 row2 is lives none. elim (cases o2) [
         | inl this ↦ absurd (let bad : true ≡ false = sym lives ∙ ap (λ z. z.live) (some_is row2 (quiet_row row) (sym is ∙ this.1)) in cc)
         | inr other ↦ has.ended o2 row2 (sym other.1 ∙ is) lives none
+      ];
+      home = λ o2 row2 is. elim (cases o2) [
+        | inl this ↦ subst (λ (z : ℕ). home_at z ≡ Some h) this.0 (has.home o row found)
+        | inr other ↦ has.home o2 row2 (sym other.1 ∙ is)
       ];
     }
   where
@@ -175,7 +180,8 @@ sweeps_told header h outside doing past k ids rest object events after row objec
           pages = rw (own_host h) (pages_quiet header.size row.control o k.memory.frames k.memory.resident k.memory.objects objects k.chains (λ o2 p. local header.size h (place_of o2 p) moment) (λ o2. live_control h o2 moment) m.pages alive s.pages marks);
           uses = m.uses;
           controls = rw (own_host h) (controls_quiet row.control o row k.memory.objects objects (λ o2. last_control h o2 moment) (λ o2. live_control h o2 moment) (λ o2. is_ready h o2 moment) m.controls found alive put);
-          settled = refl;
+          homeless = m.homeless;
+          settled = record { returned = refl; shut = λ region. refl };
           laundry = m.laundry;
           frames = m.frames;
         };
@@ -186,7 +192,7 @@ sweeps_told header h outside doing past k ids rest object events after row objec
             ]);
         order = s.runs.order;
         idle = s.runs.idle;
-        grows = grows_more header h outside doing past events ending s.runs.grows m.settled (record { consequence = tt; cause = cause; own_bytes = tt; frames = suffices header h k.memory.frames (ending ∷ moment) m.frames; inner = tt; said = refl });
+        grows = grows_more header h outside doing past events ending s.runs.grows m.settled (record { consequence = tt; cause = cause; own_bytes = tt; frames = suffices header h k.memory.frames (ending ∷ moment) m.frames; inner = tt; said = refl; own = own_named h; creates = tt });
       };
       used = s.used;
       reached = λ o2 row2 found2 lives. elim (one_case o o2 (Some (quiet_row row)) (object_at k.memory.objects o2) (object_at objects o2) (put.at o2)) [

@@ -26,7 +26,7 @@ use Rattle.vm_shadow.specs.declared.ids.Ids.{Ids}
 use Rattle.vm_supply.specs.declared.woken.Woken.TheVariants as woken
 use Rattle.vm_legal.specs.Frames.{frames_free}
 use Rattle.vm_model.specs.declared.script.Header.{Header}
-use Rattle.vm_kernel.specs.Turns.{ClaimsInTurn, Did, ForAsked, ForZeros, Found, Goes, InTurn, Joins, KeepsOthers, Leaves, Nothing, Quiet, Restarted, Restarts, RunsNone, RunsOnce, Start}
+use Rattle.vm_kernel.specs.Turns.{ClaimsInTurn, Did, ForAsked, ForZeros, Found, Goes, Joins, KeepsOthers, Leaves, Nothing, Quiet, Restarted, Restarts, RunsNone, RunsOnce, Start}
 use Rattle.vm_kernel.proofs.Growing.{free_is}
 use Rattle.vm_kernel.proofs.Ordering.{oldest_first}
 use Rattle.vm_legal.proofs.Stretched.{of_both}
@@ -360,18 +360,3 @@ others_ran q w may wants first_rows old new start before after was front run kep
 
 pub others_gone : (q : List TaskId) (first_rows : List Waiting) (old new : WaitTable) → new ≡ old → KeepsOthers q first_rows old.rows → KeepsOthers q first_rows new.rows
 others_gone q first_rows old new same kept = subst (λ (z : WaitTable). KeepsOthers q first_rows z.rows) (sym same) kept
-
--- both
-
-pub turns_of : (header : Header) (h : ℕ) (past : List Event) (old mid new : WaitTable) (events after : List Event) → Restarted header h mid.rows past old.queue mid.queue events → KeepsOthers mid.queue mid.rows new.rows → Leaves mid.queue new events after → InTurn header h past old new after
-turns_of header h past old mid new events after (from, restarts) kept leaves = record { queue = mid.queue; run = events; restarts = (from, restarts_kept h (λ t low out. kept t out) restarts); leaves = leaves }
-
--- nobody was run before
-pub turns_served : (header : Header) (h : ℕ) (past : List Event) (old mid new : WaitTable) (before events : List Event) → mid ≡ old → before ≡ [] → Leaves mid.queue new before events → InTurn header h past old new events
-turns_served header h past old mid new before events same nothing leaves =
-    record {
-      queue = mid.queue;
-      run = before;
-      restarts = subst (λ (z : WaitTable). Restarted header h new.rows past z.queue mid.queue before) same (0, Start before (subst (EachOf RunsNone) (sym nothing) tt));
-      leaves = leaves;
-    }

@@ -7,10 +7,10 @@ use Rattle.vm_model.specs.Regions.{backing_of, region_of}
 use Rattle.vm_legal.specs.Accesses.{Comes}
 use Rattle.vm_legal.specs.Used.{in_use}
 use Rattle.vm_legal.specs.Walks.{Below, IsTop, Reach, Sinks, page_on, sight}
-use Rattle.vm_kernel.specs.Matches.{IsOwn}
+use Rattle.vm_kernel.specs.Matches.{IsOverOwn}
 
 -- a page of a region has one place
-pub top_of : (header : Header) (past : List Event) (r o p index address_page : ℕ) → IsOwn (region_of header r past) r → o ≡ r → p ≡ address_page → index ≡ address_page → IsTop (region_of header r past) index o p
+pub top_of : (header : Header) (past : List Event) (r o p index address_page : ℕ) → IsOverOwn (region_of header r past) r → o ≡ r → p ≡ address_page → index ≡ address_page → IsTop (region_of header r past) index o p
 top_of header past r o p index address_page own same is are = record { object = own.top ∙ sym same; page = omega (arith, own.shift, is, are) }
 
 -- where the walk ends
@@ -23,7 +23,7 @@ pub sinks_own : (header : Header) (h : ℕ) (r p : ℕ) (past : List Event) → 
 sinks_own header h r p past bare none away unasked = (record { away = away; unasked = unasked; without = rw none refl }, bare)
 
 -- a region that is not in use leads to no object
-pub unreached : (header : Header) (h : ℕ) (o : ℕ) (past : List Event) → ((r : ℕ) → IsOwn (region_of header r past) r) → ((object : ℕ) → (backing_of header object past).backed ≡ false) → in_use header h o past ≡ false → Reach header h o past → ⊥
+pub unreached : (header : Header) (h : ℕ) (o : ℕ) (past : List Event) → ((r : ℕ) → IsOverOwn (region_of header r past) r) → ((object : ℕ) → (backing_of header object past).backed ≡ false) → in_use header h o past ≡ false → Reach header h o past → ⊥
 unreached header h o past own bare none reach = go reach.0 reach.1 reach.2 reach.3
   where
     go : (r n : ℕ) → in_use header h r past ≡ true → Below (λ k. backing_of header k past) n (region_of header r past).top o → ⊥

@@ -29,6 +29,7 @@ use Rattle.vm_kernel.proofs.Growing.{free_is, suffices}
 use Rattle.vm_kernel.proofs.Heads.{heads_one, passed, ran_head}
 use Rattle.vm_parts.specs.declared.parts.HostParts.{HostParts}
 use Rattle.vm_kernel.proofs.Own.{named_host, own_host}
+use Rattle.vm_kernel.proofs.Mine.{own_named}
 
 -- the frames, with another number wired
 abbrev pub with_wired : FrameTable → ℕ → FrameTable
@@ -69,7 +70,7 @@ ran_wired header h outside doing past k ids wired rests few first done =
     let frames : HasFrames (slice_get (reverse header.frames.items) h) (with_wired k.memory.frames wired) (frames_held header.size h (event.Wired (host_id h) wired ∷ past)) (frames_wired h (event.Wired (host_id h) wired ∷ past)) =
     record { total = m.frames.total; held = m.frames.held; wired = rw (own_host h) refl; fits = few } in
     ran_head header h outside doing past (record k { memory = record k.memory { frames = with_wired k.memory.frames wired } }) ids (event.Wired (host_id h) wired ∷ []) (event.Wired (host_id h) wired ∷ []) first refl
-    (heads_one header h outside doing past (event.Wired (host_id h) wired) (record { quiet = m.settled; cause = tt; own_bytes = tt; frames = suffices header h (with_wired k.memory.frames wired) (event.Wired (host_id h) wired ∷ past) frames; inner = tt; said = tt }))
+    (heads_one header h outside doing past (event.Wired (host_id h) wired) (record { settled = m.settled; cause = tt; own_bytes = tt; frames = suffices header h (with_wired k.memory.frames wired) (event.Wired (host_id h) wired ∷ past) frames; inner = tt; said = tt; own = own_named h; creates = tt }))
     done
     (record {
       matches =
@@ -85,7 +86,8 @@ ran_wired header h outside doing past k ids wired rests few first done =
             pages = pages_wired k.memory.frames k.memory.resident k.memory.objects k.chains (λ o p. local header.size h (place_of o p) past) wired m.pages;
             uses = m.uses;
             controls = m.controls;
-            settled = refl;
+            homeless = m.homeless;
+            settled = record { returned = refl; shut = λ region. refl };
             laundry = laundry_wired k.memory.frames k.memory.resident k.laundry (returns_out h past) wired m.laundry;
             frames = frames;
           };

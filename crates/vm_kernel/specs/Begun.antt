@@ -1,5 +1,5 @@
 -- What a kernel's call adds to a history: a command's group, each event with its cause and its bytes, within the frames.
-use Rattle.std.specs.Prelude.{ℕ, ◌≡◌, ◌==◌, Bool, true, false, List, [], ◌∷◌, ◌++◌, length, reverse, Some, None}
+use Rattle.std.specs.Prelude.{ℕ, ◌<◌, ◌≡◌, ◌==◌, Bool, true, false, List, [], ◌∷◌, ◌++◌, length, reverse, Some, None}
 use Rattle.vm_model.specs.declared.event.Event.{Event}
 use Rattle.vm_model.specs.declared.event.Event.TheVariants as event
 use Rattle.vm_model.specs.declared.command.Command.{Command}
@@ -9,15 +9,17 @@ use Rattle.vm_model.specs.declared.message.Message.TheVariants as message
 use Rattle.vm_model.specs.declared.script.Header.{Header}
 use Rattle.vm_model.specs.Ranges.{InRange}
 use Rattle.vm_legal.specs.Bytes.{OwnBytes}
-use Rattle.vm_legal.specs.Debts.{IsPaid}
 use Rattle.vm_legal.specs.Follows.{IsConsequence, IsDone, head}
 use Rattle.vm_legal.specs.Frames.{Suffice}
-use Rattle.vm_legal.specs.Licences.{AllLicensed, created}
+use Rattle.vm_legal.specs.Homes.{EntersNext}
+use Rattle.vm_legal.specs.Licences.{AllLicensed}
 use Rattle.vm_legal.specs.Living.{lives_on}
 use Rattle.vm_legal.specs.Outside.{Outside}
 use Rattle.vm_legal.specs.Prompt.{PromptAt}
 use Rattle.vm_legal.specs.Refusal.{refusal}
 use Rattle.vm_legal.specs.Stretches.{AllInner, EachIn, EachOf, MomentsIn}
+use Rattle.vm_abroad.specs.Home.{home_of}
+use Rattle.vm_abroad.specs.Whose.{IsOwn}
 use Rattle.vm_shadow.specs.declared.ids.Ids.{Ids}
 use Rattle.vm_kernel.specs.Built.{copies_entries}
 use Rattle.vm_kernel.specs.Matches.{HasOrder, HasWaits, Matches, Rests, host_id}
@@ -45,39 +47,57 @@ pub record Doing : Type 0 where
   pub command : Command
 
 -- what a kernel says: to pagers alone, from its own host, and with whole pages; tasks are made there
-abbrev pub IsOwn : ℕ → ℕ → Event → Type 0
-IsOwn h size (event.Sent (Up host object) (message.Return control page dirty keep bytes)) = (host.0 ≡ h) × (length bytes ≡ size)
-IsOwn h size (event.Sent (Up host object) (message.Create control bytes)) = host.0 ≡ h
-IsOwn h size (event.Sent (Up host object) (message.Request control page access)) = host.0 ≡ h
-IsOwn h size (event.Sent (Up host object) (message.Terminate control)) = host.0 ≡ h
-IsOwn h size (event.Sent (Up host object) other) = ⊥
-IsOwn h size (event.Sent (Down host object control) m) = ⊥
-IsOwn h size (event.TaskMade task host) = host.0 ≡ h
-IsOwn h size (event.DeviceFailed who way object page) = ⊥
-IsOwn h size (event.NoSlot object page) = ⊥
-IsOwn h size (event.Line line) = ⊥
-IsOwn h size (event.Refused code) = Unit {0}
-IsOwn h size (event.Taken channel m) = ⊥
-IsOwn h size (event.TaskEnded task) = Unit {0}
-IsOwn h size (event.RegionMade region object pages) = Unit {0}
-IsOwn h size (event.RegionCopied region source offset pages) = Unit {0}
-IsOwn h size (event.Entered task address bytes region offset prot inherit) = Unit {0}
-IsOwn h size (event.Removed task address bytes) = Unit {0}
-IsOwn h size (event.Protected task address bytes prot) = Unit {0}
-IsOwn h size (event.Inherited task address bytes inherit) = Unit {0}
-IsOwn h size (event.BegunLoad task address bytes) = Unit {0}
-IsOwn h size (event.BegunStore task address bytes value) = Unit {0}
-IsOwn h size (event.BegunCopy task address bytes to) = Unit {0}
-IsOwn h size (event.Loaded task object page value) = Unit {0}
-IsOwn h size (event.Stored task object page at bytes value) = Unit {0}
-IsOwn h size (event.CopiedPage task page object object_page target) = Unit {0}
-IsOwn h size (event.CopyEnded task) = Unit {0}
-IsOwn h size (event.Failed task object page) = Unit {0}
-IsOwn h size (event.Dropped host object page) = Unit {0}
-IsOwn h size (event.Zeroed host object page) = Unit {0}
-IsOwn h size (event.Raised host lower lower_page upper upper_page) = Unit {0}
-IsOwn h size (event.Shadowed region new old) = Unit {0}
-IsOwn h size (event.Wired host count) = Unit {0}
+abbrev pub KernelSays : ℕ → ℕ → Event → Type 0
+KernelSays h size (event.Sent (Up host object) (message.Return control page dirty keep bytes)) = (host.0 ≡ h) × (length bytes ≡ size)
+KernelSays h size (event.Sent (Up host object) (message.Create control bytes)) = host.0 ≡ h
+KernelSays h size (event.Sent (Up host object) (message.Request control page access)) = host.0 ≡ h
+KernelSays h size (event.Sent (Up host object) (message.Terminate control)) = host.0 ≡ h
+KernelSays h size (event.Sent (Up host object) other) = ⊥
+KernelSays h size (event.Sent (Down host object control) m) = ⊥
+KernelSays h size (event.TaskMade task host) = host.0 ≡ h
+KernelSays h size (event.DeviceFailed who way object page) = ⊥
+KernelSays h size (event.NoSlot object page) = ⊥
+KernelSays h size (event.Line line) = ⊥
+KernelSays h size (event.Refused code) = Unit {0}
+KernelSays h size (event.Taken channel m) = ⊥
+KernelSays h size (event.TaskEnded task) = Unit {0}
+KernelSays h size (event.RegionMade region object pages) = Unit {0}
+KernelSays h size (event.RegionCopied region source offset pages) = Unit {0}
+KernelSays h size (event.Entered task address bytes region offset prot inherit) = Unit {0}
+KernelSays h size (event.Removed task address bytes) = Unit {0}
+KernelSays h size (event.Protected task address bytes prot) = Unit {0}
+KernelSays h size (event.Inherited task address bytes inherit) = Unit {0}
+KernelSays h size (event.BegunLoad task address bytes) = Unit {0}
+KernelSays h size (event.BegunStore task address bytes value) = Unit {0}
+KernelSays h size (event.BegunCopy task address bytes to) = Unit {0}
+KernelSays h size (event.Loaded task object page value) = Unit {0}
+KernelSays h size (event.Stored task object page at bytes value) = Unit {0}
+KernelSays h size (event.CopiedPage task page object object_page target) = Unit {0}
+KernelSays h size (event.CopyEnded task) = Unit {0}
+KernelSays h size (event.Failed task object page) = Unit {0}
+KernelSays h size (event.Dropped host object page) = Unit {0}
+KernelSays h size (event.Zeroed host object page) = Unit {0}
+KernelSays h size (event.Raised host lower lower_page upper upper_page) = Unit {0}
+KernelSays h size (event.Shadowed region new old) = Unit {0}
+KernelSays h size (event.Wired host count) = Unit {0}
+
+-- a pager is told of an object on the host of its region
+abbrev pub CreatesHere : ℕ → Event → List Event → Type 0
+CreatesHere h (event.Sent (Up host object) (message.Create control size)) past = home_of object.0 past ≡ Some h
+CreatesHere h other past = Unit {0}
+
+-- whosever an event is, it is the kernel's; and behind a region that it makes stands its entry
+pub record IsMine (header : Header) (h : ℕ) (e : Event) (past : List Event) : Type 0 where
+  pub enters : EntersNext e past
+  pub own : IsOwn header h e past
+  pub creates : CreatesHere h e past
+
+-- what some kernel says
+pub record IsSaid (header : Header) (e : Event) (past : List Event) : Type 0 where
+  pub host : ℕ
+  pub known : host < length header.frames.items
+  pub says : KernelSays host header.size e
+  pub creates : CreatesHere host e past
 
 -- events of one step: the head of its command, and what follows from it; each has its cause
 pub record Grows (header : Header) (h : ℕ) (outside : Outside) (doing : Command) (past events : List Event) : Type 0 where
@@ -90,7 +110,8 @@ pub record Grows (header : Header) (h : ℕ) (outside : Outside) (doing : Comman
   pub own_bytes : EachIn (OwnBytes header) events past
   pub frames : MomentsIn (Suffice header h) events past
   pub inner : AllInner events
-  pub said : EachOf (IsOwn h header.size) events
+  pub said : EachOf (KernelSays h header.size) events
+  pub mine : EachIn (IsMine header h) events past
 
 -- the newest event is a line
 pub record IsLined (past : List Event) : Type 0 where
@@ -132,15 +153,6 @@ pub record Ran (header : Header) (h : ℕ) (outside : Outside) (doing : Command)
   pub grows : Grows header h outside doing past events
   pub done : IsDone header doing events past
 
--- a command's step was run
-pub record Began (header : Header) (h : ℕ) (outside : Outside) (doing : Command) (past : List Event) (k : Parts) (ids : Ids) (events : List Event) : Type 0 where
-  pub rests : Rests header h k ids (events ++ past)
-  pub grows : Grows header h outside doing past events
-  pub done : IsDone header doing events past
-  pub queue : HasQueue header h k (events ++ past)
-  pub prompt : PromptAt header h (events ++ past)
-  pub paid : IsPaid header (events ++ past)
-
 -- inside a command's step, with some entries that have just gone among the counts
 pub record Runs (header : Header) (h : ℕ) (outside : Outside) (doing : Command) (past : List Event) (k : Parts) (ids : Ids) (gone : List Entry) (events : List Event) : Type 0 where
   pub begins : IsLined past
@@ -159,10 +171,10 @@ pub record Goes (header : Header) (h : ℕ) (outside : Outside) (doing : Command
   pub own_bytes : EachIn (OwnBytes header) more (old ++ past)
   pub frames : MomentsIn (Suffice header h) more (old ++ past)
   pub inner : AllInner more
-  pub said : EachOf (IsOwn h header.size) more
+  pub said : EachOf (KernelSays h header.size) more
+  pub mine : EachIn (IsMine header h) more (old ++ past)
 
--- what is told of a step that takes a message, or of one that is nothing to this host: the past in front of the step, and what of the
--- step stands in front of the kernel's events
+-- what is told of a step that takes a message: the past in front of the step, and the taking
 pub record Passing : Type 0 where
   pub header : Header
   pub host : ℕ
@@ -171,49 +183,23 @@ pub record Passing : Type 0 where
   pub front : List Event
   pub command : Command
 
--- a kernel's part of such a step: the events behind the front
+-- a kernel's part of such a step: the events behind the taking
 pub record Passed (header : Header) (h : ℕ) (outside : Outside) (doing : Command) (past : List Event) (k : Parts) (ids : Ids) (events : List Event) : Type 0 where
   pub rests : Rests header h k ids (events ++ past)
   pub goes : Goes header h outside doing past [] events
-  pub queue : HasQueue header h k (events ++ past)
-  pub prompt : PromptAt header h (events ++ past)
-  pub returned : created (events ++ past) ≡ None
 
--- the event is nothing to a host: what its kernel stands for is the same behind it
-abbrev pub IsForeign : Event → Type 0
-IsForeign (event.Line line) = Unit {0}
-IsForeign (event.Taken (Up host object) (message.Return control page dirty keep bytes)) = keep ≡ true
-IsForeign (event.Taken (Up host object) (message.Init control bytes)) = Unit {0}
-IsForeign (event.Taken (Up host object) (message.Create control bytes)) = Unit {0}
-IsForeign (event.Taken (Up host object) (message.Request control page access)) = Unit {0}
-IsForeign (event.Taken (Up host object) (message.Unlock control page access)) = Unit {0}
-IsForeign (event.Taken (Up host object) (message.Completed control page count)) = Unit {0}
-IsForeign (event.Taken (Up host object) (message.Terminate control)) = Unit {0}
-IsForeign (event.Taken (Up host object) (message.Ready cache strategy)) = Unit {0}
-IsForeign (event.Taken (Up host object) (message.Supply page lock precious bytes)) = Unit {0}
-IsForeign (event.Taken (Up host object) (message.Unavailable page)) = Unit {0}
-IsForeign (event.Taken (Up host object) (message.Error page reason)) = Unit {0}
-IsForeign (event.Taken (Up host object) (message.Lock page count returns flush lock reply)) = Unit {0}
-IsForeign (event.Taken (Up host object) (message.Attributes cache strategy reply)) = Unit {0}
-IsForeign (event.Taken (Up host object) (message.Destroy reason)) = Unit {0}
-IsForeign (event.Taken (Up host object) (message.Changed control cache strategy)) = Unit {0}
-IsForeign (event.Sent (Down host object control) (message.Ready cache strategy)) = Unit {0}
-IsForeign (event.Sent (Down host object control) (message.Supply page lock precious bytes)) = Unit {0}
-IsForeign (event.Sent (Down host object control) (message.Unavailable page)) = Unit {0}
-IsForeign (event.Sent (Down host object control) (message.Error page reason)) = Unit {0}
-IsForeign (event.Sent (Down host object control) (message.Lock page count returns flush lock reply)) = Unit {0}
-IsForeign (event.Sent (Down host object control) other) = ⊥
-IsForeign (event.NoSlot object page) = Unit {0}
-IsForeign (event.DeviceFailed who way object page) = Unit {0}
-IsForeign other = ⊥
+-- the frame queue was served at the end of a step: it goes no further, and nobody of the host waits in vain
+pub record Served (header : Header) (h : ℕ) (outside : Outside) (doing : Command) (past old : List Event) (k : Parts) (ids : Ids) (new : List Event) : Type 0 where
+  pub rests : Rests header h k ids (new ++ past)
+  pub goes : Goes header h outside doing past old new
+  pub queue : HasQueue header h k (new ++ past)
+  pub prompt : PromptAt header h (new ++ past)
 
--- a return that kept no copy was taken, and its pager told what became of it
+-- the return of a page that the host didn't keep was taken
 pub record IsLaundered (h : ℕ) (front : List Event) : Type 0 where
   pub object : ObjectId
   pub control : ℕ
   pub page : PageNo
   pub dirty : Bool
   pub bytes : List ℕ
-  pub told : List Event
-  pub is : front ≡ told ++ event.Taken (Up (host_id h) object) (message.Return control page dirty false bytes) ∷ []
-  pub foreign : EachOf IsForeign told
+  pub is : front ≡ event.Taken (Up (host_id h) object) (message.Return control page dirty false bytes) ∷ []

@@ -1,3 +1,4 @@
+pub mod Abroad
 pub mod Begun
 pub mod Built
 pub mod Changes
@@ -9,6 +10,7 @@ pub mod Matches
 pub mod Pagers
 pub mod Places
 pub mod Plays
+pub mod Refusing
 pub mod Serving
 pub mod Sweeping
 pub mod Taking

@@ -20,6 +20,8 @@ use Rattle.vm_legal.specs.Frames.{frames_held, frames_wired, returns_out}
 use Rattle.vm_legal.specs.Licences.{created}
 use Rattle.vm_legal.specs.Living.{tasks as made_tasks}
 use Rattle.vm_legal.specs.Used.{in_use}
+use Rattle.vm_abroad.specs.Home.{home_of}
+use Rattle.vm_abroad.specs.Whose.{IsShut}
 use Rattle.vm_frames.specs.Frames.{FrameTable, claimed, frame_count, is_claimed}
 use Rattle.vm_pageout.specs.Laundry.{LaundryList}
 use Rattle.vm_parts.specs.Controls.{AllLive, HasNumbers}
@@ -65,7 +67,7 @@ pub record HasTasks (h size : ℕ) (maps : Mapped) (host_at : ℕ → Option ℕ
   pub rows : (task : ℕ) → is_some (entries_in task maps) ≡ true → rows_at task ≡ rows_in task maps
 
 -- a region is that of the object with its number, from its page 0 on, and has no copy mark
-pub record IsOwn (region : Region) (number : ℕ) : Type 0 where
+pub record IsOverOwn (region : Region) (number : ℕ) : Type 0 where
   pub unmarked : region.mark ≡ false
   pub top : region.top ≡ number
   pub shift : region.shift ≡ 0
@@ -87,7 +89,7 @@ pub record HasRegions (chains : ChainTable) (objects : ObjectTable) (ids : Ids) 
   pub equal : objects_made ≡ regions_made
   pub marks : ids.marks ≡ 0
   pub rows : (r : ℕ) (row : RegionRow) → region_at chains r ≡ Some row → region_from r ≡ record { mark = row.marked; top = row.top.0; shift = row.shift; pages = row.pages }
-  pub tops : (r : ℕ) → IsOwn (region_from r) r
+  pub tops : (r : ℕ) → IsOverOwn (region_from r) r
   pub unbacked : (o : ℕ) → (backing_from o).backed ≡ false
   pub unmade : (r : ℕ) → regions_made ≤ r → region_at chains r ≡ None
   pub unknown : (o : ℕ) → objects_made ≤ o → object_at objects o ≡ None
@@ -132,14 +134,15 @@ pub record HasUse (maps : Mapped) (used_at : ℕ → Bool) (made : List ℕ) (he
   pub among : (task : ℕ) (rows : List Entry) → entries_in task maps ≡ Some rows → is_among task made ≡ true
   pub apart : (task r : ℕ) → entries_in task maps ≡ None → (used_at r ≡ true) ⊎ (regions_made ≤ r) → held_at task r ≡ false
 
--- the controls of objects: the last one, the one that lives, and whether that is ready
-pub record HasControls (objects : ObjectTable) (last_at : ℕ → ℕ) (live_at : ℕ → Option ℕ) (ready_at : ℕ → Bool) : Type 0 where
+-- the controls of objects: the last one, the one that lives, and whether that is ready; the objects are those of regions of this host
+pub record HasControls (h : ℕ) (objects : ObjectTable) (last_at : ℕ → ℕ) (live_at : ℕ → Option ℕ) (ready_at : ℕ → Bool) (home_at : ℕ → Option ℕ) : Type 0 where
   pub last : (o : ℕ) → last_at o ≡ last_in (object_at objects o)
   pub live : (o : ℕ) → live_at o ≡ live_in (object_at objects o)
   pub ready : (o control : ℕ) → live_at o ≡ Some control → ready_at o ≡ ready_in (object_at objects o)
   pub all_live : AllLive objects
   pub numbers : HasNumbers objects
   pub ended : (o : ℕ) (row : ObjectRow) → object_at objects o ≡ Some row → row.live ≡ true → row.state ≢ Without
+  pub home : (o : ℕ) (row : ObjectRow) → object_at objects o ≡ Some row → home_at o ≡ Some h
 
 -- a frame that a return holds is claimed, and is no page's
 pub record IsWashed (frames : FrameTable) (resident : ResidentTable) (f : FrameNo) : Type 0 where
@@ -165,6 +168,11 @@ pub record HasFrames (most : Option ℕ) (frames : FrameTable) (held_now wired_n
   pub wired : wired_now ≡ frames.wired
   pub fits : claimed frames + frames.wired ≤ frame_count frames
 
+-- no create waits for its return, and no region for its entry
+pub record IsSettled (past : List Event) : Type 0 where
+  pub returned : created past ≡ None
+  pub shut : IsShut past
+
 -- the kernel of a host after a history, also inside a step; the counts of entries include some that have just gone
 pub record Matches (header : Header) (h : ℕ) (k : Parts) (ids : Ids) (gone : List Entry) (past : List Event) : Type 0 where
   pub plain : IsPlain header
@@ -177,8 +185,9 @@ pub record Matches (header : Header) (h : ℕ) (k : Parts) (ids : Ids) (gone : L
   pub entries : HasEntries header.size k.maps k.chains gone
   pub pages : HasPages k.memory.frames k.memory.resident k.memory.objects k.chains (λ o p. local header.size h (place_of o p) past)
   pub uses : HasUse k.maps (λ r. in_use header h r past) (made_tasks past) (λ task r. holds header.size task r past) (next_region header past)
-  pub controls : HasControls k.memory.objects (λ o. last_control h o past) (λ o. live_control h o past) (λ o. is_ready h o past)
-  pub settled : created past ≡ None
+  pub controls : HasControls h k.memory.objects (λ o. last_control h o past) (λ o. live_control h o past) (λ o. is_ready h o past) (λ o. home_of o past)
+  pub homeless : (r : ℕ) → next_region header past ≤ r → home_of r past ≡ None
+  pub settled : IsSettled past
   pub laundry : HasLaundry k.memory.frames k.memory.resident k.laundry (returns_out h past)
   pub frames : HasFrames (slice_get (reverse header.frames.items) h) k.memory.frames (frames_held header.size h past) (frames_wired h past)
 

@@ -107,13 +107,6 @@ pub record Leaves (old : List TaskId) (new : WaitTable) (before after : List Eve
   pub told : after ≡ served ++ before
   pub turns : ClaimsInTurn new.rows left served
 
--- a call's first events are those of the accesses that were run again, of which some joined the queue; the others are those of serving it
-pub record InTurn (header : Header) (h : ℕ) (past : List Event) (old new : WaitTable) (events : List Event) : Type 0 where
-  pub queue : List TaskId
-  pub run : List Event
-  pub restarts : Restarted header h new.rows past old.queue queue run
-  pub leaves : Leaves queue new run events
-
 -- the rows of those who don't queue are as they were
 abbrev pub KeepsOthers : List TaskId → List Waiting → List Waiting → Type 0
 KeepsOthers queue old new = (t : ℕ) → is_listed t queue ≡ false → entry new t ≡ entry old t

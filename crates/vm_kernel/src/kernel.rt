@@ -1,25 +1,28 @@
 // One host's kernel.
-ghost use Rattle.std.specs.Prelude.{◌≡◌, ◌≢◌, ◌++◌, ◌∷◌, ◌<◌, [], length, true, is_some, IfOk};
+ghost use Rattle.std.specs.Prelude.{◌≡◌, ◌≢◌, ◌++◌, ◌∷◌, ◌<◌, [], length, false, true, is_some, IfOk, OnOk};
 ghost use Rattle.vm_model.specs.declared.event.Event.TheVariants as event;
 ghost use Rattle.vm_model.specs.declared.message.Channel.TheVariants.{Down};
-ghost use Rattle.vm_legal.specs.Stretches.{EachOf};
 ghost use Rattle.vm_waits.specs.Waits.{entry, queued};
 ghost use Rattle.vm_kernel.specs.Serving.{HasQueue};
 ghost use Rattle.vm_frames.specs.Frames.{free};
 ghost use Rattle.vm_objects.specs.Objects.{object_at};
-ghost use Rattle.vm_kernel.specs.Begun.{Began, Given, IsForeign, IsLaundered, Passed, Passing, Starts};
-ghost use Rattle.vm_kernel.specs.Built.{is_built};
+ghost use Rattle.vm_model.specs.Ranges.{InRange};
+ghost use Rattle.vm_model.specs.Tasks.{entries_of, host_of};
+ghost use Rattle.vm_legal.specs.Refusal.{refusal};
+ghost use Rattle.vm_kernel.specs.Begun.{Doing, Given, IsLaundered, Passed, Passing, Ran, Served, Starts, acts_on};
+ghost use Rattle.vm_kernel.specs.Built.{copies_entries, is_built};
 ghost use Rattle.vm_kernel.specs.Plays.{Plays, PlaysAnswer, paging};
 ghost use Rattle.vm_resident.specs.Resident.{row_at};
 ghost use Rattle.vm_supply.specs.Answers.{outcome_of};
-ghost use Rattle.vm_kernel.specs.Matches.{IsPlain, Rests, first_ids, host_id};
+ghost use Rattle.vm_kernel.specs.Matches.{HasTasks, IsPlain, Rests, first_ids, host_id};
+ghost use Rattle.vm_kernel.specs.Refusing.{takes_name};
 ghost use Rattle.vm_kernel.specs.Taking.{EndsAll, IsErrorPaid, IsTempAnswer};
-ghost use Rattle.vm_kernel.specs.Turns.{InTurn};
+ghost use Rattle.vm_kernel.specs.Turns.{KeepsOthers, Leaves, Restarted};
 
 use crate::parts::Parts;
 use std::alloc::Global;
 use std::marker::Model;
-use vm_base::{HostId, NoMemory, ObjectId, TaskId};
+use vm_base::{Code, HostId, NoMemory, ObjectId, TaskId};
 use vm_maps::Maps;
 use vm_model::{Command, Events, Header, Message};
 use vm_objects::ObjectRow;
@@ -70,25 +73,26 @@ impl Kernel {
         Ok(Kernel { parts })
     }
 
-    /// Runs a command that isn't refused, up to the end of its step, and gives what happened
-    /// behind its line.
+    /// Runs a command that isn't refused, and gives what happened behind its line; the frame queues
+    /// are served behind that.
     ///
     /// After `NoMemory` the kernel is used no more.
     pub fn begin(&mut self, command: &Command, ids: &mut Ids) -> Result<Events, NoMemory>
         ghost given: { Given }
         requires starts { Starts given.header given.host command.now given.past self.old ids.old [] }
         requires built { is_built command.now ≡ true }
-        ensures began { IfOk result (λ events. Began given.header given.host given.outside command.now given.past self.new ids.new events.items) }
+        ensures ran { IfOk result (λ events. Ran given.header given.host given.outside command.now given.past self.new ids.new events.items) }
         ensures plays { IfOk result (λ events. Plays given.header given.past [] (paging self.old) events.items (paging self.new)) }
-        ensures turns { IfOk result (λ events. InTurn given.header given.host given.past self.old.waits self.new.waits events.items) }
+        ensures restarts { IfOk result (λ events. Restarted given.header given.host self.new.waits.rows given.past self.old.waits.queue self.new.waits.queue events.items) }
     {
         let mut log = Events::new(self.parts.alloc);
-        self.parts.begin(command, ids, &mut log)?;
+        self.parts.run(command, ids, &mut log)?;
         Ok(log)
     }
 
     /// Takes an answer of the default pager to a control of an object, and gives what happened
-    /// behind the taking. What isn't for the live control, or answers nothing, is discarded.
+    /// behind the taking, up to where the frame queues are served. What isn't for the live control,
+    /// or answers nothing, is discarded.
     ///
     /// After `NoMemory` the kernel is used no more.
     pub fn take(
@@ -106,16 +110,15 @@ impl Kernel {
         ensures failed { IfOk result (λ events. IsErrorPaid given.header (events.items ++ (given.front ++ given.past))) }
         ensures plays { IfOk result (λ events. PlaysAnswer given.header (given.front ++ given.past) object (outcome_of (object_at self.old.memory.objects object.0) control (row_at self.old.memory.resident object.0) message.now) (paging self.old) events.items (paging self.new)) }
         ensures ended { HasQueue given.header given.host self.old given.past → IfOk result (λ events. EndsAll given.header (events.items ++ (given.front ++ given.past))) }
-        ensures turns { IfOk result (λ events. InTurn given.header given.host (given.front ++ given.past) self.old.waits self.new.waits events.items) }
+        ensures restarts { IfOk result (λ events. Restarted given.header given.host self.new.waits.rows (given.front ++ given.past) self.old.waits.queue self.new.waits.queue events.items) }
     {
         let mut log = Events::new(self.parts.alloc);
         self.parts.take(ids, object, control, message, &mut log)?;
-        self.parts.go_on(ids, &mut log)?;
         Ok(log)
     }
 
-    /// The pager of an object took the oldest return without a copy; gives what happened behind
-    /// that.
+    /// The pager of an object took the oldest return without a copy: its frame is free. Gives what
+    /// happened behind that, which is nothing.
     ///
     /// After `NoMemory` the kernel is used no more.
     pub fn laundered(&mut self, ids: &mut Ids) -> Result<Events, NoMemory>
@@ -124,30 +127,28 @@ impl Kernel {
         requires front { IsLaundered given.host given.front }
         requires held { self.old.laundry.held ≢ [] }
         ensures passed { IfOk result (λ events. Passed given.header given.host given.outside given.command (given.front ++ given.past) self.new ids.new events.items) }
-        ensures plays { IfOk result (λ events. Plays given.header (given.front ++ given.past) [] (paging self.old) events.items (paging self.new)) }
-        ensures turns { IfOk result (λ events. InTurn given.header given.host (given.front ++ given.past) self.old.waits self.new.waits events.items) }
+        ensures nothing { IfOk result (λ events. events.items ≡ []) }
+        ensures pages { paging self.new ≡ paging self.old }
+        ensures waits { self.new.waits ≡ self.old.waits }
     {
-        let mut log = Events::new(self.parts.alloc);
         self.parts.launder(ids);
-        self.parts.go_on(ids, &mut log)?;
-        Ok(log)
+        Ok(Events::new(self.parts.alloc))
     }
 
-    /// A step has ended that is nothing to this host: its frame queue is served, as at the end of
-    /// every step.
+    /// A step ends: the host's frame queue is served, and what happened is added to the step's
+    /// events. It is called at the end of every step, whosever the step is, but of one that is
+    /// refused and of the line of a `settle`.
     ///
     /// After `NoMemory` the kernel is used no more.
-    pub fn serve(&mut self, ids: &mut Ids) -> Result<Events, NoMemory>
-        ghost given: { Passing }
-        requires rests { Rests given.header given.host self.old ids.old given.past }
-        requires front { EachOf IsForeign given.front }
-        ensures passed { IfOk result (λ events. Passed given.header given.host given.outside given.command (given.front ++ given.past) self.new ids.new events.items) }
-        ensures plays { IfOk result (λ events. Plays given.header (given.front ++ given.past) [] (paging self.old) events.items (paging self.new)) }
-        ensures turns { IfOk result (λ events. InTurn given.header given.host (given.front ++ given.past) self.old.waits self.new.waits events.items) }
+    pub fn serve(&mut self, ids: &mut Ids, log: &mut Events) -> Result<(), NoMemory>
+        ghost given: { Doing }
+        requires rests { Rests given.header given.host self.old ids.old (log.old.items ++ given.past) }
+        ensures served { OnOk result (Served given.header given.host given.outside given.command given.past log.old.items self.new ids.new log.new.items) }
+        ensures plays { OnOk result (Plays given.header given.past log.old.items (paging self.old) log.new.items (paging self.new)) }
+        ensures leaves { OnOk result (Leaves self.old.waits.queue self.new.waits log.old.items log.new.items) }
+        ensures others { OnOk result (KeepsOthers self.old.waits.queue self.old.waits.rows self.new.waits.rows) }
     {
-        let mut log = Events::new(self.parts.alloc);
-        self.parts.go_on(ids, &mut log)?;
-        Ok(log)
+        self.parts.go_on(ids, log)
     }
 
     /// Whether a task waits: it has begun an access that hasn't ended.
@@ -155,6 +156,30 @@ impl Kernel {
         ensures { result ≡ is_some (entry self.now.waits.rows task.0) }
     {
         self.parts.waits.get(task).is_some()
+    }
+
+    /// Why a command that acts on this host is refused now, if it is; the numbers that it gives to
+    /// tasks are free. It takes no memory.
+    pub fn refusal(&self, command: &Command, ids: &Ids) -> Option<Code>
+        ghost given: { Given }
+        requires rests { Rests given.header given.host self.now ids.now given.past }
+        requires acts { acts_on given.host command.now given.past ≡ true }
+        requires range { InRange given.header command.now }
+        requires built { is_built command.now ≡ true }
+        requires unnamed { takes_name command.now given.past ≡ false }
+        ensures { result ≡ refusal given.header given.past command.now }
+    {
+        self.parts.refusal(command, ids)
+    }
+
+    /// Whether a command that acts on this host is a fork that would copy an entry of its task.
+    pub fn copies_entries(&self, command: &Command) -> bool
+        ghost given: { Given }
+        requires tasks { HasTasks given.host given.header.size self.now.maps (λ task. host_of task given.past) (λ task. entries_of given.header.size task given.past) }
+        requires acts { acts_on given.host command.now given.past ≡ true }
+        ensures { result ≡ copies_entries given.header given.past command.now }
+    {
+        self.parts.copies_entries(command)
     }
 
     /// The number of frames that are neither claimed nor wired.

@@ -4,12 +4,15 @@
 mod access;
 mod building;
 mod changes;
+mod copying;
 mod counting;
 mod dropping;
 mod faults;
 mod forking;
 mod kernel;
+mod others;
 mod parts;
+mod refusing;
 mod running;
 mod serving;
 mod steps;
@@ -18,3 +21,4 @@ mod taking;
 
 pub use changes::{enter, inheritance, protection, removal};
 pub use kernel::Kernel;
+pub use others::others_leave_the_kernel;

@@ -1,9 +1,9 @@
 // The commands of a host.
 ghost use Rattle.std.specs.Prelude.{◌≡◌, true, OnOk};
-ghost use Rattle.vm_kernel.specs.Begun.{Began, Doing, Given, Ran, Starts};
+ghost use Rattle.vm_kernel.specs.Begun.{Given, Ran, Starts};
 ghost use Rattle.vm_kernel.specs.Built.{is_built};
 ghost use Rattle.vm_kernel.specs.Plays.{Plays, paging};
-ghost use Rattle.vm_kernel.specs.Turns.{InTurn, Restarted};
+ghost use Rattle.vm_kernel.specs.Turns.{Restarted};
 
 use crate::parts::Parts;
 use vm_base::NoMemory;
@@ -11,27 +11,13 @@ use vm_model::{Command, Events};
 use vm_shadow::Ids;
 
 impl Parts {
-    /// Runs one command, and serves the frame queue.
-    pub fn begin(
+    /// Runs one command.
+    pub fn run(
         &mut self,
         command: &Command,
         ids: &mut Ids,
         log: &mut Events,
     ) -> Result<(), NoMemory>
-        ghost given: { Doing }
-        requires is { given.command ≡ command.now }
-        requires starts { Starts given.header given.host command.now given.past self.old ids.old log.old.items }
-        requires built { is_built command.now ≡ true }
-        ensures began { OnOk result (Began given.header given.host given.outside command.now given.past self.new ids.new log.new.items) }
-        ensures plays { OnOk result (Plays given.header given.past log.old.items (paging self.old) log.new.items (paging self.new)) }
-        ensures turns { OnOk result (InTurn given.header given.host given.past self.old.waits self.new.waits log.new.items) }
-    {
-        self.run(command, ids, log)?;
-        self.serve(ids, log)
-    }
-
-    // Runs one command.
-    fn run(&mut self, command: &Command, ids: &mut Ids, log: &mut Events) -> Result<(), NoMemory>
         ghost given: { Given }
         requires starts { Starts given.header given.host command.now given.past self.old ids.old log.old.items }
         requires built { is_built command.now ≡ true }

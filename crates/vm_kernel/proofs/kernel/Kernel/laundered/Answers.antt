@@ -1,12 +1,18 @@
-use Rattle.vm_kernel.proofs.Playing.{called_plays, plays_after}
-use Rattle.vm_kernel.proofs.kernel.Kernel.laundered.Goals as goal
-use Rattle.std.proofs.Common.{◌++◌, ap, ◌∙◌}
+use Rattle.std.proofs.Common.{◌++◌, List, ap, ◌∙◌, sym, subst}
+use Rattle.vm_model.specs.declared.event.Event.{Event}
+use Rattle.vm_kernel.specs.Begun.{Passed}
+use Rattle.vm_kernel.specs.Plays.{paging}
 use Rattle.vm_kernel.specs.declared.parts.Parts.{Parts}
-use Rattle.vm_kernel.proofs.Turning.{turns_served}
+use Rattle.vm_kernel.proofs.Growing.{goes_none}
+use Rattle.vm_kernel.proofs.kernel.Kernel.laundered.Goals as goal
 
-pub returns-clause-plays : goal.returns-clause-plays
-returns-clause-plays g c = called_plays c.self.view_is c.new-log.ensures (plays_after c.launder.ensures.same c.in_ok-go_on.ensures.plays)
+pub returns-clause-passed : goal.returns-clause-passed
+returns-clause-passed g c =
+    subst (λ (z : List Event). Passed g.given.header g.given.host g.given.outside g.given.command (g.given.front ++ g.given.past) c.launder.new.self c.args.ids.now z) (sym c.new.ensures)
+    (record { rests = c.launder.ensures.rests; goes = goes_none g.given.header g.given.host g.given.outside g.given.command (g.given.front ++ g.given.past) _ })
 
-pub returns-clause-turns : goal.returns-clause-turns
-returns-clause-turns g c =
-    turns_served g.given.header g.given.host (g.given.front ++ g.given.past) c.args.self.now.waits c.launder.new.self.waits c.go_on.new.self.waits c.new-log.result.items c.go_on.new.log.items (c.launder.ensures.waits ∙ ap (λ (z : Parts). z.waits) c.self.view_is) c.new-log.ensures c.in_ok-go_on.ensures.leaves
+pub returns-clause-pages : goal.returns-clause-pages
+returns-clause-pages g c = c.launder.ensures.same ∙ ap paging c.self.view_is
+
+pub returns-clause-waits : goal.returns-clause-waits
+returns-clause-waits g c = c.launder.ensures.waits ∙ ap (λ (z : Parts). z.waits) c.self.view_is

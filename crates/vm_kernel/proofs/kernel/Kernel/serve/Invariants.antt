@@ -1,5 +1,4 @@
-use Rattle.std.proofs.Common.{◌++◌}
 use Rattle.vm_kernel.proofs.kernel.Kernel.serve.Given as goal
 
 abbrev pub ghost-go_on : goal.ghost-go_on
-ghost-go_on g a = record { header = g.given.header; host = g.given.host; outside = g.given.outside; past = g.given.front ++ g.given.past; command = g.given.command }
+ghost-go_on g a = g.given

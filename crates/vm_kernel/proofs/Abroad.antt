@@ -1,0 +1,347 @@
+-- What is no event of a host leaves what its kernel stands for.
+use Rattle.std.proofs.Common.{◌≡◌, ℕ, zero, suc, ◌<◌, ◌≤◌, ◌==◌, ◌&&◌, ◌||◌, Bool, true, false, List, [], ◌∷◌, ◌++◌, length, refl, ap, sym, ◌∙◌, subst, arith, Option, Some, None, inl, inr}
+use Rattle.std.proofs.lemmas.Bool.Decides.{eqb_tells, nat_tests}
+use Rattle.std.specs.Prelude.{IfSome, is_some, nat_lt, reverse, slice_get, unwrap_or}
+use Rattle.vm_base.specs.declared.entry.Entry.{Entry}
+use Rattle.vm_model.specs.declared.command.Command.{Command}
+use Rattle.vm_model.specs.declared.event.Event.{Event}
+use Rattle.vm_model.specs.declared.event.Event.TheVariants as event
+use Rattle.vm_model.specs.declared.message.Channel.TheVariants.{Up, Down}
+use Rattle.vm_model.specs.declared.script.Header.{Header}
+use Rattle.vm_model.specs.Controls.{last_control, live_control}
+use Rattle.vm_model.specs.Local.{local}
+use Rattle.vm_model.specs.Named.{named}
+use Rattle.vm_model.specs.Regions.{backing_of, next_object, next_region, region_of}
+use Rattle.vm_model.specs.Rows.{AllRows, rows_map}
+use Rattle.vm_model.specs.Tasks.{entries_of, has_entry, host_of}
+use Rattle.vm_legal.specs.Accesses.{begun_at, is_ready}
+use Rattle.vm_legal.specs.Frames.{Suffice, frames_free, frames_held, frames_used, frames_wired, returns_out}
+use Rattle.vm_legal.specs.Homes.{EntersNext, is_home, is_used}
+use Rattle.vm_legal.specs.Licences.{AllLicensed, HasCause}
+use Rattle.vm_legal.specs.Living.{lives_on, tasks}
+use Rattle.vm_legal.specs.Outside.{Outside}
+use Rattle.vm_legal.specs.Prompt.{PromptAt}
+use Rattle.vm_legal.specs.Stretches.{EachIn, EachOf, MomentsIn}
+use Rattle.vm_legal.specs.Used.{in_use}
+use Rattle.vm_legal.specs.Walks.{Below}
+use Rattle.vm_abroad.specs.Home.{home_of}
+use Rattle.vm_abroad.specs.Same.{SameFacts, Stays}
+use Rattle.vm_abroad.specs.Sound.{IsAbroad, IsAmong, IsHeldOn, IsRegionOf, Knows, Sound}
+use Rattle.vm_abroad.specs.Whose.{IsOfHost, IsShut}
+use Rattle.vm_abroad.proofs.Facts.{stays, use_same}
+use Rattle.vm_abroad.proofs.Home.{homes_stay}
+use Rattle.vm_abroad.proofs.Pages.{pages_abroad}
+use Rattle.vm_abroad.proofs.Sounds.{sound_next, use_of, used_of}
+use Rattle.vm_abroad.proofs.Waits.{swept_now, vain_now}
+use Rattle.vm_maps.specs.Maps.{entries_in, rows_in}
+use Rattle.vm_shadow.specs.Chains.{region_at}
+use Rattle.vm_shadow.specs.declared.ids.Ids.{Ids}
+use Rattle.vm_shadow.specs.declared.region_row.RegionRow.{RegionRow}
+use Rattle.vm_waits.specs.Waits.{entry}
+use Rattle.vm_waits.specs.declared.waiting.Waiting.{Waiting}
+use Rattle.vm_kernel.specs.Abroad.{IsCommon, IsNobodys}
+use Rattle.vm_kernel.specs.Begun.{IsMine}
+use Rattle.vm_kernel.specs.Counts.{count_by, most_tasks}
+use Rattle.vm_kernel.specs.Matches.{HasControls, HasFrames, HasLaundry, HasOrder, HasPages, HasRegions, HasTasks, HasUse, HasWaits, IsInside, Matches, Rests, holds, is_among}
+use Rattle.vm_kernel.specs.Places.{has_region, place_of}
+use Rattle.vm_kernel.specs.Serving.{HasQueue}
+use Rattle.vm_kernel.specs.Waiters.{BeganInOrder}
+use Rattle.vm_kernel.specs.declared.parts.Parts.{Parts}
+use Rattle.vm_kernel.proofs.Counts.{by_some}
+use Rattle.vm_kernel.proofs.Elsewhere.{ApartElsewhere, apart_abroad}
+use Rattle.vm_kernel.proofs.Own.{lives_in}
+use Rattle.vm_supply.specs.declared.woken.Woken.TheVariants as woken
+
+-- what a kernel says of all hosts
+
+pub common_of : (header : Header) (h : ℕ) (k : Parts) (ids : Ids) (gone : List Entry) (past : List Event) → Matches header h k ids gone past → IsCommon header ids past
+common_of header h k ids gone past matches =
+    let has = matches.regions in
+    record { region = has.region; object = has.object; equal = has.equal; marks = has.marks; tops = has.tops; unbacked = has.unbacked; settled = matches.settled; homeless = matches.homeless }
+
+-- what its tables say of its host
+
+among_of : (n : ℕ) (ns : List ℕ) → is_among n ns ≡ true → IsAmong n ns
+among_of n [] is = absurd (let bad : false ≡ true = is in cc)
+among_of n (m ∷ more) is = elim (eqb_tells m n) [ inl same ↦ inl same.1 | inr apart ↦ inr (among_of n more (rw apart.0 at is)) ]
+
+among_more : (n : ℕ) (more ns : List ℕ) → is_among n ns ≡ true → is_among n (more ++ ns) ≡ true
+among_more n [] ns is = is
+among_more n (m ∷ more) ns is = second (m == n) (is_among n (more ++ ns)) (among_more n more ns is)
+  where
+    second : (a b : Bool) → b ≡ true → (a || b) ≡ true
+    second true b is = refl
+    second false b is = is
+
+-- a task with entries lives
+with_entry : (r : ℕ) (x : Option (List Entry)) → has_entry r (unwrap_or x []) ≡ true → is_some x ≡ true
+with_entry r None has = has
+with_entry r (Some rows) has = refl
+
+-- a region of its tables is the host's
+own_region : (header : Header) (h : ℕ) (k : Parts) (ids : Ids) (past : List Event) → Rests header h k ids past → (r : ℕ) → has_region k.chains r ≡ true → IsRegionOf header h r past
+own_region header h k ids past rests r has temporary = by_row (region_at k.chains r) refl has
+  where
+    by_row : (x : Option RegionRow) → region_at k.chains r ≡ x → is_some x ≡ true → is_used header h r past ≡ true
+    by_row None found has = absurd (let bad : false ≡ true = has in cc)
+    by_row (Some row) found has =
+        let count = rests.matches.entries.counts r row found in
+        let some = rests.used r row found in
+        let less : 0 < count_by most_tasks r k.maps = omega (arith, count, some) in
+        let test : nat_lt 0 (count_by most_tasks r k.maps) ≡ true = grind (arith, nat_tests) in
+        used_of header h r past (rests.matches.settled.shut r) (rests.matches.uses.used r ∙ test)
+
+held_on : (header : Header) (h : ℕ) (k : Parts) (ids : Ids) (past : List Event) → Rests header h k ids past → (r : ℕ) → is_used header h r past ≡ true → IsHeldOn header h r past
+held_on header h k ids past rests r used =
+    let has = rests.matches.tasks in
+    let test : nat_lt 0 (count_by most_tasks r k.maps) ≡ true = sym (rests.matches.uses.used r) ∙ use_of header h r past used in
+    let some = by_some most_tasks r k.maps (grind (arith, nat_tests)) in
+    let here = with_entry r (entries_in some.0 k.maps) some.1 in
+    let lives : lives_on h some.0 past ≡ true = has.hosts some.0 ∙ here in
+    record {
+      task = some.0;
+      lives = lives;
+      made = among_of some.0 (tasks past) (rests.matches.uses.among some.0 (rows_in some.0 k.maps) (lives_in some.0 has lives));
+      holds = inl (ap (has_entry r) (has.rows some.0 here) ∙ some.1);
+    }
+
+-- an object of a region has none under it
+chain_made : (header : Header) (h : ℕ) (k : Parts) (ids : Ids) (past : List Event) → Rests header h k ids past → (r n u : ℕ) → r < next_region header past → Below (λ o. backing_of header o past) n (region_of header r past).top u → u < next_object header past
+chain_made header h k ids past rests r zero u small below =
+    let has = rests.matches.regions in
+    let top = (has.tops r).top in
+    let equal = has.equal in
+    let it : (region_of header r past).top ≡ u = below in
+    omega (arith, top, equal, it, small)
+chain_made header h k ids past rests r (suc n) u small below = let bad : true ≡ false = sym below.0 ∙ rests.matches.regions.unbacked (region_of header r past).top in absurd (cc)
+
+pub knows_of : (header : Header) (h : ℕ) (k : Parts) (ids : Ids) (past : List Event) → Rests header h k ids past → Knows header h past
+knows_of header h k ids past rests = record {
+  held = λ r temporary used. held_on header h k ids past rests r used;
+  entries = λ task lives.
+      subst (AllRows (λ row. IsRegionOf header h row.region.0 past)) (sym (rests.matches.tasks.rows task (sym (rests.matches.tasks.hosts task) ∙ lives)))
+      (rows_map (IsInside header.size k.chains) (λ row. IsRegionOf header h row.region.0 past) (λ row is. own_region header h k ids past rests row.region.0 is.region) (rows_in task k.maps) (rests.matches.entries.inside task));
+  chains = λ r small own n u below. chain_made header h k ids past rests r n u small below;
+}
+
+-- a kernel whose host's facts read the same stands for them still
+
+module _ (header : Header) (h : ℕ) (k : Parts) (ids next : Ids) (past new : List Event) (rests : Rests header h k ids past) (same : SameFacts header h past new) (common : IsCommon header next new) where
+  living : (task : ℕ) → is_some (entries_in task k.maps) ≡ true → lives_on h task past ≡ true
+  living task here = rests.matches.tasks.hosts task ∙ here
+
+  tasks_same : HasTasks h header.size k.maps (λ task. host_of task new) (λ task. entries_of header.size task new)
+  tasks_same =
+      let has = rests.matches.tasks in
+      record { sized = has.sized; hosts = λ task. same.lives task ∙ has.hosts task; rows = λ task here. (same.task task (living task here)).entries ∙ has.rows task here }
+
+  small_row : (r : ℕ) (row : RegionRow) → region_at k.chains r ≡ Some row → r < next_region header past
+  small_row r row found = by_test (nat_lt r (next_region header past)) refl
+    where
+      by_test : (b : Bool) → nat_lt r (next_region header past) ≡ b → r < next_region header past
+      by_test true less = grind (arith, nat_tests)
+      by_test false less = let none : region_at k.chains r ≡ None = rests.matches.regions.unmade r (grind (arith, nat_tests)) in absurd (let bad : None ≡ Some row = sym none ∙ found in cc)
+
+  regions_same : HasRegions k.chains k.memory.objects next (λ r. region_of header r new) (λ o. backing_of header o new) (next_region header new) (next_object header new)
+  regions_same =
+      let has = rests.matches.regions in
+      record {
+        region = common.region;
+        object = common.object;
+        equal = common.equal;
+        marks = common.marks;
+        rows = λ r row found. same.region r (small_row r row found) (own_region header h k ids past rests r (ap is_some found)) ∙ has.rows r row found;
+        tops = common.tops;
+        unbacked = common.unbacked;
+        unmade = λ r high. has.unmade r (let rise = same.regions in omega (arith, rise, high));
+        unknown = λ o high. has.unknown o (let rise = same.objects in omega (arith, rise, high));
+        under = has.under;
+      }
+
+  pages_same : HasPages k.memory.frames k.memory.resident k.memory.objects k.chains (λ o p. local header.size h (place_of o p) new)
+  pages_same = record { shown = λ o p. same.pages.local (place_of o p) ∙ rests.matches.pages.shown o p; live = rests.matches.pages.live }
+
+  uses_same : ApartElsewhere header h new → HasUse k.maps (λ r. in_use header h r new) (tasks new) (λ task r. holds header.size task r new) (next_region header new)
+  uses_same apart =
+      let has = rests.matches.uses in
+      let none : named header ≡ 0 = ap length rests.matches.plain.objects in
+      record {
+        used = λ r. use_same header h r past new same (omega (arith, none)) (rests.matches.settled.shut r) (common.settled.shut r) ∙ has.used r;
+        among = λ task rows found. subst (λ (z : List ℕ). is_among task z ≡ true) (sym same.made.is) (among_more task same.made.made (tasks past) (has.among task rows found));
+        apart = λ task r away ours. apart task r (same.lives task ∙ (rests.matches.tasks.hosts task ∙ ap is_some away)) ours;
+      }
+
+  controls_same : ((o : ℕ) → home_of o past ≡ Some h → home_of o new ≡ Some h) → HasControls h k.memory.objects (λ o. last_control h o new) (λ o. live_control h o new) (λ o. is_ready h o new) (λ o. home_of o new)
+  controls_same home =
+      let has = rests.matches.controls in
+      record {
+        last = λ o. same.pages.last o ∙ has.last o;
+        live = λ o. same.pages.live o ∙ has.live o;
+        ready = λ o control lives. same.pages.ready o ∙ has.ready o control (sym (same.pages.live o) ∙ lives);
+        all_live = has.all_live;
+        numbers = has.numbers;
+        ended = has.ended;
+        home = λ o row found. home o (has.home o row found);
+      }
+
+  waits_same : HasWaits k woken.Nobody new
+  waits_same =
+      let has = rests.waits in
+      record {
+        is = λ t here. (same.task t (living t here)).waiting ∙ has.is t here;
+        allowed = has.allowed;
+        sized = has.sized;
+        reasons = has.reasons;
+        aims = has.aims;
+        askers = has.askers;
+        ready = has.ready;
+      }
+
+  order_rows : (from : ℕ) (rows : List Waiting) → ((t : ℕ) (w : Waiting) → entry rows t ≡ Some w → begun_at t new ≡ begun_at t past) → BeganInOrder (λ t. begun_at t past) from rows → BeganInOrder (λ t. begun_at t new) from rows
+  order_rows from [] began order = tt
+  order_rows from (w ∷ ws) began order =
+      let it : begun_at w.task.0 new ≡ begun_at w.task.0 past = elim (eqb_tells w.task.0 w.task.0) [ inl is ↦ began w.task.0 w (rw is.0 refl) | inr apart ↦ absurd (apart.1 refl) ] in
+      rw it (order.0, order_rows (suc (begun_at w.task.0 past)) ws later order.1)
+    where
+      later : (t : ℕ) (v : Waiting) → entry ws t ≡ Some v → begun_at t new ≡ begun_at t past
+      later t v found = elim (eqb_tells w.task.0 t) [ inl is ↦ began t w (rw is.0 refl) | inr apart ↦ began t v (rw apart.0 found) ]
+
+  order_same : HasOrder k new
+  order_same = order_rows 0 k.waits.rows (λ t w found. (same.task t (living t (ap is_some (rests.waits.allowed t w found).lives))).begun) rests.order
+
+  laundry_same : HasLaundry k.memory.frames k.memory.resident k.laundry (returns_out h new)
+  laundry_same = subst (HasLaundry k.memory.frames k.memory.resident k.laundry) (sym same.pages.out) rests.matches.laundry
+
+  frames_same : HasFrames (slice_get (reverse header.frames.items) h) k.memory.frames (frames_held header.size h new) (frames_wired h new)
+  frames_same =
+      let has = rests.matches.frames in record { total = has.total; held = same.pages.held ∙ has.held; wired = same.pages.wired ∙ has.wired; fits = has.fits }
+
+  -- tasks elsewhere hold none of its regions, and its regions stay on their host
+  pub rests_same : ApartElsewhere header h new → ((o : ℕ) → home_of o past ≡ Some h → home_of o new ≡ Some h) → Rests header h k next new
+  rests_same apart home = record {
+    matches =
+        record {
+          plain = rests.matches.plain;
+          known = rests.matches.known;
+          size = rests.matches.size;
+          host = rests.matches.host;
+          fits = rests.matches.fits;
+          tasks = tasks_same;
+          regions = regions_same;
+          entries = rests.matches.entries;
+          pages = pages_same;
+          uses = uses_same apart;
+          controls = controls_same home;
+          settled = common.settled;
+          homeless = common.homeless;
+          laundry = laundry_same;
+          frames = frames_same;
+        };
+    used = rests.used;
+    reached = rests.reached;
+    waits = waits_same;
+    order = order_same;
+    idle = rests.idle;
+  }
+
+apart_of : (header : Header) (h : ℕ) (k : Parts) (ids : Ids) (past : List Event) → Rests header h k ids past → ApartElsewhere header h past
+apart_of header h k ids past rests task r away ours = rests.matches.uses.apart task r (none_in (entries_in task k.maps) (sym (rests.matches.tasks.hosts task) ∙ away)) ours
+  where
+    none_in : (x : Option (List Entry)) → is_some x ≡ false → x ≡ None
+    none_in None is = refl
+    none_in (Some rows) is = absurd (let bad : true ≡ false = is in cc)
+
+-- behind events that are nothing to its host
+
+module _ (header : Header) (outside : Outside) (h : ℕ) (k : Parts) (ids : Ids) (events past : List Event) (sound : Sound header past) (rests : Rests header h k ids past) (abroad : EachIn (IsAbroad header outside h) events past) where
+  stay : Stays header h past (events ++ past)
+  stay = stays header outside h events past sound (knows_of header h k ids past rests) abroad
+
+  pub rests_abroad : (next : Ids) → IsCommon header next (events ++ past) → Rests header h k next (events ++ past)
+  rests_abroad next common =
+      rests_same header h k ids next past (events ++ past) rests stay.same common
+      (apart_abroad header outside h events past abroad (apart_of header h k ids past rests))
+      (λ o is. homes_stay o h events past is)
+
+  pub queue_abroad : HasQueue header h k past → HasQueue header h k (events ++ past)
+  queue_abroad (inl empty) = inl empty
+  queue_abroad (inr none) = inr (free ∙ none)
+    where
+      free : frames_free header h (events ++ past) ≡ frames_free header h past
+      free = let held = stay.same.pages.held in let wired = stay.same.pages.wired in omega (arith, held, wired)
+
+  pub prompt_abroad : PromptAt header h past → PromptAt header h (events ++ past)
+  prompt_abroad prompt =
+      let knows = knows_of header h k ids past rests in
+      record { waits = vain_now header h past (events ++ past) sound knows stay.same prompt.waits; swept = swept_now header h past (events ++ past) sound knows stay.same rests.matches.settled.shut prompt.swept }
+
+suffice_next : (header : Header) (h : ℕ) (e : Event) (past : List Event) → is_home header h e past ≡ false → Suffice header h past → Suffice header h (e ∷ past)
+suffice_next header h e past foreign suffices =
+    let same = pages_abroad header h e past foreign in
+    let held = same.held in
+    let wired = same.wired in
+    let used : frames_used header.size h past ≡ frames_used header.size h (e ∷ past) = omega (arith, held, wired) in
+    subst (λ (z : ℕ). IfSome (slice_get (reverse header.frames.items) h) (λ frames. z ≤ frames)) used suffices
+
+suffice_all : (header : Header) (outside : Outside) (h : ℕ) (events past : List Event) → EachIn (IsAbroad header outside h) events past → Suffice header h past → Suffice header h (events ++ past)
+suffice_all header outside h [] past abroad suffices = suffices
+suffice_all header outside h (e ∷ events) past abroad suffices = suffice_next header h e (events ++ past) abroad.0.foreign (suffice_all header outside h events past abroad.1 suffices)
+
+pub frames_abroad : (header : Header) (outside : Outside) (h : ℕ) (events past : List Event) → EachIn (IsAbroad header outside h) events past → Suffice header h past → MomentsIn (Suffice header h) events past
+frames_abroad header outside h [] past abroad suffices = tt
+frames_abroad header outside h (e ∷ events) past abroad suffices =
+    (suffice_all header outside h (e ∷ events) past abroad suffices, frames_abroad header outside h events past abroad.1 suffices)
+
+-- what a kernel says is its host's
+
+pub of_host : (header : Header) (outside : Outside) (doing : Command) (g : ℕ) (events past : List Event) → AllLicensed header outside doing events past → EachIn (IsMine header g) events past → EachIn (IsOfHost header outside g) events past
+of_host header outside doing g [] past licensed mine = tt
+of_host header outside doing g (e ∷ events) past licensed mine =
+    (record { cause = (doing, licensed.0.0); enters = mine.0.enters; own = mine.0.own }, of_host header outside doing g events past licensed.1 mine.1)
+
+-- regions stay on one host each, whoever adds events with their causes
+
+pub sound_caused : (header : Header) (outside : Outside) (events past : List Event) → Sound header past → EachIn (λ e before. HasCause header outside e before × EntersNext e before) events past → Sound header (events ++ past)
+sound_caused header outside [] past sound each = sound
+sound_caused header outside (e ∷ events) past sound each = sound_next header outside e (events ++ past) (sound_caused header outside events past sound each.1) each.0.0 each.0.1
+
+pub sound_more : (header : Header) (outside : Outside) (g : ℕ) (events past : List Event) → Sound header past → EachIn (IsOfHost header outside g) events past → Sound header (events ++ past)
+sound_more header outside g [] past sound each = sound
+sound_more header outside g (e ∷ events) past sound each = sound_next header outside e (events ++ past) (sound_more header outside g events past sound each.1) each.0.cause each.0.enters
+
+-- what is nobody's is nothing to any host
+
+pub no_home : (header : Header) (h : ℕ) (e : Event) (past : List Event) → IsNobodys e → is_home header h e past ≡ false
+no_home header h (event.Line line) past nobodys = refl
+no_home header h (event.Refused code) past nobodys = refl
+no_home header h (event.Sent (Down host object control) m) past nobodys = refl
+no_home header h (event.Sent (Up host object) m) past nobodys = absurd nobodys
+no_home header h (event.Taken (Up host object) m) past nobodys = rw nobodys (neither (host.0 == h))
+  where
+    neither : (b : Bool) → (b && false) ≡ false
+    neither true = refl
+    neither false = refl
+no_home header h (event.Taken (Down host object control) m) past nobodys = absurd nobodys
+no_home header h (event.DeviceFailed who way object page) past nobodys = refl
+no_home header h (event.NoSlot object page) past nobodys = refl
+no_home header h other past nobodys = absurd nobodys
+
+nobody_shut : (e : Event) (past : List Event) → IsNobodys e → IsShut (e ∷ past)
+nobody_shut (event.RegionMade region object pages) past nobodys = absurd nobodys
+nobody_shut other past nobodys = λ region. refl
+
+pub nobodys_shut : (events past : List Event) → EachOf IsNobodys events → IsShut past → IsShut (events ++ past)
+nobodys_shut [] past nobodys shut = shut
+nobodys_shut (e ∷ events) past nobodys shut = nobody_shut e (events ++ past) nobodys.0
+
+pub nobodys_abroad : (header : Header) (outside : Outside) (doing : Command) (h : ℕ) (events past : List Event) → EachOf IsNobodys events → AllLicensed header outside doing events past → IsShut past → EachIn (IsAbroad header outside h) events past
+nobodys_abroad header outside doing h [] past nobodys licensed shut = tt
+nobodys_abroad header outside doing h (e ∷ events) past nobodys licensed shut =
+    let closed = nobodys_shut events past nobodys.1 shut in (
+      record {
+        cause = (doing, licensed.0.0);
+        enters = λ region opened. absurd (let bad : true ≡ false = sym opened ∙ closed region in cc);
+        foreign = no_home header h e (events ++ past) nobodys.0;
+      },
+      nobodys_abroad header outside doing h events past nobodys.1 licensed.1 shut,
+    )

@@ -1,0 +1,10 @@
+use Rattle.std.proofs.Common.{◌≡◌, ◌+◌, ◌≤◌, drop}
+use Rattle.vm_base.specs.Entries.{by_address}
+use Rattle.vm_model.specs.Tasks.{copies}
+use Rattle.vm_kernel.proofs.copying.copies.Given as goal
+
+abbrev pub invariant-all : goal.invariant-all
+invariant-all l = record {
+  sum : l.count + copies (drop l.i (by_address l.entries)) ≡ copies (by_address l.entries);
+  few : l.count ≤ l.i;
+}

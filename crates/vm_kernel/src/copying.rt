@@ -1,0 +1,69 @@
+// What a fork makes of a task's entries.
+ghost use Rattle.std.specs.Prelude.{◌≡◌, ◌≤◌, ◌==◌, ◌&&◌, drop, length, not};
+ghost use Rattle.vm_base.specs.Entries.{by_address};
+ghost use Rattle.vm_model.specs.Tasks.{copies, copies_from, is_copied, sources};
+
+use vm_base::{Entries, Entry, Inherit, RegionId};
+
+fn is_copied(inherit: Inherit) -> bool
+    ensures { result ≡ is_copied inherit }
+{
+    match inherit {
+        Inherit::Copy => true,
+        Inherit::Share | Inherit::Never => false,
+    }
+}
+
+// How many of the entries a fork copies.
+pub fn copies(entries: &Entries) -> u32
+    ensures count { result ≡ copies (by_address entries.now) }
+    ensures few { result ≤ length entries.now.items }
+{
+    let mut count = 0;
+    'all: for i in 0..entries.len() {
+        if is_copied(entries.at(i).inherit) {
+            count += 1;
+        }
+    }
+    count
+}
+
+// How many regions a fork copies from.
+pub fn sources(entries: &Entries) -> u32
+    ensures count { result ≡ sources (by_address entries.now) }
+    ensures few { result ≤ length entries.now.items }
+{
+    let mut count = 0;
+    'all: for i in 0..entries.len() {
+        if is_source(*entries.at(i), entries, i + 1) {
+            count += 1;
+        }
+    }
+    count
+}
+
+// Whether a fork copies an entry, and none on its region of the entries from a place on.
+fn is_source(entry: Entry, entries: &Entries, from: u32) -> bool
+    ensures { result ≡ (is_copied entry.inherit && not (copies_from entry.region.0 (drop from (by_address entries.now)))) }
+{
+    is_copied(entry.inherit) && !copies_from(entries, from, entry.region)
+}
+
+// Whether a fork copies an entry on the region.
+fn copies_region(entry: Entry, region: RegionId) -> bool
+    ensures { result ≡ (is_copied entry.inherit && entry.region.0 == region.0) }
+{
+    is_copied(entry.inherit) && entry.region.0 == region.0
+}
+
+// Whether a fork copies an entry on the region, of the entries from a place on.
+fn copies_from(entries: &Entries, from: u32, region: RegionId) -> bool
+    ensures { result ≡ copies_from region.0 (drop from (by_address entries.now)) }
+{
+    'all: for i in from..entries.len() {
+        if copies_region(*entries.at(i), region) {
+            return true;
+        }
+    }
+    false
+}
