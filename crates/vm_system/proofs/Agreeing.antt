@@ -1,44 +1,49 @@
--- Pager, ports and letters stand for the history behind what a kernel says.
+-- What the kernels say leaves the pagers.
 use Rattle.std.proofs.Common.{◌≡◌, ℕ, List, [], ◌∷◌, ◌++◌, refl, ◌∙◌}
 use Rattle.vm_model.specs.declared.event.Event.{Event}
 use Rattle.vm_model.specs.declared.event.Event.TheVariants as event
 use Rattle.vm_model.specs.declared.script.Header.{Header}
-use Rattle.vm_legal.specs.Stretches.{AllInner, EachOf, IsInner}
+use Rattle.vm_legal.specs.Stretches.{AllInner, EachIn, IsInner}
 use Rattle.pg_slots.specs.Slots.{SlotTable}
-use Rattle.pg_default.specs.Stands.{IsOther, Stands as PagerStands, content_of}
+use Rattle.pg_default.specs.Stands.{IsOther, content_of}
 use Rattle.pg_default.proofs.Others.{others}
-use Rattle.vm_kernel.specs.Begun.{IsOwn}
+use Rattle.vm_kernel.specs.Begun.{IsSaid}
+use Rattle.vm_system.specs.Stands.{AllServe}
 use Rattle.vm_system.specs.Steps.{devices}
 
--- the pager has no part in what a kernel says
+-- no pager has a part in an event
+pub serve_other : (header : Header) (pagers : List SlotTable) (e : Event) (past : List Event) → ((h : ℕ) → IsOther header h e past) → AllServe header pagers past → AllServe header pagers (e ∷ past)
+serve_other header pagers e past other serve = record { numbered = serve.numbered; stand = λ h pager at. others header h pager e past (other h) (serve.stand h pager at) }
 
-other_said : (header : Header) (e : Event) (past : List Event) → IsInner e → IsOwn 0 header.size e → IsOther header 0 e past
-other_said header (event.Taken channel m) past inner said = absurd inner
-other_said header (event.DeviceFailed who way object page) past inner said = absurd said
-other_said header (event.NoSlot object page) past inner said = absurd said
-other_said header other past inner said = tt
+-- none has one in what the kernels say
 
-content_one : (header : Header) (e : Event) (past : List Event) → IsInner e → IsOwn 0 header.size e → content_of header 0 (e ∷ past) ≡ content_of header 0 past
-content_one header (event.Taken channel m) past inner said = absurd inner
-content_one header (event.DeviceFailed who way object page) past inner said = absurd said
-content_one header (event.NoSlot object page) past inner said = absurd said
-content_one header other past inner said = refl
+other_said : (header : Header) (h : ℕ) (e : Event) (past : List Event) → IsInner e → IsSaid header e past → IsOther header h e past
+other_said header h (event.Taken channel m) past inner said = absurd inner
+other_said header h (event.DeviceFailed who way object page) past inner said = absurd said.says
+other_said header h (event.NoSlot object page) past inner said = absurd said.says
+other_said header h other past inner said = tt
 
-pub pager_stays : (header : Header) (slots : SlotTable) (events past : List Event) → EachOf (IsOwn 0 header.size) events → AllInner events → PagerStands header 0 slots past → PagerStands header 0 slots (events ++ past)
-pager_stays header slots [] past said inner stands = stands
-pager_stays header slots (e ∷ events) past said inner stands =
-    others header 0 slots e (events ++ past) (other_said header e (events ++ past) inner.0 said.0) (pager_stays header slots events past said.1 inner.1 stands)
+content_one : (header : Header) (h : ℕ) (e : Event) (past : List Event) → IsInner e → IsSaid header e past → content_of header h (e ∷ past) ≡ content_of header h past
+content_one header h (event.Taken channel m) past inner said = absurd inner
+content_one header h (event.DeviceFailed who way object page) past inner said = absurd said.says
+content_one header h (event.NoSlot object page) past inner said = absurd said.says
+content_one header h other past inner said = refl
 
-pub content_stays : (header : Header) (events past : List Event) → EachOf (IsOwn 0 header.size) events → AllInner events → content_of header 0 (events ++ past) ≡ content_of header 0 past
-content_stays header [] past said inner = refl
-content_stays header (e ∷ events) past said inner = content_one header e (events ++ past) inner.0 said.0 ∙ content_stays header events past said.1 inner.1
+pub serve_said : (header : Header) (pagers : List SlotTable) (events past : List Event) → EachIn (IsSaid header) events past → AllInner events → AllServe header pagers past → AllServe header pagers (events ++ past)
+serve_said header pagers [] past said inner serve = serve
+serve_said header pagers (e ∷ events) past said inner serve =
+    serve_other header pagers e (events ++ past) (λ h. other_said header h e (events ++ past) inner.0 said.0) (serve_said header pagers events past said.1 inner.1 serve)
+
+pub content_stays : (header : Header) (h : ℕ) (events past : List Event) → EachIn (IsSaid header) events past → AllInner events → content_of header h (events ++ past) ≡ content_of header h past
+content_stays header h [] past said inner = refl
+content_stays header h (e ∷ events) past said inner = content_one header h e (events ++ past) inner.0 said.0 ∙ content_stays header h events past said.1 inner.1
 
 -- and no backing fails in it
 
-devices_one : (size : ℕ) (e : Event) (past : List Event) → IsOwn 0 size e → devices (e ∷ past) ≡ devices past
-devices_one size (event.DeviceFailed who way object page) past said = absurd said
-devices_one size other past said = refl
+devices_one : (header : Header) (e : Event) (past : List Event) → IsSaid header e past → devices (e ∷ past) ≡ devices past
+devices_one header (event.DeviceFailed who way object page) past said = absurd said.says
+devices_one header other past said = refl
 
-pub devices_said : (size : ℕ) (events past : List Event) → EachOf (IsOwn 0 size) events → devices (events ++ past) ≡ devices past
-devices_said size [] past said = refl
-devices_said size (e ∷ events) past said = devices_one size e (events ++ past) said.0 ∙ devices_said size events past said.1
+pub devices_said : (header : Header) (events past : List Event) → EachIn (IsSaid header) events past → devices (events ++ past) ≡ devices past
+devices_said header [] past said = refl
+devices_said header (e ∷ events) past said = devices_one header e (events ++ past) said.0 ∙ devices_said header events past said.1

@@ -1,17 +1,15 @@
 -- What a pager answers, as events of a step.
-use Rattle.std.proofs.Common.{◌≡◌, ◌⊎◌, ℕ, ◌+◌, ◌≤◌, ◌==◌, ◌&&◌, not, Bool, true, false, List, [], ◌∷◌, ◌++◌, Option, Some, None, Ok, Err, if◌then◌else◌, refl, sym, ◌∙◌, ap, subst, arith, inl, inr}
+use Rattle.std.proofs.Common.{◌≡◌, ◌⊎◌, ℕ, ◌+◌, ◌≤◌, ◌==◌, ◌&&◌, Bool, true, false, List, [], ◌∷◌, ◌++◌, Option, Some, None, Ok, if◌then◌else◌, refl, sym, ◌∙◌, ap, subst, arith, inl, inr}
 use Rattle.std.proofs.lemmas.Bool.Decides.{nat_tests}
 use Rattle.std.specs.Prelude.{IsSome, is_some}
-use Rattle.pg_slots.specs.Contents.{Carries, Content, Fits, IsTold, PutTold, area_name, same_content}
+use Rattle.pg_slots.specs.Contents.{IsTold, PutTold, area_name}
 use Rattle.pg_slots.specs.Slots.{KeepsShape, Leaves, SlotTable, held_at, slot_at, slot_of}
 use Rattle.pg_slots.specs.declared.answers.Put.{Put}
 use Rattle.pg_slots.specs.declared.answers.Put.TheVariants as put
 use Rattle.pg_slots.specs.declared.slot_row.Held.{Held}
 use Rattle.pg_slots.specs.declared.slot_row.Held.TheVariants as held
-use Rattle.pg_default.specs.Answers.{Answered, IsToPager, LeavesAreas, Requested, ReturnsWhole, TellsFault, after_message, became, told_of}
+use Rattle.pg_default.specs.Answers.{Answered, IsToPager, LeavesAreas, Requested, ReturnsWhole, TellsFault, became, told_of}
 use Rattle.vm_base.specs.Listing.{Listed}
-use Rattle.vm_base.specs.declared.failure.NoMemory.{NoMemory}
-use Rattle.vm_base.specs.declared.ids.HostId.{HostId}
 use Rattle.vm_base.specs.declared.ids.ObjectId.{ObjectId}
 use Rattle.vm_base.specs.declared.ids.PageNo.{PageNo}
 use Rattle.vm_model.specs.declared.event.Event.{Event}
@@ -22,15 +20,14 @@ use Rattle.vm_model.specs.declared.message.Message.TheVariants as message
 use Rattle.vm_model.specs.declared.script.Header.{Header}
 use Rattle.vm_legal.specs.Bytes.{OwnBytes}
 use Rattle.vm_legal.specs.Follows.{IsConsequence}
-use Rattle.vm_legal.specs.Frames.{Suffice}
+use Rattle.vm_legal.specs.Frames.{FramesSuffice, Suffice}
 use Rattle.vm_legal.specs.Stretches.{AllInner, EachIn, EachOf, IsInner, MomentsIn}
 use Rattle.vm_outside.specs.Areas.{SameAreas, Told}
-use Rattle.vm_kernel.specs.Begun.{IsForeign, IsLaundered}
-use Rattle.vm_system.specs.Hosts.{the_host}
-use Rattle.vm_system.specs.Orderly.{IsWordUp, is_washed}
+use Rattle.vm_kernel.specs.Abroad.{IsNobodys}
+use Rattle.vm_system.specs.Orderly.{IsWordUp}
 use Rattle.vm_system.specs.Steps.{devices}
 
--- what the host says to the pager
+-- what a kernel says to its pager
 pub word_up : (size : ℕ) (made : ℕ → Bool) (m : Message) → IsWordUp size made m → IsToPager m × ReturnsWhole size m
 word_up size made (message.Create control bytes) word = (tt, tt)
 word_up size made (message.Request control page access) word = (tt, tt)
@@ -86,20 +83,12 @@ inner_one (event.NoSlot object page) reply = tt
 inner_one (event.DeviceFailed who way object page) reply = tt
 inner_one other reply = absurd reply
 
-sent_foreign : (host : HostId) (object : ObjectId) (control : ℕ) (m : Message) → IsReply (event.Sent (Down host object control) m) → IsForeign (event.Sent (Down host object control) m)
-sent_foreign host object control (message.Ready cache strategy) reply = tt
-sent_foreign host object control (message.Supply page lock precious bytes) reply = tt
-sent_foreign host object control (message.Unavailable page) reply = tt
-sent_foreign host object control (message.Error page reason) reply = tt
-sent_foreign host object control (message.Lock page count returns flush lock wanted) reply = tt
-sent_foreign host object control other reply = absurd reply
-
-foreign_one : (e : Event) → IsReply e → IsForeign e
-foreign_one (event.Sent (Down host object control) m) reply = sent_foreign host object control m reply
-foreign_one (event.Sent (Up host object) m) reply = absurd reply
-foreign_one (event.NoSlot object page) reply = tt
-foreign_one (event.DeviceFailed who way object page) reply = tt
-foreign_one other reply = absurd reply
+nobodys_one : (e : Event) → IsReply e → IsNobodys e
+nobodys_one (event.Sent (Down host object control) m) reply = tt
+nobodys_one (event.Sent (Up host object) m) reply = absurd reply
+nobodys_one (event.NoSlot object page) reply = tt
+nobodys_one (event.DeviceFailed who way object page) reply = tt
+nobodys_one other reply = absurd reply
 
 own_one : (header : Header) (e : Event) (past : List Event) → IsReply e → OwnBytes header e past
 own_one header (event.Sent channel m) past reply = tt
@@ -108,12 +97,12 @@ own_one header (event.DeviceFailed who way object page) past reply = tt
 own_one header other past reply = absurd reply
 
 -- it takes no frame
-suffice_one : (header : Header) (e : Event) (past : List Event) → IsReply e → Suffice header 0 past → Suffice header 0 (e ∷ past)
-suffice_one header (event.Sent (Down host object control) m) past reply one = one
-suffice_one header (event.Sent (Up host object) m) past reply one = absurd reply
-suffice_one header (event.NoSlot object page) past reply one = one
-suffice_one header (event.DeviceFailed who way object page) past reply one = one
-suffice_one header other past reply one = absurd reply
+suffice_one : (header : Header) (host : ℕ) (e : Event) (past : List Event) → IsReply e → Suffice header host past → Suffice header host (e ∷ past)
+suffice_one header host (event.Sent (Down at object control) m) past reply one = one
+suffice_one header host (event.Sent (Up at object) m) past reply one = absurd reply
+suffice_one header host (event.NoSlot object page) past reply one = one
+suffice_one header host (event.DeviceFailed who way object page) past reply one = one
+suffice_one header host other past reply one = absurd reply
 
 -- all of an answer
 
@@ -125,43 +114,21 @@ pub reply_inner : (events : List Event) → EachOf IsReply events → AllInner e
 reply_inner [] reply = tt
 reply_inner (e ∷ events) reply = (inner_one e reply.0, reply_inner events reply.1)
 
-pub reply_foreign : (events : List Event) → EachOf IsReply events → EachOf IsForeign events
-reply_foreign [] reply = tt
-reply_foreign (e ∷ events) reply = (foreign_one e reply.0, reply_foreign events reply.1)
+pub reply_nobodys : (events : List Event) → EachOf IsReply events → EachOf IsNobodys events
+reply_nobodys [] reply = tt
+reply_nobodys (e ∷ events) reply = (nobodys_one e reply.0, reply_nobodys events reply.1)
 
 pub reply_own : (header : Header) (events past : List Event) → EachOf IsReply events → EachIn (OwnBytes header) events past
 reply_own header [] past reply = tt
 reply_own header (e ∷ events) past reply = (own_one header e (events ++ past) reply.0, reply_own header events past reply.1)
 
-reply_last : (header : Header) (events past : List Event) → EachOf IsReply events → Suffice header 0 past → Suffice header 0 (events ++ past)
-reply_last header [] past reply one = one
-reply_last header (e ∷ events) past reply one = suffice_one header e (events ++ past) reply.0 (reply_last header events past reply.1 one)
+reply_last : (header : Header) (events past : List Event) → EachOf IsReply events → FramesSuffice header past → FramesSuffice header (events ++ past)
+reply_last header [] past reply all = all
+reply_last header (e ∷ events) past reply all = λ host. suffice_one header host e (events ++ past) reply.0 (reply_last header events past reply.1 all host)
 
-pub reply_frames : (header : Header) (events past : List Event) → EachOf IsReply events → Suffice header 0 past → MomentsIn (Suffice header 0) events past
-reply_frames header [] past reply one = tt
-reply_frames header (e ∷ events) past reply one = (reply_last header (e ∷ events) past reply one, reply_frames header events past reply.1 one)
-
--- the kernel launders exactly behind the return of a page that isn't kept
-
-pub reply_laundered : (object : ObjectId) (m : Message) (events : List Event) → EachOf IsReply events → is_washed m ≡ true → IsLaundered 0 (events ++ event.Taken (Up the_host object) m ∷ [])
-reply_laundered object (message.Return control page dirty keep bytes) events reply washed = by keep washed
-  where
-    by : (k : Bool) → not k ≡ true → IsLaundered 0 (events ++ event.Taken (Up the_host object) (message.Return control page dirty k bytes) ∷ [])
-    by false is = record { object = object; control = control; page = page; dirty = dirty; bytes = bytes; told = events; is = refl; foreign = reply_foreign events reply }
-    by true is = absurd (let bad : false ≡ true = is in cc)
-reply_laundered object other events reply washed = absurd (let bad : false ≡ true = washed in cc)
-
-kept_foreign : (keep : Bool) → not keep ≡ false → keep ≡ true
-kept_foreign true is = refl
-kept_foreign false is = absurd (let bad : true ≡ false = is in cc)
-
-taken_foreign : (object : ObjectId) (m : Message) → is_washed m ≡ false → IsForeign (event.Taken (Up the_host object) m)
-taken_foreign object (message.Return control page dirty keep bytes) is = kept_foreign keep is
-taken_foreign object other is = tt
-
-pub front_foreign : (object : ObjectId) (m : Message) (events : List Event) → EachOf IsReply events → is_washed m ≡ false → EachOf IsForeign (events ++ event.Taken (Up the_host object) m ∷ [])
-front_foreign object m [] reply is = (taken_foreign object m is, tt)
-front_foreign object m (e ∷ events) reply is = (foreign_one e reply.0, front_foreign object m events reply.1 is)
+pub reply_frames : (header : Header) (events past : List Event) → EachOf IsReply events → FramesSuffice header past → MomentsIn (FramesSuffice header) events past
+reply_frames header [] past reply all = tt
+reply_frames header (e ∷ events) past reply all = (reply_last header (e ∷ events) past reply all, reply_frames header events past reply.1 all)
 
 -- an answer tells of at most one fault
 pub record Faults (events past : List Event) : Type 0 where
@@ -200,9 +167,9 @@ faults (message.Completed control page count) object old new events past a = fau
 faults (message.Changed control cache strategy) object old new events past a = faults_at events [] past a.1 (no_fault [] past refl (λ t. t))
 faults other object old new events past a = absurd a
 
--- the host's area stays told
+-- the area of a pager's host stays told
 
-some_of : {A : Type 0} → (x : Option A) → IsSome x → (a : A) × (x ≡ Some a)
+pub some_of : {A : Type 0} → (x : Option A) → IsSome x → (a : A) × (x ≡ Some a)
 some_of None is = absurd (let bad : false ≡ true = is in cc)
 some_of (Some a) is = (a, refl)
 
@@ -214,7 +181,7 @@ same_told before after old new host same is =
     let was = some_of (before (area_name old.host)) is in
     some_is (after (area_name new.host)) was.0 (ap (λ (z : ℕ). after (area_name z)) host ∙ same (area_name old.host) was.0 was.1)
 
-own_place : (o p : ℕ) → (o == o && p == p) ≡ true
+pub own_place : (o p : ℕ) → (o == o && p == p) ≡ true
 own_place o p = grind (arith, nat_tests)
 
 put_told : (p : Put) (object page : ℕ) (bytes : List ℕ) (before after : List ℕ → Told) (old new : SlotTable) → new.host ≡ old.host → Leaves p object page old new → PutTold (Ok p) before after new (slot_at new object page) bytes
@@ -236,20 +203,3 @@ pub told_after : (m : Message) (object : ObjectId) (before after : List ℕ → 
     → IsTold before old → IsTold after new
 told_after (message.Return control page dirty keep bytes) object before after old new events shape a leaves is = put_told (became events.items) object.0 page.0 bytes before after old new shape.host a.held leaves is
 told_after other object before after old new events shape a leaves is = same_told before after old new shape.host leaves is
-
--- where memory ended in the pager
-
-failed_areas : (m : Message) (object : ObjectId) (before after : List ℕ → Told) (slots : SlotTable) (e : NoMemory) → LeavesAreas m object slots before after (Err e) → SameAreas before after
-failed_areas (message.Return control page dirty keep bytes) object before after slots e leaves = leaves
-failed_areas other object before after slots e leaves = leaves
-
-failed_content : (m : Message) (object : ObjectId) (e : NoMemory) → after_message m object (Err e) ≡ same_content
-failed_content (message.Return control page dirty keep bytes) object e = refl
-failed_content (message.Terminate control) object e = refl
-failed_content other object e = refl
-
-pub failed_fits : (m : Message) (object : ObjectId) (before after : List ℕ → Told) (old new : SlotTable) (e : NoMemory) (content : Content) → new ≡ old → LeavesAreas m object new before after (Err e)
-    → Carries before after old new (after_message m object (Err e)) → IsTold before old → Fits before old content → IsTold after new × Fits after new content
-failed_fits m object before after old new e content same leaves carries is fits =
-    let stays : Carries before after old new same_content = subst (λ (z : Content → Content). Carries before after old new z) (failed_content m object e) carries in
-    (same_told before after old new (ap (λ (z : SlotTable). z.host) same) (failed_areas m object before after new e leaves) is, stays.fits content is fits)

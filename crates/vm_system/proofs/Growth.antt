@@ -6,7 +6,8 @@ use Rattle.vm_model.specs.declared.event.Event.TheVariants as event
 use Rattle.vm_model.specs.Moments.{before_last_line}
 use Rattle.vm_legal.specs.Steps.{before_step, takings}
 use Rattle.vm_legal.specs.Stretches.{AllInner, IsInner}
-use Rattle.vm_system.specs.Steps.{Grew, IsBelowLimit, MayBegin, Taking, devices, event_limit, lined}
+use Rattle.vm_hosts.specs.Steps.{Step}
+use Rattle.vm_system.specs.Steps.{Grew, IsBelowLimit, MayBegin, devices, event_limit, lined}
 use Rattle.vm_system.specs.Takings.{MayBeCut, TakesStep}
 use Rattle.vm_system.proofs.Stretched.{steps_whole}
 
@@ -46,7 +47,7 @@ lined_may : (line : Option ℕ) (old : List Event) → length old < event_limit 
 lined_may None old below before = (inl below, before)
 lined_may (Some line) old below before = (inr (line, old, refl, below), (inl below, before))
 
-pub grew_taken : (given : Taking) (line : Option ℕ) (old new : List Event) → TakesStep given new → given.past ≡ lined line old → Grew old new
+pub grew_taken : (given : Step) (line : Option ℕ) (old new : List Event) → TakesStep given new → given.past ≡ lined line old → Grew old new
 grew_taken given line old new step past =
     let taken = event.Taken step.channel step.m in
     let whole : new ≡ step.more ++ taken ∷ lined line old = step.is ∙ ap (λ z. step.more ++ taken ∷ z) past in
@@ -57,18 +58,18 @@ grew_taken given line old new step past =
       limit = λ below before. subst IsBelowLimit (sym whole) (steps_whole MayBegin step.more (taken ∷ lined line old) step.inner (lined_may line old below before));
     }
 
-pub step_taken : (given : Taking) (new : List Event) → TakesStep given new → before_step new ≡ given.past
+pub step_taken : (given : Step) (new : List Event) → TakesStep given new → before_step new ≡ given.past
 step_taken given new step = ap before_step step.is ∙ before_more step.more (event.Taken step.channel step.m ∷ given.past) step.inner
 
-pub line_taken : (given : Taking) (line : ℕ) (old new : List Event) → TakesStep given new → given.past ≡ lined (Some line) old → before_last_line new ≡ old
+pub line_taken : (given : Step) (line : ℕ) (old new : List Event) → TakesStep given new → given.past ≡ lined (Some line) old → before_last_line new ≡ old
 line_taken given line old new step past =
     ap before_last_line step.is ∙ (line_all step.more (event.Taken step.channel step.m ∷ given.past) step.inner ∙ ap before_last_line past)
 
-pub takings_taken : (given : Taking) (new : List Event) → TakesStep given new → takings new ≡ takings given.past + 1
+pub takings_taken : (given : Step) (new : List Event) → TakesStep given new → takings new ≡ takings given.past + 1
 takings_taken given new step = ap takings step.is ∙ takings_more step.more (event.Taken step.channel step.m ∷ given.past) step.inner
 
 -- whole or cut
-pub grew_cut : (given : Taking) (line : Option ℕ) (old new : List Event) → MayBeCut given old new → given.past ≡ lined line old → Grew old new
+pub grew_cut : (given : Step) (line : Option ℕ) (old new : List Event) → MayBeCut given old new → given.past ≡ lined line old → Grew old new
 grew_cut given line old new (inl same) past = grew_none old new same
 grew_cut given line old new (inr step) past = grew_taken given line old new step past
 

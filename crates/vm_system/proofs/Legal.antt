@@ -1,5 +1,5 @@
 -- The history stays legal with the step of each command.
-use Rattle.std.proofs.Common.{◌≡◌, ℕ, zero, suc, ◌+◌, ◌||◌, ◌&&◌, not, nat_lt, nat_le, length, if◌then◌else◌, Bool, Option, ap, true, false, List, [], ◌∷◌, ◌++◌, append-nil, refl, sym, ◌∙◌, subst, Some, None, inl}
+use Rattle.std.proofs.Common.{◌≡◌, ℕ, zero, suc, ◌+◌, ◌||◌, ◌&&◌, not, nat_lt, nat_le, length, if◌then◌else◌, Bool, Option, ap, true, false, List, [], ◌∷◌, ◌++◌, append-nil, refl, sym, ◌∙◌, Some, None, inl}
 use Rattle.std.specs.Prelude.{◌/◌, IfNone, is_none, is_some}
 use Rattle.vm_base.specs.declared.code.Code.{Code}
 use Rattle.vm_base.specs.declared.code.Code.TheVariants as code
@@ -18,25 +18,23 @@ use Rattle.vm_model.specs.Waiting.{waiting}
 use Rattle.vm_legal.specs.Bytes.{FlatBytes, OwnBytes}
 use Rattle.vm_legal.specs.Debts.{IsPaid}
 use Rattle.vm_legal.specs.Follows.{FollowsSoFar, IsDone, IsDoneSoFar, IsGroup, IsRun, IsWhole, IsWholeSoFar, head}
-use Rattle.vm_legal.specs.Frames.{FramesSuffice, Suffice}
+use Rattle.vm_legal.specs.Frames.{FramesSuffice}
 use Rattle.vm_legal.specs.Legal.{Holds, IsAtRest}
-use Rattle.vm_legal.specs.Licences.{AllLicensed}
 use Rattle.vm_legal.specs.Outside.{Outside}
 use Rattle.vm_legal.specs.Prompt.{Prompt}
 use Rattle.vm_legal.specs.Refusal.{acting, copy_refusal, is_copy_full, is_elsewhere, is_fork_full, is_full, is_marked, refusal, where_true}
 use Rattle.vm_legal.specs.Stretches.{AllInner, EachIn, MomentsIn}
 use Rattle.vm_legal.proofs.Groups.{so_far}
 use Rattle.vm_flat.proofs.Loads.{answers}
-use Rattle.vm_shadow.specs.declared.ids.Ids.{Ids}
-use Rattle.vm_kernel.specs.Begun.{Began, Passed}
 use Rattle.vm_kernel.specs.Built.{copies_entries}
-use Rattle.vm_system.specs.Hosts.{HasOneHost}
-use Rattle.vm_kernel.specs.declared.parts.Parts.{Parts}
+use Rattle.vm_kernel.specs.Matches.{IsPlain}
+use Rattle.vm_hosts.specs.Hosts.{HostTable}
+use Rattle.vm_hosts.specs.Steps.{Began, Passed}
 use Rattle.vm_system.specs.Steps.{KeepsLegal, is_idle, settles}
 use Rattle.vm_legal.proofs.Inside.{takings_more}
-use Rattle.vm_system.proofs.Silent.{paid_inner, prompt_code, prompt_line}
+use Rattle.vm_system.proofs.Silent.{all_returned, paid_inner, prompt_code, prompt_line}
 use Rattle.vm_system.proofs.Unfilled.{all_current}
-use Rattle.vm_system.proofs.Stretched.{each_whole, moment_last, moments_whole, steps_whole, prompt_whole}
+use Rattle.vm_system.proofs.Stretched.{each_whole, moment_last, moments_whole, steps_whole}
 
 -- a line in front changes no refusal and no head
 
@@ -120,7 +118,7 @@ head_line header line h other = refl
 -- events inside a step take nothing
 
 -- where each load answers from its own host's page it answers the flat map's bytes
-pub flat_of : (header : Header) (outside : Outside) (run : List Numbered) (h : List Event) → HasOneHost header → FollowsSoFar header outside run h → EachEvent (OwnBytes header) h → EachEvent (FlatBytes header outside) h
+pub flat_of : (header : Header) (outside : Outside) (run : List Numbered) (h : List Event) → IsPlain header → FollowsSoFar header outside run h → EachEvent (OwnBytes header) h → EachEvent (FlatBytes header outside) h
 flat_of header outside run h plain follows own = let causes = so_far header outside run h follows in answers header outside h causes own (all_current header outside h plain causes)
 
 -- a command that is no settle is whole so far, where it is whole
@@ -137,11 +135,11 @@ pub record IsStep (header : Header) (outside : Outside) (c : Numbered) (h events
   pub made : IsGroup header outside h c events
   pub whole : settles c.command ≡ None → IsWhole header h c events
   pub own_bytes : EachIn (OwnBytes header) events (event.Line c.line ∷ h)
-  pub frames : Suffice header 0 h → MomentsIn (Suffice header 0) events (event.Line c.line ∷ h)
+  pub frames : FramesSuffice header h → MomentsIn (FramesSuffice header) events (event.Line c.line ∷ h)
   pub inner : AllInner events
   pub rests : IsAtRest header h → IsAtRest header (events ++ event.Line c.line ∷ h)
 
-pub legal_step : (header : Header) (outside : Outside) (c : Numbered) (h events : List Event) → HasOneHost header → IsStep header outside c h events
+pub legal_step : (header : Header) (outside : Outside) (c : Numbered) (h events : List Event) → IsPlain header → IsStep header outside c h events
     → KeepsLegal header outside c h (events ++ event.Line c.line ∷ h)
 legal_step header outside c h events plain step run legal =
     let past = event.Line c.line ∷ h in
@@ -151,7 +149,7 @@ legal_step header outside c h events plain step run legal =
     let holds : Holds header outside (events ++ past) = record {
       own_bytes = own;
       flat_bytes = flat_of header outside (c ∷ run) (events ++ past) plain follows own;
-      frames = moments_whole header events past plain (step.frames (now 0)) (now, legal.holds.frames);
+      frames = moments_whole (FramesSuffice header) events past (step.frames now) (now, legal.holds.frames);
       prompt = steps_whole (Prompt header) events past step.inner (legal.rests.prompt, legal.holds.prompt);
       paid = steps_whole (IsPaid header) events past step.inner (legal.rests.paid, legal.holds.paid);
     } in
@@ -163,7 +161,7 @@ legal_step header outside c h events plain step run legal =
     }
 
 -- a refused command adds its line and its code
-pub legal_refused : (header : Header) (outside : Outside) (c : Numbered) (why : Code) (h : List Event) → HasOneHost header
+pub legal_refused : (header : Header) (outside : Outside) (c : Numbered) (why : Code) (h : List Event) → IsPlain header
     → refusal header h c.command ≡ Some why → KeepsLegal header outside c h (event.Refused why ∷ event.Line c.line ∷ h)
 legal_refused header outside c why h plain refused = legal_step header outside c h (event.Refused why ∷ []) plain (record {
   made = rw refused refl;
@@ -178,19 +176,20 @@ legal_refused header outside c why h plain refused = legal_step header outside c
 })
 
 -- a command's head, and what follows from it
-pub legal_began : (header : Header) (outside : Outside) (c : Numbered) (h events : List Event) (k : Parts) (ids : Ids) → HasOneHost header
-    → refusal header h c.command ≡ None → Began header 0 outside c.command (event.Line c.line ∷ h) k ids events → KeepsLegal header outside c h (events ++ event.Line c.line ∷ h)
-legal_began header outside c h events k ids plain fine began =
-    let grows = began.grows in
-    let is : head header h c.command ≡ Some grows.first = sym (head_line header c.line h c.command) ∙ grows.head in
-    let made : IsRun header outside h c grows.first events = record { more = grows.more; is = grows.is; follows = grows.follows; licensed = grows.licensed } in
+pub legal_began : (header : Header) (outside : Outside) (c : Numbered) (h events : List Event) (hosts : HostTable) → IsPlain header
+    → refusal header h c.command ≡ None → Began header outside c.command (event.Line c.line ∷ h) hosts events → KeepsLegal header outside c h (events ++ event.Line c.line ∷ h)
+legal_began header outside c h events hosts plain fine began =
+    let heads = began.heads in
+    let stretch = heads.stretch in
+    let is : head header h c.command ≡ Some heads.first = sym (head_line header c.line h c.command) ∙ heads.head in
+    let made : IsRun header outside h c heads.first events = record { more = heads.more; is = heads.is; follows = heads.follows; licensed = stretch.licensed } in
     legal_step header outside c h events plain (record {
       made = rw (fine, is) made;
       whole = λ none. rw fine began.done;
-      own_bytes = grows.own_bytes;
-      frames = λ now. grows.frames;
-      inner = grows.inner;
-      rests = λ rests. record { prompt = prompt_whole header _ plain began.prompt; paid = began.paid };
+      own_bytes = stretch.own_bytes;
+      frames = λ now. stretch.frames;
+      inner = stretch.inner;
+      rests = λ rests. record { prompt = began.ended.prompt; paid = began.paid };
     })
 
 idle_fine : (header : Header) (h : List Event) (doing : Command) → is_idle doing ≡ true → refusal header h doing ≡ None
@@ -208,29 +207,26 @@ idle_done header group past (command.FailFiles count) is = tt
 idle_done header group past (command.FailPaging count) is = tt
 idle_done header group past other is = absurd (let bad : false ≡ true = is in cc)
 
--- a command that is nothing to the host: what its kernel does at the step's end
-pub legal_passed : (header : Header) (outside : Outside) (c : Numbered) (h events : List Event) (k : Parts) (ids : Ids) → HasOneHost header
-    → is_idle c.command ≡ true → Passed header 0 outside c.command (event.Line c.line ∷ h) k ids events → KeepsLegal header outside c h (events ++ event.Line c.line ∷ h)
-legal_passed header outside c h events k ids plain idle passed =
-    let goes = passed.goes in
-    let same : events ≡ goes.more = goes.is ∙ append-nil goes.more in
+-- a command that is no host's: what they do at the step's end
+pub legal_passed : (header : Header) (outside : Outside) (c : Numbered) (h events : List Event) (hosts : HostTable) → IsPlain header
+    → is_idle c.command ≡ true → Passed header outside c.command (event.Line c.line ∷ h) hosts events → KeepsLegal header outside c h (events ++ event.Line c.line ∷ h)
+legal_passed header outside c h events hosts plain idle passed =
     let past = event.Line c.line ∷ h in
+    let stretch = passed.follows.stretch in
     let fine = idle_fine header h c.command idle in
     let is = idle_head header h c.command idle in
-    let licensed : AllLicensed header outside c.command events past = subst (λ (z : List Event). AllLicensed header outside c.command z past) (sym same) goes.licensed in
-    let made : IsRun header outside h c [] events = record { more = goes.more; is = goes.is; follows = goes.follows; licensed = licensed } in
-    let inner : AllInner events = subst AllInner (sym same) goes.inner in
+    let made : IsRun header outside h c [] events = record { more = events; is = sym (append-nil events); follows = passed.follows.follows; licensed = stretch.licensed } in
     legal_step header outside c h events plain (record {
       made = rw (fine, is) made;
       whole = λ none. rw fine (idle_done header events past c.command idle);
-      own_bytes = subst (λ (z : List Event). EachIn (OwnBytes header) z past) (sym same) goes.own_bytes;
-      frames = λ now. subst (λ (z : List Event). MomentsIn (Suffice header 0) z past) (sym same) goes.frames;
-      inner = inner;
-      rests = λ rests. record { prompt = prompt_whole header _ plain passed.prompt; paid = paid_inner header c.line h events inner passed.returned };
+      own_bytes = stretch.own_bytes;
+      frames = λ now. stretch.frames;
+      inner = stretch.inner;
+      rests = λ rests. record { prompt = passed.ended.prompt; paid = paid_inner header c.line h events stretch.inner (all_returned header hosts (events ++ past) passed.ended.rests) };
     })
 
 -- a settle begins with its line
-pub legal_settle : (header : Header) (outside : Outside) (line count : ℕ) (h : List Event) → HasOneHost header
+pub legal_settle : (header : Header) (outside : Outside) (line count : ℕ) (h : List Event) → IsPlain header
     → KeepsLegal header outside (record { line = line; command = command.Settle count }) h (event.Line line ∷ h)
 legal_settle header outside line count h plain = legal_step header outside (record { line = line; command = command.Settle count }) h [] plain (record {
   made = record { more = []; is = refl; follows = tt; licensed = tt };

@@ -1,6 +1,6 @@
 -- The letters on their way under events that begin a step, and the first of a channel.
-use Rattle.std.proofs.Common.{ℕ, ◌≡◌, List, [], ◌∷◌, ◌++◌, Bool, true, false, refl, sym, subst, Some, None, if◌then◌else◌, ◌∙◌}
-use Rattle.std.specs.Prelude.{◌<◌, ◌==◌}
+use Rattle.std.proofs.Common.{ℕ, ◌≡◌, inr, List, [], ◌∷◌, ◌++◌, Bool, true, false, refl, sym, subst, Some, None, if◌then◌else◌}
+use Rattle.std.specs.Prelude.{◌<◌, ◌==◌, ◌&&◌, ◌≢◌}
 use Rattle.vm_base.specs.declared.ids.HostId.{HostId}
 use Rattle.vm_base.specs.declared.ids.ObjectId.{ObjectId}
 use Rattle.vm_model.specs.declared.event.Event.{Event}
@@ -15,19 +15,21 @@ use Rattle.vm_model.specs.Controls.{live_control}
 use Rattle.vm_model.specs.Server.{first}
 use Rattle.vm_model.specs.Side.{rest}
 use Rattle.vm_legal.specs.Frames.{returns_out}
+use Rattle.vm_legal.specs.Homes.{gives_frame}
 use Rattle.vm_legal.specs.Licences.{lock_taken, up}
 use Rattle.vm_legal.specs.Steps.{Letter}
 use Rattle.vm_legal.specs.Undelivered.{is_made, undelivered, without_first}
+use Rattle.vm_abroad.specs.Home.{home_of}
+use Rattle.vm_kernel.specs.Matches.{host_id}
+use Rattle.vm_kernel.specs.Taking.{IsTempAnswer}
 use Rattle.vm_quiet.specs.Letters.{messages_on}
 use Rattle.vm_quiet.proofs.Letters.{first_is, never, queue_is, same_channel}
-use Rattle.vm_system.specs.Hosts.{the_host}
-use Rattle.vm_kernel.specs.Taking.{IsTempAnswer}
-use Rattle.pg_default.specs.Stands.{is_ended}
-use Rattle.vm_system.specs.Orderly.{AllLetters, Ending, IsLetter, IsOrderly, IsWordUp, is_washed}
+use Rattle.pg_default.specs.Stands.{is_elsewhere, is_ended}
+use Rattle.vm_system.specs.Orderly.{AllLetters, Ending, IsLetter, IsOrderly, IsWordUp}
 use Rattle.vm_system.proofs.Endings.{ends_taken}
-use Rattle.vm_system.proofs.Makings.{ended_is, made_taken, number_is}
+use Rattle.vm_system.proofs.Homes.{elsewhere_taken, home_kept, home_taken}
+use Rattle.vm_system.proofs.Makings.{at_place, ended_is, is_open, made_taken, own}
 use Rattle.vm_system.proofs.Washings.{some_washed, washed_taken}
-use Rattle.vm_model.specs.Tasks.{host_of}
 
 -- the channels of one history are made in another
 pub record Grew (old new : List Event) : Type 0 where
@@ -40,161 +42,144 @@ word_stays size old new (message.Return control page dirty keep bytes) kept word
 word_stays size old new (message.Terminate control) kept word = word
 word_stays size old new m kept word = absurd word
 
-letter_stays : (size : ℕ) (old new : List Event) → Grew old new → (c : Channel) (m : Message) → IsLetter size old (record { channel = c; message = m }) → IsLetter size new (record { channel = c; message = m })
-letter_stays size old new grew (Up host object) m letter =
-    (letter.0, word_stays size (λ k. is_made (Down the_host object k) old) (λ k. is_made (Down the_host object k) new) m (λ k made. grew.kept (Down the_host object k) made) letter.1)
-letter_stays size old new grew (Down host object control) m letter = letter
+letter_stays : (header : Header) (old new : List Event) → Grew old new → (c : Channel) (m : Message) → IsLetter header old (record { channel = c; message = m }) → IsLetter header new (record { channel = c; message = m })
+letter_stays header old new grew (Up host object) m letter =
+    (letter.0, word_stays header.size (λ k. is_made (Down host object k) old) (λ k. is_made (Down host object k) new) m (λ k made. grew.kept (Down host object k) made) letter.1)
+letter_stays header old new grew (Down host object control) m letter = letter
 
-pub letters_stay : (size : ℕ) (old new : List Event) → Grew old new → (ls : List Letter) → AllLetters size old ls → AllLetters size new ls
-letters_stay size old new grew [] all = tt
-letters_stay size old new grew (l ∷ ls) all = (letter_stays size old new grew l.channel l.message all.0, letters_stay size old new grew ls all.1)
+pub letters_stay : (header : Header) (old new : List Event) → Grew old new → (ls : List Letter) → AllLetters header old ls → AllLetters header new ls
+letters_stay header old new grew [] all = tt
+letters_stay header old new grew (l ∷ ls) all = (letter_stays header old new grew l.channel l.message all.0, letters_stay header old new grew ls all.1)
 
-pub letters_end : (size : ℕ) (past : List Event) (ls : List Letter) (l : Letter) → AllLetters size past ls → IsLetter size past l → AllLetters size past (ls ++ l ∷ [])
-letters_end size past [] l all letter = (letter, tt)
-letters_end size past (k ∷ ls) l all letter = (all.0, letters_end size past ls l all.1 letter)
+pub letters_end : (header : Header) (past : List Event) (ls : List Letter) (l : Letter) → AllLetters header past ls → IsLetter header past l → AllLetters header past (ls ++ l ∷ [])
+letters_end header past [] l all letter = (letter, tt)
+letters_end header past (k ∷ ls) l all letter = (all.0, letters_end header past ls l all.1 letter)
 
-letters_without : (size : ℕ) (past : List Event) (c : Channel) (ls : List Letter) → AllLetters size past ls → AllLetters size past (without_first c ls)
-letters_without size past c [] all = tt
-letters_without size past c (l ∷ ls) all = one (is_channel c l.channel) (letters_without size past c ls all.1)
+letters_without : (header : Header) (past : List Event) (c : Channel) (ls : List Letter) → AllLetters header past ls → AllLetters header past (without_first c ls)
+letters_without header past c [] all = tt
+letters_without header past c (l ∷ ls) all = one (is_channel c l.channel) (letters_without header past c ls all.1)
   where
-    one : (b : Bool) → AllLetters size past (without_first c ls) → AllLetters size past (if b then ls else l ∷ without_first c ls)
+    one : (b : Bool) → AllLetters header past (without_first c ls) → AllLetters header past (if b then ls else l ∷ without_first c ls)
     one true more = all.1
     one false more = (all.0, more)
 
-letter_among : (size : ℕ) (past : List Event) (c : Channel) (m : Message) (ls : List Letter) → AllLetters size past ls → first (messages_on c ls) ≡ Some m → IsLetter size past (record { channel = c; message = m })
-letter_among size past c m [] all head = absurd (let bad : None ≡ Some m = head in cc)
-letter_among size past c m (l ∷ ls) all head = one (is_channel c l.channel) refl head (letter_among size past c m ls all.1)
+letter_among : (header : Header) (past : List Event) (c : Channel) (m : Message) (ls : List Letter) → AllLetters header past ls → first (messages_on c ls) ≡ Some m → IsLetter header past (record { channel = c; message = m })
+letter_among header past c m [] all head = absurd (let bad : None ≡ Some m = head in cc)
+letter_among header past c m (l ∷ ls) all head = one (is_channel c l.channel) refl head (letter_among header past c m ls all.1)
   where
     inner : (x : Message) (q : List Message) → first (x ∷ q) ≡ Some m → x ≡ m
     inner x q e = cc
 
     one : (b : Bool) → is_channel c l.channel ≡ b → first (if b then l.message ∷ messages_on c ls else messages_on c ls) ≡ Some m
-        → (first (messages_on c ls) ≡ Some m → IsLetter size past (record { channel = c; message = m })) → IsLetter size past (record { channel = c; message = m })
+        → (first (messages_on c ls) ≡ Some m → IsLetter header past (record { channel = c; message = m })) → IsLetter header past (record { channel = c; message = m })
     one true is at more =
-        subst (λ (x : Message). IsLetter size past (record { channel = c; message = x })) (inner l.message (messages_on c ls) at)
-        (subst (λ (d : Channel). IsLetter size past (record { channel = d; message = l.message })) (same_channel c l.channel is) all.0)
+        subst (λ (x : Message). IsLetter header past (record { channel = c; message = x })) (inner l.message (messages_on c ls) at)
+        (subst (λ (d : Channel). IsLetter header past (record { channel = d; message = l.message })) (same_channel c l.channel is) all.0)
     one false is at more = more at
 
-pub letter_first : (header : Header) (channel : Channel) (m : Message) (past : List Event) → IsOrderly header past → first (queue channel past) ≡ Some m → IsLetter header.size past (record { channel = channel; message = m })
-letter_first header channel m past orderly head = letter_among header.size past channel m (undelivered past) orderly.letters (first_is channel m past head)
+pub letter_first : (header : Header) (channel : Channel) (m : Message) (past : List Event) → IsOrderly header past → first (queue channel past) ≡ Some m → IsLetter header past (record { channel = channel; message = m })
+letter_first header channel m past orderly head = letter_among header past channel m (undelivered past) orderly.letters (first_is channel m past head)
 
 -- what is on the way up, by the channel's queue
-pub queued : (header : Header) (o : ℕ) (past : List Event) → IsOrderly header past → Ending (live_control 0 o past) (is_ended 0 o past) (queue (up 0 o) past)
-queued header o past orderly = subst (λ (q : List Message). Ending (live_control 0 o past) (is_ended 0 o past) q) (sym (queue_is (up 0 o) past)) (orderly.ending o)
+pub queued : (header : Header) (h o : ℕ) (past : List Event) → IsOrderly header past → Ending (live_control h o past) (is_ended h o past) (queue (up h o) past)
+queued header h o past orderly = subst (λ (q : List Message). Ending (live_control h o past) (is_ended h o past) q) (sym (queue_is (up h o) past)) (orderly.ending h o)
 
-pub lettered : (o : ℕ) (past : List Event) → Ending (live_control 0 o past) (is_ended 0 o past) (queue (up 0 o) past) → Ending (live_control 0 o past) (is_ended 0 o past) (messages_on (up 0 o) (undelivered past))
-lettered o past ending = subst (λ (q : List Message). Ending (live_control 0 o past) (is_ended 0 o past) q) (queue_is (up 0 o) past) ending
+pub lettered : (h o : ℕ) (past : List Event) → Ending (live_control h o past) (is_ended h o past) (queue (up h o) past) → Ending (live_control h o past) (is_ended h o past) (messages_on (up h o) (undelivered past))
+lettered h o past ending = subst (λ (q : List Message). Ending (live_control h o past) (is_ended h o past) q) (queue_is (up h o) past) ending
 
-pub unended_first : (header : Header) (object : ObjectId) (m : Message) (past : List Event) → IsOrderly header past → first (queue (Up the_host object) past) ≡ Some m → is_ended 0 object.0 past ≡ false
-unended_first header object m past orderly head = one (is_ended 0 object.0 past) refl
+pub unended_first : (header : Header) (h : ℕ) (object : ObjectId) (m : Message) (past : List Event) → IsOrderly header past → first (queue (Up (host_id h) object) past) ≡ Some m → is_ended h object.0 past ≡ false
+unended_first header h object m past orderly head = one (is_ended h object.0 past) refl
   where
     empty : (q : List Message) → q ≡ [] → first q ≡ Some m → ⊥
     empty q none at = absurd (let bad : first {A = Message} [] ≡ Some m = subst (λ (x : List Message). first x ≡ Some m) none at in cc)
 
-    one : (b : Bool) → is_ended 0 object.0 past ≡ b → is_ended 0 object.0 past ≡ false
-    one true is = absurd (empty (queue (Up the_host object) past) ((queued header object.0 past orderly).over is).0 head)
+    one : (b : Bool) → is_ended h object.0 past ≡ b → is_ended h object.0 past ≡ false
+    one true is = absurd (empty (queue (Up (host_id h) object) past) ((queued header h object.0 past orderly).over is).0 head)
     one false is = is
 
-pub washed_out : (header : Header) (object : ObjectId) (m : Message) (past : List Event) → IsOrderly header past → first (queue (Up the_host object) past) ≡ Some m → is_washed m ≡ true → 0 < returns_out 0 past
-washed_out header object m past orderly head is = some_washed header.size object m past head is orderly.letters orderly.washed
+-- a message is on the way up from the host of its object's region
+at_home : (header : Header) (host : HostId) (object : ObjectId) (m : Message) (past : List Event) → IsOrderly header past → first (queue (Up host object) past) ≡ Some m → home_of object.0 past ≡ Some host.0
+at_home header host object m past orderly head = (orderly.home host.0 object.0).made (is_open host.0 object.0 m past (orderly.made host.0 object.0) head)
+
+pub home_first : (header : Header) (h : ℕ) (object : ObjectId) (m : Message) (past : List Event) → IsOrderly header past → first (queue (Up (host_id h) object) past) ≡ Some m → is_elsewhere h object.0 past ≡ false
+home_first header h object m past orderly head = (orderly.home h object.0).own (inr (at_home header (host_id h) object m past orderly head))
+
+pub elsewhere_first : (header : Header) (h : ℕ) (object : ObjectId) (m : Message) (past : List Event) → IsOrderly header past → first (queue (Up (host_id h) object) past) ≡ Some m → (g : ℕ) → g ≢ h
+    → is_elsewhere g object.0 (event.Taken (Up (host_id h) object) m ∷ past) ≡ true
+elsewhere_first header h object m past orderly head g other = elsewhere_taken (host_id h) object m past g other
+
+pub washed_out : (header : Header) (h : ℕ) (object : ObjectId) (m : Message) (past : List Event) → IsOrderly header past → first (queue (Up (host_id h) object) past) ≡ Some m → gives_frame m ≡ true → 0 < returns_out h past
+washed_out header h object m past orderly head gives = some_washed h (Up (host_id h) object) m past head (both (h == h) (gives_frame m) (own h) gives) (orderly.washed h)
+  where
+    both : (b c : Bool) → b ≡ true → c ≡ true → (b && c) ≡ true
+    both true c is at = at
+    both false c is at = is
 
 pub orderly_none : (header : Header) → IsOrderly header []
 orderly_none header = record {
   letters = tt;
-  washed = refl;
-  tasks = λ task host is. nothing host is;
-  home = λ o. refl;
-  ending = λ o. record { living = λ control at. tt; last = tt; over = λ gone. never gone };
-  made = λ o. record { live = λ control at. nothing control at; never = λ zero. (refl, λ control. refl); ended = λ gone zero. never gone; quiet = λ zero. refl };
+  washed = λ h. refl;
+  home = λ h o. record { made = λ gone. never gone; own = λ home. refl };
+  ending = λ h o. record { living = λ control at. tt; last = tt; over = λ gone. never gone };
+  made = λ h o. record { live = λ control at. nothing control at; never = λ zero. (refl, λ control. refl); ended = λ gone zero. never gone; quiet = λ none. refl };
   unlocked = refl;
 }
   where
     nothing : {A : Type 0} (control : ℕ) → None ≡ Some control → A
     nothing control e = absurd (let bad : None ≡ Some control = e in cc)
 
-pub orderly_line : (header : Header) (line : ℕ) (past : List Event) → IsOrderly header past → IsOrderly header (event.Line line ∷ past)
-orderly_line header line past old = record {
-  letters = letters_stay header.size past (event.Line line ∷ past) (record { kept = λ c is. is }) (undelivered past) old.letters;
-  washed = old.washed;
-  tasks = old.tasks;
-  home = old.home;
-  ending = old.ending;
-  made = λ o. let was = old.made o in record { live = was.live; never = was.never; ended = was.ended; quiet = was.quiet };
-  unlocked = refl;
-}
-
--- the event is no message, and begins no step; a task is made on the one host
+-- the event is no message
 abbrev pub IsSilent : Event → Type 0
-IsSilent (event.Line line) = ⊥
 IsSilent (event.Sent channel m) = ⊥
 IsSilent (event.Taken channel m) = ⊥
-IsSilent (event.TaskMade task host) = host.0 ≡ 0
 IsSilent other = Unit {0}
 
--- tasks live on the one host still
-homes : (e : Event) (past : List Event) → IsSilent e → ((task host : ℕ) → host_of task past ≡ Some host → host ≡ 0) → (task host : ℕ) → host_of task (e ∷ past) ≡ Some host → host ≡ 0
-homes (event.TaskMade made at) past silent old task host is = by (made.0 == task) is
-  where
-    by : (b : Bool) → (if b then Some at.0 else host_of task past) ≡ Some host → host ≡ 0
-    by true same = let it : at.0 ≡ host = cc in sym it ∙ silent
-    by false same = old task host same
-homes (event.TaskEnded gone) past silent old task host is = by (gone.0 == task) is
-  where
-    by : (b : Bool) → (if b then None else host_of task past) ≡ Some host → host ≡ 0
-    by true same = absurd (let bad : None ≡ Some host = same in cc)
-    by false same = old task host same
-homes e past silent old task host is = old task host is
+unlocked_silent : (e : Event) (past : List Event) → IsSilent e → lock_taken past ≡ None → lock_taken (e ∷ past) ≡ None
+unlocked_silent (event.Sent channel m) past silent old = absurd silent
+unlocked_silent (event.Taken channel m) past silent old = absurd silent
+unlocked_silent (event.Line line) past silent old = refl
+unlocked_silent e past silent old = old
 
 pub orderly_silent : (header : Header) (e : Event) (past : List Event) → IsSilent e → IsOrderly header past → IsOrderly header (e ∷ past)
-orderly_silent header (event.Line line) past silent old = absurd silent
 orderly_silent header (event.Sent channel m) past silent old = absurd silent
 orderly_silent header (event.Taken channel m) past silent old = absurd silent
 orderly_silent header e past silent old = record {
-  letters = letters_stay header.size past (e ∷ past) (record { kept = λ c is. is }) (undelivered past) old.letters;
+  letters = letters_stay header past (e ∷ past) (record { kept = λ c is. is }) (undelivered past) old.letters;
   washed = old.washed;
-  tasks = homes e past silent old.tasks;
-  home = old.home;
+  home = λ h o. home_kept h o e past (old.home h o) (old.home h o).made refl;
   ending = old.ending;
-  made = λ o. let was = old.made o in record { live = was.live; never = was.never; ended = was.ended; quiet = was.quiet };
-  unlocked = old.unlocked;
+  made = λ h o. let was = old.made h o in record { live = was.live; never = was.never; ended = was.ended; quiet = was.quiet };
+  unlocked = unlocked_silent e past silent old.unlocked;
 }
+
+pub orderly_line : (header : Header) (line : ℕ) (past : List Event) → IsOrderly header past → IsOrderly header (event.Line line ∷ past)
+orderly_line header line past old = orderly_silent header (event.Line line) past tt old
 
 -- the letters after a taking
-letters_taken : (header : Header) (channel : Channel) (m : Message) (past : List Event) → IsOrderly header past → AllLetters header.size (event.Taken channel m ∷ past) (undelivered (event.Taken channel m ∷ past))
+letters_taken : (header : Header) (channel : Channel) (m : Message) (past : List Event) → IsOrderly header past → AllLetters header (event.Taken channel m ∷ past) (undelivered (event.Taken channel m ∷ past))
 letters_taken header channel m past old =
-    letters_without header.size (event.Taken channel m ∷ past) channel (undelivered past) (letters_stay header.size past (event.Taken channel m ∷ past) (record { kept = λ c is. is }) (undelivered past) old.letters)
+    letters_without header (event.Taken channel m ∷ past) channel (undelivered past) (letters_stay header past (event.Taken channel m ∷ past) (record { kept = λ c is. is }) (undelivered past) old.letters)
 
--- a message from the host is taken
-taken_up : (header : Header) (object : ObjectId) (m : Message) (past : List Event) → IsOrderly header past → first (queue (Up the_host object) past) ≡ Some m → IsOrderly header (event.Taken (Up the_host object) m ∷ past)
-taken_up header object m past old head = record {
-  letters = letters_taken header (Up the_host object) m past old;
-  washed = washed_taken header.size (Up the_host object) m past head old.letters old.washed (letters_taken header (Up the_host object) m past old);
-  tasks = old.tasks;
-  home = old.home;
-  ending = λ o. lettered o (event.Taken (Up the_host object) m ∷ past)
-      (subst (λ (x : Bool). Ending (live_control 0 o past) x (if object.0 == o then rest (queue (up 0 o) past) else queue (up 0 o) past)) (sym (ended_is o object m past))
-      (ends_taken (object.0 == o) (is_ended 0 o past) (live_control 0 o past) (queue (up 0 o) past) m (queued header o past old) (λ is. subst (λ (n : ℕ). first (queue (up 0 n) past) ≡ Some m) (number_is object.0 o is) head)));
-  made = λ o. made_taken object m past o (old.made o) head;
+pub orderly_taken : (header : Header) (channel : Channel) (m : Message) (past : List Event) → IsOrderly header past → first (queue channel past) ≡ Some m → IsOrderly header (event.Taken channel m ∷ past)
+orderly_taken header (Up host object) m past old head = record {
+  letters = letters_taken header (Up host object) m past old;
+  washed = λ h. washed_taken h (Up host object) m past head (old.washed h);
+  home = λ h o. home_taken host object m past h o (old.home h o) (at_home header host object m past old head);
+  ending = λ h o. lettered h o (event.Taken (Up host object) m ∷ past)
+      (subst (λ (x : Bool). Ending (live_control h o past) x (if host.0 == h && object.0 == o then rest (queue (up h o) past) else queue (up h o) past)) (sym (ended_is h o host object m past))
+      (ends_taken (host.0 == h && object.0 == o) (is_ended h o past) (live_control h o past) (queue (up h o) past) m (queued header h o past old) (λ is. at_place (λ a n. first (queue (up a n) past) ≡ Some m) host.0 object.0 h o is head)));
+  made = λ h o. made_taken host object m past h o (old.made h o) head;
   unlocked = refl;
 }
-
--- an answer is taken
-taken_down : (header : Header) (host : HostId) (object : ObjectId) (control : ℕ) (m : Message) (past : List Event) → IsOrderly header past → first (queue (Down host object control) past) ≡ Some m → IsTempAnswer header.size m
-    → IsOrderly header (event.Taken (Down host object control) m ∷ past)
-taken_down header host object control m past old head answer = record {
+orderly_taken header (Down host object control) m past old head = record {
   letters = letters_taken header (Down host object control) m past old;
-  washed = washed_taken header.size (Down host object control) m past head old.letters old.washed (letters_taken header (Down host object control) m past old);
-  tasks = old.tasks;
-  home = old.home;
-  ending = λ o. lettered o (event.Taken (Down host object control) m ∷ past) (queued header o past old);
-  made = λ o. let was = old.made o in record { live = was.live; never = was.never; ended = was.ended; quiet = was.quiet };
-  unlocked = unlocked m answer;
+  washed = λ h. washed_taken h (Down host object control) m past head (old.washed h);
+  home = λ h o. let was = old.home h o in record { made = was.made; own = was.own };
+  ending = λ h o. lettered h o (event.Taken (Down host object control) m ∷ past) (queued header h o past old);
+  made = λ h o. let was = old.made h o in record { live = was.live; never = was.never; ended = was.ended; quiet = was.quiet };
+  unlocked = unlocked m (letter_first header (Down host object control) m past old head).1;
 }
   where
     unlocked : (n : Message) → IsTempAnswer header.size n → lock_taken (event.Taken (Down host object control) n ∷ past) ≡ None
     unlocked (message.Lock page count returns flush lock reply) is = absurd is
     unlocked n is = refl
-
-pub orderly_taken : (header : Header) (channel : Channel) (m : Message) (past : List Event) → IsOrderly header past → first (queue channel past) ≡ Some m → IsOrderly header (event.Taken channel m ∷ past)
-orderly_taken header (Up host object) m past old head = subst (λ (h : HostId). first (queue (Up h object) past) ≡ Some m → IsOrderly header (event.Taken (Up h object) m ∷ past)) (sym (letter_first header (Up host object) m past old head).0) (taken_up header object m past old) head
-orderly_taken header (Down host object control) m past old head = taken_down header host object control m past old head (letter_first header (Down host object control) m past old head).1

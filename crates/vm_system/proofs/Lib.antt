@@ -1,12 +1,12 @@
-pub mod Acting
 pub mod Agreeing
 pub mod Answering
+pub mod Apart
 pub mod Beginning
-pub mod Copied
 pub mod Empty
 pub mod Endings
 pub mod Following
 pub mod Growth
+pub mod Homes
 pub mod Legal
 pub mod Letters
 pub mod Made
@@ -16,7 +16,6 @@ pub mod Numbers
 pub mod Opening
 pub mod Paying
 pub mod Posting
-pub mod Refusals
 pub mod Sayings
 pub mod Sending
 pub mod Settled

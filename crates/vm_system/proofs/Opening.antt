@@ -29,13 +29,14 @@ use Rattle.vm_quiet.proofs.Letters.{queue_is}
 use Rattle.vm_quiet.specs.Letters.{messages_on}
 use Rattle.vm_legal.proofs.Groups.{cut_of, so_far}
 use Rattle.vm_flat.proofs.Loads.{answers}
-use Rattle.vm_system.specs.Hosts.{HasOneHost}
+use Rattle.vm_kernel.specs.Matches.{IsPlain}
 use Rattle.vm_legal.proofs.Stretched.{licensed_both, of_both}
 use Rattle.vm_legal.proofs.Inside.{takings_more}
 use Rattle.vm_system.specs.Channels.{number_in}
 use Rattle.vm_system.specs.Posts.{AreSame}
 use Rattle.vm_system.specs.Stands.{Stands}
-use Rattle.vm_system.specs.Steps.{HasMore, KeepsOpen, LegalOpen, MayCutOpen, Taking}
+use Rattle.vm_hosts.specs.Steps.{Step}
+use Rattle.vm_system.specs.Steps.{HasMore, KeepsOpen, LegalOpen, MayCutOpen}
 use Rattle.vm_system.specs.Takings.{May, MayBeCut, TakesStep, Took}
 use Rattle.vm_system.specs.declared.state.State.{State}
 use Rattle.vm_system.proofs.Taken.{is_itself}
@@ -44,7 +45,7 @@ use Rattle.vm_system.proofs.Unfilled.{all_current}
 
 -- what holds in front of a taking
 pub record HoldsUpTo (header : Header) (outside : Outside) (past : List Event) : Type 0 where
-  pub plain : HasOneHost header
+  pub plain : IsPlain header
   pub own_bytes : EachEvent (OwnBytes header) past
   pub frames : EachMoment (FramesSuffice header) past
   pub prompts : BeforeSteps (Prompt header) past
@@ -53,10 +54,10 @@ pub record HoldsUpTo (header : Header) (outside : Outside) (past : List Event) :
   pub paid : IsPaid header past
 
 -- the events of a step that took a message, on what stands in front of it
-pub step_is : (given : Taking) (new : List Event) → (step : TakesStep given new) → new ≡ (step.more ++ event.Taken step.channel step.m ∷ []) ++ given.past
+pub step_is : (given : Step) (new : List Event) → (step : TakesStep given new) → new ≡ (step.more ++ event.Taken step.channel step.m ∷ []) ++ given.past
 step_is given new step = step.is ∙ sym (append_assoc step.more (event.Taken step.channel step.m ∷ []) given.past)
 
-pub holds_taken : (given : Taking) (new : List Event) → TakesStep given new → EachEvent (HasCause given.header given.outside) new → HoldsUpTo given.header given.outside given.past → Holds given.header given.outside new
+pub holds_taken : (given : Step) (new : List Event) → TakesStep given new → EachEvent (HasCause given.header given.outside) new → HoldsUpTo given.header given.outside given.past → Holds given.header given.outside new
 holds_taken given new step caused front =
     let header = given.header in
     let outside = given.outside in
@@ -67,7 +68,7 @@ holds_taken given new step caused front =
     record {
       own_bytes = own;
       flat_bytes = answers header outside new caused own (all_current header outside new front.plain caused);
-      frames = rw is (moments_whole header stretch past front.plain step.frames front.frames);
+      frames = rw is (moments_whole (FramesSuffice header) stretch past step.frames front.frames);
       prompt = rw step.is (steps_whole (Prompt header) step.more (event.Taken step.channel step.m ∷ past) step.inner (front.prompt, front.prompts));
       paid = rw step.is (steps_whole (IsPaid header) step.more (event.Taken step.channel step.m ∷ past) step.inner (front.paid, front.payments));
     }
@@ -94,7 +95,7 @@ settled_more header outside count line run old new stretch is follows licensed (
 -- what holds of an open history that has a kernel
 pub up_to_open : (header : Header) (outside : Outside) (run : List Numbered) (s : State) → Stands header outside s → LegalOpen header outside run s.history.items → HoldsUpTo header outside s.history.items
 up_to_open header outside run s stands legal = record {
-  plain = stands.plain;
+  plain = stands.rests.plain;
   own_bytes = legal.holds.own_bytes;
   frames = legal.holds.frames;
   prompts = legal.holds.prompt;
@@ -103,7 +104,7 @@ up_to_open header outside run s stands legal = record {
   paid = legal.rests.paid;
 }
 
-abbrev settling : Header → Outside → ℕ → List Event → Taking
+abbrev settling : Header → Outside → ℕ → List Event → Step
 settling header outside count past = record { header = header; outside = outside; command = command.Settle count; past = past }
 
 follows_open : (header : Header) (outside : Outside) (count line : ℕ) (run : List Numbered) (old new : List Event) → TakesStep (settling header outside count old) new → FollowsSoFar header outside (record { line = line; command = command.Settle count } ∷ run) old
@@ -154,7 +155,7 @@ foremost made (p ∷ posted) (letter ∷ letters) number same is =
 first_on : (letter : Letter) (letters : List Letter) → messages_on letter.channel (letter ∷ letters) ≡ letter.message ∷ messages_on letter.channel letters
 first_on letter letters = rw (is_itself letter.channel) refl
 
-pub may_settle : (given : Taking) (number : ChannelId) (s : State) → Stands given.header given.outside s → given.past ≡ s.history.items → HasMore given.command s.history.items → oldest_on s.ports.letters ≡ Some number
+pub may_settle : (given : Step) (number : ChannelId) (s : State) → Stands given.header given.outside s → given.past ≡ s.history.items → HasMore given.command s.history.items → oldest_on s.ports.letters ≡ Some number
     → (channel : Channel) × May given None number channel s
 may_settle given number s stands past more is =
     let items = s.history.items in
@@ -174,14 +175,14 @@ may_settle given number s stands past more is =
 
 -- a settle goes on
 
-pub keeps_settle : (given : Taking) (s new : State) → Stands given.header given.outside s → given.past ≡ s.history.items → HasMore given.command s.history.items → Took given new
+pub keeps_settle : (given : Step) (s new : State) → Stands given.header given.outside s → given.past ≡ s.history.items → HasMore given.command s.history.items → Took given new
     → KeepsOpen given.header given.outside given.command s.history.items new.history.items
 keeps_settle given s new stands past more took =
     let same : Took (settling given.header given.outside more.count s.history.items) new = subst (λ (z : Command). Took (record { header = given.header; outside = given.outside; command = z; past = s.history.items }) new) more.is
     (subst (λ (z : List Event). Took (record { header = given.header; outside = given.outside; command = given.command; past = z }) new) past took) in
     subst (λ (z : Command). KeepsOpen given.header given.outside z s.history.items new.history.items) (sym more.is) (keeps_open given.header given.outside more.count s new stands same)
 
-pub cuts_settle : (given : Taking) (s : State) (new : List Event) → Stands given.header given.outside s → given.past ≡ s.history.items → HasMore given.command s.history.items → MayBeCut given s.history.items new
+pub cuts_settle : (given : Step) (s : State) (new : List Event) → Stands given.header given.outside s → given.past ≡ s.history.items → HasMore given.command s.history.items → MayBeCut given s.history.items new
     → MayCutOpen given.header given.outside given.command s.history.items new
 cuts_settle given s new stands past more cut =
     let same : MayBeCut (settling given.header given.outside more.count s.history.items) s.history.items new = subst (λ (z : Command). MayBeCut (record { header = given.header; outside = given.outside; command = z; past = s.history.items }) s.history.items new) more.is

@@ -37,7 +37,7 @@ posts_sent channel m s t past can posts sent = record {
       let same = same_more s.channels.made (made_by channel m) s.ports.letters (undelivered past) posts.letters in
       let is : number_in channel (s.channels.made ++ made_by channel m) ≡ Some sent.number.0 = rw sent.made at sent.is in
       rw (sent.made, sent.letters) (same_sent (s.channels.made ++ made_by channel m) s.ports.letters (undelivered past) channel sent.number m same is);
-  buffers = sent.size ∙ posts.buffers ∙ sym sent.host.size;
+  buffers = sent.size ∙ posts.buffers ∙ sym sent.hosts.size;
 }
 
 -- the first message of a channel is taken, behind a line if the step begins with one

@@ -1,7 +1,9 @@
 -- What holds at the end of a step doesn't change with a line, or with the code of a refusal.
-use Rattle.std.proofs.Common.{◌≡◌, ℕ, Bool, List, [], ◌∷◌, ◌++◌, refl, None, inl, inr}
+use Rattle.std.proofs.Common.{◌≡◌, ℕ, Bool, List, ◌∷◌, ◌++◌, None, refl, inl, inr}
 use Rattle.vm_base.specs.declared.code.Code.{Code}
+use Rattle.vm_hosts.proofs.Tables.{common_all}
 use Rattle.vm_kernel.proofs.Growing.{paid_of}
+use Rattle.vm_hosts.specs.Hosts.{AllRest, HostTable}
 use Rattle.vm_model.specs.declared.event.Event.{Event}
 use Rattle.vm_model.specs.declared.event.Event.TheVariants as event
 use Rattle.vm_model.specs.declared.script.Header.{Header}
@@ -10,9 +12,6 @@ use Rattle.vm_legal.specs.Accesses.{Comes, Copies, Elsewhere, HasPlace, Nowhere,
 use Rattle.vm_legal.specs.Debts.{IsPaid}
 use Rattle.vm_legal.specs.Licences.{created}
 use Rattle.vm_legal.specs.Prompt.{AReady, AnAnswer, AnUnlock, Awaits, IsExhausted, IsFull, IsSource, NoneInVain, Prompt, WaitsForPager}
-use Rattle.vm_shadow.specs.declared.ids.Ids.{Ids}
-use Rattle.vm_kernel.specs.Matches.{Matches, Rests}
-use Rattle.vm_kernel.specs.declared.parts.Parts.{Parts}
 use Rattle.vm_legal.specs.Stretches.{AllInner}
 
 -- the accesses that wait, and what they wait for
@@ -96,28 +95,6 @@ prompt_line header line h prompt host below = record {
 }
 
 -- a code
-matches_code : (header : Header) (k : Parts) (ids : Ids) (why : Code) (h : List Event) → Matches header 0 k ids [] h → Matches header 0 k ids [] (event.Refused why ∷ h)
-matches_code header k ids why h m = record {
-  plain = m.plain;
-  known = m.known;
-  size = m.size;
-  host = m.host;
-  fits = m.fits;
-  tasks = m.tasks;
-  regions = m.regions;
-  entries = m.entries;
-  pages = m.pages;
-  uses = m.uses;
-  controls = m.controls;
-  settled = refl;
-  laundry = m.laundry;
-  frames = m.frames;
-}
-
-pub rests_code : (header : Header) (k : Parts) (ids : Ids) (why : Code) (h : List Event) → Rests header 0 k ids h → Rests header 0 k ids (event.Refused why ∷ h)
-rests_code header k ids why h rests = record { matches = matches_code header k ids why h rests.matches; used = rests.used; reached = rests.reached; waits = rests.waits; order = rests.order; idle = rests.idle }
-
--- the accesses that wait, and what they wait for
 
 abbrev waits_code : (header : Header) (task : ℕ) (access : Access) (why : Code) (h : List Event) → Waits header task access h → Waits header task access (event.Refused why ∷ h)
 waits_code header task access why h w = record { waits = w.waits; at = record { host = w.at.host; entry = w.at.entry; lives = w.at.lives; found = w.at.found } }
@@ -196,6 +173,10 @@ prompt_code header why h prompt host below = record {
   waits = not_in_vain_code header host why h (prompt host below).waits;
   swept = let swept = (prompt host below).swept in record { pages = swept.pages; controls = swept.controls; declared_pages = swept.declared_pages; declared_controls = swept.declared_controls };
 }
+
+-- no create waits for its return
+pub all_returned : (header : Header) (hosts : HostTable) (past : List Event) → AllRest header hosts past → created past ≡ None
+all_returned header hosts past rests = (common_all header hosts past rests).settled.returned
 
 -- a step that takes nothing owes nothing
 

@@ -1,33 +1,28 @@
 -- A new system stands for the empty history.
-use Rattle.std.proofs.Common.{◌≡◌, ℕ, ◌<◌, ◌^◌, List, [], length, true, None, refl, ap, sym, subst, arith, inl}
-use Rattle.std.proofs.lemmas.List.Elements.{All-cons, All-nil}
-use Rattle.std.specs.List.{All}
+use Rattle.std.proofs.Common.{zero, suc, ◌≡◌, ◌⊎◌, ℕ, ◌+◌, List, [], ◌∷◌, ◌++◌, length, true, None, Some, refl, sym, ◌∙◌, ap, subst, length-append, inl, inr}
+use Rattle.std.proofs.lemmas.Option.{same_Some}
+use Rattle.std.specs.Prelude.{slice_get}
 use Rattle.vm_model.specs.declared.script.Header.{Header}
 use Rattle.vm_legal.specs.Outside.{Outside}
 use Rattle.vm_outside.specs.Areas.{Told}
-use Rattle.pg_slots.specs.Contents.{Content, Fits, IsTold}
+use Rattle.pg_slots.specs.Contents.{Content, Fits, Kept as Stored}
 use Rattle.pg_slots.specs.Slots.{SlotTable}
-use Rattle.pg_default.specs.Stands.{content_of}
+use Rattle.pg_default.specs.Stands.{Stands as PagerStands, content_of}
 use Rattle.pg_default.proofs.Others.{empty}
 use Rattle.pg_default.proofs.Standing.{start}
-use Rattle.vm_waits.specs.Waits.{queued}
-use Rattle.vm_kernel.specs.Matches.{IsPlain, Rests}
-use Rattle.vm_system.specs.Hosts.{HasOneHost}
+use Rattle.vm_hosts.specs.Hosts.{AllQueued, AllRest}
 use Rattle.vm_system.specs.Posts.{Posts}
-use Rattle.vm_system.specs.Stands.{Kept, Stands}
+use Rattle.vm_system.specs.Stands.{AllServe, AllTold, AreEmpty, AreNumbered, Kept, Stands}
 use Rattle.vm_system.specs.declared.state.State.{State}
 use Rattle.vm_system.proofs.Letters.{orderly_none}
-
--- the slots of a new pager
-abbrev pub no_slots : Header → SlotTable
-no_slots header = record { host = 0; size = header.size; count = header.slots; rows = [] }
 
 -- a system to which nothing has happened
 pub record IsNew (header : Header) (s : State) : Type 0 where
   pub size : s.size ≡ header.size
-  pub rests : Rests header 0 s.kernel s.ids []
-  pub idle : queued s.kernel.waits.rows ≡ 0
-  pub pager : s.pager ≡ no_slots header
+  pub rests : AllRest header s.hosts []
+  pub queues : AllQueued header s.hosts []
+  pub numbered : AreNumbered header s.pagers.items
+  pub empty : AreEmpty header s.pagers.items
   pub channels : s.ports.channels ≡ 0
   pub letters : s.ports.letters ≡ []
   pub made : s.channels.made ≡ []
@@ -42,37 +37,57 @@ new_posts header s new = record {
   buffers = rw new.buffers refl;
 }
 
--- the kernel's host is the one that its header has
-pub plain_host : (header : Header) → HasOneHost header → IsPlain header
-plain_host header one =
-    record {
-      size = one.size;
-      hosts = let count : length header.frames.items ≡ 1 = ap length one.hosts in (omega (arith, count), omega (arith, count));
-      few = subst (All (λ frames. frames < 2 ^ 32)) (sym one.hosts) (All-cons (λ frames. frames < 2 ^ 32) one.frames [] one.few (All-nil (λ frames. frames < 2 ^ 32)));
-      objects = one.objects;
-    }
+new_serve : (header : Header) (s : State) → IsNew header s → AllServe header s.pagers.items []
+new_serve header s new = record { numbered = new.numbered; stand = λ h pager at. subst (λ (z : SlotTable). PagerStands header h z []) (sym (new.empty h pager at)) (start header h) }
 
-pub host_below : (header : Header) → HasOneHost header → 0 < length header.frames.items
-host_below header one = let count : length header.frames.items ≡ 1 = ap length one.hosts in omega (arith, count)
-
-pub new_stands : (header : Header) (outside : Outside) (s : State) → HasOneHost header → IsNew header s → Stands header outside s
-new_stands header outside s plain new = record {
-  plain = plain;
+pub new_stands : (header : Header) (outside : Outside) (s : State) → IsNew header s → Stands header outside s
+new_stands header outside s new = record {
   rests = rw new.history new.rests;
-  queue = rw new.history (inl new.idle);
+  queues = rw new.history new.queues;
   agrees = record {
     size = new.size;
-    pager = rw (new.history, new.pager) (start header 0);
+    pagers = rw new.history (new_serve header s new);
     posts = new_posts header s new;
     orderly = rw new.history (orderly_none header);
   };
 }
 
-pub new_kept : (header : Header) (outside : Outside) (areas : List ℕ → Told) (s : State) → IsNew header s → Fits areas s.pager (λ o p. None) → (outside.paging ≡ true → IsTold areas s.pager) → Kept header outside areas s
-new_kept header outside areas s new fits told =
-    let nothing : content_of header 0 [] ≡ (λ o p. None) = λ i o p. empty header 0 o p i in
-    let kept : Fits areas s.pager (content_of header 0 []) = subst (λ (z : Content). Fits areas s.pager z) (sym nothing) fits in
+-- an empty table fits where nothing was stored
+empty_fits : (header : Header) (h : ℕ) (pager : SlotTable) (areas : List ℕ → Told) → pager ≡ record { host = h; size = header.size; count = header.slots; rows = [] } → Fits areas pager (λ o p. None)
+empty_fits header h pager areas is = subst (λ (z : SlotTable). Fits areas z (λ o p. None)) (sym is) (record {
+  agrees = record { at = λ o p. tt };
+  bytes = λ o p s bytes held none. absurd (let bad : None ≡ Some (Stored bytes) = none in cc);
+})
+
+pub new_kept : (header : Header) (outside : Outside) (areas : List ℕ → Told) (s : State) → IsNew header s → (outside.paging ≡ true → AllTold areas s.pagers.items) → Kept header outside areas s
+new_kept header outside areas s new told =
+    let nothing : (h : ℕ) → content_of header h [] ≡ (λ o p. None) = λ h i o p. empty header h o p i in
     record {
-      pager = rw (new.history, new.pager) (start header 0);
-      fits = λ is. (told is, rw new.history kept);
+      pagers = rw new.history (new_serve header s new);
+      told = told;
+      fits = λ on h pager at. rw new.history (subst (λ (z : Content). Fits areas pager z) (sym (nothing h)) (empty_fits header h pager areas (new.empty h pager at)));
     }
+
+-- so many pagers were made, to which nothing was returned
+pub record AreMade (header : Header) (n : ℕ) (pagers : List SlotTable) : Type 0 where
+  pub count : length pagers ≡ n
+  pub empty : AreEmpty header pagers
+
+pub none_made : (header : Header) → AreMade header 0 []
+none_made header = record { count = refl; empty = λ h pager at. absurd (let bad : None ≡ Some pager = at in cc) }
+
+-- one more, at the end
+more_cases : (pagers : List SlotTable) (last pager : SlotTable) (h : ℕ) → slice_get (pagers ++ last ∷ []) h ≡ Some pager → (slice_get pagers h ≡ Some pager) ⊎ ((length pagers ≡ h) × (last ≡ pager))
+more_cases [] last pager zero is = inr (refl, same_Some last pager is)
+more_cases [] last pager (suc h) is = absurd (let bad : None ≡ Some pager = is in cc)
+more_cases (x ∷ pagers) last pager zero is = inl is
+more_cases (x ∷ pagers) last pager (suc h) is = elim (more_cases pagers last pager h is) [ inl was ↦ inl was | inr end ↦ inr (ap (λ (n : ℕ). suc n) end.0, end.1) ]
+
+pub made_more : (header : Header) (n : ℕ) (pagers : List SlotTable) (last : SlotTable) → AreMade header n pagers → last ≡ record { host = n; size = header.size; count = header.slots; rows = [] } → AreMade header (n + 1) (pagers ++ last ∷ [])
+made_more header n pagers last was is = record {
+  count = length-append pagers (last ∷ []) ∙ ap (λ (z : ℕ). z + 1) was.count;
+  empty = λ h pager at. elim (more_cases pagers last pager h at) [
+    | inl old ↦ was.empty h pager old
+    | inr end ↦ subst (λ (z : ℕ). pager ≡ record { host = z; size = header.size; count = header.slots; rows = [] }) (sym was.count ∙ end.0) (sym end.1 ∙ is)
+  ];
+}

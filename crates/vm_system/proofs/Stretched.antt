@@ -1,17 +1,13 @@
 -- Stretches on whole histories.
-use Rattle.std.proofs.Common.{◌≡◌, ◌<◌, arith, length, ℕ, zero, suc, ◌≤◌, List, [], ◌∷◌, ◌++◌, sym, subst}
-use Rattle.std.specs.Prelude.{IfSome, reverse, slice_get}
+use Rattle.std.proofs.Common.{List, [], ◌∷◌, ◌++◌}
 use Rattle.vm_model.specs.declared.event.Event.{Event}
 use Rattle.vm_model.specs.declared.event.Event.TheVariants as event
 use Rattle.vm_model.specs.declared.command.Command.{Command}
 use Rattle.vm_model.specs.declared.script.Header.{Header}
 use Rattle.vm_model.specs.Moments.{BeforeSteps, EachEvent, EachMoment}
-use Rattle.vm_legal.specs.Frames.{FramesSuffice, Suffice, frames_used}
 use Rattle.vm_legal.specs.Licences.{AllLicensed, Licensed}
 use Rattle.vm_legal.specs.Outside.{Outside}
-use Rattle.vm_legal.specs.Prompt.{Prompt, PromptAt}
 use Rattle.vm_legal.specs.Stretches.{AllInner, EachIn, IsInner, MomentsIn}
-use Rattle.vm_system.specs.Hosts.{HasOneHost}
 
 -- the oldest event of a stretch has its cause
 pub licensed_front : (header : Header) (outside : Outside) (doing : Command) (more : List Event) (e : Event) (past : List Event) → AllLicensed header outside doing (more ++ e ∷ []) past → Licensed header outside doing e past
@@ -24,24 +20,9 @@ pub each_whole : (P : Event → List Event → Type 0) (events past : List Event
 each_whole P [] past some rest = rest
 each_whole P (e ∷ events) past some rest = (some.0, each_whole P events past some.1 rest)
 
--- the one host has frames enough
-pub suffice_whole : (header : Header) (past : List Event) → HasOneHost header → Suffice header 0 past → FramesSuffice header past
-suffice_whole header past plain one = λ host. subst (λ (z : List ℕ). IfSome (slice_get (reverse z) host) (λ frames. frames_used header.size host past ≤ frames)) (sym plain.hosts) (go host (subst (λ (z : List ℕ). IfSome (slice_get (reverse z) 0) (λ frames. frames_used header.size 0 past ≤ frames)) plain.hosts one))
-  where
-    go : (host : ℕ) → frames_used header.size 0 past ≤ plain.frames → IfSome (slice_get (plain.frames ∷ []) host) (λ frames. frames_used header.size host past ≤ frames)
-    go zero le = le
-    go (suc host) le = tt
-
--- and sees to all that the hosts are to see to
-pub prompt_whole : (header : Header) (past : List Event) → HasOneHost header → PromptAt header 0 past → Prompt header past
-prompt_whole header past plain one host below = subst (λ (z : ℕ). PromptAt header z past) (first host (subst (λ (z : List ℕ). host < length z) plain.hosts below)) one
-  where
-    first : (n : ℕ) → n < 1 → 0 ≡ n
-    first n less = omega (arith, less)
-
-pub moments_whole : (header : Header) (events past : List Event) → HasOneHost header → MomentsIn (Suffice header 0) events past → EachMoment (FramesSuffice header) past → EachMoment (FramesSuffice header) (events ++ past)
-moments_whole header [] past plain some rest = rest
-moments_whole header (e ∷ events) past plain some rest = (suffice_whole header (e ∷ (events ++ past)) plain some.0, moments_whole header events past plain some.1 rest)
+pub moments_whole : (P : List Event → Type 0) (events past : List Event) → MomentsIn P events past → EachMoment P past → EachMoment P (events ++ past)
+moments_whole P [] past some rest = rest
+moments_whole P (e ∷ events) past some rest = (some.0, moments_whole P events past some.1 rest)
 
 pub moment_last : (P : List Event → Type 0) (past : List Event) → EachMoment P past → P past
 moment_last P [] each = each

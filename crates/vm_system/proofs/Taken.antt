@@ -3,10 +3,8 @@ use Rattle.std.proofs.Common.{◌≡◌, ℕ, zero, suc, ◌<◌, ◌≤◌, ◌
 use Rattle.std.proofs.lemmas.Bool.Decides.{nat_tests}
 use Rattle.std.specs.Prelude.{IfSome, reverse, slice_get}
 use Rattle.pg_slots.specs.Slots.{SlotTable}
-use Rattle.pg_default.proofs.Others.{others}
-use Rattle.pg_default.specs.Stands.{Stands as PagerStands, content_of}
+use Rattle.pg_default.specs.Stands.{content_of}
 use Rattle.vm_base.specs.declared.ids.ChannelId.{ChannelId}
-use Rattle.vm_kernel.proofs.First.{rests_line}
 use Rattle.vm_model.specs.declared.command.Command.{Command}
 use Rattle.vm_model.specs.declared.event.Event.{Event}
 use Rattle.vm_model.specs.declared.event.Event.TheVariants as event
@@ -21,7 +19,7 @@ use Rattle.vm_model.specs.Local.{local}
 use Rattle.vm_model.specs.Server.{first}
 use Rattle.vm_legal.specs.Bytes.{OwnBytes}
 use Rattle.vm_legal.specs.Follows.{IsConsequence}
-use Rattle.vm_legal.specs.Frames.{Gives, Suffice, changed, frames_held, frames_used, taken_down, taken_up, where_true}
+use Rattle.vm_legal.specs.Frames.{FramesSuffice, Gives, changed, frames_held, frames_used, taken_down, taken_up, where_true}
 use Rattle.vm_legal.specs.Licences.{AllLicensed, Licensed, MayTake, ReturnsOn, created}
 use Rattle.vm_legal.specs.Outside.{Outside}
 use Rattle.vm_legal.specs.Steps.{Letter}
@@ -31,18 +29,20 @@ use Rattle.vm_quiet.proofs.Letters.{queue_is, same_channel}
 use Rattle.vm_quiet.specs.Letters.{messages_on}
 use Rattle.vm_ports.specs.Ports.{queue as queue_on}
 use Rattle.vm_ports.specs.declared.letter.Letter.{Letter as Posted}
-use Rattle.vm_shadow.specs.declared.ids.Ids.{Ids}
-use Rattle.vm_kernel.specs.Matches.{Rests}
-use Rattle.vm_system.specs.Hosts.{HasOneHost}
-use Rattle.vm_kernel.specs.Serving.{HasQueue}
-use Rattle.vm_kernel.specs.declared.parts.Parts.{Parts}
+use Rattle.vm_hosts.specs.Hosts.{AllQueued, AllRest, HostTable}
 use Rattle.vm_legal.proofs.Stretched.{each_both, licensed_both, moments_both}
 use Rattle.vm_system.specs.Channels.{number_in}
 use Rattle.vm_system.specs.Orderly.{IsOrderly}
 use Rattle.vm_system.specs.Posts.{AreSame}
-use Rattle.vm_system.specs.Steps.{Taking, devices, lined}
+use Rattle.vm_hosts.specs.Steps.{Step}
+use Rattle.vm_system.specs.Stands.{AllServe}
+use Rattle.vm_system.specs.Steps.{devices, lined}
 use Rattle.vm_system.specs.Takings.{May, TakesStep}
 use Rattle.vm_system.specs.declared.state.State.{State}
+use Rattle.vm_system.proofs.Agreeing.{serve_other}
+use Rattle.vm_hosts.proofs.Nobodys.{all_lined, queued_lined}
+use Rattle.vm_hosts.proofs.Tables.{all_suffice}
+use Rattle.vm_system.proofs.Silent.{all_returned}
 use Rattle.vm_system.proofs.Letters.{orderly_line}
 use Rattle.vm_system.proofs.Numbers.{number_read}
 
@@ -100,33 +100,28 @@ pub devices_lined : (line : Option ℕ) (past : List Event) → devices (lined l
 devices_lined None past = refl
 devices_lined (Some line) past = refl
 
-pub content_lined : (header : Header) (line : Option ℕ) (past : List Event) → content_of header 0 (lined line past) ≡ content_of header 0 past
-content_lined header None past = refl
-content_lined header (Some line) past = refl
+pub content_lined : (header : Header) (h : ℕ) (line : Option ℕ) (past : List Event) → content_of header h (lined line past) ≡ content_of header h past
+content_lined header h None past = refl
+content_lined header h (Some line) past = refl
 
-pub rests_lined : (header : Header) (k : Parts) (ids : Ids) (line : Option ℕ) (past : List Event) → Rests header 0 k ids past → Rests header 0 k ids (lined line past)
-rests_lined header k ids None past rests = rests
-rests_lined header k ids (Some line) past rests = rests_line header 0 k ids line past rests
+rests_lined : (header : Header) (outside : Outside) (doing : Command) (hosts : HostTable) (line : Option ℕ) (past : List Event) → AllRest header hosts past → AllRest header hosts (lined line past)
+rests_lined header outside doing hosts None past rests = rests
+rests_lined header outside doing hosts (Some line) past rests = all_lined header outside doing hosts line past rests
 
--- whoever stands in the frame queue does so still
-waits_lined : (header : Header) (k : Parts) (line : Option ℕ) (past : List Event) → HasQueue header 0 k past → HasQueue header 0 k (lined line past)
-waits_lined header k None past queue = queue
-waits_lined header k (Some line) past queue = queue
+-- whoever stands in a frame queue does so still
+queues_lined : (header : Header) (outside : Outside) (doing : Command) (hosts : HostTable) (line : Option ℕ) (past : List Event) → AllRest header hosts past → AllQueued header hosts past → AllQueued header hosts (lined line past)
+queues_lined header outside doing hosts None past rests queues = queues
+queues_lined header outside doing hosts (Some line) past rests queues = queued_lined header outside doing hosts line past rests queues
 
-pub orderly_lined : (header : Header) (line : Option ℕ) (past : List Event) → IsOrderly header past → IsOrderly header (lined line past)
+orderly_lined : (header : Header) (line : Option ℕ) (past : List Event) → IsOrderly header past → IsOrderly header (lined line past)
 orderly_lined header None past orderly = orderly
 orderly_lined header (Some line) past orderly = orderly_line header line past orderly
 
-pub pager_lined : (header : Header) (slots : SlotTable) (line : Option ℕ) (past : List Event) → PagerStands header 0 slots past → PagerStands header 0 slots (lined line past)
-pager_lined header slots None past stands = stands
-pager_lined header slots (Some line) past stands = others header 0 slots (event.Line line) past tt stands
+serve_lined : (header : Header) (pagers : List SlotTable) (line : Option ℕ) (past : List Event) → AllServe header pagers past → AllServe header pagers (lined line past)
+serve_lined header pagers None past serve = serve
+serve_lined header pagers (Some line) past serve = serve_other header pagers (event.Line line) past (λ h. tt) serve
 
 -- the frames
-
-pub rests_suffice : (header : Header) (k : Parts) (ids : Ids) (past : List Event) → Rests header 0 k ids past → Suffice header 0 past
-rests_suffice header k ids past rests =
-    let has = rests.matches.frames in
-    subst (λ (z : Option ℕ). IfSome z (λ frames. frames_used header.size 0 past ≤ frames)) (sym has.total) (omega (arith, has.held, has.wired, has.fits))
 
 gives_less : (test : Bool) (held : ℕ) → changed (where_true test Gives) held ≤ held
 gives_less true held = omega arith
@@ -145,21 +140,21 @@ down_less asked (message.Error page reason) held = gives_less _ held
 down_less asked other held = keeps_same held
 
 -- a taking takes no frame
-taken_less : (size : ℕ) (channel : Channel) (m : Message) (past : List Event) → frames_used size 0 (event.Taken channel m ∷ past) ≤ frames_used size 0 past
-taken_less size (Up at object) m past =
-    let less = up_less (at.0 == 0) m (frames_held size 0 past) in
+taken_less : (size h : ℕ) (channel : Channel) (m : Message) (past : List Event) → frames_used size h (event.Taken channel m ∷ past) ≤ frames_used size h past
+taken_less size h (Up at object) m past =
+    let less = up_less (at.0 == h) m (frames_held size h past) in
     omega (arith, less)
-taken_less size (Down at object control) m past =
-    let asked : ℕ → Bool = λ page. at.0 == 0 && (is_control control (live_control 0 object.0 past) && (local size 0 (record { object = object.0; page = page }) past).asked) in
-    let less = down_less asked m (frames_held size 0 past) in
+taken_less size h (Down at object control) m past =
+    let asked : ℕ → Bool = λ page. at.0 == h && (is_control control (live_control h object.0 past) && (local size h (record { object = object.0; page = page }) past).asked) in
+    let less = down_less asked m (frames_held size h past) in
     omega (arith, less)
 
 fewer : (most : Option ℕ) (more less : ℕ) → less ≤ more → IfSome most (λ frames. more ≤ frames) → IfSome most (λ frames. less ≤ frames)
 fewer None more less le is = tt
 fewer (Some frames) more less le is = omega (arith, le, is)
 
-pub taken_suffice : (header : Header) (channel : Channel) (m : Message) (past : List Event) → Suffice header 0 past → Suffice header 0 (event.Taken channel m ∷ past)
-taken_suffice header channel m past one = fewer (slice_get (reverse header.frames.items) 0) _ _ (taken_less header.size channel m past) one
+pub taken_suffice : (header : Header) (channel : Channel) (m : Message) (past : List Event) → FramesSuffice header past → FramesSuffice header (event.Taken channel m ∷ past)
+taken_suffice header channel m past suffice h = fewer (slice_get (reverse header.frames.items) h) _ _ (taken_less header.size h channel m past) (suffice h)
 
 -- the cause of a taking
 pub taken_licensed : (header : Header) (outside : Outside) (doing : Command) (channel : Channel) (m : Message) (past : List Event) → first (queue channel past) ≡ Some m → MayTake doing channel past → created past ≡ None
@@ -167,10 +162,10 @@ pub taken_licensed : (header : Header) (outside : Outside) (doing : Command) (ch
 taken_licensed header outside doing channel m past is may settled = ((is, may), subst (λ (z : Option Channel). MatchOption z (Unit {0}) (λ c. ReturnsOn c (event.Taken channel m))) (sym settled) tt)
 
 -- a step that begins with a taking, from what it says behind that
-pub takes_step : (given : Taking) (channel : Channel) (m : Message) (more new : List Event) → new ≡ more ++ event.Taken channel m ∷ given.past → first (queue channel given.past) ≡ Some m → MayTake given.command channel given.past
-    → created given.past ≡ None → Suffice given.header 0 given.past → EachOf IsConsequence more → AllLicensed given.header given.outside given.command more (event.Taken channel m ∷ given.past)
+pub takes_step : (given : Step) (channel : Channel) (m : Message) (more new : List Event) → new ≡ more ++ event.Taken channel m ∷ given.past → first (queue channel given.past) ≡ Some m → MayTake given.command channel given.past
+    → created given.past ≡ None → FramesSuffice given.header given.past → EachOf IsConsequence more → AllLicensed given.header given.outside given.command more (event.Taken channel m ∷ given.past)
     → EachIn (OwnBytes given.header) more (event.Taken channel m ∷ given.past)
-    → MomentsIn (Suffice given.header 0) more (event.Taken channel m ∷ given.past) → AllInner more → TakesStep given new
+    → MomentsIn (FramesSuffice given.header) more (event.Taken channel m ∷ given.past) → AllInner more → TakesStep given new
 takes_step given channel m more new is head may settled suffice follows licensed own frames inner =
     let taken : List Event = event.Taken channel m ∷ [] in
     let past = given.past in
@@ -182,39 +177,47 @@ takes_step given channel m more new is head may settled suffice follows licensed
       follows = follows;
       licensed = licensed_both given.header given.outside given.command more taken past licensed (taken_licensed given.header given.outside given.command channel m past head may settled, tt);
       own_bytes = each_both (OwnBytes given.header) more taken past own (tt, tt);
-      frames = moments_both (Suffice given.header 0) more taken past frames (taken_suffice given.header channel m past suffice, tt);
+      frames = moments_both (FramesSuffice given.header) more taken past frames (taken_suffice given.header channel m past suffice, tt);
       inner = inner;
     }
 
 -- what stands in front of a taking
-pub record Front (given : Taking) (s : State) : Type 0 where
-  pub plain : HasOneHost given.header
-  pub rests : Rests given.header 0 s.kernel s.ids given.past
-  pub queue : HasQueue given.header 0 s.kernel given.past
-  pub pager : PagerStands given.header 0 s.pager given.past
+pub record Front (given : Step) (s : State) : Type 0 where
+  pub rests : AllRest given.header s.hosts given.past
+  pub queues : AllQueued given.header s.hosts given.past
+  pub pagers : AllServe given.header s.pagers.items given.past
   pub orderly : IsOrderly given.header given.past
 
-pub front_of : (given : Taking) (line : Option ℕ) (number : ChannelId) (channel : Channel) (s : State) → May given line number channel s → Front given s
+pub front_of : (given : Step) (line : Option ℕ) (number : ChannelId) (channel : Channel) (s : State) → May given line number channel s → Front given s
 front_of given line number channel s may =
     let stands = may.stands in
     let agrees = stands.agrees in
     let items = s.history.items in
     record {
-      plain = stands.plain;
-      rests = rw may.past (rests_lined given.header s.kernel s.ids line items stands.rests);
-      queue = rw may.past (waits_lined given.header s.kernel line items stands.queue);
-      pager = rw may.past (pager_lined given.header s.pager line items agrees.pager);
+      rests = rw may.past (rests_lined given.header given.outside given.command s.hosts line items stands.rests);
+      queues = rw may.past (queues_lined given.header given.outside given.command s.hosts line items stands.rests stands.queues);
+      pagers = rw may.past (serve_lined given.header s.pagers.items line items agrees.pagers);
       orderly = rw may.past (orderly_lined given.header line items agrees.orderly);
     }
 
+pub front_settled : (given : Step) (s : State) → Front given s → created given.past ≡ None
+front_settled given s front = all_returned given.header s.hosts given.past front.rests
+
+pub front_suffice : (given : Step) (s : State) → Front given s → FramesSuffice given.header given.past
+front_suffice given s front = all_suffice given.header s.hosts given.past front.rests
+
+-- the contents are those of the history
+pub front_content : (given : Step) (line : Option ℕ) (number : ChannelId) (channel : Channel) (s : State) → May given line number channel s → (h : ℕ) → content_of given.header h given.past ≡ content_of given.header h s.history.items
+front_content given line number channel s may h = ap (λ (z : List Event). content_of given.header h z) may.past ∙ content_lined given.header h line s.history.items
+
 -- the channel's queue is that of its number
-may_queue : (given : Taking) (line : Option ℕ) (number : ChannelId) (channel : Channel) (s : State) → May given line number channel s → queue_on number.0 s.ports.letters ≡ queue channel s.history.items
+may_queue : (given : Step) (line : Option ℕ) (number : ChannelId) (channel : Channel) (s : State) → May given line number channel s → queue_on number.0 s.ports.letters ≡ queue channel s.history.items
 may_queue given line number channel s may = head_is s.channels.made s.ports.letters channel number.0 s.history.items may.made may.stands.agrees.posts.letters
 
-pub may_some : (given : Taking) (line : Option ℕ) (number : ChannelId) (channel : Channel) (s : State) → May given line number channel s → queue_on number.0 s.ports.letters ≡ [] → ⊥
+pub may_some : (given : Step) (line : Option ℕ) (number : ChannelId) (channel : Channel) (s : State) → May given line number channel s → queue_on number.0 s.ports.letters ≡ [] → ⊥
 may_some given line number channel s may none = may.some (sym (may_queue given line number channel s may) ∙ none)
 
-pub may_head : (given : Taking) (line : Option ℕ) (number : ChannelId) (channel : Channel) (m : Message) (s : State) → May given line number channel s → slice_get (queue_on number.0 s.ports.letters) 0 ≡ Some m
+pub may_head : (given : Step) (line : Option ℕ) (number : ChannelId) (channel : Channel) (m : Message) (s : State) → May given line number channel s → slice_get (queue_on number.0 s.ports.letters) 0 ≡ Some m
     → first (queue channel given.past) ≡ Some m
 may_head given line number channel m s may head =
     let items = s.history.items in
@@ -226,17 +229,17 @@ inside [] n x is = absurd (cc)
 inside (y ∷ xs) zero x is = omega arith
 inside (y ∷ xs) (suc n) x is = let low = inside xs n x is in omega (arith, low)
 
-pub may_there : (given : Taking) (line : Option ℕ) (number : ChannelId) (channel : Channel) (s : State) → May given line number channel s → number.0 < length s.channels.made
+pub may_there : (given : Step) (line : Option ℕ) (number : ChannelId) (channel : Channel) (s : State) → May given line number channel s → number.0 < length s.channels.made
 may_there given line number channel s may = inside s.channels.made number.0 channel (number_read channel s.channels.made number.0 may.made)
 
 -- no other channel has the number
-pub may_only : (given : Taking) (line : Option ℕ) (number : ChannelId) (channel other : Channel) (s : State) → May given line number channel s → slice_get s.channels.made number.0 ≡ Some other → other ≡ channel
+pub may_only : (given : Step) (line : Option ℕ) (number : ChannelId) (channel other : Channel) (s : State) → May given line number channel s → slice_get s.channels.made number.0 ≡ Some other → other ≡ channel
 may_only given line number channel other s may is =
     let both : Some other ≡ Some channel = sym is ∙ number_read channel s.channels.made number.0 may.made in
     cc
 
 -- the message that was taken is the one that was looked at
-pub first_told : (given : Taking) (line : Option ℕ) (number : ChannelId) (channel : Channel) (m : Message) (s mid new : State) → May given line number channel s → first (queue channel given.past) ≡ Some m
+pub first_told : (given : Step) (line : Option ℕ) (number : ChannelId) (channel : Channel) (m : Message) (s mid new : State) → May given line number channel s → first (queue channel given.past) ≡ Some m
     → mid.history.items ≡ s.history.items → mid.channels.made ≡ s.channels.made
     → ((c : Channel) → slice_get mid.channels.made number.0 ≡ Some c → (n : Message) × (first (queue c mid.history.items) ≡ Some n) × (new.history.items ≡ event.Taken c n ∷ lined line mid.history.items))
     → new.history.items ≡ event.Taken channel m ∷ given.past
@@ -249,12 +252,9 @@ first_told given line number channel m s mid new may head items made told =
     let one : t.0 ≡ m = cc in
     t.2 ∙ ap (λ (z : Message). event.Taken channel z ∷ lined line mid.history.items) one ∙ ap (λ (z : List Event). event.Taken channel m ∷ z) (sym past)
 
-pub front_suffice : (given : Taking) (s : State) → Front given s → Suffice given.header 0 given.past
-front_suffice given s front = rests_suffice given.header s.kernel s.ids given.past front.rests
-
-pub may_port : (given : Taking) (line : Option ℕ) (number : ChannelId) (channel : Channel) (s : State) → May given line number channel s → number.0 < s.ports.channels
+pub may_port : (given : Step) (line : Option ℕ) (number : ChannelId) (channel : Channel) (s : State) → May given line number channel s → number.0 < s.ports.channels
 may_port given line number channel s may = subst (λ (z : ℕ). number.0 < z) may.stands.agrees.posts.count (may_there given line number channel s may)
 
 -- the channel is the one that was found
-pub may_found : (given : Taking) (line : Option ℕ) (number : ChannelId) (channel other : Channel) (s : State) → May given line number channel s → slice_get s.channels.made number.0 ≡ Some other → May given line number other s
+pub may_found : (given : Step) (line : Option ℕ) (number : ChannelId) (channel other : Channel) (s : State) → May given line number channel s → slice_get s.channels.made number.0 ≡ Some other → May given line number other s
 may_found given line number channel other s may is = subst (λ (z : Channel). May given line number z s) (sym (may_only given line number channel other s may is)) may

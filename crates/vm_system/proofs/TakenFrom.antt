@@ -18,7 +18,8 @@ use Rattle.vm_legal.specs.Outside.{Outside}
 use Rattle.vm_legal.specs.Refusal.{refusal}
 use Rattle.vm_legal.proofs.Groups.{cut_of, open_of, so_far}
 use Rattle.vm_system.specs.Stands.{Stands}
-use Rattle.vm_system.specs.Steps.{KeepsLegal, MayCut, Taking}
+use Rattle.vm_hosts.specs.Steps.{Step}
+use Rattle.vm_system.specs.Steps.{KeepsLegal, MayCut}
 use Rattle.vm_system.specs.Takings.{MayBeCut, TakesStep, Took}
 use Rattle.vm_system.specs.declared.state.State.{State}
 use Rattle.vm_system.proofs.Opening.{HoldsUpTo, holds_taken, step_is}
@@ -28,7 +29,7 @@ use Rattle.vm_system.proofs.Stretched.{licensed_front, moment_last}
 some_none : {A : Type 0} → {x : A} → Some x ≡ None → ⊥
 some_none is = absurd (let bad : true ≡ false = ap is_some is in cc)
 
-abbrev pub taking_of : Header → Outside → ℕ → Channel → List Event → Taking
+abbrev pub taking_of : Header → Outside → ℕ → Channel → List Event → Step
 taking_of header outside line channel past = record { header = header; outside = outside; command = command.Take channel; past = event.Line line ∷ past }
 
 -- the group of the command
@@ -64,7 +65,7 @@ up_to_line : (header : Header) (outside : Outside) (line : ℕ) (run : List Numb
 up_to_line header outside line run s stands legal =
     let items = s.history.items in
     record {
-      plain = stands.plain;
+      plain = stands.rests.plain;
       own_bytes = (tt, legal.holds.own_bytes);
       frames = (moment_last (FramesSuffice header) items legal.holds.frames, legal.holds.frames);
       prompts = (legal.rests.prompt, legal.holds.prompt);

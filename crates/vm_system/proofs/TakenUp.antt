@@ -1,13 +1,17 @@
--- A message is taken by the pager, which answers.
-use Rattle.std.proofs.Common.{append_assoc, length-append, ◌≡◌, ◌⊎◌, ℕ, suc, ◌+◌, ◌<◌, ◌≤◌, List, [], ◌∷◌, ◌++◌, length, take, Option, Some, Ok, Err, refl, sym, ◌∙◌, ap, subst, arith, inl, inr}
-use Rattle.pg_slots.specs.Contents.{Carries, Content, Fits, IsTold}
+-- A message is taken by the pager of a host, which answers.
+use Rattle.std.proofs.Common.{append_assoc, length-append, ◌≡◌, ◌≢◌, ◌⊎◌, ℕ, zero, suc, ◌+◌, ◌<◌, ◌≤◌, true, List, [], ◌∷◌, ◌++◌, length, take, Option, Some, Ok, Err, refl, sym, ◌∙◌, ap, subst, arith, inl, inr}
+use Rattle.std.proofs.Math.ListN.{set, length-set}
+use Rattle.std.proofs.lemmas.Option.{same_Some, slice_get-get_or, slice_get_within}
+use Rattle.std.specs.Prelude.{get_or, slice_get}
+use Rattle.pg_slots.specs.Contents.{Carries, Content, Fits, IsTold, area_name}
 use Rattle.pg_slots.specs.Slots.{KeepsShape, SlotTable}
 use Rattle.pg_default.proofs.Carrying.{carries}
 use Rattle.pg_default.proofs.Causes.{causes}
 use Rattle.pg_default.proofs.Debts.{paid}
+use Rattle.pg_default.proofs.Others.{others, others_carry}
 use Rattle.pg_default.proofs.Standing.{stands}
 use Rattle.pg_default.specs.Answers.{AnswerHasCause, Answered as Answers, IsToPager, LeavesAreas, ReturnsWhole, SuppliesStored, TellsFault, after_message}
-use Rattle.pg_default.specs.Stands.{Serves, content_of}
+use Rattle.pg_default.specs.Stands.{Serves, Stands as PagerStands, content_of, is_elsewhere}
 use Rattle.vm_base.specs.Listing.{Listed}
 use Rattle.vm_base.specs.declared.failure.NoMemory.{NoMemory}
 use Rattle.vm_base.specs.declared.ids.ChannelId.{ChannelId}
@@ -18,186 +22,291 @@ use Rattle.vm_model.specs.declared.event.Event.TheVariants as event
 use Rattle.vm_model.specs.declared.message.Channel.{Channel}
 use Rattle.vm_model.specs.declared.message.Channel.TheVariants.{Up}
 use Rattle.vm_model.specs.declared.message.Message.{Message}
+use Rattle.vm_model.specs.declared.message.Message.TheVariants as message
 use Rattle.vm_model.specs.declared.script.Header.{Header}
 use Rattle.vm_model.specs.Channels.{queue}
 use Rattle.vm_model.specs.Named.{named}
 use Rattle.vm_model.specs.Server.{first}
 use Rattle.vm_legal.specs.Bytes.{OwnBytes}
 use Rattle.vm_legal.specs.Follows.{IsConsequence}
-use Rattle.vm_legal.specs.Frames.{Suffice}
-use Rattle.vm_legal.specs.Licences.{AllLicensed}
+use Rattle.vm_legal.specs.Frames.{FramesSuffice}
+use Rattle.vm_legal.specs.Homes.{gives_frame}
+use Rattle.vm_legal.specs.Licences.{AllLicensed, MayTake}
 use Rattle.vm_legal.specs.Outside.{Outside}
 use Rattle.vm_legal.specs.Stretches.{EachIn, MomentsIn}
-use Rattle.vm_outside.specs.Areas.{Told}
+use Rattle.vm_outside.specs.Areas.{SameAreas, Told}
 use Rattle.vm_outside.specs.Causes.{Rose}
-use Rattle.vm_kernel.specs.Begun.{Passing}
-use Rattle.vm_system.specs.Hosts.{the_host}
+use Rattle.vm_hosts.specs.Steps.{Going, Step}
 use Rattle.vm_legal.proofs.Stretched.{each_both, inner_both, licensed_both, moments_both, of_both}
-use Rattle.vm_system.specs.Orderly.{IsLetter, is_washed}
-use Rattle.vm_system.specs.Posts.{CanTellAll, HasRoom, Posts, SameHost}
-use Rattle.vm_system.specs.Stands.{Kept}
-use Rattle.vm_system.specs.Steps.{DevicesHaveCause, Taking, devices, lined}
+use Rattle.vm_system.specs.Orderly.{IsLetter}
+use Rattle.vm_system.specs.Posts.{CanTellAll, HasRoom, Posts, SameHosts}
+use Rattle.vm_system.specs.Stands.{AllServe, AreNumbered, Kept}
+use Rattle.vm_system.specs.Steps.{DevicesHaveCause, devices, lined}
 use Rattle.vm_system.specs.Takings.{Answered, Followed, May, TakesStep, Took}
 use Rattle.vm_system.specs.declared.state.State.{State}
-use Rattle.vm_system.proofs.Answering.{Faults, failed_fits, faults, front_foreign, replies, reply_consequences, reply_frames, reply_inner, reply_laundered, reply_own, told_after, word_up}
-use Rattle.vm_system.proofs.Following.{kept_at}
-use Rattle.vm_system.proofs.Letters.{letter_first, orderly_taken, unended_first, washed_out}
-use Rattle.vm_system.proofs.Paying.{paid_more}
+use Rattle.vm_system.proofs.Answering.{Faults, faults, replies, reply_consequences, reply_frames, reply_inner, reply_nobodys, reply_own, told_after, word_up}
+use Rattle.vm_system.proofs.Apart.{about, apart_of, areas_others, fits_still, other_area, others_fit, others_stand, set_cases, told_still}
+use Rattle.vm_system.proofs.Silent.{all_returned}
+use Rattle.vm_system.proofs.Letters.{elsewhere_first, home_first, letter_first, orderly_taken, unended_first, washed_out}
 use Rattle.vm_system.proofs.Sayings.{can_answer, orderly_answered}
-use Rattle.vm_system.proofs.Taken.{Front, content_lined, devices_lined, front_of, front_suffice, takes_step, taken_suffice}
+use Rattle.vm_system.proofs.Following.{kept_at, same_pagers}
+use Rattle.vm_system.proofs.Paying.{paid_more}
+use Rattle.vm_system.proofs.Taken.{Front, devices_lined, front_content, front_of, front_settled, front_suffice, taken_licensed, takes_step, taken_suffice}
 
--- the channel is the host's own
-pub up_letter : (given : Taking) (line : Option ℕ) (number : ChannelId) (host : HostId) (object : ObjectId) (m : Message) (s : State) → May given line number (Up host object) s
-    → first (queue (Up host object) given.past) ≡ Some m → IsLetter given.header.size given.past (record { channel = Up host object; message = m })
+-- what stands on a channel up is a host's letter
+pub up_letter : (given : Step) (line : Option ℕ) (number : ChannelId) (host : HostId) (object : ObjectId) (m : Message) (s : State) → May given line number (Up host object) s
+    → first (queue (Up host object) given.past) ≡ Some m → IsLetter given.header given.past (record { channel = Up host object; message = m })
 up_letter given line number host object m s may head =
     let front = front_of given line number (Up host object) s may in
     letter_first given.header (Up host object) m given.past front.orderly head
 
-pub up_may : (given : Taking) (line : Option ℕ) (number : ChannelId) (host : HostId) (object : ObjectId) (m : Message) (s : State) → May given line number (Up host object) s
-    → first (queue (Up host object) given.past) ≡ Some m → May given line number (Up the_host object) s × (first (queue (Up the_host object) given.past) ≡ Some m)
-up_may given line number host object m s may head =
-    let is = (up_letter given line number host object m s may head).0 in
-    (subst (λ (z : HostId). May given line number (Up z object) s) is may, subst (λ (z : HostId). first (queue (Up z object) given.past) ≡ Some m) is head)
-
-pub up_word : (given : Taking) (line : Option ℕ) (number : ChannelId) (host : HostId) (object : ObjectId) (m : Message) (s : State) → May given line number (Up host object) s
+pub up_word : (given : Step) (line : Option ℕ) (number : ChannelId) (host : HostId) (object : ObjectId) (m : Message) (s : State) → May given line number (Up host object) s
     → first (queue (Up host object) given.past) ≡ Some m → IsToPager m × ReturnsWhole given.header.size m
 up_word given line number host object m s may head = word_up given.header.size _ m (up_letter given line number host object m s may head).1
 
-abbrev up_to : ObjectId → Channel
-up_to object = Up the_host object
+-- the host has a pager
+pub up_known : (given : Step) (line : Option ℕ) (number : ChannelId) (host : HostId) (object : ObjectId) (m : Message) (s : State) → May given line number (Up host object) s
+    → first (queue (Up host object) given.past) ≡ Some m → host.0 < length s.pagers.items
+up_known given line number host object m s may head =
+    let letter = up_letter given line number host object m s may head in
+    let count = may.stands.agrees.pagers.numbered.count in
+    omega (arith, count, letter.0)
+
+-- what the pager of the host answers to a message that stands in front
+pub record Reply (given : Step) (host : HostId) (object : ObjectId) (m : Message) (s : State) (old new : SlotTable) (events : List Event) : Type 0 where
+  pub front : Front given s
+  pub head : first (queue (Up host object) given.past) ≡ Some m
+  pub may : MayTake given.command (Up host object) given.past
+  pub at : slice_get s.pagers.items host.0 ≡ Some old
+  pub answered : Answers m object old new events
+  pub shape : KeepsShape old new
+  pub licensed : AllLicensed given.header given.outside given.command events (event.Taken (Up host object) m ∷ given.past)
 
 -- the pager of the host serves it
-serves_of : (given : Taking) (object : ObjectId) (m : Message) (s : State) (new : SlotTable) (events : List Event) → Front given s → first (queue (up_to object) given.past) ≡ Some m → Answers m object s.pager new events
-    → Serves given.header 0 given.past object m s.pager new events
-serves_of given object m s new events front head answered =
-    let none : named given.header ≡ 0 = ap length front.plain.objects in
+serves_of : (given : Step) (host : HostId) (object : ObjectId) (m : Message) (s : State) (old new : SlotTable) (events : List Event) → Front given s → first (queue (Up host object) given.past) ≡ Some m → slice_get s.pagers.items host.0 ≡ Some old
+    → Answers m object old new events → Serves given.header host.0 given.past object m old new events
+serves_of given host object m s old new events front head at answered =
+    let none : named given.header ≡ 0 = ap length front.rests.plain.objects in
     record {
       temporary = omega (arith, none);
-      unended = unended_first given.header object m given.past front.orderly head;
-      own = front.orderly.home object.0;
-      stands = front.pager;
+      unended = unended_first given.header host.0 object m given.past front.orderly head;
+      own = home_first given.header host.0 object m given.past front.orderly head;
+      stands = front.pagers.stand host.0 old at;
       answered = answered;
     }
 
--- what is told of the answer, where the areas hold what was stored
-pub record Reply (given : Taking) (object : ObjectId) (m : Message) (s : State) (new : SlotTable) (events : List Event) : Type 0 where
-  pub front : Front given s
-  pub head : first (queue (Up the_host object) given.past) ≡ Some m
-  pub answered : Answers m object s.pager new events
-  pub licensed : AllLicensed given.header given.outside given.command events (event.Taken (Up the_host object) m ∷ given.past)
+reply_serves : (given : Step) (host : HostId) (object : ObjectId) (m : Message) (s : State) (old new : SlotTable) (events : List Event) → Reply given host object m s old new events → Serves given.header host.0 given.past object m old new events
+reply_serves given host object m s old new events reply = serves_of given host object m s old new events reply.front reply.head reply.at reply.answered
 
-pub reply_of : (given : Taking) (line : Option ℕ) (number : ChannelId) (object : ObjectId) (m : Message) (areas : List ℕ → Told) (s : State) (new : SlotTable) (events : List Event) → May given line number (Up the_host object) s
-    → first (queue (Up the_host object) given.past) ≡ Some m → Answers m object s.pager new events → Kept given.header given.outside areas s
-    → ((content : Content) → IsTold areas s.pager → Fits areas s.pager content → SuppliesStored object events content) → Reply given object m s new events
-reply_of given line number object m areas s new events may head answered kept bytes =
-    let front = front_of given line number (Up the_host object) s may in
-    let same : content_of given.header 0 given.past ≡ content_of given.header 0 s.history.items = ap (λ (z : List Event). content_of given.header 0 z) may.past ∙ content_lined given.header line s.history.items in
+-- where the areas hold what was stored
+pub reply_of : (given : Step) (line : Option ℕ) (number : ChannelId) (host : HostId) (object : ObjectId) (m : Message) (areas : List ℕ → Told) (s : State) (old new : SlotTable) (events : List Event) → May given line number (Up host object) s
+    → first (queue (Up host object) given.past) ≡ Some m → slice_get s.pagers.items host.0 ≡ Some old → Answers m object old new events → KeepsShape old new → Kept given.header given.outside areas s
+    → ((content : Content) → IsTold areas old → Fits areas old content → SuppliesStored object events content) → Reply given host object m s old new events
+reply_of given line number host object m areas s old new events may head at answered shape kept bytes =
+    let front = front_of given line number (Up host object) s may in
+    let same = front_content given line number (Up host object) s may host.0 in
     record {
       front = front;
       head = head;
+      may = may.may;
+      at = at;
       answered = answered;
-      licensed = causes given.header given.outside given.command 0 given.past object m s.pager new events (serves_of given object m s new events front head answered)
-          (λ on. let fits = kept.fits on in bytes (content_of given.header 0 given.past) fits.0 (subst (λ (z : Content). Fits areas s.pager z) (sym same) fits.1));
+      shape = shape;
+      licensed = causes given.header given.outside given.command host.0 given.past object m old new events (serves_of given host object m s old new events front head at answered)
+          (λ on. bytes (content_of given.header host.0 given.past) (kept.told on host.0 old at) (subst (λ (z : Content). Fits areas old z) (sym same) (kept.fits on host.0 old at)));
     }
 
-reply_letter : (given : Taking) (object : ObjectId) (m : Message) (s : State) (new : SlotTable) (events : List Event) → Reply given object m s new events → IsLetter given.header.size given.past (record { channel = Up the_host object; message = m })
-reply_letter given object m s new events reply = letter_first given.header (Up the_host object) m given.past reply.front.orderly reply.head
+reply_letter : (given : Step) (host : HostId) (object : ObjectId) (m : Message) (s : State) (old new : SlotTable) (events : List Event) → Reply given host object m s old new events
+    → IsLetter given.header given.past (record { channel = Up host object; message = m })
+reply_letter given host object m s old new events reply = letter_first given.header (Up host object) m given.past reply.front.orderly reply.head
 
-pub can_reply : (given : Taking) (object : ObjectId) (m : Message) (s : State) (new : SlotTable) (events : List Event) → Reply given object m s new events → CanTellAll given.header.size events (event.Taken (Up the_host object) m ∷ given.past)
-can_reply given object m s new events reply =
+pub can_reply : (given : Step) (host : HostId) (object : ObjectId) (m : Message) (s : State) (old new : SlotTable) (events : List Event) → Reply given host object m s old new events
+    → CanTellAll given.header.size events (event.Taken (Up host object) m ∷ given.past)
+can_reply given host object m s old new events reply =
     let front = reply.front in
-    can_answer given.header object m given.past s.pager new events (orderly_taken given.header (Up the_host object) m given.past front.orderly reply.head) (reply_letter given object m s new events reply) front.pager.host_is front.pager.size reply.answered
+    let pager = front.pagers.stand host.0 old reply.at in
+    can_answer given.header host.0 object m given.past old new events (orderly_taken given.header (Up host object) m given.past front.orderly reply.head) (reply_letter given host object m s old new events reply) pager.host_is pager.size reply.answered
 
--- the kernel's part begins
-abbrev pub passing : Taking → ObjectId → Message → List Event → Passing
-passing given object m events = record { header = given.header; host = 0; outside = given.outside; past = given.past; front = events ++ event.Taken (Up the_host object) m ∷ []; command = given.command }
+-- the answered pager keeps its number
+reply_host : (given : Step) (host : HostId) (object : ObjectId) (m : Message) (s : State) (old new : SlotTable) (events : List Event) → Reply given host object m s old new events → new.host ≡ host.0
+reply_host given host object m s old new events reply = reply.shape.host ∙ reply.front.pagers.numbered.hosts host.0 old reply.at
 
-some_held : {A : Type 0} → (xs : List A) (n : ℕ) → n ≡ length xs → 0 < n → xs ≡ [] → ⊥
-some_held xs n count some none =
-    let zero_is : length xs ≡ 0 = ap length none in
-    omega (arith, count, some, zero_is)
+-- a message to the pager of another host
+away_from : (given : Step) (host : HostId) (object : ObjectId) (m : Message) (s : State) (old new : SlotTable) (events : List Event) → Reply given host object m s old new events → (g : ℕ) → g ≢ host.0
+    → is_elsewhere g object.0 (event.Taken (Up host object) m ∷ given.past) ≡ true
+away_from given host object m s old new events reply g other = elsewhere_first given.header host.0 object m given.past reply.front.orderly reply.head g other
 
-pub answered_up : (given : Taking) (object : ObjectId) (m : Message) (s now : State) (slots : SlotTable) (events : List Event) → Reply given object m s slots events → now.pager ≡ slots → now.kernel ≡ s.kernel → now.ids ≡ s.ids → now.size ≡ given.header.size
-    → now.history.items ≡ events ++ event.Taken (Up the_host object) m ∷ given.past → Posts now now.history.items → Answered (passing given object m events) (is_washed m) now
-answered_up given object m s now slots events reply pager kernel ids size items posts =
+-- all pagers stand for the history behind the answer
+serve_up : (given : Step) (host : HostId) (object : ObjectId) (m : Message) (s : State) (old new : SlotTable) (events : List Event) → Reply given host object m s old new events
+    → AllServe given.header (set s.pagers.items host.0 new) (events ++ event.Taken (Up host object) m ∷ given.past)
+serve_up given host object m s old new events reply = record {
+  numbered = record { count = length-set s.pagers.items host.0 new ∙ numbered.count; hosts = λ g pager at. number g pager (set_cases s.pagers.items host.0 g new pager few at) };
+  stand = λ g pager at. stand g pager (set_cases s.pagers.items host.0 g new pager few at);
+}
+  where
+    few : host.0 < length s.pagers.items
+    few = slice_get_within s.pagers.items host.0 old reply.at
+
+    numbered : AreNumbered given.header s.pagers.items
+    numbered = reply.front.pagers.numbered
+
+    number : (g : ℕ) (pager : SlotTable) → ((g ≡ host.0) × (new ≡ pager)) ⊎ ((g ≢ host.0) × (slice_get s.pagers.items g ≡ Some pager)) → pager.host ≡ g
+    number g pager (inl same) = ap (λ (z : SlotTable). z.host) (sym same.1) ∙ reply_host given host object m s old new events reply ∙ sym same.0
+    number g pager (inr apart) = numbered.hosts g pager apart.1
+
+    past : List Event
+    past = event.Taken (Up host object) m ∷ given.past
+
+    stand : (g : ℕ) (pager : SlotTable) → ((g ≡ host.0) × (new ≡ pager)) ⊎ ((g ≢ host.0) × (slice_get s.pagers.items g ≡ Some pager)) → PagerStands given.header g pager (events ++ event.Taken (Up host object) m ∷ given.past)
+    stand g pager (inl same) =
+        subst (λ (z : SlotTable). PagerStands given.header g z (events ++ event.Taken (Up host object) m ∷ given.past)) same.1
+        (subst (λ (z : ℕ). PagerStands given.header z new (events ++ event.Taken (Up host object) m ∷ given.past)) (sym same.0)
+        (stands given.header host.0 given.past object m old new events (reply_serves given host object m s old new events reply)))
+    stand g pager (inr apart) =
+        others_stand given.header g pager object events (event.Taken (Up host object) m ∷ given.past) (about m object old new events reply.answered) (away_from given host object m s old new events reply g apart.0)
+        (others given.header g pager (event.Taken (Up host object) m) given.past (inr (λ same. apart.0 (sym same))) (reply.front.pagers.stand g pager apart.1))
+
+-- the hosts' part begins
+abbrev pub going : Step → HostId → ObjectId → Message → List Event → Going
+going given host object m events = record { header = given.header; outside = given.outside; command = given.command; past = given.past; front = events ++ event.Taken (Up host object) m ∷ [] }
+
+pub answered_up : (given : Step) (host : HostId) (object : ObjectId) (m : Message) (s now : State) (old new : SlotTable) (events : List Event) → Reply given host object m s old new events → now.pagers.items ≡ set s.pagers.items host.0 new
+    → now.hosts ≡ s.hosts → now.size ≡ given.header.size → now.history.items ≡ events ++ event.Taken (Up host object) m ∷ given.past → Posts now now.history.items → Answered (going given host object m events) host (gives_frame m) now
+answered_up given host object m s now old new events reply pagers hosts size items posts =
     let header = given.header in
     let front = reply.front in
-    let told = replies m object s.pager slots events reply.answered in
-    let past = event.Taken (Up the_host object) m ∷ given.past in
-    let taken = orderly_taken header (Up the_host object) m given.past front.orderly reply.head in
+    let told = replies m object old new events reply.answered in
+    let taken = event.Taken (Up host object) m in
+    let letter = reply_letter given host object m s old new events reply in
+    let orderly = orderly_taken header (Up host object) m given.past front.orderly reply.head in
+    let pager = front.pagers.stand host.0 old reply.at in
     record {
-      plain = front.plain;
-      is = items ∙ sym (append_assoc events (event.Taken (Up the_host object) m ∷ []) given.past);
-      rests = rw (kernel, ids) front.rests;
+      is = items ∙ sym (append_assoc events (taken ∷ []) given.past);
+      rests = rw hosts front.rests;
       agrees = record {
         size = size;
-        pager = rw (pager, items) (stands header 0 given.past object m s.pager slots events (serves_of given object m s slots events front reply.head reply.answered));
+        pagers = rw (pagers, items) (serve_up given host object m s old new events reply);
         posts = posts;
-        orderly = rw items (orderly_answered header object m given.past s.pager slots events taken (reply_letter given object m s slots events reply) front.pager.host_is front.pager.size reply.answered);
+        orderly = rw items (orderly_answered header host.0 object m given.past old new events orderly letter pager.host_is pager.size reply.answered);
       };
-      laundered = λ washed. reply_laundered object m events told washed;
-      held = λ washed. rw kernel (some_held s.kernel.laundry.held _ front.rests.matches.laundry.count (washed_out header object m given.past front.orderly reply.head washed));
-      foreign = λ unwashed. front_foreign object m events told unwashed;
+      answers = record {
+        known = letter.0;
+        object = object;
+        m = m;
+        told = events;
+        is = refl;
+        gives = refl;
+        out = λ washed. washed_out header host.0 object m given.past front.orderly reply.head washed;
+        nobodys = reply_nobodys events told;
+        licensed = licensed_both header given.outside given.command events (taken ∷ []) given.past reply.licensed
+            (taken_licensed header given.outside given.command (Up host object) m given.past reply.head reply.may (front_settled given s front), tt);
+      };
     }
 
 -- where memory ends now, the step is cut
-pub cut_up : (given : Taking) (line : Option ℕ) (number : ChannelId) (object : ObjectId) (m : Message) (s : State) (slots : SlotTable) (events new : List Event) → May given line number (Up the_host object) s → Reply given object m s slots events
-    → new ≡ events ++ event.Taken (Up the_host object) m ∷ given.past → TakesStep given new
-cut_up given line number object m s slots events new may reply items =
+pub cut_up : (given : Step) (host : HostId) (object : ObjectId) (m : Message) (s : State) (old slots : SlotTable) (events new : List Event) → Reply given host object m s old slots events
+    → new ≡ events ++ event.Taken (Up host object) m ∷ given.past → TakesStep given new
+cut_up given host object m s old slots events new reply items =
     let header = given.header in
     let front = reply.front in
-    let told = replies m object s.pager slots events reply.answered in
-    let past = event.Taken (Up the_host object) m ∷ given.past in
+    let told = replies m object old slots events reply.answered in
+    let past = event.Taken (Up host object) m ∷ given.past in
     let suffice = front_suffice given s front in
-    takes_step given (Up the_host object) m events new items reply.head may.may front.rests.matches.settled suffice (reply_consequences events told) reply.licensed (reply_own header events past told)
-    (reply_frames header events past told (taken_suffice header (Up the_host object) m given.past suffice)) (reply_inner events told)
+    takes_step given (Up host object) m events new items reply.head reply.may (front_settled given s front) suffice (reply_consequences events told) reply.licensed (reply_own header events past told)
+    (reply_frames header events past told (taken_suffice header (Up host object) m given.past suffice)) (reply_inner events told)
 
--- the host went on behind the answer
-pub took_up : (given : Taking) (line : Option ℕ) (number : ChannelId) (object : ObjectId) (m : Message) (s new : State) (slots : SlotTable) (events : List Event) → May given line number (Up the_host object) s → Reply given object m s slots events
-    → Followed (passing given object m events) new → Took given new
-took_up given line number object m s new slots events may reply followed =
+-- the hosts went on behind the answer
+pub took_up : (given : Step) (host : HostId) (object : ObjectId) (m : Message) (s new : State) (old slots : SlotTable) (events : List Event) → Reply given host object m s old slots events
+    → Followed (going given host object m events) new → Took given new
+took_up given host object m s new old slots events reply followed =
     let header = given.header in
     let outside = given.outside in
     let doing = given.command in
     let front = reply.front in
-    let told = replies m object s.pager slots events reply.answered in
-    let past = event.Taken (Up the_host object) m ∷ given.past in
+    let told = replies m object old slots events reply.answered in
+    let past = event.Taken (Up host object) m ∷ given.past in
     let suffice = front_suffice given s front in
-    let same : (events ++ event.Taken (Up the_host object) m ∷ []) ++ given.past ≡ events ++ past = append_assoc events (event.Taken (Up the_host object) m ∷ []) given.past in
+    let same : (events ++ event.Taken (Up host object) m ∷ []) ++ given.past ≡ events ++ past = append_assoc events (event.Taken (Up host object) m ∷ []) given.past in
     let more = followed.more in
+    let stretch = followed.follows.stretch in
     let items : new.history.items ≡ more ++ (events ++ past) = followed.is ∙ ap (λ (z : List Event). more ++ z) same in
-    let licensed = licensed_both header outside doing more events past (subst (λ (z : List Event). AllLicensed header outside doing more z) same followed.licensed) reply.licensed in
-    let own = each_both (OwnBytes header) more events past (subst (λ (z : List Event). EachIn (OwnBytes header) more z) same followed.own_bytes) (reply_own header events past told) in
-    let frames = moments_both (Suffice header 0) more events past (subst (λ (z : List Event). MomentsIn (Suffice header 0) more z) same followed.frames) (reply_frames header events past told (taken_suffice header (Up the_host object) m given.past suffice)) in
-    let owed = paid header 0 given.past object m s.pager slots events (serves_of given object m s slots events front reply.head reply.answered) in
+    let licensed = licensed_both header outside doing more events past (subst (λ (z : List Event). AllLicensed header outside doing more z) same stretch.licensed) reply.licensed in
+    let own = each_both (OwnBytes header) more events past (subst (λ (z : List Event). EachIn (OwnBytes header) more z) same stretch.own_bytes) (reply_own header events past told) in
+    let frames = moments_both (FramesSuffice header) more events past (subst (λ (z : List Event). MomentsIn (FramesSuffice header) more z) same stretch.frames)
+    (reply_frames header events past told (taken_suffice header (Up host object) m given.past suffice)) in
+    let owed = paid header host.0 given.past object m old slots events (reply_serves given host object m s old slots events reply) in
     record {
       stands = followed.stands;
-      step = takes_step given (Up the_host object) m (more ++ events) new.history.items (items ∙ sym (append_assoc more events past)) reply.head may.may front.rests.matches.settled suffice
-          (of_both IsConsequence more events followed.follows (reply_consequences events told)) licensed own frames (inner_both more events followed.inner (reply_inner events told));
+      step = takes_step given (Up host object) m (more ++ events) new.history.items (items ∙ sym (append_assoc more events past)) reply.head reply.may (front_settled given s front) suffice
+          (of_both IsConsequence more events followed.follows.follows (reply_consequences events told)) licensed own frames (inner_both more events stretch.inner (reply_inner events told));
       prompt = followed.prompt;
-      paid = rw items (paid_more header more (events ++ past) followed.inner owed (rw (sym items) followed.stands.rests.matches.settled));
+      paid = rw items (paid_more header more (events ++ past) stretch.inner owed (rw (sym items) (all_returned header new.hosts new.history.items followed.stands.rests)));
     }
 
 -- what was stored stands in the areas behind the answer
-pub kept_up : (given : Taking) (line : Option ℕ) (number : ChannelId) (object : ObjectId) (m : Message) (s now : State) (slots : SlotTable) (before after : List ℕ → Told) (events : Listed Event) → May given line number (Up the_host object) s → Reply given object m s slots events.items
-    → KeepsShape s.pager slots → Carries before after s.pager slots (after_message m object (Ok events)) → LeavesAreas m object slots before after (Ok events) → Kept given.header given.outside before s → now.pager ≡ slots
-    → now.history.items ≡ events.items ++ event.Taken (Up the_host object) m ∷ given.past → Kept given.header given.outside after now
-kept_up given line number object m s now slots before after events may reply shape carried leaves kept pager items =
-    let header = given.header in
-    let serves = serves_of given object m s slots events.items reply.front reply.head reply.answered in
-    let over = carries header 0 given.past object m s.pager slots events before after serves carried in
-    let same : content_of header 0 given.past ≡ content_of header 0 s.history.items = ap (λ (z : List Event). content_of header 0 z) may.past ∙ content_lined header line s.history.items in
-    kept_at header given.outside after now slots (events.items ++ event.Taken (Up the_host object) m ∷ given.past) pager items (stands header 0 given.past object m s.pager slots events.items serves)
-    (λ on.
-    let fits = kept.fits on in
-    (told_after m object before after s.pager slots events shape reply.answered leaves fits.0, over.fits fits.0 (subst (λ (z : Content). Fits before s.pager z) (sym same) fits.1)))
+pub kept_up : (given : Step) (line : Option ℕ) (number : ChannelId) (host : HostId) (object : ObjectId) (m : Message) (s now : State) (old slots : SlotTable) (before after : List ℕ → Told) (events : Listed Event) → May given line number (Up host object) s
+    → Reply given host object m s old slots events.items → Carries before after old slots (after_message m object (Ok events)) → LeavesAreas m object slots before after (Ok events) → Kept given.header given.outside before s
+    → now.pagers.items ≡ set s.pagers.items host.0 slots → now.history.items ≡ events.items ++ event.Taken (Up host object) m ∷ given.past → Kept given.header given.outside after now
+kept_up given line number host object m s now old slots before after events may reply carried leaves kept pagers items =
+    kept_at given.header given.outside after now (set s.pagers.items host.0 slots) (events.items ++ event.Taken (Up host object) m ∷ given.past) pagers items (serve_up given host object m s old slots events.items reply)
+    (λ on g pager at. told on g pager (set_cases s.pagers.items host.0 g slots pager few at))
+    (λ on g pager at. fit on g pager (set_cases s.pagers.items host.0 g slots pager few at))
+  where
+    few : host.0 < length s.pagers.items
+    few = slice_get_within s.pagers.items host.0 old reply.at
+
+    -- the area of another pager
+    still : (g : ℕ) (pager : SlotTable) → g ≢ host.0 → slice_get s.pagers.items g ≡ Some pager → (was : Option (List ℕ)) → before (area_name pager.host) ≡ Some was → after (area_name pager.host) ≡ Some was
+    still g pager other at was is =
+        let apart : pager.host ≢ slots.host = λ same. other (sym (reply.front.pagers.numbered.hosts g pager at) ∙ same ∙ reply_host given host object m s old slots events.items reply) in
+        areas_others m object before after old slots events reply.answered leaves (area_name pager.host) was (other_area pager.host slots.host apart) is
+
+    told : given.outside.paging ≡ true → (g : ℕ) (pager : SlotTable) → ((g ≡ host.0) × (slots ≡ pager)) ⊎ ((g ≢ host.0) × (slice_get s.pagers.items g ≡ Some pager)) → IsTold after pager
+    told on g pager (inl same) = subst (λ (z : SlotTable). IsTold after z) same.1 (told_after m object before after old slots events reply.shape reply.answered leaves (kept.told on host.0 old reply.at))
+    told on g pager (inr apart) = told_still pager before after (still g pager apart.0 apart.1) (kept.told on g pager apart.1)
+
+    fit : given.outside.paging ≡ true → (g : ℕ) (pager : SlotTable) → ((g ≡ host.0) × (slots ≡ pager)) ⊎ ((g ≢ host.0) × (slice_get s.pagers.items g ≡ Some pager))
+        → Fits after pager (content_of given.header g (events.items ++ event.Taken (Up host object) m ∷ given.past))
+    fit on g pager (inl same) =
+        let now : List Event = events.items ++ event.Taken (Up host object) m ∷ given.past in
+        let over = carries given.header host.0 given.past object m old slots events before after (reply_serves given host object m s old slots events.items reply) carried in
+        let was = subst (λ (z : Content). Fits before old z) (sym (front_content given line number (Up host object) s may host.0)) (kept.fits on host.0 old reply.at) in
+        subst (λ (z : SlotTable). Fits after z (content_of given.header g now)) same.1
+        (subst (λ (z : ℕ). Fits after slots (content_of given.header z now)) (sym same.0) (over.fits (kept.told on host.0 old reply.at) was))
+    fit on g pager (inr apart) =
+        let header = given.header in
+        let taken = event.Taken (Up host object) m in
+        let past : List Event = taken ∷ given.past in
+        let is = kept.told on g pager apart.1 in
+        let own = apart_of header past (orderly_taken header (Up host object) m given.past reply.front.orderly reply.head) g in
+        let over = others_carry header g pager taken given.past before (inr (λ same. apart.0 (sym same))) own in
+        let was = subst (λ (z : Content). Fits before pager z) (sym (front_content given line number (Up host object) s may g)) (kept.fits on g pager apart.1) in
+        fits_still pager (content_of header g (events.items ++ past)) before after (still g pager apart.0 apart.1) is
+        (others_fit header g pager object before events.items past (about m object old slots events.items reply.answered) (away_from given host object m s old slots events.items reply g apart.0) own is (over.fits is was))
 
 -- where memory ended in the pager nothing changed
-pub kept_failed : (header : Header) (outside : Outside) (object : ObjectId) (m : Message) (s now : State) (before after : List ℕ → Told) (e : NoMemory) → now.pager ≡ s.pager → LeavesAreas m object now.pager before after (Err e)
-    → Carries before after s.pager now.pager (after_message m object (Err e)) → now.history.items ≡ s.history.items → Kept header outside before s → Kept header outside after now
-kept_failed header outside object m s now before after e same leaves carried items kept =
-    kept_at header outside after now now.pager s.history.items refl items (rw same kept.pager)
-    (λ on. let fits = kept.fits on in failed_fits m object before after s.pager now.pager e (content_of header 0 s.history.items) same leaves carried fits.0 fits.1)
+
+areas_failed : (m : Message) (object : ObjectId) (before after : List ℕ → Told) (slots : SlotTable) (e : NoMemory) → LeavesAreas m object slots before after (Err e) → SameAreas before after
+areas_failed (message.Return control page dirty keep bytes) object before after slots e leaves = leaves
+areas_failed other object before after slots e leaves = leaves
+
+pub kept_failed : (header : Header) (outside : Outside) (object : ObjectId) (m : Message) (s now : State) (slots : SlotTable) (before after : List ℕ → Told) (e : NoMemory) → now.pagers.items ≡ s.pagers.items
+    → LeavesAreas m object slots before after (Err e) → now.history.items ≡ s.history.items → Kept header outside before s → Kept header outside after now
+kept_failed header outside object m s now slots before after e pagers leaves items kept =
+    let same = areas_failed m object before after slots e leaves in
+    kept_at header outside after now s.pagers.items s.history.items pagers items kept.pagers
+    (λ on h pager at. told_still pager before after (same (area_name pager.host)) (kept.told on h pager at))
+    (λ on h pager at. fits_still pager (content_of header h s.history.items) before after (same (area_name pager.host)) (kept.told on h pager at) (kept.fits on h pager at))
+
+-- the pager that is read at a number is the one that stands there
+pub pager_read : (pagers : List SlotTable) (h : ℕ) (pager : SlotTable) → h < length pagers → pager ≡ get_or pagers h pager → slice_get pagers h ≡ Some pager
+pager_read pagers h pager within read = slice_get-get_or pagers h pager within ∙ ap (λ (z : SlotTable). Some z) (sym read)
+
+-- a pager that is as it was
+pub set_same : (pagers : List SlotTable) (h : ℕ) (pager : SlotTable) → slice_get pagers h ≡ Some pager → set pagers h pager ≡ pagers
+set_same [] h pager is = refl
+set_same (x ∷ pagers) zero pager is = ap (λ (z : SlotTable). z ∷ pagers) (sym (same_Some x pager is))
+set_same (x ∷ pagers) (suc h) pager is = ap (λ (z : List SlotTable). x ∷ z) (set_same pagers h pager is)
 
 -- a device's failure has its cause
 device_cause : (before now : ℕ) (events : Listed Event) (past old new : List Event) → Faults events.items past → AnswerHasCause before now (Ok events) → devices new ≡ devices (events.items ++ past) → devices past ≡ devices old
@@ -217,11 +326,11 @@ device_cause before now events past old new f cause same front = record {
     spared (inl none) is = cause.spared none.1
     spared (inr tells) is = let more = tells.0 in absurd (omega (arith, more, same, front, is))
 
-pub devices_up : (given : Taking) (line : Option ℕ) (number : ChannelId) (object : ObjectId) (m : Message) (s : State) (slots : SlotTable) (events : Listed Event) (before now : ℕ) (new : List Event) → May given line number (Up the_host object) s
-    → Answers m object s.pager slots events.items → AnswerHasCause before now (Ok events) → devices new ≡ devices (events.items ++ event.Taken (Up the_host object) m ∷ given.past) → DevicesHaveCause before now s.history.items new
-devices_up given line number object m s slots events before now new may answered cause same =
-    let past = event.Taken (Up the_host object) m ∷ given.past in
-    device_cause before now events past s.history.items new (faults m object s.pager slots events.items past answered) cause same (ap devices may.past ∙ devices_lined line s.history.items)
+pub devices_up : (given : Step) (line : Option ℕ) (number : ChannelId) (host : HostId) (object : ObjectId) (m : Message) (s : State) (old slots : SlotTable) (events : Listed Event) (before now : ℕ) (new : List Event) → May given line number (Up host object) s
+    → Answers m object old slots events.items → AnswerHasCause before now (Ok events) → devices new ≡ devices (events.items ++ event.Taken (Up host object) m ∷ given.past) → DevicesHaveCause before now s.history.items new
+devices_up given line number host object m s old slots events before now new may answered cause same =
+    let past = event.Taken (Up host object) m ∷ given.past in
+    device_cause before now events past s.history.items new (faults m object old slots events.items past answered) cause same (ap devices may.past ∙ devices_lined line s.history.items)
 
 -- the newest events, up to and with the taking
 front_at : (events : List Event) (e : Event) (past : List Event) → take (suc (length events)) (events ++ e ∷ past) ≡ events ++ e ∷ []
@@ -244,7 +353,7 @@ fewer_room n m s less room = record {
 
 -- with room made all is as it was
 
-pub may_reserved : (given : Taking) (line : Option ℕ) (number : ChannelId) (channel : Channel) (s t : State) → May given line number channel s → SameHost s t → t.history.items ≡ s.history.items → t.channels.made ≡ s.channels.made
+pub may_reserved : (given : Step) (line : Option ℕ) (number : ChannelId) (channel : Channel) (s t : State) → May given line number channel s → SameHosts s t → t.history.items ≡ s.history.items → t.channels.made ≡ s.channels.made
     → t.ports.channels ≡ s.ports.channels → t.ports.letters ≡ s.ports.letters → t.buffers.size ≡ s.buffers.size → May given line number channel t
 may_reserved given line number channel s t may same items made numbers letters buffers =
     let stands = may.stands in
@@ -252,12 +361,11 @@ may_reserved given line number channel s t may same items made numbers letters b
     let posts = agrees.posts in
     record {
       stands = record {
-        plain = stands.plain;
-        rests = rw (same.kernel, same.ids, items) stands.rests;
-        queue = rw (same.kernel, items) stands.queue;
+        rests = rw (same.hosts, items) stands.rests;
+        queues = rw (same.hosts, items) stands.queues;
         agrees = record {
           size = same.size ∙ agrees.size;
-          pager = rw (same.pager, items) agrees.pager;
+          pagers = rw (same_pagers s t same, items) agrees.pagers;
           posts = record {
             channels = λ c. rw (made, items) (posts.channels c);
             count = rw (made, numbers) posts.count;

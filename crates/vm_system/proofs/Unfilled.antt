@@ -7,12 +7,12 @@ use Rattle.vm_model.specs.Moments.{EachEvent}
 use Rattle.vm_legal.specs.Bytes.{CopiesCurrent}
 use Rattle.vm_legal.specs.Licences.{HasCause}
 use Rattle.vm_legal.specs.Outside.{Outside}
-use Rattle.vm_system.specs.Hosts.{HasOneHost}
+use Rattle.vm_kernel.specs.Matches.{IsPlain}
 
-current : (header : Header) (outside : Outside) (e : Event) (past : List Event) → HasOneHost header → HasCause header outside e past → CopiesCurrent header outside e past
+current : (header : Header) (outside : Outside) (e : Event) (past : List Event) → IsPlain header → HasCause header outside e past → CopiesCurrent header outside e past
 current header outside (event.CopiedPage task page object object_page target) past plain cause = let none = ap length plain.objects in let below = cause.1.declared in absurd (omega (arith, none, below))
 current header outside other past plain cause = tt
 
-pub all_current : (header : Header) (outside : Outside) (past : List Event) → HasOneHost header → EachEvent (HasCause header outside) past → EachEvent (CopiesCurrent header outside) past
+pub all_current : (header : Header) (outside : Outside) (past : List Event) → IsPlain header → EachEvent (HasCause header outside) past → EachEvent (CopiesCurrent header outside) past
 all_current header outside [] plain causes = tt
 all_current header outside (e ∷ past) plain causes = (current header outside e past plain causes.0, all_current header outside past plain causes.1)

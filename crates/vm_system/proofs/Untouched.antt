@@ -14,7 +14,8 @@ use Rattle.vm_legal.specs.Outside.{Outside}
 use Rattle.vm_legal.specs.Stretches.{AllInner, IsInner}
 use Rattle.vm_model.specs.Moments.{before_last_line}
 use Rattle.vm_outside.specs.Arming.{Arming}
-use Rattle.vm_system.specs.Steps.{StopsAt, Taking, takes_up, took_up}
+use Rattle.vm_hosts.specs.Steps.{Step}
+use Rattle.vm_system.specs.Steps.{StopsAt, takes_up, took_up}
 use Rattle.vm_system.specs.Takings.{MayBeCut, TakesStep}
 use Rattle.vm_system.proofs.Growth.{line_taken}
 use Rattle.vm_system.proofs.Stretched.{licensed_front}
@@ -35,7 +36,7 @@ took_of : (channel : Channel) (m : Message) (past : List Event) → took_up (eve
 took_of (Up host object) m past = refl
 took_of (Down host object control) m past = refl
 
-took_step : (given : Taking) (new : List Event) → (step : TakesStep given new) → took_up new ≡ takes_up (command.Take step.channel)
+took_step : (given : Step) (new : List Event) → (step : TakesStep given new) → took_up new ≡ takes_up (command.Take step.channel)
 took_step given new step = ap took_up step.is ∙ (took_all step.more (event.Taken step.channel step.m ∷ given.past) step.inner ∙ took_of step.channel step.m given.past)
 
 -- a command takes from one channel
@@ -45,19 +46,19 @@ one_channel (command.Take of) c d past one two = one.0 ∙ sym two.0
 one_channel (command.Settle count) c d past one two = same_Some c d (sym one.0 ∙ two.0)
 one_channel other c d past one two = absurd one
 
-taken_on : (given : Taking) (channel : Channel) (new : List Event) → MayTake given.command channel given.past → (step : TakesStep given new) → step.channel ≡ channel
+taken_on : (given : Step) (channel : Channel) (new : List Event) → MayTake given.command channel given.past → (step : TakesStep given new) → step.channel ≡ channel
 taken_on given channel new may step =
     one_channel given.command step.channel channel given.past (licensed_front given.header given.outside given.command step.more (event.Taken step.channel step.m) given.past step.licensed).0.1 may
 
 -- so a step that began with no message up took from no channel up
-pub not_up : (given : Taking) (channel : Channel) (new : List Event) → MayTake given.command channel given.past → TakesStep given new → took_up new ≡ false → takes_up (command.Take channel) ≡ false
+pub not_up : (given : Step) (channel : Channel) (new : List Event) → MayTake given.command channel given.past → TakesStep given new → took_up new ≡ false → takes_up (command.Take channel) ≡ false
 not_up given channel new may step none = ap (λ (z : Channel). takes_up (command.Take z)) (sym (taken_on given channel new may step)) ∙ (sym (took_step given new step) ∙ none)
 
 pub not_up_from : (header : Header) (outside : Outside) (line : ℕ) (channel : Channel) (old new : List Event) → TakesStep (taking_of header outside line channel old) new → took_up new ≡ false → takes_up (command.Take channel) ≡ false
 not_up_from header outside line channel old new step none = not_up (taking_of header outside line channel old) channel new (refl, refl) step none
 
 -- memory ended in a step: what a pager didn't take leaves all as it was
-pub stops_by : {B : Type 0} (front : List Event → List Event) (given : Taking) (channel : Channel) (old new : List Event) (before after : Arming B) → MayTake given.command channel given.past → (TakesStep given new → front new ≡ old)
+pub stops_by : {B : Type 0} (front : List Event → List Event) (given : Step) (channel : Channel) (old new : List Event) (before after : Arming B) → MayTake given.command channel given.past → (TakesStep given new → front new ≡ old)
     → (takes_up (command.Take channel) ≡ false → new ≡ old) → (new ≡ old → after.left ≡ before.left) → MayBeCut given old new → StopsAt front old new before after
 stops_by front given channel old new before after may at down unmoved (inl same) = inl (same, unmoved same)
 stops_by front given channel old new before after may at down unmoved (inr step) = by (takes_up (command.Take channel)) refl

@@ -1,5 +1,4 @@
 pub mod Channels
-pub mod Hosts
 pub mod Keeping
 pub mod Making
 pub mod Noted

@@ -52,9 +52,8 @@ abbrev pub CanTellAll : ℕ → List Event → List Event → Type 0
 CanTellAll size [] past = Unit {0}
 CanTellAll size (e ∷ events) past = CanTell size e (events ++ past) × CanTellAll size events past
 
--- kernel, pager and next numbers are as they were
-pub record SameHost (old new : State) : Type 0 where
+-- kernels and pagers are as they were
+pub record SameHosts (old new : State) : Type 0 where
   pub size : new.size ≡ old.size
-  pub kernel : new.kernel ≡ old.kernel
-  pub pager : new.pager ≡ old.pager
-  pub ids : new.ids ≡ old.ids
+  pub hosts : new.hosts ≡ old.hosts
+  pub pagers : new.pagers ≡ old.pagers

@@ -6,7 +6,7 @@ use Rattle.vm_model.specs.declared.message.Channel.TheVariants.{Up, Down}
 use Rattle.vm_model.specs.declared.message.Message.{Message}
 use Rattle.vm_model.specs.declared.message.Message.TheVariants as message
 use Rattle.vm_system.specs.Channels.{number_in}
-use Rattle.vm_system.specs.Posts.{SameHost}
+use Rattle.vm_system.specs.Posts.{SameHosts}
 use Rattle.vm_system.specs.declared.state.State.{State}
 
 -- the channels that a message makes
@@ -28,7 +28,7 @@ pub record Added (channels : List Channel) (old new : State) : Type 0 where
   pub letter_room : new.ports.room ≡ old.ports.room
   pub buffers : new.buffers ≡ old.buffers
   pub history : new.history ≡ old.history
-  pub host : SameHost old new
+  pub hosts : SameHosts old new
 
 -- a message was sent, and nothing else was changed
 pub record HasSent (channel : Channel) (m : Message) (old new : State) : Type 0 where
@@ -40,7 +40,7 @@ pub record HasSent (channel : Channel) (m : Message) (old new : State) : Type 0 
   pub channels : new.channels ≡ old.channels
   pub buffers : new.buffers ≡ old.buffers
   pub history : new.history ≡ old.history
-  pub host : SameHost old new
+  pub hosts : SameHosts old new
 
 -- a message was sent with the channels that it makes
 pub record Delivered (channel : Channel) (m : Message) (old new : State) : Type 0 where
@@ -54,7 +54,7 @@ pub record Delivered (channel : Channel) (m : Message) (old new : State) : Type 
   pub size : new.buffers.size ≡ old.buffers.size
   pub buffers : old.buffers.count ≤ new.buffers.count + 1
   pub history : new.history ≡ old.history
-  pub host : SameHost old new
+  pub hosts : SameHosts old new
 
 -- channels, letters and buffers are as they were
 pub record SameLetters (old new : State) : Type 0 where

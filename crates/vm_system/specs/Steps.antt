@@ -27,19 +27,6 @@ pub record Setting : Type 0 where
   pub header : Header
   pub outside : Outside
 
--- the command of the step, too
-pub record Stepping : Type 0 where
-  pub header : Header
-  pub outside : Outside
-  pub command : Command
-
--- the command in whose step a message is taken, and the history in front of the taking
-pub record Taking : Type 0 where
-  pub header : Header
-  pub outside : Outside
-  pub command : Command
-  pub past : List Event
-
 -- legal for these commands, of which the last, where it is a settle, may have more to take
 pub record LegalOpen (header : Header) (outside : Outside) (run : List Numbered) (history : List Event) : Type 0 where
   pub follows : FollowsSoFar header outside run history
@@ -153,7 +140,7 @@ pub record LeavesPaging {B : Type 0} (doing : Command) (old new : Arming B) : Ty
 abbrev pub StopsAt : {B : Type 0} → (List Event → List Event) → List Event → List Event → Arming B → Arming B → Type 0
 StopsAt front old new before after = ((new ≡ old) × (after.left ≡ before.left)) ⊎ ((front new ≡ old) × (took_up new ≡ true))
 
--- the command is nothing to the host
+-- the command is no host's
 abbrev pub is_idle : Command → Bool
 is_idle (command.FailFiles count) = true
 is_idle (command.FailPaging count) = true

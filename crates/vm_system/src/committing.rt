@@ -8,7 +8,7 @@ ghost use Rattle.vm_model.specs.declared.message.Message.{Message};
 ghost use Rattle.vm_model.specs.Copies.{HasPageOf};
 ghost use Rattle.vm_ports.specs.Ports.{spare_channels};
 ghost use Rattle.vm_system.specs.Channels.{number_in};
-ghost use Rattle.vm_system.specs.Posts.{CanTell, CanTellAll, HasRoom, Posts, SameHost};
+ghost use Rattle.vm_system.specs.Posts.{CanTell, CanTellAll, HasRoom, Posts, SameHosts};
 ghost use Rattle.vm_system.specs.Sends.{Added, AreFresh, Delivered, HasSent, SameLetters, made_by};
 ghost use Rattle.vm_system.specs.Steps.{lined};
 
@@ -20,7 +20,7 @@ impl State {
     // Makes room for so many events, with their messages and channels.
     pub fn reserve(&mut self, count: u32) -> Result<(), NoMemory>
         ensures room { OnOk result (HasRoom count self.new) }
-        ensures host { SameHost self.old self.new }
+        ensures hosts { SameHosts self.old self.new }
         ensures history { self.new.history.items ≡ self.old.history.items }
         ensures made { self.new.channels.made ≡ self.old.channels.made }
         ensures numbers { self.new.ports.channels ≡ self.old.ports.channels }
@@ -42,7 +42,7 @@ impl State {
         requires can { CanTellAll self.old.size events.items self.old.history.items }
         requires room { HasRoom (length events.items) self.old }
         ensures posts { Posts self.new self.new.history.items }
-        ensures host { SameHost self.old self.new }
+        ensures hosts { SameHosts self.old self.new }
         ensures history { self.new.history.items ≡ events.items ++ self.old.history.items }
     {
         'all: while let Some(event) = events.take_first() {
@@ -56,7 +56,7 @@ impl State {
         requires can { CanTell self.old.size event self.old.history.items }
         requires room { HasRoom 1 self.old }
         ensures posts { Posts self.new self.new.history.items }
-        ensures host { SameHost self.old self.new }
+        ensures hosts { SameHosts self.old self.new }
         ensures history { self.new.history.items ≡ event ∷ self.old.history.items }
         ensures room { (n : ℕ) → HasRoom (n + 1) self.old → HasRoom n self.new }
     {
@@ -73,7 +73,7 @@ impl State {
         requires can { CanTell self.old.size event.now self.old.history.items }
         requires room { HasRoom 1 self.old }
         ensures posts { Posts self.new (event.now ∷ self.old.history.items) }
-        ensures host { SameHost self.old self.new }
+        ensures hosts { SameHosts self.old self.new }
         ensures history { self.new.history ≡ self.old.history }
         ensures room { (n : ℕ) → HasRoom (n + 1) self.old → HasRoom n self.new }
     {
@@ -149,7 +149,7 @@ impl State {
         requires some { (channel : Channel) → slice_get self.old.channels.made number.0 ≡ Some channel → queue channel self.old.history.items ≢ [] }
         requires room { HasRoom 2 self.old }
         ensures posts { Posts self.new self.new.history.items }
-        ensures host { SameHost self.old self.new }
+        ensures hosts { SameHosts self.old self.new }
         ensures history { (channel : Channel) → slice_get self.old.channels.made number.0 ≡ Some channel
             → (m : Message) × (first (queue channel self.old.history.items) ≡ Some m) × (self.new.history.items ≡ event.Taken channel m ∷ lined line self.old.history.items) }
         ensures room { (n : ℕ) → HasRoom (n + 2) self.old → HasRoom n self.new }
@@ -170,7 +170,7 @@ impl State {
         ensures history { self.new.history.items ≡ lined line self.old.history.items }
         ensures room { self.old.history.room ≤ self.new.history.room + 1 }
         ensures same { SameLetters self.old self.new }
-        ensures host { SameHost self.old self.new }
+        ensures hosts { SameHosts self.old self.new }
     {
         let Some(line) = line else {
             return;

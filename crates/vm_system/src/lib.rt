@@ -1,4 +1,4 @@
-//! The whole system: the kernel of a host, its default pager, the channels between them, and the history.
+//! The whole system: the kernels of the hosts, their default pagers, the channels between them, and the history.
 #![tactic(auto)]
 
 mod channels;
@@ -8,7 +8,6 @@ mod noted;
 mod refusing;
 mod running;
 mod settling;
-mod shares;
 mod state;
 mod stepping;
 mod stop;

@@ -5,10 +5,10 @@ ghost use Rattle.vm_model.specs.declared.command.Numbered.{Numbered};
 ghost use Rattle.vm_model.specs.declared.event.Event.TheVariants as event;
 ghost use Rattle.vm_model.specs.Ranges.{InRange};
 ghost use Rattle.vm_legal.specs.Refusal.{refusal};
-ghost use Rattle.vm_kernel.specs.Begun.{Given, Passing};
+ghost use Rattle.vm_hosts.specs.Steps.{Step};
 ghost use Rattle.vm_kernel.specs.Built.{copies_entries, is_built as is_run};
 ghost use Rattle.vm_model.specs.declared.command.Command.TheVariants as command;
-ghost use Rattle.vm_system.specs.Posts.{CanTellAll, Posts, SameHost};
+ghost use Rattle.vm_system.specs.Posts.{CanTellAll, Posts, SameHosts};
 ghost use Rattle.vm_system.specs.Making.{Makes, Spares};
 ghost use Rattle.vm_system.specs.Stands.{Stands};
 ghost use Rattle.vm_system.specs.Steps.{Setting, is_idle};
@@ -18,10 +18,10 @@ use vm_base::{Code, NoMemory};
 use vm_model::{Command, Event, Events};
 
 impl State {
-    // A command of the host that isn't refused.
+    // A command of a host that isn't refused.
     pub fn begin(&mut self, line: u32, command: &Command) -> Result<(), NoMemory>
-        ghost given: { Given }
-        requires given { given ≡ record { header = given.header; host = 0; outside = given.outside; past = event.Line line ∷ self.old.history.items } }
+        ghost given: { Step }
+        requires given { given ≡ record { header = given.header; outside = given.outside; command = command.now; past = event.Line line ∷ self.old.history.items } }
         requires stands { Stands given.header given.outside self.old }
         requires range { InRange given.header command.now }
         requires run { is_run command.now ≡ true }
@@ -31,21 +31,21 @@ impl State {
         ensures spares { Spares given.header given.outside self.old self.new }
         ensures err { OnErr result (self.new.history.items ≡ self.old.history.items) }
     {
-        let events = self.kernel.begin(command, &mut self.ids)?;
+        let events = self.hosts.begin(command)?;
         self.append(line, events)
     }
 
-    // A command that is nothing to the host: its frame queue is served.
+    // A command that is no host's: the frame queues are served.
     pub fn pass(&mut self, line: u32, command: &Command) -> Result<(), NoMemory>
-        ghost given: { Passing }
-        requires given { given ≡ record { header = given.header; host = 0; outside = given.outside; past = self.old.history.items; front = event.Line line ∷ []; command = command.now } }
+        ghost given: { Step }
+        requires given { given ≡ record { header = given.header; outside = given.outside; command = command.now; past = event.Line line ∷ self.old.history.items } }
         requires stands { Stands given.header given.outside self.old }
         requires idle { is_idle command.now ≡ true }
         ensures made { OnOk result (Makes given.header given.outside (record { line = line; command = command.now }) self.old self.new) }
         ensures spares { Spares given.header given.outside self.old self.new }
         ensures err { OnErr result (self.new.history.items ≡ self.old.history.items) }
     {
-        let events = self.kernel.serve(&mut self.ids)?;
+        let events = self.hosts.pass()?;
         self.append(line, events)
     }
 
@@ -55,7 +55,7 @@ impl State {
         requires can { CanTellAll self.old.size events.items (event.Line line ∷ self.old.history.items) }
         ensures posts { OnOk result (Posts self.new self.new.history.items) }
         ensures history { OnOk result (self.new.history.items ≡ events.items ++ event.Line line ∷ self.old.history.items) }
-        ensures host { SameHost self.old self.new }
+        ensures hosts { SameHosts self.old self.new }
         ensures err { OnErr result (self.new.history.items ≡ self.old.history.items) }
     {
         let Some(count) = events.len().checked_add(1) else {

@@ -2,9 +2,10 @@
 ghost use Rattle.std.specs.Prelude.{◌≡◌, ◌≢◌, ◌+◌, ◌<◌, ◌≤◌, [], IfOk, IsErrOf, OnOk, length};
 ghost use Rattle.vm_legal.specs.Steps.{takings};
 ghost use Rattle.vm_legal.specs.Undelivered.{undelivered};
+ghost use Rattle.vm_hosts.specs.Steps.{Step};
 ghost use Rattle.vm_system.specs.Settling.{DevicesCounted, HasLeft, StaysOpen};
 ghost use Rattle.vm_system.specs.Stands.{Kept, Stands};
-ghost use Rattle.vm_system.specs.Steps.{EndsCut, Grew, Stepping, event_limit};
+ghost use Rattle.vm_system.specs.Steps.{EndsCut, Grew, event_limit};
 
 use crate::stop::SystemStop;
 use crate::system::System;
@@ -21,7 +22,7 @@ pub fn settle<F: Backing, P: Backing>(
     files: &mut Armed<F>,
     paging: &mut Armed<P>,
 ) -> Result<u32, SystemStop>
-    ghost given: { Stepping }
+    ghost given: { Step }
     requires stands { Stands given.header given.outside system.old }
     requires kept { Kept given.header given.outside (P.area paging.old.inner) system.old }
     requires left { HasLeft given.command n system.old.history.items }

@@ -4,20 +4,19 @@ use crate::channels::Channels;
 use pg_default::DefaultPager;
 use std::alloc::Global;
 use vm_base::{Buffers, PageSize};
-use vm_kernel::Kernel;
+use vm_hosts::Hosts;
 use vm_model::{History, Message};
 use vm_ports::Ports;
-use vm_shadow::Ids;
 
 #[derive(Drop)]
 pub struct State {
     pub alloc: Global,
     pub size: PageSize,
-    pub kernel: Kernel,
-    pub pager: DefaultPager,
+    pub hosts: Hosts,
+    // By the numbers of their hosts.
+    pub pagers: Vec<DefaultPager>,
     pub ports: Ports<Message>,
     pub channels: Channels,
     pub buffers: Buffers,
-    pub ids: Ids,
     pub history: History,
 }

@@ -6,9 +6,10 @@ ghost use Rattle.vm_legal.specs.Refusal.{refusal};
 ghost use Rattle.vm_model.specs.declared.message.Channel.{Channel};
 ghost use Rattle.vm_model.specs.declared.command.Command.TheVariants as command;
 ghost use Rattle.vm_model.specs.declared.event.Event.TheVariants as event;
+ghost use Rattle.vm_hosts.specs.Steps.{Step};
 ghost use Rattle.vm_system.specs.Making.{Makes};
 ghost use Rattle.vm_system.specs.Stands.{Kept, Stands};
-ghost use Rattle.vm_system.specs.Steps.{DevicesHaveCause, Grew, LeavesFiles, LeavesPaging, MayCut, Setting, Stepping, StopsAt, arms_paging, is_built, is_held_up, takes_up, took_up};
+ghost use Rattle.vm_system.specs.Steps.{DevicesHaveCause, Grew, LeavesFiles, LeavesPaging, MayCut, Setting, StopsAt, arms_paging, is_built, is_held_up, takes_up, took_up};
 
 use crate::state::State;
 use vm_base::NoMemory;
@@ -71,8 +72,8 @@ impl State {
         channel: Channel,
         paging: &mut Armed<P>,
     ) -> Result<(), NoMemory>
-        ghost given: { Stepping }
-        requires is { given.command ≡ command.Take channel }
+        ghost given: { Step }
+        requires given { given ≡ record { header = given.header; outside = given.outside; command = command.Take channel; past = event.Line line ∷ self.old.history.items } }
         requires stands { Stands given.header given.outside self.old }
         requires kept { Kept given.header given.outside (P.area paging.old.inner) self.old }
         requires accepted { refusal given.header self.old.history.items (command.Take channel) ≡ None }

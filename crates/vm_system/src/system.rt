@@ -1,4 +1,4 @@
-// The system of one host.
+// The whole system.
 ghost use Rattle.std.specs.Prelude.{◌≡◌, ◌≢◌, ◌+◌, ◌≤◌, ◌<◌, ◌↔◌, ◌⊎◌, ◌∷◌, ℕ, List, [], true, false, None, Ok, Some, IfOk, IsErrOf, IsOkAnd, IsTrue, OnOk, OnErr, length};
 ghost use Rattle.vm_base.specs.declared.code.Code.{Code};
 ghost use Rattle.vm_model.specs.Ranges.{InRange};
@@ -9,12 +9,12 @@ ghost use Rattle.vm_legal.specs.Undelivered.{undelivered};
 ghost use Rattle.vm_outside.specs.Areas.{Told};
 ghost use Rattle.vm_outside.specs.Arming.{ReachesOne};
 ghost use Rattle.vm_model.specs.declared.event.Event.TheVariants as event;
-ghost use Rattle.pg_slots.specs.Contents.{IsTold};
 ghost use Rattle.vm_legal.specs.Steps.{before_step, takings};
 ghost use Rattle.vm_model.specs.Moments.{before_last_line};
-ghost use Rattle.vm_system.specs.Hosts.{HasOneHost};
-ghost use Rattle.vm_system.specs.Stands.{Kept, Stands};
-ghost use Rattle.vm_system.specs.Steps.{DevicesHaveCause, Grew, HasMore, KeepsLegal, KeepsOpen, LeavesFiles, LeavesPaging, MayCut, MayCutOpen, Setting, StopsAt, Taking, arms_paging, event_limit, is_built, is_held_up, takes_up, took_up};
+ghost use Rattle.vm_kernel.specs.Matches.{IsPlain};
+ghost use Rattle.vm_hosts.specs.Steps.{Step};
+ghost use Rattle.vm_system.specs.Stands.{AllTold, AreEmpty, AreNumbered, Kept, Stands};
+ghost use Rattle.vm_system.specs.Steps.{DevicesHaveCause, Grew, HasMore, KeepsLegal, KeepsOpen, LeavesFiles, LeavesPaging, MayCut, MayCutOpen, Setting, StopsAt, arms_paging, event_limit, is_built, is_held_up, takes_up, took_up};
 
 use crate::channels::Channels;
 use crate::limit::MOST_EVENTS;
@@ -24,15 +24,12 @@ use pg_default::DefaultPager;
 use std::alloc::Global;
 use std::marker::Model;
 use vm_base::{Buffers, Code, HostId, NoMemory};
-use vm_kernel::Kernel;
+use vm_hosts::Hosts;
 use vm_model::{Command, Header, History};
 use vm_outside::{Armed, Backing};
 use vm_ports::Ports;
-use vm_shadow::Ids;
 
-const HOST: HostId = HostId(0);
-
-/// One host with its kernel and its default pager, the channels between them, and what happened.
+/// The hosts with their kernels and default pagers, the channels between them, and what happened.
 ///
 /// Contracts see its parts, which stand for the history.
 #[derive(Drop)]
@@ -49,30 +46,25 @@ impl Model for System {
 }
 
 impl System {
-    /// Nothing has happened yet; the host's frames are taken.
+    /// Nothing has happened yet; the hosts' frames are taken.
     pub fn new(alloc: Global, header: &Header) -> Result<System, NoMemory>
-        requires plain { HasOneHost header.now }
+        requires plain { IsPlain header.now }
         requires few { header.now.slots ≤ 65536 }
         ensures stands { (outside : Outside) → IfOk result (λ system. Stands header.now outside system) }
-        ensures kept { (outside : Outside) → (areas : List ℕ → Told) → IfOk result (λ system. (outside.paging ≡ true → IsTold areas system.pager) → Kept header.now outside areas system) }
+        ensures kept { (outside : Outside) → (areas : List ℕ → Told) → IfOk result (λ system. (outside.paging ≡ true → AllTold areas system.pagers.items) → Kept header.now outside areas system) }
         ensures nothing { IfOk result (λ system. system.history.items ≡ []) }
-        ensures host { IfOk result (λ system. system.pager.host ≡ 0) }
+        ensures pagers { IfOk result (λ system. AreNumbered header.now system.pagers.items) }
     {
-        let kernel = Kernel::new(alloc, HOST, header)?;
-        let pager = DefaultPager::new(alloc, HOST, header.slots, header.size)?;
+        let hosts = Hosts::new(alloc, header)?;
+        let pagers = make_pagers(alloc, header)?;
         let state = State {
             alloc,
             size: header.size,
-            kernel,
-            pager,
+            hosts,
+            pagers,
             ports: Ports::new(alloc),
             channels: Channels::new(alloc),
             buffers: Buffers::new(alloc, header.size),
-            ids: Ids {
-                next_object: 0,
-                next_region: 0,
-                marks: 0,
-            },
             history: History::new(alloc),
         };
         Ok(System { state })
@@ -159,7 +151,7 @@ impl System {
         files: &mut Armed<F>,
         paging: &mut Armed<P>,
     ) -> Result<bool, SystemStop>
-        ghost given: { Taking }
+        ghost given: { Step }
         requires stands { Stands given.header given.outside self.old }
         requires kept { Kept given.header given.outside (P.area paging.old.inner) self.old }
         requires past { given.past ≡ self.old.history.items }
@@ -214,4 +206,19 @@ impl System {
     {
         self.state.ports.oldest().is_none()
     }
+}
+
+// The default pagers of the header's hosts.
+fn make_pagers(alloc: Global, header: &Header) -> Result<Vec<DefaultPager>, NoMemory>
+    requires plain { IsPlain header.now }
+    requires few { header.now.slots ≤ 65536 }
+    ensures numbered { IfOk result (λ pagers. AreNumbered header.now pagers.items) }
+    ensures empty { IfOk result (λ pagers. AreEmpty header.now pagers.items) }
+{
+    let mut pagers = Vec::new(alloc);
+    'hosts: for host in 0..header.frames.len() {
+        let pager = DefaultPager::new(alloc, HostId(host), header.slots, header.size)?;
+        pagers.push(pager)?;
+    }
+    Ok(pagers)
 }

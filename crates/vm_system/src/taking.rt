@@ -4,26 +4,21 @@ ghost use Rattle.vm_model.specs.declared.command.Command.TheVariants as command;
 ghost use Rattle.vm_model.specs.declared.message.Channel.{Channel};
 ghost use Rattle.vm_model.specs.declared.message.Channel.TheVariants as channels;
 ghost use Rattle.vm_model.specs.Channels.{queue};
-ghost use Rattle.vm_legal.specs.Stretches.{EachOf};
-ghost use Rattle.vm_kernel.specs.Begun.{IsForeign, IsLaundered, Passed, Passing};
-ghost use Rattle.vm_kernel.specs.Matches.{Rests};
 ghost use Rattle.vm_system.specs.Making.{Spares};
 ghost use Rattle.vm_system.specs.Stands.{Kept, Stands};
-ghost use Rattle.vm_base.specs.declared.ids.HostId.{HostId};
-ghost use Rattle.vm_system.specs.Orderly.{is_washed};
-ghost use Rattle.vm_system.specs.Steps.{DevicesHaveCause, Taking, takes_up};
+ghost use Rattle.vm_legal.specs.Homes.{gives_frame};
+ghost use Rattle.vm_hosts.specs.Steps.{Going, Step};
+ghost use Rattle.vm_system.specs.Steps.{DevicesHaveCause, takes_up};
 ghost use Rattle.vm_system.specs.Takings.{Answered, Followed, May, MayBeCut, Took};
 
 use crate::state::State;
-use vm_base::{ChannelId, NoMemory, ObjectId};
-use vm_kernel::Kernel;
-use vm_model::{Channel, Events, Message};
+use vm_base::{ChannelId, HostId, NoMemory, ObjectId};
+use vm_model::{Channel, Message};
 use vm_outside::{Armed, Backing};
-use vm_shadow::Ids;
 
 // Whether a message returns a page that isn't kept: its frame is free once its pager has it.
-fn is_washed(message: &Message) -> bool
-    ensures { result ≡ is_washed message.now }
+fn gives_frame(message: &Message) -> bool
+    ensures { result ≡ gives_frame message.now }
 {
     match message {
         Message::Return { keep, .. } => !*keep,
@@ -39,7 +34,7 @@ impl State {
         number: ChannelId,
         paging: &mut Armed<P>,
     ) -> Result<(), NoMemory>
-        ghost given: { Taking }
+        ghost given: { Step }
         requires may { (channel : Channel) × May given line number channel self.old }
         requires kept { Kept given.header given.outside (P.area paging.old.inner) self.old }
         ensures took { OnOk result (Took given self.new) }
@@ -53,12 +48,12 @@ impl State {
     {
         let channel = self.channels.channel(number);
         match channel {
-            Channel::Up { object, .. } => self.take_up(line, number, object, paging),
+            Channel::Up { host, object } => self.take_up(line, number, host, object, paging),
             Channel::Down {
+                host,
                 object,
                 control,
-                ..
-            } => self.take_down(line, number, object, control),
+            } => self.take_down(line, number, host, object, control),
         }
     }
 
@@ -67,11 +62,12 @@ impl State {
         &mut self,
         line: Option<u32>,
         number: ChannelId,
+        host: HostId,
         object: ObjectId,
         control: u32,
     ) -> Result<(), NoMemory>
-        ghost given: { Taking }
-        requires { (host : HostId) × May given line number (channels.Down host object control) self.old }
+        ghost given: { Step }
+        requires { May given line number (channels.Down host object control) self.old }
         ensures took { OnOk result (Took given self.new) }
         ensures err { OnErr result (self.new.history.items ≡ self.old.history.items) }
         ensures spares { Spares given.header given.outside self.old self.new }
@@ -79,7 +75,7 @@ impl State {
         let Some(message) = self.ports.head(number) else {
             unreachable!()
         };
-        let events = self.kernel.take(object, control, message, &mut self.ids)?;
+        let events = self.hosts.take(host, object, control, message)?;
         let Some(count) = events.len().checked_add(2) else {
             return Err(NoMemory);
         };
@@ -94,11 +90,12 @@ impl State {
         &mut self,
         line: Option<u32>,
         number: ChannelId,
+        host: HostId,
         object: ObjectId,
         paging: &mut Armed<P>,
     ) -> Result<(), NoMemory>
-        ghost given: { Taking }
-        requires may { (host : HostId) × May given line number (channels.Up host object) self.old }
+        ghost given: { Step }
+        requires may { May given line number (channels.Up host object) self.old }
         requires kept { Kept given.header given.outside (P.area paging.old.inner) self.old }
         ensures took { OnOk result (Took given self.new) }
         ensures cut { OnErr result (MayBeCut given self.old.history.items self.new.history.items) }
@@ -111,45 +108,27 @@ impl State {
         let Some(message) = self.ports.head(number) else {
             unreachable!()
         };
-        let washed = is_washed(message);
-        let answers = self.pager.answer(object, message, paging)?;
+        let washed = gives_frame(message);
+        let answers = self.pagers[host.0 as usize].answer(object, message, paging)?;
         let fresh = answers.len() + 1;
         self.take_first(line, number);
         self.commit(answers);
-        self.follow(fresh, washed)
+        self.follow(host, fresh, washed)
     }
 
-    // The host goes on behind the taking of a message by a pager, of which so many events were told.
-    fn follow(&mut self, fresh: u32, washed: bool) -> Result<(), NoMemory>
-        ghost given: { Passing }
+    // The hosts go on behind the taking of a message by a pager of one, of which so many events were told.
+    fn follow(&mut self, host: HostId, fresh: u32, washed: bool) -> Result<(), NoMemory>
+        ghost given: { Going }
         requires front { length given.front ≡ fresh }
-        requires answered { Answered given washed self.old }
+        requires answered { Answered given host washed self.old }
         ensures followed { OnOk result (Followed given self.new) }
         ensures err { OnErr result (self.new.history.items ≡ self.old.history.items) }
-        ensures pager { self.new.pager ≡ self.old.pager }
+        ensures pagers { self.new.pagers ≡ self.old.pagers }
         ensures spares { Spares given.header given.outside self.old self.new }
     {
-        let events = go_on(&mut self.kernel, washed, &mut self.ids)?;
+        let events = self.hosts.follow(host, washed)?;
         self.reserve(events.len())?;
         self.commit(events);
         Ok(())
-    }
-}
-
-// What the kernel gives behind the taking of a message by a pager.
-fn go_on(kernel: &mut Kernel, washed: bool, ids: &mut Ids) -> Result<Events, NoMemory>
-    ghost given: { Passing }
-    requires rests { Rests given.header 0 kernel.old ids.old given.past }
-    requires laundered { washed ≡ true → IsLaundered 0 given.front }
-    requires held { washed ≡ true → kernel.old.laundry.held ≢ [] }
-    requires foreign { washed ≡ false → EachOf IsForeign given.front }
-    ensures { IfOk result (λ events. Passed given.header 0 given.outside given.command (given.front ++ given.past) kernel.new ids.new events.items) }
-{
-    if washed {
-        let events = kernel.laundered(ids)?;
-        Ok(events)
-    } else {
-        let events = kernel.serve(ids)?;
-        Ok(events)
     }
 }

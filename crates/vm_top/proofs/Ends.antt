@@ -24,7 +24,6 @@ use Rattle.vm_top.specs.Run.{CutIn, IsFull, IsRunnable, IsStuck, IsWhole, report
 use Rattle.vm_legal.specs.Legal.{LegalSoFar}
 use Rattle.vm_legal.specs.Outside.{Outside}
 use Rattle.vm_legal.proofs.Groups.{cut_of}
-use Rattle.vm_system.specs.Hosts.{HasOneHost}
 use Rattle.vm_top.specs.Top.{IsBad, IsReadFrom, IsBadFrom, IsUnbuiltFrom, IsHeaderBuilt, NothingRun, IsDone, IsEventLimit, IsStopped, IsNotBuilt, IsOutputFault, IsNoMemory, WroteFailed, WroteStopped, bad_text, not_built_text, stopped_text}
 use Rattle.vm_top.specs.Writing.{WroteStart}
 use Rattle.vm_top.proofs.Closing.{full_so_far, none_legal, part_so_far, whole_so_far}
@@ -187,15 +186,16 @@ header_wrote told outside script h line before after s stopped empty tells =
 
 -- a script that keeps its ranges and has one host and no objects can be run
 pub runnable : (script : Script) → KeepsRanges script → IsBuilt script.header → IsRunnable script
-runnable script keeps built = record { plain = plain_of script.header.frames.items refl; slots = keeps.slots; ranges = keeps.commands }
+runnable script keeps built =
+    record {
+      plain = record { size = keeps.size; hosts = keeps.hosts; few = few_all script.header.frames.items keeps.frames; objects = built.no_object };
+      one_host = built.one_host;
+      slots = keeps.slots;
+      ranges = keeps.commands;
+    }
   where
-    few_of : (f : ℕ) → script.header.frames.items ≡ f ∷ [] → f < 2 ^ 32
-    few_of f is = let both = subst (λ (z : List ℕ). All (IsBetween 2 4096) z) is keeps.frames 0 0 (omega arith) in let most = both.1 in omega arith
-
-    plain_of : (frames : List ℕ) → script.header.frames.items ≡ frames → HasOneHost script.header
-    plain_of [] is = absurd (omega (arith, ap length is, built.one_host))
-    plain_of (f ∷ []) is = record { size = keeps.size; frames = f; hosts = is; few = few_of f is; objects = built.no_object }
-    plain_of (f ∷ g ∷ more) is = absurd (omega (arith, ap length is, built.one_host))
+    few_all : (frames : List ℕ) → All (IsBetween 2 4096) frames → All (λ f. f < 2 ^ 32) frames
+    few_all frames within i d below = let most = (within i d below).1 in omega arith
 
 -- the history of a run that has ended is also one whose last step is not cut
 uncut : (run : Script) (outside : Outside) (h : List Event) → LegalSoFar run outside h → CutIn run outside h

@@ -1,7 +1,8 @@
 -- What the paging area keeps, in terms of the history alone.
-use Rattle.std.proofs.Common.{◌≡◌, ℕ, ◌*◌, ◌<◌, Bool, true, false, List, [], Option, Some, None, refl, ap, sym, ◌∙◌, subst, arith, nat_lt}
-use Rattle.std.specs.Prelude.{IsSome, is_some, unwrap_or}
+use Rattle.std.proofs.Common.{◌≡◌, ℕ, ◌*◌, ◌<◌, Bool, true, false, List, [], ◌∷◌, Option, Some, None, refl, ap, sym, ◌∙◌, subst, arith, nat_lt}
+use Rattle.std.specs.Prelude.{IsSome, length, is_some, slice_get, unwrap_or}
 use Rattle.std.proofs.lemmas.Bool.Decides.{nat_tests}
+use Rattle.std.proofs.lemmas.Option.{slice_get_within}
 use Rattle.vm_model.specs.declared.event.Event.{Event}
 use Rattle.vm_model.specs.declared.script.Header.{Header}
 use Rattle.vm_model.specs.Named.{named}
@@ -14,8 +15,8 @@ use Rattle.pg_slots.specs.declared.slot_row.Held.{Held}
 use Rattle.pg_slots.specs.declared.slot_row.Held.TheVariants as held
 use Rattle.pg_default.specs.Stands.{Stands, content_of, is_ended}
 use Rattle.vm_system.specs.Keeping.{HasPages, KeepsPages}
-use Rattle.vm_system.specs.Stands.{Kept as SystemKept}
-use Rattle.vm_top.specs.Run.{outside_of}
+use Rattle.vm_system.specs.Stands.{AllTold, AreNumbered, Kept as SystemKept}
+use Rattle.vm_top.specs.Run.{only_host, outside_of}
 use Rattle.vm_system.specs.declared.state.State.{State}
 
 -- a page that has a slot, and of which bytes were stored, is kept there
@@ -29,45 +30,56 @@ no_slot : (has : Option Held) (s : ℕ) → has ≡ None → slot_of has ≡ Som
 no_slot has s none is = let bad : None ≡ Some s = sym (ap slot_of none) ∙ is in cc
 
 -- a page that has a slot is a temporary object's that hasn't ended
-stored_at : (slots : SlotTable) (header : Header) (h : List Event) (o p s : ℕ) (bytes : List ℕ) → Stands header 0 slots h → slot_of (held_at slots o p) ≡ Some s → last_return 0 o p h ≡ Some bytes → is_lost o p h ≡ false
-    → content_of header 0 h o p ≡ Some (Kept bytes)
-stored_at slots header h o p s bytes stands slot returned fine = by_tests (nat_lt o (named header)) (is_ended 0 o h) refl refl
+stored_at : (slots : SlotTable) (header : Header) (host : ℕ) (h : List Event) (o p s : ℕ) (bytes : List ℕ) → Stands header host slots h → slot_of (held_at slots o p) ≡ Some s → last_return host o p h ≡ Some bytes → is_lost o p h ≡ false
+    → content_of header host h o p ≡ Some (Kept bytes)
+stored_at slots header host h o p s bytes stands slot returned fine = by_tests (nat_lt o (named header)) (is_ended host o h) refl refl
   where
-    by_tests : (a b : Bool) → nat_lt o (named header) ≡ a → is_ended 0 o h ≡ b → content_of header 0 h o p ≡ Some (Kept bytes)
+    by_tests : (a b : Bool) → nat_lt o (named header) ≡ a → is_ended host o h ≡ b → content_of header host h o p ≡ Some (Kept bytes)
     by_tests true b is ended = let below : o < named header = grind (arith, nat_tests) in absurd (no_slot (held_at slots o p) s (stands.declared o p below) slot)
     by_tests false true is ended = absurd (no_slot (held_at slots o p) s (stands.ended o p ended) slot)
     by_tests false false is ended = rw (is, ended, returned, fine) refl
 
--- where the paging area told before, it tells, and has the bytes of each page that was returned and isn't lost
-pub kept_pages : (header : Header) (outside : Outside) (areas : List ℕ → Told) (s : State) → SystemKept header outside areas s → KeepsPages header outside areas s.history.items
-kept_pages header outside areas s kept = record { at = λ paging. by (areas (area_name 0)) refl paging }
+-- where the paging area of a host told before, it tells, and has the bytes of each page that was returned and isn't lost
+pub kept_pages : (header : Header) (host : ℕ) (outside : Outside) (areas : List ℕ → Told) (s : State) (pager : SlotTable) → slice_get s.pagers.items host ≡ Some pager → SystemKept header outside areas s → KeepsPages header host outside areas s.history.items
+kept_pages header host outside areas s pager found kept = record { at = λ paging. by (areas (area_name host)) refl paging }
   where
-    tells : outside.paging ≡ true → IsSome (areas (area_name 0))
-    tells paging = subst (λ z. IsSome (areas (area_name z))) kept.pager.host_is (kept.fits paging).0
+    stands : Stands header host pager s.history.items
+    stands = kept.pagers.stand host pager found
 
-    at_page : outside.paging ≡ true → (was : Option (List ℕ)) → areas (area_name 0) ≡ Some was → (o p at : ℕ) (bytes : List ℕ) → slot_at header 0 o p s.history.items ≡ Some at → is_lost o p s.history.items ≡ false
-        → last_return 0 o p s.history.items ≡ Some bytes → read_at (unwrap_or was []) (at * header.size) header.size ≡ bytes
+    tells : outside.paging ≡ true → IsSome (areas (area_name host))
+    tells paging = subst (λ z. IsSome (areas (area_name z))) stands.host_is (kept.told paging host pager found)
+
+    at_page : outside.paging ≡ true → (was : Option (List ℕ)) → areas (area_name host) ≡ Some was → (o p at : ℕ) (bytes : List ℕ) → slot_at header host o p s.history.items ≡ Some at → is_lost o p s.history.items ≡ false
+        → last_return host o p s.history.items ≡ Some bytes → read_at (unwrap_or was []) (at * header.size) header.size ≡ bytes
     at_page paging was told o p at bytes slotted fine returned =
-        let fits = (kept.fits paging).1 in
-        let slot : slot_of (held_at s.pager o p) ≡ Some at = kept.pager.slot o p ∙ slotted in
-        let stored = stored_at s.pager header s.history.items o p at bytes kept.pager slot returned fine in
-        let agrees = subst (IsHeldAs s.pager.count s.pager.size (held_at s.pager o p)) stored (fits.agrees.at o p) in
-        let here = kept_of s.pager.count s.pager.size (held_at s.pager o p) at bytes agrees slot in
-        let named_so : areas (area_name s.pager.host) ≡ Some was = ap (λ z. areas (area_name z)) kept.pager.host_is ∙ told in
-        subst (λ z. read_at (unwrap_or was []) (at * z) z ≡ bytes) kept.pager.size (fits.bytes o p at bytes here stored was named_so)
+        let fits = kept.fits paging host pager found in
+        let slot : slot_of (held_at pager o p) ≡ Some at = stands.slot o p ∙ slotted in
+        let stored = stored_at pager header host s.history.items o p at bytes stands slot returned fine in
+        let agrees = subst (IsHeldAs pager.count pager.size (held_at pager o p)) stored (fits.agrees.at o p) in
+        let here = kept_of pager.count pager.size (held_at pager o p) at bytes agrees slot in
+        let named_so : areas (area_name pager.host) ≡ Some was = ap (λ z. areas (area_name z)) stands.host_is ∙ told in
+        subst (λ z. read_at (unwrap_or was []) (at * z) z ≡ bytes) stands.size (fits.bytes o p at bytes here stored was named_so)
 
-    by : (t : Option (Option (List ℕ))) → areas (area_name 0) ≡ t → outside.paging ≡ true → HasPages header areas s.history.items
+    by : (t : Option (Option (List ℕ))) → areas (area_name host) ≡ t → outside.paging ≡ true → HasPages header host areas s.history.items
     by None is paging = absurd (let some = tells paging in let bad : false ≡ true = ap is_some (sym is) ∙ some in cc)
     by (Some was) is paging = (was, is, at_page paging was is)
 
--- the paging area of the host is told, where the outside says so
-pub told_of : (areas : List ℕ → Told) (slots : SlotTable) → slots.host ≡ 0 → (outside_of areas).paging ≡ true → IsTold areas slots
-told_of areas slots host paging = subst (λ z. IsSome (areas (area_name z))) (sym host) paging
+-- the pager of the only host
+pub pager_of : (pagers : List SlotTable) → length pagers ≡ 1 → (pager : SlotTable) × (slice_get pagers only_host ≡ Some pager)
+pager_of [] one = absurd (let bad : 0 ≡ 1 = one in omega (arith, bad))
+pager_of (pager ∷ more) one = (pager, refl)
+
+-- the paging areas of the pagers are told, where the outside says so of the only host's
+pub told_of : (header : Header) (areas : List ℕ → Told) (pagers : List SlotTable) → length header.frames.items ≡ 1 → AreNumbered header pagers → (outside_of areas).paging ≡ true → AllTold areas pagers
+told_of header areas pagers one numbered paging h pager found =
+    let below : h < length pagers = slice_get_within pagers h pager found in
+    let zero : h ≡ only_host = let count = numbered.count in omega (arith, below, one, count) in
+    subst (λ z. IsSome (areas (area_name z))) (sym (numbered.hosts h pager found ∙ zero)) paging
 
 -- nothing was returned yet
-pub kept_none : (header : Header) (areas : List ℕ → Told) (h : List Event) → h ≡ [] → KeepsPages header (outside_of areas) areas h
-kept_none header areas h none = subst (KeepsPages header (outside_of areas) areas) (sym none) (record { at = λ paging. by (areas (area_name 0)) refl paging })
+pub kept_none : (header : Header) (areas : List ℕ → Told) (h : List Event) → h ≡ [] → KeepsPages header only_host (outside_of areas) areas h
+kept_none header areas h none = subst (KeepsPages header only_host (outside_of areas) areas) (sym none) (record { at = λ paging. by (areas (area_name only_host)) refl paging })
   where
-    by : (t : Option (Option (List ℕ))) → areas (area_name 0) ≡ t → is_some (areas (area_name 0)) ≡ true → HasPages header areas []
+    by : (t : Option (Option (List ℕ))) → areas (area_name only_host) ≡ t → is_some (areas (area_name only_host)) ≡ true → HasPages header only_host areas []
     by None is some = absurd (let bad : false ≡ true = ap is_some (sym is) ∙ some in cc)
     by (Some was) is some = (was, is, λ o p s bytes slotted. absurd (cc))

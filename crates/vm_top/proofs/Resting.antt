@@ -6,7 +6,7 @@ use Rattle.vm_model.specs.declared.script.Header.{Header}
 use Rattle.vm_model.specs.declared.script.Script.{Script}
 use Rattle.vm_model.specs.Moments.{EachEvent}
 use Rattle.vm_model.specs.Named.{named}
-use Rattle.vm_system.specs.Hosts.{HasOneHost}
+use Rattle.vm_kernel.specs.Matches.{IsPlain}
 use Rattle.vm_legal.specs.Legal.{LegalSoFar}
 use Rattle.vm_legal.specs.Licences.{HasCause}
 use Rattle.vm_legal.specs.Outside.{Outside}
@@ -52,7 +52,7 @@ ends_legal report run outside h before after status.ReadFault ends uncut = absur
 ends_legal report run outside h before after (status.BadScript line kind) ends uncut = absurd ends
 
 -- no object is declared
-all_paged : (header : Header) → HasOneHost header → AllPaged header
+all_paged : (header : Header) → IsPlain header → AllPaged header
 all_paged header plain o below = let none : named header ≡ 0 = ap length plain.objects in absurd (omega (arith, below, none))
 
 causes_of : (run : Script) (outside : Outside) (h : List Event) → LegalSoFar run outside h → EachEvent (HasCause run.header outside) h

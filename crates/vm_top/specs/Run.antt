@@ -19,7 +19,7 @@ use Rattle.vm_legal.specs.Steps.{before_step}
 use Rattle.vm_legal.specs.Undelivered.{undelivered}
 use Rattle.vm_outside.specs.Areas.{Told}
 use Rattle.pg_slots.specs.Contents.{area_name}
-use Rattle.vm_system.specs.Hosts.{HasOneHost}
+use Rattle.vm_kernel.specs.Matches.{IsPlain}
 use Rattle.vm_system.specs.Steps.{HasMore, LegalCut, LegalOpen, event_limit, is_built, is_held_up}
 use Rattle.vm_top.specs.Writing.{WroteStart, WroteBeyond}
 use Rattle.vm_top.specs.declared.run.RunEnd.{RunEnd}
@@ -27,13 +27,18 @@ use Rattle.vm_top.specs.declared.run.RunEnd.TheVariants as end
 use Rattle.vm_top.specs.declared.words.Report.{Report}
 use Rattle.vm_top.specs.declared.words.Report.TheVariants.{History, Summary}
 
+-- the host of a script that can be run: it has one
+abbrev pub only_host : ℕ
+only_host = 0
+
 -- what is told of the outside: no file is declared, and the paging area tells or not
 abbrev pub outside_of : (List ℕ → Told) → Outside
-outside_of areas = record { files = Untold; paging = is_some (areas (area_name 0)) }
+outside_of areas = record { files = Untold; paging = is_some (areas (area_name only_host)) }
 
 -- a script with one host and no objects, all whose numbers are in their ranges
 pub record IsRunnable (script : Script) : Type 0 where
-  pub plain : HasOneHost script.header
+  pub plain : IsPlain script.header
+  pub one_host : length script.header.frames.items ≡ 1
   pub slots : script.header.slots ≤ most_slots
   pub ranges : All (λ numbered. InRange script.header numbered.command) script.commands.items
 

@@ -17,7 +17,7 @@ use Rattle.vm_outside.specs.Arming.{Arming}
 use Rattle.pg_slots.specs.Contents.{area_name}
 use Rattle.vm_system.specs.Keeping.{KeepsPages}
 use Rattle.vm_top.specs.Arming.{FilesLeft, PagingLeft, ran_of}
-use Rattle.vm_top.specs.Run.{CutIn, FailedIn, IsFull, IsStuck, IsWhole, report_text}
+use Rattle.vm_top.specs.Run.{CutIn, FailedIn, IsFull, IsStuck, IsWhole, only_host, report_text}
 use Rattle.vm_top.specs.Writing.{WroteStart}
 use Rattle.vm_top.specs.declared.words.Report.{Report}
 use Rattle.vm_top.specs.declared.words.Report.TheVariants.{History, Summary}
@@ -169,8 +169,8 @@ IsNoMemory told outside report script history before after =
 
 -- the paging area goes on telling, and each page that was returned and not lost stands at its slot
 abbrev pub KeptAt : Outside → (List ℕ → Told) → Option Script → List Event → Type 0
-KeptAt outside areas None history = outside.paging ≡ true → IsSome (areas (area_name 0))
-KeptAt outside areas (Some script) history = KeepsPages script.header outside areas history
+KeptAt outside areas None history = outside.paging ≡ true → IsSome (areas (area_name only_host))
+KeptAt outside areas (Some script) history = KeepsPages script.header only_host outside areas history
 
 -- the commands that were run
 abbrev pub commands_run : Option Script → List Event → List Numbered

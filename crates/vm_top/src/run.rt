@@ -12,7 +12,7 @@ ghost use Rattle.vm_system.specs.Keeping.{KeepsPages};
 ghost use Rattle.vm_system.specs.Stands.{Kept, Stands};
 ghost use Rattle.vm_system.specs.Steps.{HasMore, IsBelowLimit, event_limit, is_built, is_held_up};
 ghost use Rattle.vm_top.specs.Arming.{FailuresBounded, FailuresCounted, FilesLeft, PagingLeft, ran_of};
-ghost use Rattle.vm_top.specs.Run.{IsRunnable, RanAs, outside_of, shown};
+ghost use Rattle.vm_top.specs.Run.{IsRunnable, RanAs, only_host, outside_of, shown};
 ghost use Rattle.vm_top.specs.Running.{IsNextOf, Running, Runs, Settles, Stops, Taking, Turned};
 ghost use Rattle.vm_top.specs.Writing.{WroteBeyond, oldest};
 
@@ -241,7 +241,7 @@ pub fn run_script<K: Sink, F: Backing, P: Backing>(
     ensures cause { result.end ≡ RunEnd.Failed → Rose (K.faults out.old) (K.faults out.new) }
 
     // What the backings keep, and how they are armed.
-    ensures kept { KeepsPages script.now.header (outside_of (P.area paging.old.inner)) (P.area paging.new.inner) result.history.items }
+    ensures kept { KeepsPages script.now.header only_host (outside_of (P.area paging.old.inner)) (P.area paging.new.inner) result.history.items }
     ensures files { FilesLeft (ran_of script.now result.history.items) files.old files.new }
     ensures paging { PagingLeft (ran_of script.now result.history.items) result.history.items paging.old paging.new }
     ensures devices { FailuresCounted (⟦<Armed<P> as Backing>⟧.faults paging.old) (⟦<Armed<P> as Backing>⟧.faults paging.new) result.history.items }

@@ -1,12 +1,12 @@
-use Rattle.std.proofs.Common.{refl, subst, sym}
+use Rattle.std.proofs.Common.{refl, subst, sym, ◌∙◌}
 use Rattle.vm_outside.specs.Causes.{sum_count}
 use Rattle.vm_system.specs.Keeping.{KeepsPages}
 use Rattle.vm_system.specs.Steps.{IsBelowLimit, arms_paging, devices}
 use Rattle.vm_top.specs.Arming.{FailuresBounded, FailuresCounted, FilesLeft, PagingLeft, armings, ran_of}
-use Rattle.vm_top.specs.Run.{RanAs, outside_of}
+use Rattle.vm_top.specs.Run.{RanAs, only_host, outside_of}
 use Rattle.vm_top.specs.Running.{Running}
 use Rattle.vm_top.proofs.Arms.{bounded}
-use Rattle.vm_top.proofs.Keeping.{kept_none, kept_pages, told_of}
+use Rattle.vm_top.proofs.Keeping.{kept_none, kept_pages, pager_of, told_of}
 use Rattle.vm_top.proofs.Turns.{nothing_ran, start_runs}
 use Rattle.vm_top.proofs.run.run_script.Goals as goal
 
@@ -24,7 +24,7 @@ run_all-end-requires g c = λ lifetimes held.
       faults = sum_count (g.P.Backing.faults c.args.paging.now.inner) c.args.paging.now.reached;
     } in
     let stands = c.in-Ok.ensures.stands outside in
-    let kept = c.in-Ok.ensures.kept outside areas (told_of areas system.pager c.in-Ok.ensures.host) in
+    let kept = c.in-Ok.ensures.kept outside areas (told_of c.args.script.now.header areas system.pagers.items c.requires.run.one_host c.in-Ok.ensures.pagers) in
     let runs = start_runs c.args.report given system.history.items c.in-Ok.ensures.nothing c.requires.files c.requires.paging in
     (held.0, (held.1.0, (held.1.1, (refl, (c.requires.run, (stands, (kept, (runs, c.in-Ok.ensures.nothing))))))))
 
@@ -46,7 +46,9 @@ pub returns-clause-kept : goal.returns-clause-kept
 returns-clause-kept g c =
     let areas = g.P.Backing.area c.run_all-end.new.paging.inner in
     let outside = outside_of (g.P.Backing.area c.args.paging.now.inner) in
-    subst (λ z. KeepsPages c.args.script.now.header outside areas z.items) (sym c.into_history.ensures) (kept_pages c.args.script.now.header outside areas c.run_all-end.new.system c.run_all-end.ensures.kept)
+    let kept = c.run_all-end.ensures.kept in
+    let pager = pager_of c.run_all-end.new.system.pagers.items (kept.pagers.numbered.count ∙ c.requires.run.one_host) in
+    subst (λ z. KeepsPages c.args.script.now.header only_host outside areas z.items) (sym c.into_history.ensures) (kept_pages c.args.script.now.header only_host outside areas c.run_all-end.new.system pager.0 pager.1 kept)
 
 pub returns-clause-files : goal.returns-clause-files
 returns-clause-files g c = subst (λ z. FilesLeft (ran_of c.args.script.now z.items) c.args.files.now c.run_all-end.new.files) (sym c.into_history.ensures) c.run_all-end.ensures.stops.arms.files

@@ -1,40 +1,64 @@
-use Rattle.std.proofs.Common.{[], sym, subst}
-use Rattle.vm_kernel.specs.Begun.{Began, Given, Starts}
-use Rattle.vm_system.proofs.Beginning.{can_tell, makes_told, on_both, on_either, spares_same, spares_told, tells_grown}
-use Rattle.vm_system.proofs.Acting.{starts_of}
-use Rattle.vm_system.proofs.Legal.{legal_began}
+use Rattle.std.proofs.Common.{◌≡◌, None, ap, false, refl, sym, subst, ◌∙◌}
+use Rattle.vm_kernel.specs.Begun.{IsLined}
+use Rattle.vm_kernel.specs.Built.{copies_entries}
+use Rattle.vm_legal.specs.Refusal.{refusal}
+use Rattle.vm_hosts.specs.Hosts.{AllRest}
+use Rattle.vm_hosts.specs.Steps.{Began, Step}
+use Rattle.vm_hosts.proofs.Nobodys.{all_lined}
+use Rattle.vm_system.proofs.Beginning.{can_tell, makes_told, on_both, on_either, spares_same, spares_told}
+use Rattle.vm_system.proofs.Following.{same_pagers}
+use Rattle.vm_system.proofs.Legal.{enough_line, legal_began, refusal_line}
 use Rattle.vm_system.proofs.state.State.begin.Goals as goal
 
 pub begin-requires : goal.begin-requires
 begin-requires g c =
     let s = c.args.self.now in
-    let starts = starts_of g.given.header g.given.outside c.args.command.now c.args.line s c.requires.1.0 c.requires.1.1.0 c.requires.1.1.1.0 c.requires.1.1.1.1.0 c.requires.1.1.1.1.1 in
-    (subst (λ (z : Given). Starts z.header z.host c.args.command.now z.past s.kernel s.ids []) (sym c.requires.0) starts, c.requires.1.1.1.0)
+    let h = s.history.items in
+    let given = g.given in
+    let doing = c.args.command.now in
+    let is = sym c.requires.0 in (
+      subst (λ (z : Step). AllRest z.header s.hosts z.past) is (all_lined given.header given.outside doing s.hosts c.args.line h c.requires.1.0.rests),
+      (
+        ap (λ (z : Step). z.command) c.requires.0,
+        (
+          c.requires.1.1.0,
+          (
+            c.requires.1.1.1.0,
+            (
+              subst (λ (z : Step). refusal z.header z.past doing ≡ None) is (refusal_line given.header c.args.line h doing ∙ c.requires.1.1.1.1.1),
+              (
+                subst (λ (z : Step). copies_entries z.header z.past doing ≡ false) is (enough_line given.header c.args.line h doing ∙ c.requires.1.1.1.1.0),
+                subst (λ (z : Step). IsLined z.past) is (record { line = c.args.line; before = h; is = refl }),
+              ),
+            ),
+          ),
+        ),
+      ),
+    )
 
 pub append-requires-clause-can : goal.append-requires-clause-can
 append-requires-clause-can g c =
     let given = g.given in
-    let began = subst (λ (z : Given). Began z.header z.host z.outside c.args.command.now z.past c.begin.new.self c.begin.new.ids c.in_ok-events.events.items) c.requires.0 c.in_ok-events.ensures.began in
-    can_tell given.header given.outside c.args.command.now c.args.line c.in_ok-events.events.items c.args.self.now c.requires.1.0 (tells_grown _ _ _ _ _ began.grows)
+    let began = subst (λ (z : Step). Began z.header z.outside c.args.command.now z.past c.begin.new.self c.in_ok-events.events.items) c.requires.0 c.in_ok-events.ensures.began in
+    can_tell given.header given.outside c.args.command.now c.args.line c.in_ok-events.events.items c.args.self.now c.requires.1.0 began.heads.stretch
 
 pub returns-clause-made : goal.returns-clause-made
 returns-clause-made g c =
     let given = g.given in
     let s = c.args.self.now in
-    let k = c.begin.new.self in
-    let ids = c.begin.new.ids in
+    let hosts = c.begin.new.self in
     let events = c.in_ok-events.events.items in
     let stands = c.requires.1.0 in
-    let began = subst (λ (z : Given). Began z.header z.host z.outside c.args.command.now z.past k ids events) c.requires.0 c.in_ok-events.ensures.began in
-    let legal = legal_began given.header given.outside (record { line = c.args.line; command = c.args.command.now }) s.history.items events k ids stands.plain c.requires.1.1.1.1.1 began in
-    on_both c.append.result (λ posts grown. makes_told given.header given.outside (record { line = c.args.line; command = c.args.command.now }) events k ids s c.append.new.self stands
-    (tells_grown _ _ _ _ _ began.grows) began.rests began.queue legal c.append.ensures.host posts grown) c.append.ensures.posts c.append.ensures.history
+    let began = subst (λ (z : Step). Began z.header z.outside c.args.command.now z.past hosts events) c.requires.0 c.in_ok-events.ensures.began in
+    let legal = legal_began given.header given.outside (record { line = c.args.line; command = c.args.command.now }) s.history.items events hosts stands.rests.plain c.requires.1.1.1.1.1 began in
+    on_both c.append.result (λ posts grown. makes_told given.header given.outside (record { line = c.args.line; command = c.args.command.now }) events hosts s c.append.new.self stands
+    began.heads.stretch began.ended.rests began.ended.queues legal c.append.ensures.hosts posts grown) c.append.ensures.posts c.append.ensures.history
 
 pub returns-clause-spares : goal.returns-clause-spares
 returns-clause-spares g c =
     let given = g.given in
     let s = c.args.self.now in
-    let began = subst (λ (z : Given). Began z.header z.host z.outside c.args.command.now z.past c.begin.new.self c.begin.new.ids c.in_ok-events.events.items) c.requires.0 c.in_ok-events.ensures.began in
+    let began = subst (λ (z : Step). Began z.header z.outside c.args.command.now z.past c.begin.new.self c.in_ok-events.events.items) c.requires.0 c.in_ok-events.ensures.began in
     on_either c.append.result
-    (λ grown. spares_told given.header given.outside c.args.command.now c.args.line c.in_ok-events.events.items s c.append.new.self (tells_grown _ _ _ _ _ began.grows) grown c.append.ensures.host.pager)
-    (λ same. spares_same given.header given.outside s c.append.new.self c.append.ensures.host.pager same) c.append.ensures.history c.append.ensures.err
+    (λ grown. spares_told given.header given.outside c.args.command.now c.args.line c.in_ok-events.events.items s c.append.new.self c.requires.1.0 began.heads.stretch grown (same_pagers _ _ c.append.ensures.hosts))
+    (λ same. spares_same given.header given.outside s c.append.new.self (same_pagers _ _ c.append.ensures.hosts) same) c.append.ensures.history c.append.ensures.err

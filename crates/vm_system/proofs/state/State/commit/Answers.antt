@@ -19,13 +19,13 @@ all-preserved c =
     let more = c.take_first.new.self.items in
     let told = oldest_told s.size e more s.history.items (subst (λ (all : List Event). CanTellAll s.size all s.history.items) c.in-Some.ensures.taken c.all.invariant.can) in
     let long : length c.all.events.items ≡ length more + 1 = ap length c.in-Some.ensures.taken ∙ length-append more (e ∷ []) in
-    let was = c.all.invariant.host in
-    let now = c.tell.ensures.host in
+    let was = c.all.invariant.hosts in
+    let now = c.tell.ensures.hosts in
     record {
       posts = c.tell.ensures.posts;
       can = subst (λ (n : ℕ). CanTellAll n more t.history.items) (sym now.size) (subst (λ (all : List Event). CanTellAll s.size more all) (sym c.tell.ensures.history) told.rest);
       room = c.tell.ensures.room (length more) (subst (λ (n : ℕ). HasRoom n s) long c.all.invariant.room);
-      host = record { size = now.size ∙ was.size; kernel = now.kernel ∙ was.kernel; pager = now.pager ∙ was.pager; ids = now.ids ∙ was.ids };
+      hosts = record { size = now.size ∙ was.size; hosts = now.hosts ∙ was.hosts; pagers = now.pagers ∙ was.pagers };
       history =
           ap (λ (all : List Event). more ++ all) c.tell.ensures.history
           ∙ sym (append_assoc more (e ∷ []) s.history.items)

@@ -1,5 +1,5 @@
 use Rattle.std.proofs.Common.{◌≡◌, ◌++◌, length}
-use Rattle.vm_system.specs.Posts.{CanTellAll, HasRoom, Posts, SameHost}
+use Rattle.vm_system.specs.Posts.{CanTellAll, HasRoom, Posts, SameHosts}
 use Rattle.vm_system.proofs.state.State.commit.Given as goal
 
 abbrev pub invariant-all : goal.invariant-all
@@ -7,7 +7,7 @@ invariant-all l = record {
   posts : Posts l.self l.self.history.items;
   can : CanTellAll l.self.size l.events.items l.self.history.items;
   room : HasRoom (length l.events.items) l.self;
-  host : SameHost l.fn.self l.self;
+  hosts : SameHosts l.fn.self l.self;
   history : l.events.items ++ l.self.history.items ≡ l.fn.events.items ++ l.fn.self.history.items;
 }
 

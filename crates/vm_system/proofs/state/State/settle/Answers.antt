@@ -1,7 +1,8 @@
 use Rattle.std.proofs.Common.{[], ◌∷◌}
 use Rattle.vm_model.specs.declared.command.Command.TheVariants as command
 use Rattle.vm_model.specs.declared.event.Event.TheVariants as event
-use Rattle.vm_system.proofs.Beginning.{makes_lined, one_more, same_host, spares_told, tells_none}
+use Rattle.vm_system.proofs.Beginning.{makes_lined, one_more, same_hosts, spares_same, spares_told, tells_none}
+use Rattle.vm_system.proofs.Following.{same_pagers}
 use Rattle.vm_system.proofs.state.State.settle.Goals as goal
 
 pub returns-clause-line : goal.returns-clause-line
@@ -9,12 +10,15 @@ returns-clause-line g c = one_more _ _ _ _ c.in_ok-reserve.ensures.history c.tel
 
 pub returns-clause-made : goal.returns-clause-made
 returns-clause-made g c =
-    let host = same_host _ _ _ c.in_ok-reserve.ensures.host c.tell.ensures.host in
-    makes_lined g.given.header g.given.outside c.args.line c.args.count c.args.self.now c.tell.new.self c.requires host c.tell.ensures.posts (one_more _ _ _ _ c.in_ok-reserve.ensures.history c.tell.ensures.history)
+    let hosts = same_hosts _ _ _ c.in_ok-reserve.ensures.hosts c.tell.ensures.hosts in
+    makes_lined g.given.header g.given.outside c.args.line c.args.count c.args.self.now c.tell.new.self c.requires hosts c.tell.ensures.posts (one_more _ _ _ _ c.in_ok-reserve.ensures.history c.tell.ensures.history)
 
 pub returns-clause-spares : goal.returns-clause-spares
 returns-clause-spares g c =
-    let host = same_host _ _ _ c.in_ok-reserve.ensures.host c.tell.ensures.host in
+    let hosts = same_hosts _ _ _ c.in_ok-reserve.ensures.hosts c.tell.ensures.hosts in
     let s = c.args.self.now in
-    spares_told g.given.header g.given.outside (command.Settle c.args.count) c.args.line [] s c.tell.new.self (tells_none g.given.header g.given.outside (command.Settle c.args.count) (event.Line c.args.line ∷ s.history.items))
-    (one_more _ _ _ _ c.in_ok-reserve.ensures.history c.tell.ensures.history) host.pager
+    spares_told g.given.header g.given.outside (command.Settle c.args.count) c.args.line [] s c.tell.new.self c.requires (tells_none g.given.header g.given.outside (command.Settle c.args.count) (event.Line c.args.line ∷ s.history.items))
+    (one_more _ _ _ _ c.in_ok-reserve.ensures.history c.tell.ensures.history) (same_pagers _ _ hosts)
+
+pub returns-in_err-reserve-clause-spares : goal.returns-in_err-reserve-clause-spares
+returns-in_err-reserve-clause-spares g c = spares_same g.given.header g.given.outside c.args.self.now c.reserve.new.self (same_pagers _ _ c.reserve.ensures.hosts) c.reserve.ensures.history

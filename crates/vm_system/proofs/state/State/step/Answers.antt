@@ -38,3 +38,23 @@ returns-in_default-command g c = record {
   stops = on_err_weaker c.begin.result (λ same. inl (same, refl)) c.begin.ensures.err;
   devices = causes_same _ _ _ c.begin.ensures.spares.devices;
 }
+
+pub returns-in-Some-clause-kept : goal.returns-in-Some-clause-kept
+returns-in-Some-clause-kept g c = c.refuse.ensures.spares.kept (g.P.Backing.area c.args.paging.now.inner) c.requires.1.1.1.0
+
+pub returns-in-Settle-clause-kept : goal.returns-in-Settle-clause-kept
+returns-in-Settle-clause-kept g c = c.settle.ensures.spares.kept (g.P.Backing.area c.args.paging.now.inner) c.requires.1.1.1.0
+
+pub returns-in_err-pass-in-FailFiles-clause-kept : goal.returns-in_err-pass-in-FailFiles-clause-kept
+returns-in_err-pass-in-FailFiles-clause-kept g c = c.pass.ensures.spares.kept (g.P.Backing.area c.args.paging.now.inner) c.requires.1.1.1.0
+
+pub returns-in_ok-pass-in-FailFiles-clause-kept : goal.returns-in_ok-pass-in-FailFiles-clause-kept
+returns-in_ok-pass-in-FailFiles-clause-kept g c = c.pass.ensures.spares.kept (g.P.Backing.area c.args.paging.now.inner) c.requires.1.1.1.0
+
+pub returns-in_err-pass-in-FailPaging-clause-kept : goal.returns-in_err-pass-in-FailPaging-clause-kept
+returns-in_err-pass-in-FailPaging-clause-kept g c = c.pass-in-FailPaging.ensures.spares.kept (g.P.Backing.area c.args.paging.now.inner) c.requires.1.1.1.0
+
+pub returns-in_ok-pass-in-FailPaging-clause-kept : goal.returns-in_ok-pass-in-FailPaging-clause-kept
+returns-in_ok-pass-in-FailPaging-clause-kept g c =
+    let kept = c.pass-in-FailPaging.ensures.spares.kept (g.P.Backing.area c.args.paging.now.inner) c.requires.1.1.1.0 in
+    rw c.arm-in-FailPaging.ensures kept

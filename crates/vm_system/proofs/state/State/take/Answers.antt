@@ -11,10 +11,13 @@ pub take_up-requires : goal.take_up-requires
 take_up-requires g c κs within =
     let may = c.requires.1.0 in
     let s = c.args.self.now in
-    (within, ((c.in-Up.host, may_found g.given c.args.line c.args.number may.0 (Up c.in-Up.host c.in-Up.object) s may.1 (c.channel-channel.ensures.channel ∙ ap (λ (z : Channel). Some z) c.in-Up.is)), c.requires.1.1))
+    (within, (may_found g.given c.args.line c.args.number may.0 (Up c.in-Up.host c.in-Up.object) s may.1 (c.channel-channel.ensures.channel ∙ ap (λ (z : Channel). Some z) c.in-Up.is), c.requires.1.1))
 
 pub take_down-requires : goal.take_down-requires
 take_down-requires g c =
     let may = c.requires.1.0 in
     let s = c.args.self.now in
-    (c.in-Down.host, may_found g.given c.args.line c.args.number may.0 (Down c.in-Down.host c.in-Down.object c.in-Down.control) s may.1 (c.channel-channel.ensures.channel ∙ ap (λ (z : Channel). Some z) c.in-Down.is))
+    may_found g.given c.args.line c.args.number may.0 (Down c.in-Down.host c.in-Down.object c.in-Down.control) s may.1 (c.channel-channel.ensures.channel ∙ ap (λ (z : Channel). Some z) c.in-Down.is)
+
+pub returns-in-Down-clause-kept : goal.returns-in-Down-clause-kept
+returns-in-Down-clause-kept g c = c.take_down.ensures.spares.kept (g.P.Backing.area c.args.paging.now.inner) c.requires.1.1

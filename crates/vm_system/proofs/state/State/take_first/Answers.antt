@@ -25,7 +25,7 @@ returns-clause-posts c =
     (c.in-Ok.ensures.ok ∙ ap (λ past. event.Taken channel c.in-Some.message ∷ past) c.start.ensures.history)
     (ap (λ (table : PortTable Message). table.letters) same.ports ∙ c.take.ensures.letters)
     (ap (λ (table : PortTable Message). table.channels) same.ports ∙ c.take.ensures.channels)
-    same.channels same.buffers c.start.ensures.host.size
+    same.channels same.buffers c.start.ensures.hosts.size
 
 pub returns-clause-history : goal.returns-clause-history
 returns-clause-history c = λ channel is.

@@ -1,9 +1,6 @@
-use Rattle.std.proofs.Common.{List, ◌∷◌, refl, subst, sym, Some}
+use Rattle.std.proofs.Common.{refl, sym, subst, Some}
 use Rattle.std.proofs.lemmas.Result.{on_err_weaker, on_ok_weaker}
-use Rattle.vm_model.specs.declared.command.Command.{Command}
-use Rattle.vm_model.specs.declared.event.Event.{Event}
-use Rattle.vm_model.specs.declared.event.Event.TheVariants as event
-use Rattle.vm_system.specs.Steps.{Taking}
+use Rattle.vm_hosts.specs.Steps.{Step}
 use Rattle.vm_system.specs.Takings.{MayBeCut, Took}
 use Rattle.vm_system.proofs.Beginning.{on_either, on_errs}
 use Rattle.vm_system.proofs.Growth.{grew_cut, grew_taken, line_taken}
@@ -17,12 +14,12 @@ returns-clause-made g c =
     let given = g.given in
     let old = c.args.self.now in
     let new = c.take.new.self in
-    let past : List Event = event.Line c.args.line ∷ old.history.items in
-    let taking : Command → Taking = λ z. record { header = given.header; outside = given.outside; command = z; past = past } in
     on_ok_weaker c.take.result
-    (λ took. record {
+    (λ was.
+    let took = subst (λ (z : Step). Took z new) c.requires.1.0 was in
+    record {
       stands = took.stands;
-      legal = keeps_taken given.header given.outside c.args.line c.args.channel old new c.requires.1.1.0 c.requires.1.1.1.1 (subst (λ (z : Command). Took (taking z) new) c.requires.1.0 took);
+      legal = keeps_taken given.header given.outside c.args.line c.args.channel old new c.requires.1.1.0 c.requires.1.1.1.1 took;
       grew = grew_taken _ (Some c.args.line) old.history.items _ took.step refl;
       front = line_taken _ c.args.line old.history.items _ took.step refl;
     })
@@ -31,21 +28,18 @@ returns-clause-made g c =
 pub returns-clause-memory : goal.returns-clause-memory
 returns-clause-memory g c =
     let given = g.given in
-    let is = c.requires.1.0 in
-    let stands = c.requires.1.1.0 in
-    let fine = c.requires.1.1.1.1 in
     let old = c.args.self.now in
     let new = c.take.new.self in
-    let past : List Event = event.Line c.args.line ∷ old.history.items in
-    let taking : Command → Taking = λ z. record { header = given.header; outside = given.outside; command = z; past = past } in
     on_err_weaker c.take.result
-    (λ cut. cuts_taken given.header given.outside c.args.line c.args.channel old new.history.items stands fine (subst (λ (z : Command). MayBeCut (taking z) old.history.items new.history.items) is cut)) c.take.ensures.cut
+    (λ cut. cuts_taken given.header given.outside c.args.line c.args.channel old new.history.items c.requires.1.1.0 c.requires.1.1.1.1 (subst (λ (z : Step). MayBeCut z old.history.items new.history.items) c.requires.1.0 cut)) c.take.ensures.cut
 
 pub returns-clause-grew : goal.returns-clause-grew
 returns-clause-grew g c =
+    let old = c.args.self.now.history.items in
+    let new = c.take.new.self in
     on_either c.take.result
-    (λ took. grew_taken _ (Some c.args.line) c.args.self.now.history.items _ took.step refl)
-    (λ cut. grew_cut _ (Some c.args.line) c.args.self.now.history.items _ cut refl)
+    (λ took. grew_taken _ (Some c.args.line) old new.history.items (subst (λ (z : Step). Took z new) c.requires.1.0 took).step refl)
+    (λ cut. grew_cut _ (Some c.args.line) old new.history.items (subst (λ (z : Step). MayBeCut z old new.history.items) c.requires.1.0 cut) refl)
     c.take.ensures.took c.take.ensures.cut
 
 pub returns-clause-paging : goal.returns-clause-paging
@@ -56,11 +50,10 @@ returns-clause-unasked g c =
     let given = g.given in
     let old = c.args.self.now in
     let new = c.take.new.self in
-    let past : List Event = event.Line c.args.line ∷ old.history.items in
-    let taking : Command → Taking = λ z. record { header = given.header; outside = given.outside; command = z; past = past } in
     let made = number_read c.args.channel old.channels.made c.in-Some.number.0 (sym c.in-Some.ensures) in
     on_ok_weaker c.take.result
-    (λ took none. c.take.ensures.paging c.args.channel made (not_up_from given.header given.outside c.args.line c.args.channel old.history.items new.history.items (subst (λ (z : Command). Took (taking z) new) c.requires.1.0 took).step none))
+    (λ took none. c.take.ensures.paging c.args.channel made
+    (not_up_from given.header given.outside c.args.line c.args.channel old.history.items new.history.items (subst (λ (z : Step). Took z new) c.requires.1.0 took).step none))
     c.take.ensures.took
 
 pub returns-clause-calm : goal.returns-clause-calm
@@ -73,10 +66,8 @@ returns-clause-stops g c =
     let given = g.given in
     let old = c.args.self.now in
     let new = c.take.new.self in
-    let past : List Event = event.Line c.args.line ∷ old.history.items in
-    let taking : Command → Taking = λ z. record { header = given.header; outside = given.outside; command = z; past = past } in
     let made = number_read c.args.channel old.channels.made c.in-Some.number.0 (sym c.in-Some.ensures) in
     on_errs c.take.result
     (λ cut down unmoved. stops_from given.header given.outside c.args.line c.args.channel old.history.items new.history.items c.args.paging.now c.take.new.paging (down c.args.channel made) unmoved
-    (subst (λ (z : Command). MayBeCut (taking z) old.history.items new.history.items) c.requires.1.0 cut))
+    (subst (λ (z : Step). MayBeCut z old.history.items new.history.items) c.requires.1.0 cut))
     c.take.ensures.cut c.take.ensures.down c.take.ensures.unmoved

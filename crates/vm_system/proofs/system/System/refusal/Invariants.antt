@@ -1,4 +1,4 @@
 use Rattle.vm_system.proofs.system.System.refusal.Given as goal
 
 abbrev pub ghost-refusal : goal.ghost-refusal
-ghost-refusal g a = g.given
+ghost-refusal g a = record { header = g.given.header; outside = g.given.outside; command = a.command.now; past = a.self.now.history.items }

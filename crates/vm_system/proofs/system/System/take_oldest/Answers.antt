@@ -16,7 +16,7 @@ take-requires g c κs within =
     let s = c.self.inside.state in
     let view : c.args.self.now ≡ s = sym c.self.view_is in
     let stands : Stands given.header given.outside s = subst (λ (z : State). Stands given.header given.outside z) view c.requires.1.1.0 in
-    let kept = kept_same given.header given.outside (g.P.Backing.area c.args.paging.now.inner) c.args.self.now s (ap (λ (z : State). z.pager) (sym view)) (ap (λ (z : State). z.history.items) (sym view)) c.requires.1.1.1.0 in
+    let kept = kept_same given.header given.outside (g.P.Backing.area c.args.paging.now.inner) c.args.self.now s (ap (λ (z : State). z.pagers.items) (sym view)) (ap (λ (z : State). z.history.items) (sym view)) c.requires.1.1.1.0 in
     let past = c.requires.1.1.1.1.0 ∙ ap (λ (z : State). z.history.items) view in
     let more : HasMore given.command s.history.items = subst (λ (z : State). HasMore given.command z.history.items) view c.requires.1.1.1.1.1 in
     (within, (may_settle given c.in-Some.number s stands past more (sym c.oldest.ensures.oldest ∙ c.in-Some.is), kept))

@@ -1,0 +1,10 @@
+pub mod Acting
+pub mod Behind
+pub mod Homes
+pub mod Newest
+pub mod Nobodys
+pub mod Serving
+pub mod Starting
+pub mod Stretches
+pub mod Tables
+pub mod Taking

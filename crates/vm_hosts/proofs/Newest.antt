@@ -1,0 +1,37 @@
+-- The kernels before anything has happened.
+use Rattle.std.proofs.Common.{zero, suc, ◌≡◌, ℕ, ◌+◌, List, [], ◌∷◌, ◌++◌, length, Some, None, refl, ap, sym, ◌∙◌, subst, length-append, inl, inr}
+use Rattle.std.specs.Prelude.{◌⊎◌, slice_get}
+use Rattle.std.proofs.lemmas.Option.{same_Some}
+use Rattle.vm_model.specs.declared.script.Header.{Header}
+use Rattle.vm_abroad.proofs.Sounds.{sound_start}
+use Rattle.vm_kernel.specs.Matches.{IsPlain, Rests, first_ids}
+use Rattle.vm_kernel.specs.Serving.{HasQueue}
+use Rattle.vm_kernel.specs.declared.parts.Parts.{Parts}
+use Rattle.vm_hosts.specs.Hosts.{AllRest, AreNew}
+
+-- one kernel more, at the end
+more_cases : (ks : List Parts) (k m : Parts) (h : ℕ) → slice_get (ks ++ k ∷ []) h ≡ Some m → (slice_get ks h ≡ Some m) ⊎ ((length ks ≡ h) × (k ≡ m))
+more_cases [] k m zero is = inr (refl, same_Some k m is)
+more_cases [] k m (suc h) is = absurd (let bad : None ≡ Some m = is in cc)
+more_cases (x ∷ ks) k m zero is = inl is
+more_cases (x ∷ ks) k m (suc h) is = elim (more_cases ks k m h is) [ inl was ↦ inl was | inr last ↦ inr (ap (λ (n : ℕ). suc n) last.0, last.1) ]
+
+pub none_new : (header : Header) → AreNew header 0 []
+none_new header = record { count = refl; rests = λ h k is. absurd (let bad : None ≡ Some k = is in cc); queues = λ h k is. absurd (let bad : None ≡ Some k = is in cc) }
+
+pub new_more : (header : Header) (n : ℕ) (ks : List Parts) (k : Parts) → AreNew header n ks → Rests header n k first_ids [] → HasQueue header n k [] → AreNew header (n + 1) (ks ++ k ∷ [])
+new_more header n ks k was rests queue = record {
+  count = length-append ks (k ∷ []) ∙ ap (λ (z : ℕ). z + 1) was.count;
+  rests = λ h m is. elim (more_cases ks k m h is) [
+    | inl old ↦ was.rests h m old
+    | inr last ↦ subst (λ (z : ℕ). Rests header z m first_ids []) (sym was.count ∙ last.0) (subst (λ (z : Parts). Rests header n z first_ids []) last.1 rests)
+  ];
+  queues = λ h m is. elim (more_cases ks k m h is) [
+    | inl old ↦ was.queues h m old
+    | inr last ↦ subst (λ (z : ℕ). HasQueue header z m []) (sym was.count ∙ last.0) (subst (λ (z : Parts). HasQueue header n z []) last.1 queue)
+  ];
+}
+
+pub all_new : (header : Header) (ks : List Parts) → IsPlain header → AreNew header (length header.frames.items) ks → AllRest header (record { kernels = ks; ids = first_ids }) []
+all_new header ks plain new =
+    record { plain = plain; count = new.count; rests = new.rests; sound = sound_start header; tasks = λ task h is. absurd (let bad : None ≡ Some h = is in cc) }

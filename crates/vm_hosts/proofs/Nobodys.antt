@@ -1,0 +1,131 @@
+-- What is no host's leaves all kernels what they stand for.
+use Rattle.std.proofs.Common.{◌≡◌, ℕ, ◌≤◌, false, List, [], ◌∷◌, ◌++◌, length, Option, None, refl, ap, sym, ◌∙◌, subst, arith}
+use Rattle.std.specs.Prelude.{MatchOption, nat_lt}
+use Rattle.std.proofs.lemmas.Bool.Decides.{nat_tests}
+use Rattle.vm_base.specs.declared.code.Code.{Code}
+use Rattle.vm_base.specs.declared.ids.ObjectKind.{ObjectKind}
+use Rattle.vm_base.specs.declared.ids.ObjectKind.TheVariants.{Temp}
+use Rattle.vm_model.specs.declared.command.Command.{Command}
+use Rattle.vm_model.specs.declared.event.Event.{Event}
+use Rattle.vm_model.specs.declared.event.Event.TheVariants as event
+use Rattle.vm_model.specs.declared.message.Channel.{Channel}
+use Rattle.vm_model.specs.declared.message.Channel.TheVariants.{Up, Down}
+use Rattle.vm_model.specs.declared.message.Message.{Message}
+use Rattle.vm_model.specs.declared.message.Message.TheVariants as message
+use Rattle.vm_model.specs.declared.script.Header.{Header}
+use Rattle.vm_model.specs.Named.{named}
+use Rattle.vm_model.specs.Regions.{backing_of, next_object, next_region, region_of}
+use Rattle.vm_legal.specs.Homes.{EntersNext}
+use Rattle.vm_legal.specs.Licences.{AllLicensed, HasCause, IsBehind, Licensed, MaySendDown, PagerSends, ReturnsOn, created}
+use Rattle.vm_legal.specs.Outside.{Outside, kind_of}
+use Rattle.vm_legal.specs.Stretches.{EachIn, EachOf}
+use Rattle.vm_abroad.specs.Home.{home_of}
+use Rattle.vm_abroad.specs.Sound.{IsAbroad}
+use Rattle.vm_shadow.specs.declared.ids.Ids.{Ids}
+use Rattle.vm_kernel.specs.Abroad.{IsCommon, IsNobodys}
+use Rattle.vm_kernel.specs.Matches.{IsOverOwn, IsPlain}
+use Rattle.vm_hosts.specs.Hosts.{AllQueued, AllRest, HostTable}
+use Rattle.vm_kernel.proofs.Abroad.{nobodys_abroad, nobodys_shut, queue_abroad, rests_abroad, sound_caused}
+use Rattle.vm_hosts.proofs.Acting.{MakesOn, tasks_more}
+use Rattle.vm_hosts.proofs.Tables.{common_all}
+
+makes_nothing : (n : ℕ) (events : List Event) → EachOf IsNobodys events → EachOf (MakesOn n) events
+makes_nothing n [] nobodys = tt
+makes_nothing n (e ∷ events) nobodys = (one e nobodys.0, makes_nothing n events nobodys.1)
+  where
+    one : (e : Event) → IsNobodys e → MakesOn n e
+    one (event.TaskMade task host) nobodys = absurd nobodys
+    one other nobodys = tt
+
+-- pagers of temporary memory make no control
+kind_temp : (header : Header) (object : ℕ) → IsPlain header → kind_of header object ≡ Temp
+kind_temp header object plain =
+    let none : named header ≡ 0 = ap length plain.objects in
+    let test : nat_lt object (named header) ≡ false = grind (arith, nat_tests) in
+    rw test refl
+
+no_create : (header : Header) (outside : Outside) (doing : Command) (host object control : ℕ) (m : Message) (channel : Channel) (past : List Event) → MaySendDown header outside doing host object control m past → created (event.Sent channel m ∷ past) ≡ None
+no_create header outside doing host object control (message.Create number size) channel past may = absurd may
+no_create header outside doing host object control other channel past may = refl
+
+none_created : (header : Header) (outside : Outside) (doing : Command) (e : Event) (past : List Event) → IsPlain header → IsNobodys e → Licensed header outside doing e past → created (e ∷ past) ≡ None
+none_created header outside doing (event.Sent (Down host object control) m) past plain nobodys licensed =
+    no_create header outside doing host.0 object.0 control m (Down host object control) past
+    (subst (λ (z : ObjectKind). PagerSends z header outside doing host.0 object.0 control m past) (kind_temp header object.0 plain) licensed.0)
+none_created header outside doing (event.Sent (Up host object) m) past plain nobodys licensed = absurd nobodys
+none_created header outside doing other past plain nobodys licensed = refl
+
+-- numbers, regions, and objects with their homes
+pub record SameTables (header : Header) (past new : List Event) : Type 0 where
+  pub region : next_region header new ≡ next_region header past
+  pub object : next_object header new ≡ next_object header past
+  pub regions : (r : ℕ) → region_of header r new ≡ region_of header r past
+  pub backings : (o : ℕ) → backing_of header o new ≡ backing_of header o past
+  pub homes : (r : ℕ) → home_of r new ≡ home_of r past
+
+same_tables : (header : Header) (e : Event) (past : List Event) → IsNobodys e → SameTables header past (e ∷ past)
+same_tables header (event.RegionMade region object pages) past nobodys = absurd nobodys
+same_tables header (event.RegionCopied region source offset pages) past nobodys = absurd nobodys
+same_tables header (event.Shadowed region new old) past nobodys = absurd nobodys
+same_tables header (event.Entered task address bytes region offset prot inherit) past nobodys = absurd nobodys
+same_tables header other past nobodys = record { region = refl; object = refl; regions = λ r. refl; backings = λ o. refl; homes = λ r. refl }
+
+common_more : (header : Header) (outside : Outside) (doing : Command) (ids : Ids) (events past : List Event) → IsPlain header → EachOf IsNobodys events → AllLicensed header outside doing events past → IsCommon header ids past → IsCommon header ids (events ++ past)
+common_more header outside doing ids [] past plain nobodys licensed common = common
+common_more header outside doing ids (e ∷ events) past plain nobodys licensed common =
+    let before = common_more header outside doing ids events past plain nobodys.1 licensed.1 common in
+    let same = same_tables header e (events ++ past) nobodys.0 in
+    record {
+      region = before.region ∙ sym same.region;
+      object = before.object ∙ sym same.object;
+      equal = same.object ∙ (before.equal ∙ sym same.region);
+      marks = before.marks;
+      tops = λ r. subst (λ z. IsOverOwn z r) (sym (same.regions r)) (before.tops r);
+      unbacked = λ o. ap (λ z. z.backed) (same.backings o) ∙ before.unbacked o;
+      homeless = λ r high. same.homes r ∙ before.homeless r (subst (λ (z : ℕ). z ≤ r) same.region high);
+      settled = record { returned = none_created header outside doing e (events ++ past) plain nobodys.0 licensed.0; shut = nobodys_shut (e ∷ events) past nobodys common.settled.shut };
+    }
+
+-- what is no host's has its cause, and no region waits for its entry
+caused : (header : Header) (outside : Outside) (doing : Command) (events past : List Event) → EachIn (IsAbroad header outside 0) events past → EachIn (λ e before. HasCause header outside e before × EntersNext e before) events past
+caused header outside doing [] past each = tt
+caused header outside doing (e ∷ events) past each = ((each.0.cause, each.0.enters), caused header outside doing events past each.1)
+
+module _ (header : Header) (outside : Outside) (doing : Command) (hosts : HostTable) (events past : List Event) (all : AllRest header hosts past) (nobodys : EachOf IsNobodys events) (licensed : AllLicensed header outside doing events past) where
+  abroad : (h : ℕ) → EachIn (IsAbroad header outside h) events past
+  abroad h = nobodys_abroad header outside doing h events past nobodys licensed (common_all header hosts past all).settled.shut
+
+  pub all_nobodys : AllRest header hosts (events ++ past)
+  all_nobodys = record {
+    plain = all.plain;
+    count = all.count;
+    rests = λ h k found.
+        rests_abroad header outside h k hosts.ids events past all.sound (all.rests h k found) (abroad h) hosts.ids
+        (common_more header outside doing hosts.ids events past all.plain nobodys licensed (common_all header hosts past all));
+    sound = sound_caused header outside events past all.sound (caused header outside doing events past (abroad 0));
+    tasks = tasks_more (length header.frames.items) events past (makes_nothing (length header.frames.items) events nobodys) all.tasks;
+  }
+
+  pub queued_nobodys : AllQueued header hosts past → AllQueued header hosts (events ++ past)
+  queued_nobodys queued h k found = queue_abroad header outside h k hosts.ids events past all.sound (all.rests h k found) (abroad h) (queued h k found)
+
+-- behind a line and a refusal nothing has changed
+
+unforced : (e : Event) (past : List Event) → created past ≡ None → IsBehind e past
+unforced e past none = subst (λ (z : Option Channel). MatchOption z (Unit {0}) (λ channel. ReturnsOn channel e)) (sym none) tt
+
+pub all_lined : (header : Header) (outside : Outside) (doing : Command) (hosts : HostTable) (line : ℕ) (past : List Event) → AllRest header hosts past → AllRest header hosts (event.Line line ∷ past)
+all_lined header outside doing hosts line past all =
+    all_nobodys header outside doing hosts (event.Line line ∷ []) past all (tt, tt) ((tt, unforced (event.Line line) past (common_all header hosts past all).settled.returned), tt)
+
+pub queued_lined : (header : Header) (outside : Outside) (doing : Command) (hosts : HostTable) (line : ℕ) (past : List Event) → AllRest header hosts past → AllQueued header hosts past → AllQueued header hosts (event.Line line ∷ past)
+queued_lined header outside doing hosts line past all =
+    queued_nobodys header outside doing hosts (event.Line line ∷ []) past all (tt, tt) ((tt, unforced (event.Line line) past (common_all header hosts past all).settled.returned), tt)
+
+pub all_refused : (header : Header) (outside : Outside) (doing : Command) (hosts : HostTable) (code : Code) (past : List Event) → AllRest header hosts past → AllRest header hosts (event.Refused code ∷ past)
+all_refused header outside doing hosts code past all =
+    all_nobodys header outside doing hosts (event.Refused code ∷ []) past all (tt, tt) ((tt, unforced (event.Refused code) past (common_all header hosts past all).settled.returned), tt)
+
+pub queued_refused : (header : Header) (outside : Outside) (doing : Command) (hosts : HostTable) (code : Code) (past : List Event) → AllRest header hosts past → AllQueued header hosts past → AllQueued header hosts (event.Refused code ∷ past)
+queued_refused header outside doing hosts code past all =
+    queued_nobodys header outside doing hosts (event.Refused code ∷ []) past all (tt, tt) ((tt, unforced (event.Refused code) past (common_all header hosts past all).settled.returned), tt)

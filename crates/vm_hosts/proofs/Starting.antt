@@ -1,0 +1,62 @@
+-- A command's step.
+use Rattle.std.proofs.Common.{◌≡◌, ℕ, ◌<◌, true, false, List, [], ◌++◌, length, None, refl, ap, sym, ◌∙◌, subst}
+use Rattle.vm_model.specs.declared.command.Command.{Command}
+use Rattle.vm_model.specs.declared.event.Event.{Event}
+use Rattle.vm_model.specs.declared.script.Header.{Header}
+use Rattle.vm_model.specs.Ranges.{InRange}
+use Rattle.vm_legal.specs.Follows.{IsDone}
+use Rattle.vm_legal.specs.Outside.{Outside}
+use Rattle.vm_legal.specs.Refusal.{refusal}
+use Rattle.vm_shadow.specs.declared.ids.Ids.{Ids}
+use Rattle.vm_kernel.specs.Begun.{IsLined, Ran, Starts, acts_on}
+use Rattle.vm_kernel.specs.Built.{copies_entries, is_built}
+use Rattle.vm_kernel.specs.declared.parts.Parts.{Parts}
+use Rattle.vm_hosts.specs.Hosts.{AllRest, HostTable}
+use Rattle.vm_hosts.specs.Steps.{Began, Heads, Went}
+use Rattle.vm_hosts.proofs.Acting.{Acts, acting_rests, acting_stretch, makes_all}
+use Rattle.vm_kernel.proofs.Done.{done_more}
+use Rattle.vm_kernel.proofs.Growing.{paid_of}
+use Rattle.vm_hosts.proofs.Stretches.{heads_more}
+use Rattle.vm_hosts.proofs.Tables.{Found, all_suffice, common_all, put}
+
+module _ (header : Header) (outside : Outside) (doing : Command) (past events : List Event) (hosts : HostTable) (h : ℕ) (k : Parts) (ids : Ids) (known : h < length header.frames.items) (all : AllRest header hosts past) (ran : Ran header h outside doing past k ids events) where
+  acts : Acts header h outside doing past events
+  acts = record { known = known; licensed = ran.grows.licensed; mine = ran.grows.mine; makes = makes_all (length header.frames.items) h header.size events known ran.grows.said }
+
+  pub ran_rests : AllRest header (put hosts h k ids) (events ++ past)
+  ran_rests = acting_rests header h outside doing hosts past events all acts k ids ran.rests
+
+  pub ran_heads : Heads header outside doing past events
+  ran_heads =
+      let grows = ran.grows in
+      record {
+        first = grows.first;
+        more = grows.more;
+        head = grows.head;
+        is = grows.is;
+        follows = grows.follows;
+        stretch = acting_stretch header h outside doing past events acts (λ g apart. all_suffice header hosts past all g) grows.own_bytes grows.frames grows.inner grows.said;
+      }
+
+pub starts_of : (header : Header) (doing : Command) (past : List Event) (hosts : HostTable) (h : ℕ) (k : Parts) → Found header hosts past h k → acts_on h doing past ≡ true → InRange header doing → refusal header past doing ≡ None
+    → copies_entries header past doing ≡ false → IsLined past → Starts header k.host.0 doing past k hosts.ids []
+starts_of header doing past hosts h k found acts range accepted enough begins =
+    record { rests = found.rests; acts = ap (λ (z : ℕ). acts_on z doing past) found.number ∙ acts; range = range; accepted = accepted; enough = enough; begins = begins; nothing = refl }
+
+-- the same where the kernel goes by its own number
+pub rests_ran : (header : Header) (outside : Outside) (doing : Command) (past events : List Event) (hosts : HostTable) (h g : ℕ) (k : Parts) (ids : Ids) → g ≡ h → h < length header.frames.items → AllRest header hosts past → Ran header g outside doing past k ids events
+    → AllRest header (put hosts h k ids) (events ++ past)
+rests_ran header outside doing past events hosts h g k ids same known all ran = ran_rests header outside doing past events hosts h k ids known all (subst (λ (z : ℕ). Ran header z outside doing past k ids events) same ran)
+
+-- the hosts have served their queues behind it
+pub began : (header : Header) (outside : Outside) (doing : Command) (past events : List Event) (hosts : HostTable) (h g : ℕ) (k : Parts) (ids : Ids) (last : HostTable) (new : List Event) → g ≡ h → h < length header.frames.items → AllRest header hosts past
+    → Ran header g outside doing past k ids events → is_built doing ≡ true → IsLined past → Went header outside doing past events last new → Began header outside doing past last new
+began header outside doing past events hosts h g k ids last new same known all ran built lined went =
+    let heads = heads_more header outside doing past events went.more (ran_heads header outside doing past events hosts h k ids known all (subst (λ (z : ℕ). Ran header z outside doing past k ids events) same ran)) went.follows in
+    let whole : Heads header outside doing past new = subst (Heads header outside doing past) (sym went.is) heads in
+    record {
+      ended = went.ended;
+      heads = whole;
+      done = subst (λ (z : List Event). IsDone header doing z past) (sym went.is) (done_more header doing past events went.more built went.follows.stretch.inner ran.done);
+      paid = paid_of header past new lined whole.stretch.inner (common_all header last (new ++ past) went.ended.rests).settled.returned;
+    }

@@ -1,0 +1,43 @@
+-- Stretches of a step, one behind another.
+use Rattle.std.proofs.Common.{append_assoc, List, [], ◌++◌, ap, sym, ◌∙◌}
+use Rattle.std.specs.Prelude.{reverse}
+use Rattle.vm_model.specs.declared.command.Command.{Command}
+use Rattle.vm_model.specs.declared.event.Event.{Event}
+use Rattle.vm_model.specs.declared.script.Header.{Header}
+use Rattle.vm_legal.specs.Bytes.{OwnBytes}
+use Rattle.vm_legal.specs.Follows.{IsConsequence}
+use Rattle.vm_legal.specs.Frames.{FramesSuffice}
+use Rattle.vm_legal.specs.Outside.{Outside}
+use Rattle.vm_legal.proofs.Stretched.{each_both, inner_both, licensed_both, moments_both, of_both}
+use Rattle.vm_kernel.specs.Begun.{IsSaid}
+use Rattle.vm_hosts.specs.Steps.{Follows, Heads, Stretch}
+
+pub stretch_none : (header : Header) (outside : Outside) (doing : Command) (past : List Event) → Stretch header outside doing past []
+stretch_none header outside doing past = record { licensed = tt; own_bytes = tt; frames = tt; inner = tt; said = tt }
+
+pub stretch_both : (header : Header) (outside : Outside) (doing : Command) (past front later : List Event) → Stretch header outside doing past front → Stretch header outside doing (front ++ past) later → Stretch header outside doing past (later ++ front)
+stretch_both header outside doing past front later one two = record {
+  licensed = licensed_both header outside doing later front past two.licensed one.licensed;
+  own_bytes = each_both (OwnBytes header) later front past two.own_bytes one.own_bytes;
+  frames = moments_both (FramesSuffice header) later front past two.frames one.frames;
+  inner = inner_both later front two.inner one.inner;
+  said = each_both (IsSaid header) later front past two.said one.said;
+}
+
+pub follows_none : (header : Header) (outside : Outside) (doing : Command) (past : List Event) → Follows header outside doing past []
+follows_none header outside doing past = record { follows = tt; stretch = stretch_none header outside doing past }
+
+pub follows_both : (header : Header) (outside : Outside) (doing : Command) (past front later : List Event) → Follows header outside doing past front → Follows header outside doing (front ++ past) later → Follows header outside doing past (later ++ front)
+follows_both header outside doing past front later one two =
+    record { follows = of_both IsConsequence later front two.follows one.follows; stretch = stretch_both header outside doing past front later one.stretch two.stretch }
+
+-- behind the head of a command
+pub heads_more : (header : Header) (outside : Outside) (doing : Command) (past events later : List Event) → Heads header outside doing past events → Follows header outside doing (events ++ past) later → Heads header outside doing past (later ++ events)
+heads_more header outside doing past events later heads follows = record {
+  first = heads.first;
+  more = later ++ heads.more;
+  head = heads.head;
+  is = ap (λ z. later ++ z) heads.is ∙ sym (append_assoc later heads.more (reverse heads.first));
+  follows = of_both IsConsequence later heads.more follows.follows heads.follows;
+  stretch = stretch_both header outside doing past events later heads.stretch follows.stretch;
+}

@@ -1,0 +1,93 @@
+-- A step that began with a taking.
+use Rattle.std.proofs.Common.{append-nil, append_assoc, ◌≡◌, ◌≢◌, ℕ, ◌<◌, List, [], ◌∷◌, ◌++◌, length, ap, sym, ◌∙◌, subst}
+use Rattle.vm_base.specs.declared.ids.HostId.{HostId}
+use Rattle.vm_base.specs.declared.ids.ObjectId.{ObjectId}
+use Rattle.vm_model.specs.declared.command.Command.{Command}
+use Rattle.vm_model.specs.declared.event.Event.{Event}
+use Rattle.vm_model.specs.declared.event.Event.TheVariants as event
+use Rattle.vm_model.specs.declared.message.Channel.TheVariants.{Down}
+use Rattle.vm_model.specs.declared.message.Message.{Message}
+use Rattle.vm_model.specs.declared.script.Header.{Header}
+use Rattle.vm_legal.specs.Frames.{Suffice, frames_free}
+use Rattle.vm_legal.specs.Licences.{Licensed}
+use Rattle.vm_legal.specs.Debts.{StopsAt}
+use Rattle.vm_legal.specs.Outside.{Outside}
+use Rattle.vm_legal.specs.Steps.{before_step, fails_access, fails_task}
+use Rattle.vm_legal.specs.Stretches.{AllInner, MomentsIn}
+use Rattle.vm_legal.proofs.Inside.{before_more, error_more, since_more}
+use Rattle.vm_shadow.specs.declared.ids.Ids.{Ids}
+use Rattle.vm_kernel.specs.Begun.{Goes, Passed}
+use Rattle.vm_kernel.specs.Matches.{Rests}
+use Rattle.vm_kernel.specs.Taking.{EndsAll, IsErrorPaid}
+use Rattle.vm_kernel.specs.declared.parts.Parts.{Parts}
+use Rattle.vm_hosts.specs.Hosts.{AllRest, HostTable}
+use Rattle.vm_hosts.specs.Steps as steps
+use Rattle.vm_hosts.specs.Steps.{Follows, Went}
+use Rattle.vm_kernel.proofs.Abroad.{frames_abroad}
+use Rattle.vm_hosts.proofs.Acting.{Acts, acting_rests, acts_both, acts_one, others}
+use Rattle.vm_hosts.proofs.Serving.{acts_goes, follows_goes}
+use Rattle.vm_hosts.proofs.Stretches.{follows_both}
+use Rattle.vm_hosts.proofs.Tables.{all_suffice, put, same_number}
+
+-- the events of a kernel alone, behind nothing
+goes_alone : (header : Header) (h : ℕ) (outside : Outside) (doing : Command) (past events : List Event) → (goes : Goes header h outside doing past [] events) → events ≡ goes.more
+goes_alone header h outside doing past events goes = goes.is ∙ append-nil goes.more
+
+module _ (header : Header) (outside : Outside) (doing : Command) (past front events : List Event) (hosts : HostTable) (host : HostId) (object : ObjectId) (control : ℕ) (m : Message) (k : Parts) (ids : Ids) (known : host.0 < length header.frames.items) (all : AllRest header hosts past)
+    (licensed : Licensed header outside doing (event.Taken (Down host object control) m) past) (is : front ≡ event.Taken (Down host object control) m ∷ []) (passed : Passed header host.0 outside doing (front ++ past) k ids events) where
+  taking : Acts header host.0 outside doing past front
+  taking = subst (Acts header host.0 outside doing past) (sym is) (acts_one header hosts host.0 outside doing past (event.Taken (Down host object control) m) all known licensed (same_number host.0) tt tt tt)
+
+  alone : events ≡ passed.goes.more
+  alone = goes_alone header host.0 outside doing (front ++ past) events passed.goes
+
+  acts : Acts header host.0 outside doing (front ++ past) events
+  acts = subst (Acts header host.0 outside doing (front ++ past)) (sym alone) (acts_goes header host.0 outside doing (front ++ past) [] events known passed.goes)
+
+  pub taken_rests : AllRest header (put hosts host.0 k ids) (events ++ (front ++ past))
+  taken_rests =
+      let same = append_assoc events front past in
+      subst (AllRest header (put hosts host.0 k ids)) same
+      (acting_rests header host.0 outside doing hosts past (events ++ front) all (acts_both header host.0 outside doing past front events taking acts) k ids (subst (Rests header host.0 k ids) (sym same) passed.rests))
+
+  -- the frames of the others are as they were
+  suffice : (g : ℕ) → g ≢ host.0 → Suffice header g (front ++ past)
+  suffice g apart =
+      let before : MomentsIn (Suffice header g) front past = frames_abroad header outside g front past (others header host.0 outside doing past front taking g apart) (all_suffice header hosts past all g) in
+      let one : MomentsIn (Suffice header g) (event.Taken (Down host object control) m ∷ []) past = subst (λ (z : List Event). MomentsIn (Suffice header g) z past) is before in
+      subst (λ (z : List Event). Suffice header g (z ++ past)) (sym is) one.0
+
+  pub taken_follows : Follows header outside doing (front ++ past) events
+  taken_follows = subst (Follows header outside doing (front ++ past)) (sym alone) (follows_goes header host.0 outside doing (front ++ past) [] events known suffice passed.goes)
+
+-- the rest of the step serves the queues
+pub passed_on : (header : Header) (outside : Outside) (doing : Command) (past events : List Event) (hosts : HostTable) (new : List Event) → Follows header outside doing past events → Went header outside doing past events hosts new → steps.Passed header outside doing past hosts new
+passed_on header outside doing past events hosts new follows went =
+    record { ended = went.ended; follows = subst (Follows header outside doing past) (sym went.is) (follows_both header outside doing past events went.more follows went.follows) }
+
+-- what an error owes stays paid
+
+paid_more : (header : Header) (more past : List Event) → AllInner more → IsErrorPaid header past → IsErrorPaid header (more ++ past)
+paid_more header more past inner paid = λ host object page is. since_more (fails_access object page) more past inner (paid host object page (sym (error_more header.size more past inner) ∙ is))
+
+ends_more : (header : Header) (more past : List Event) → AllInner more → EndsAll header past → EndsAll header (more ++ past)
+ends_more header more past inner ends = λ host object page is task stops frees.
+    since_more (fails_task task object page) more past inner
+    (ends host object page (sym (error_more header.size more past inner) ∙ is) task
+    (subst (λ (z : List Event). StopsAt header host task object page z) before stops)
+    (subst (λ (z : List Event). frames_free header host z ≡ 0 → ⊥) before frees))
+  where
+    before : before_step (more ++ past) ≡ before_step past
+    before = before_more more past inner
+
+-- behind what the hosts served
+goes_behind : (P : List Event → Type 0) (past old new more : List Event) → new ≡ more ++ old → P (more ++ (old ++ past)) → P (new ++ past)
+goes_behind P past old new more is p = subst P (sym (ap (λ z. z ++ past) is ∙ append_assoc more old past)) p
+
+pub paid_went : (header : Header) (outside : Outside) (doing : Command) (past old new : List Event) (hosts : HostTable) → Went header outside doing past old hosts new → IsErrorPaid header (old ++ past) → IsErrorPaid header (new ++ past)
+paid_went header outside doing past old new hosts went paid =
+    goes_behind (IsErrorPaid header) past old new went.more went.is (paid_more header went.more (old ++ past) went.follows.stretch.inner paid)
+
+pub ends_went : (header : Header) (outside : Outside) (doing : Command) (past old new : List Event) (hosts : HostTable) → Went header outside doing past old hosts new → EndsAll header (old ++ past) → EndsAll header (new ++ past)
+ends_went header outside doing past old new hosts went ends =
+    goes_behind (EndsAll header) past old new went.more went.is (ends_more header went.more (old ++ past) went.follows.stretch.inner ends)

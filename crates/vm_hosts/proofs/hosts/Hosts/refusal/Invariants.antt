@@ -1,0 +1,10 @@
+use Rattle.vm_hosts.proofs.hosts.Hosts.refusal.Given as goal
+
+abbrev pub ghost-host_for : goal.ghost-host_for
+ghost-host_for g a = g.given
+
+abbrev pub ghost-takes_name : goal.ghost-takes_name
+ghost-takes_name g a = g.given
+
+abbrev pub ghost-refusal : goal.ghost-refusal
+ghost-refusal g a = record { header = g.given.header; host = a.self.now.host.0; outside = g.given.outside; past = g.given.past }

@@ -1,0 +1,33 @@
+-- The kernels of all hosts stand for a history.
+use Rattle.std.specs.Prelude.{ℕ, ◌≡◌, ◌<◌, List, [], length, Some, slice_get}
+use Rattle.vm_model.specs.declared.event.Event.{Event}
+use Rattle.vm_model.specs.declared.script.Header.{Header}
+use Rattle.vm_model.specs.Tasks.{host_of}
+use Rattle.vm_abroad.specs.Sound.{Sound}
+use Rattle.vm_shadow.specs.declared.ids.Ids.{Ids}
+use Rattle.vm_kernel.specs.Matches.{IsPlain, Rests, first_ids}
+use Rattle.vm_kernel.specs.Serving.{HasQueue}
+use Rattle.vm_kernel.specs.declared.parts.Parts.{Parts}
+
+-- the kernels by the numbers of their hosts, and the next numbers of regions and objects, which they have in common
+pub record HostTable : Type 0 where
+  pub kernels : List Parts
+  pub ids : Ids
+
+-- there is one for each host of the header, which stands for the history
+pub record AllRest (header : Header) (hosts : HostTable) (past : List Event) : Type 0 where
+  pub plain : IsPlain header
+  pub count : length hosts.kernels ≡ length header.frames.items
+  pub rests : (h : ℕ) (k : Parts) → slice_get hosts.kernels h ≡ Some k → Rests header h k hosts.ids past
+  pub sound : Sound header past
+  pub tasks : (task h : ℕ) → host_of task past ≡ Some h → h < length header.frames.items
+
+-- their frame queues go no further
+abbrev pub AllQueued : Header → HostTable → List Event → Type 0
+AllQueued header hosts past = (h : ℕ) (k : Parts) → slice_get hosts.kernels h ≡ Some k → HasQueue header h k past
+
+-- the kernels of so many hosts, before anything has happened
+pub record AreNew (header : Header) (number : ℕ) (kernels : List Parts) : Type 0 where
+  pub count : length kernels ≡ number
+  pub rests : (h : ℕ) (k : Parts) → slice_get kernels h ≡ Some k → Rests header h k first_ids []
+  pub queues : (h : ℕ) (k : Parts) → slice_get kernels h ≡ Some k → HasQueue header h k []

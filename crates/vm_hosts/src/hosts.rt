@@ -1,0 +1,281 @@
+// The kernels of all hosts.
+ghost use Rattle.std.specs.Prelude.{◌≡◌, ◌<◌, ◌∷◌, ◌++◌, [], length, true, false, None, Some, IfOk, OnOk, MatchOption, option_map};
+ghost use Rattle.vm_base.specs.declared.code.Code.TheVariants as code;
+ghost use Rattle.vm_base.specs.declared.ids.HostId.{HostId};
+ghost use Rattle.vm_model.specs.declared.event.Event.TheVariants as event;
+ghost use Rattle.vm_model.specs.declared.message.Channel.TheVariants as channels;
+ghost use Rattle.vm_model.specs.Ranges.{InRange};
+ghost use Rattle.vm_model.specs.Tasks.{host_of};
+ghost use Rattle.vm_legal.specs.Licences.{Licensed};
+ghost use Rattle.vm_legal.specs.Refusal.{refusal};
+ghost use Rattle.vm_kernel.specs.Begun.{IsLined};
+ghost use Rattle.vm_kernel.specs.Built.{copies_entries, is_built};
+ghost use Rattle.vm_kernel.specs.Matches.{IsPlain};
+ghost use Rattle.vm_kernel.specs.Taking.{EndsAll, IsErrorPaid, IsTempAnswer};
+ghost use Rattle.vm_kernel.specs.Refusing.{takes_name};
+ghost use Rattle.vm_hosts.specs.Hosts.{AllQueued, AllRest, AreNew};
+ghost use Rattle.vm_hosts.specs.Steps.{ActsOn, Answers, Began, Going, Passed, Step, Went};
+
+use std::alloc::Global;
+use std::marker::Model;
+use vm_base::{Code, HostId, NoMemory, ObjectId, TaskId};
+use vm_kernel::Kernel;
+use vm_model::{Command, Events, Header, Message};
+use vm_shadow::Ids;
+
+/// The kernels of the hosts of a script, and the next numbers of regions and objects, which they have in
+/// common.
+///
+/// Contracts see the kernels' parts, which stand for the history. After `NoMemory` it is used no more.
+#[derive(Drop)]
+pub struct Hosts {
+    alloc: Global,
+    kernels: Vec<Kernel>,
+    ids: Ids,
+}
+
+impl Model for Hosts {
+    ghost use Rattle.vm_hosts.specs.Hosts.{HostTable};
+
+    ghost Value = { HostTable };
+
+    ghost view = { λ s. record { kernels = s.kernels.items; ids = s.ids } };
+}
+
+impl Hosts {
+    /// The kernels before anything has happened; all frames are taken now.
+    pub fn new(alloc: Global, header: &Header) -> Result<Hosts, NoMemory>
+        requires plain { IsPlain header.now }
+        ensures rests { IfOk result (λ hosts. AllRest header.now hosts []) }
+        ensures queues { IfOk result (λ hosts. AllQueued header.now hosts []) }
+    {
+        let kernels = make_kernels(alloc, header)?;
+        let ids = Ids {
+            next_object: 0,
+            next_region: 0,
+            marks: 0,
+        };
+        Ok(Hosts {
+            alloc,
+            kernels,
+            ids,
+        })
+    }
+
+    /// Runs a command that isn't refused, up to the end of its step, and gives what happened behind its line.
+    pub fn begin(&mut self, command: &Command) -> Result<Events, NoMemory>
+        ghost given: { Step }
+        requires rests { AllRest given.header self.old given.past }
+        requires command { given.command ≡ command.now }
+        requires range { InRange given.header command.now }
+        requires built { is_built command.now ≡ true }
+        requires accepted { refusal given.header given.past command.now ≡ None }
+        requires enough { copies_entries given.header given.past command.now ≡ false }
+        requires begins { IsLined given.past }
+        ensures began { IfOk result (λ events. Began given.header given.outside command.now given.past self.new events.items) }
+    {
+        let Some(host) = self.host_for(command) else {
+            unreachable!()
+        };
+        let mut log = self.kernels[host.0 as usize].begin(command, &mut self.ids)?;
+        self.serve(&mut log)?;
+        Ok(log)
+    }
+
+    /// A host takes an answer of a pager to a control of an object; gives what happened behind the taking,
+    /// up to the end of its step.
+    pub fn take(
+        &mut self,
+        host: HostId,
+        object: ObjectId,
+        control: u32,
+        message: &Message,
+    ) -> Result<Events, NoMemory>
+        ghost given: { Step }
+        requires rests { AllRest given.header self.old given.past }
+        requires queues { AllQueued given.header self.old given.past }
+        requires host { host.0 < length given.header.frames.items }
+        requires answer { IsTempAnswer given.header.size message.now }
+        requires licensed { Licensed given.header given.outside given.command (event.Taken (channels.Down host object control) message.now) given.past }
+        ensures passed { IfOk result (λ events. Passed given.header given.outside given.command (event.Taken (channels.Down host object control) message.now ∷ given.past) self.new events.items) }
+        ensures failed { IfOk result (λ events. IsErrorPaid given.header (events.items ++ event.Taken (channels.Down host object control) message.now ∷ given.past)) }
+        ensures ended { IfOk result (λ events. EndsAll given.header (events.items ++ event.Taken (channels.Down host object control) message.now ∷ given.past)) }
+    {
+        let log = self.hear(host, object, control, message)?;
+        Ok(log)
+    }
+
+    /// The pager of a host took a message and answered; where that returned a page that the host didn't keep
+    /// (`washed`), its frame is free. Gives what happened behind that, up to the end of the step.
+    pub fn follow(&mut self, host: HostId, washed: bool) -> Result<Events, NoMemory>
+        ghost given: { Going }
+        requires rests { AllRest given.header self.old given.past }
+        requires answers { Answers given.header given.outside given.command host washed given.past given.front }
+        ensures passed { IfOk result (λ events. Passed given.header given.outside given.command (given.front ++ given.past) self.new events.items) }
+    {
+        let mut log = self.behind(host, washed)?;
+        self.serve(&mut log)?;
+        Ok(log)
+    }
+
+    /// A step of no host ends: gives what happened.
+    pub fn pass(&mut self) -> Result<Events, NoMemory>
+        ghost given: { Step }
+        requires rests { AllRest given.header self.old given.past }
+        ensures passed { IfOk result (λ events. Passed given.header given.outside given.command given.past self.new events.items) }
+    {
+        let mut log = Events::new(self.alloc);
+        self.serve(&mut log)?;
+        Ok(log)
+    }
+
+    // A host takes an answer, which stands in front.
+    fn hear(
+        &mut self,
+        host: HostId,
+        object: ObjectId,
+        control: u32,
+        message: &Message,
+    ) -> Result<Events, NoMemory>
+        ghost given: { Going }
+        requires rests { AllRest given.header self.old given.past }
+        requires queues { AllQueued given.header self.old given.past }
+        requires host { host.0 < length given.header.frames.items }
+        requires front { given.front ≡ event.Taken (channels.Down host object control) message.now ∷ [] }
+        requires answer { IsTempAnswer given.header.size message.now }
+        requires licensed { Licensed given.header given.outside given.command (event.Taken (channels.Down host object control) message.now) given.past }
+        ensures passed { IfOk result (λ events. Passed given.header given.outside given.command (given.front ++ given.past) self.new events.items) }
+        ensures failed { IfOk result (λ events. IsErrorPaid given.header (events.items ++ (given.front ++ given.past))) }
+        ensures ended { IfOk result (λ events. EndsAll given.header (events.items ++ (given.front ++ given.past))) }
+    {
+        let mut log = self.kernels[host.0 as usize].take(object, control, message, &mut self.ids)?;
+        self.serve(&mut log)?;
+        Ok(log)
+    }
+
+    // Gives the frame of a return that was taken back.
+    fn behind(&mut self, host: HostId, washed: bool) -> Result<Events, NoMemory>
+        ghost given: { Going }
+        requires rests { AllRest given.header self.old given.past }
+        requires answers { Answers given.header given.outside given.command host washed given.past given.front }
+        ensures rests { OnOk result (AllRest given.header self.new (given.front ++ given.past)) }
+        ensures nothing { IfOk result (λ events. events.items ≡ []) }
+    {
+        if washed {
+            let events = self.kernels[host.0 as usize].laundered(&mut self.ids)?;
+            Ok(events)
+        } else {
+            Ok(Events::new(self.alloc))
+        }
+    }
+
+    // Every host serves its frame queue.
+    fn serve(&mut self, log: &mut Events) -> Result<(), NoMemory>
+        ghost given: { Step }
+        requires rests { AllRest given.header self.old (log.old.items ++ given.past) }
+        ensures went { OnOk result (Went given.header given.outside given.command given.past log.old.items self.new log.new.items) }
+    {
+        'hosts: for host in 0..self.kernels.len() {
+            self.kernels[host].serve(&mut self.ids, log)?;
+        }
+        Ok(())
+    }
+
+    /// Why a command is refused now, if it is: its names are judged here, and all else by the kernel of the
+    /// host on which it acts. It takes no memory.
+    pub fn refusal(&self, command: &Command) -> Option<Code>
+        ghost given: { Step }
+        requires rests { AllRest given.header self.now given.past }
+        requires range { InRange given.header command.now }
+        requires built { is_built command.now ≡ true }
+        ensures { result ≡ refusal given.header given.past command.now }
+    {
+        let Some(host) = self.host_for(command) else {
+            return Some(Code::NoSuchName);
+        };
+        if self.takes_name(command) {
+            return Some(Code::NameTaken);
+        }
+        self.kernels[host.0 as usize].refusal(command, &self.ids)
+    }
+
+    /// Whether a fork that isn't refused would copy an entry of its task.
+    pub fn copies_entries(&self, command: &Command) -> bool
+        ghost given: { Step }
+        requires rests { AllRest given.header self.now given.past }
+        requires range { InRange given.header command.now }
+        requires built { is_built command.now ≡ true }
+        requires accepted { refusal given.header given.past command.now ≡ None }
+        ensures { result ≡ copies_entries given.header given.past command.now }
+    {
+        let Some(host) = self.host_for(command) else {
+            return false;
+        };
+        self.kernels[host.0 as usize].copies_entries(command)
+    }
+
+    // The host on which a command acts; None where its task doesn't live.
+    fn host_for(&self, command: &Command) -> Option<HostId>
+        ghost given: { Step }
+        requires rests { AllRest given.header self.now given.past }
+        requires range { InRange given.header command.now }
+        requires built { is_built command.now ≡ true }
+        ensures { MatchOption result (refusal given.header given.past command.now ≡ Some code.NoSuchName) (λ (h : HostId). ActsOn given.header h.0 command.now given.past) }
+    {
+        match command {
+            Command::Task { host, .. }
+            | Command::Pageout { host, .. }
+            | Command::Wire { host, .. }
+            | Command::Unwire { host, .. } => Some(*host),
+            Command::Fork { task, .. }
+            | Command::Exit { task }
+            | Command::Allocate { task, .. }
+            | Command::Deallocate { task, .. }
+            | Command::Protect { task, .. }
+            | Command::Inherit { task, .. }
+            | Command::Load { task, .. }
+            | Command::Store { task, .. } => self.home(*task),
+            _ => None,
+        }
+    }
+
+    // Whether the command makes a task whose number is taken.
+    fn takes_name(&self, command: &Command) -> bool
+        ghost given: { Step }
+        requires rests { AllRest given.header self.now given.past }
+        ensures { result ≡ takes_name command.now given.past }
+    {
+        match command {
+            Command::Task { task, .. } => self.home(*task).is_some(),
+            Command::Fork { child, .. } => self.home(*child).is_some(),
+            _ => false,
+        }
+    }
+
+    // The host of a task that lives; None where it doesn't.
+    fn home(&self, task: TaskId) -> Option<HostId>
+        ghost given: { Step }
+        requires rests { AllRest given.header self.now given.past }
+        ensures { option_map (λ (h : HostId). h.0) result ≡ host_of task.0 given.past }
+    {
+        'search: for host in 0..self.kernels.len() {
+            if self.kernels[host].maps().has(task) {
+                return Some(HostId(host as u32));
+            }
+        }
+        None
+    }
+}
+
+// The kernels of the header's hosts.
+fn make_kernels(alloc: Global, header: &Header) -> Result<Vec<Kernel>, NoMemory>
+    requires plain { IsPlain header.now }
+    ensures made { IfOk result (λ kernels. AreNew header.now (length header.now.frames.items) kernels.items) }
+{
+    let mut kernels = Vec::new(alloc);
+    'hosts: for host in 0..header.frames.len() {
+        let kernel = Kernel::new(alloc, HostId(host), header)?;
+        kernels.push(kernel)?;
+    }
+    Ok(kernels)
+}
