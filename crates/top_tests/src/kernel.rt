@@ -2,7 +2,7 @@
 ghost use Rattle.std.specs.Prelude.{◌≡◌, [], ◌∷◌, IfOk};
 ghost use Rattle.vm_model.specs.declared.command.Command.TheVariants as command;
 ghost use Rattle.vm_model.specs.declared.event.Event.TheVariants as event;
-ghost use Rattle.vm_kernel.specs.Begun.{Began, Given};
+ghost use Rattle.vm_kernel.specs.Begun.{Given, Ran};
 ghost use Rattle.vm_kernel.specs.Matches.{IsPlain, Rests, host_id};
 
 use std::alloc::Global;
@@ -42,7 +42,7 @@ fn make_task(header: &Header, kernel: &mut Kernel, ids: &mut Ids) -> Result<Even
     requires header { given.header ≡ header.now }
     requires past { given.past ≡ event.Line 1 ∷ [] }
     requires rests { Rests header.now 0 kernel.old ids.old [] }
-    ensures { IfOk result (λ events. Began header.now 0 given.outside (command.Task TASK (host_id 0)) (event.Line 1 ∷ []) kernel.new ids.new events.items) }
+    ensures { IfOk result (λ events. Ran header.now 0 given.outside (command.Task TASK (host_id 0)) (event.Line 1 ∷ []) kernel.new ids.new events.items) }
 {
     let command = Command::Task {
         task: TASK,

@@ -3,6 +3,8 @@
 #![tactic(auto)]
 
 #[cfg(test)]
+mod hosts;
+#[cfg(test)]
 mod kernel;
 #[cfg(test)]
 mod paging;

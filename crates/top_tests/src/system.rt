@@ -1,6 +1,6 @@
 // Each call once, on a host of four frames where nothing is on its way.
 ghost use Rattle.std.specs.Prelude.{◌≡◌, IfOk};
-ghost use Rattle.vm_system.specs.Hosts.{HasOneHost};
+ghost use Rattle.vm_kernel.specs.Matches.{IsPlain};
 ghost use Rattle.vm_system.specs.Stands.{Kept, Stands};
 ghost use Rattle.vm_system.specs.Steps.{Setting};
 
@@ -12,7 +12,7 @@ use vm_outside::{Armed, Backing, SureBacking};
 use vm_system::{System, SystemStop, settle};
 
 fn header_of(alloc: Global, frames: u32) -> Result<Header, Fail>
-    ensures plain { IfOk result (λ header. HasOneHost header) }
+    ensures plain { IfOk result (λ header. IsPlain header) }
     ensures slots { IfOk result (λ header. header.slots ≡ 1) }
 {
     let size = PageSize::of(16).ok_or("16 is a page size")?;

@@ -10,4 +10,4 @@ abbrev pub ghost-take_oldest : goal.ghost-take_oldest
 ghost-take_oldest g a = record { header = g.given.header; outside = g.given.outside; command = command.Settle (takings a.self.now.history.items + 1); past = a.self.now.history.items }
 
 abbrev pub ghost-settle : goal.ghost-settle
-ghost-settle g a = record { header = g.given.header; outside = g.given.outside; command = command.Settle (takings a.system.now.history.items + 1) }
+ghost-settle g a = record { header = g.given.header; outside = g.given.outside; command = command.Settle (takings a.system.now.history.items + 1); past = a.system.now.history.items }

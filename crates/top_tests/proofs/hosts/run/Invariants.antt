@@ -1,0 +1,14 @@
+use Rattle.vm_system.specs.Stands.{Kept, Stands}
+use Rattle.top_tests.proofs.hosts.run.Given as goal
+
+abbrev pub ghost-is_held_up : goal.ghost-is_held_up
+ghost-is_held_up g a = g.given
+
+abbrev pub ghost-step : goal.ghost-step
+ghost-step g a = g.given
+
+abbrev pub invariant-commands : goal.invariant-commands
+invariant-commands g l = record {
+  stands : Stands g.given.header g.given.outside l.system;
+  kept : Kept g.given.header g.given.outside (g.P.Backing.area l.paging.inner) l.system;
+}
