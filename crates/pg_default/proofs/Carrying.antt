@@ -17,7 +17,7 @@ use Rattle.vm_model.specs.declared.script.Header.{Header}
 use Rattle.vm_model.specs.Named.{named}
 use Rattle.vm_legal.specs.Pagers.{is_lost, last_return}
 use Rattle.vm_outside.specs.Areas.{Told}
-use Rattle.pg_default.specs.Answers.{Answered, after_message, became, device_failed, told_of}
+use Rattle.pg_default.specs.Answers.{PagerAnswer, after_message, became, device_failed, told_of}
 use Rattle.pg_default.specs.Stands.{CarriesOver, Serves, content_of, is_ended, stored_of, taking}
 use Rattle.pg_default.proofs.Rows.{itself}
 use Rattle.pg_default.proofs.Facts.{IsQuiet, Put, Same, put_kept, put_lost, same_taken}
@@ -94,7 +94,7 @@ carries header host past object m old new events before after serves change = by
         → CarriesOver before after old new (content_of header host past) (content_of header host (events.items ++ taking host object m past))
     quiet m is on c = carries_same before after old new same_content _ _ (content_same header host past _ (both_same header host past (taking host object m past) _ (same_taken header host object.0 m past is) on)) c
 
-    by : (m : Message) → Answered m object old new events.items → Carries before after old new (after_message m object (Ok events))
+    by : (m : Message) → PagerAnswer m object old new events.items → Carries before after old new (after_message m object (Ok events))
         → CarriesOver before after old new (content_of header host past) (content_of header host (events.items ++ taking host object m past))
     by (message.Init control size) a c = quiet _ tt (leaves_all header host events.items _ _ a.1 (on_sent header host old.host object control _ _)) c
     by (message.Create control size) a c = quiet _ tt (leaves_all header host events.items _ _ a.1 (on_sent header host old.host object control _ _)) c

@@ -3,7 +3,7 @@ use Rattle.std.proofs.Common.{ℕ, ◌≡◌, ◌≤◌, ◌==◌, ◌&&◌, ◌
 use Rattle.std.proofs.lemmas.Bool.{false≢true}
 use Rattle.std.proofs.lemmas.Bool.Decides.{nat_tests}
 use Rattle.pg_slots.specs.Contents.{Kept, Lost, Stored}
-use Rattle.pg_slots.specs.Slots.{HasNoSlot, Leaves, SlotTable, held_at, slot_of as slot_held}
+use Rattle.pg_slots.specs.Slots.{HasNoSlot, PutEffects, SlotTable, held_at, slot_of as slot_held}
 use Rattle.pg_slots.specs.declared.answers.Put.{Put as PutAnswer}
 use Rattle.pg_slots.specs.declared.answers.Put.TheVariants as put
 use Rattle.pg_slots.specs.declared.slot_row.Held.{Held}
@@ -21,8 +21,8 @@ use Rattle.vm_legal.proofs.Served.{later_paged, paged_sends}
 use Rattle.vm_legal.specs.Licences.{AllLicensed, MaySendDown, PagerSends, pager_has, tells}
 use Rattle.vm_legal.specs.Outside.{Outside, is_file, kind_of, start_page}
 use Rattle.vm_legal.specs.Pagers.{is_lost, last_return, newer, slot_at as slot_of_page, slot_of}
-use Rattle.pg_default.specs.Answers.{Answered, Requested, SuppliesStored, became, device_failed, error, sent_to, supply, told_of}
-use Rattle.pg_default.specs.Stands.{IsHeldOf, Serves, Stands, content_of, is_ended, stored_of, taking}
+use Rattle.pg_default.specs.Answers.{PagerAnswer, RequestAnswer, SuppliesStored, became, device_failed, error, sent_to, supply, told_of}
+use Rattle.pg_default.specs.Stands.{IsHeldOf, PagerStands, Serves, content_of, is_ended, stored_of, taking}
 use Rattle.pg_default.proofs.Rows.{itself}
 use Rattle.pg_default.proofs.Facts.{own_slots, same_taken}
 use Rattle.pg_default.proofs.Standing.{goes_to, no_free}
@@ -152,7 +152,7 @@ unread header outside doing host past object control page access s f =
     )
 
 requested : (header : Header) (outside : Outside) (doing : Command) (host size : ℕ) (past : List Event) (object : ObjectId) (control : ℕ) (page : PageNo) (access : ℕ) (has : Option Held) (events : List Event)
-    → Finds header host past object page has → Requested size host object control page has events
+    → Finds header host past object page has → RequestAnswer size host object control page has events
     → Caused header outside doing host past object (taking host object (message.Request control page access) past) events
 requested header outside doing host size past object control page access None events f is = subst (Caused header outside doing host past object _) (sym is) (λ stored. unavailable header outside doing host past object control page access f)
 requested header outside doing host size past object control page access (Some held.Lost) events f is = subst (Caused header outside doing host past object _) (sym is) (λ stored. lost_error header outside doing host past object control page access f.temporary (lost_is _ _ f.returned))
@@ -161,7 +161,7 @@ requested header outside doing host size past object control page access (Some (
 requested header outside doing host size past object control page access (Some (held.Kept s)) events f (inr is) = subst (Caused header outside doing host past object _) (sym is) (λ stored. unread header outside doing host past object control page access s f)
 
 returned : (header : Header) (outside : Outside) (doing : Command) (host : ℕ) (past : List Event) (object : ObjectId) (control : ℕ) (page : PageNo) (dirty keep : Bool) (bytes : List ℕ) (old new : SlotTable) (is : PutAnswer)
-    → named header ≤ object.0 → Stands header host old past → Leaves is object.0 page.0 old new → (is ≡ put.NoSlot → HasNoSlot old object.0 page.0)
+    → named header ≤ object.0 → PagerStands header host old past → PutEffects is object.0 page.0 old new → (is ≡ put.NoSlot → HasNoSlot old object.0 page.0)
     → AllLicensed header outside doing (told_of is object page) (taking host object (message.Return control page dirty keep bytes) past)
 returned header outside doing host past object control page dirty keep bytes old new put.Kept temporary s leaves lacks = tt
 returned header outside doing host past object control page dirty keep bytes old new put.NoSlot temporary s leaves lacks =
@@ -213,13 +213,13 @@ causes header outside doing host past object m old new events serves stored = by
     nothing : (first : List Event) → events ≡ [] → AllLicensed header outside doing events first
     nothing first is = subst (λ (es : List Event). AllLicensed header outside doing es first) (sym is) tt
 
-    by : (m : Message) → Answered m object old new events → AllLicensed header outside doing events (taking host object m past)
+    by : (m : Message) → PagerAnswer m object old new events → AllLicensed header outside doing events (taking host object m past)
     by (message.Init control size) a = subst (λ (es : List Event). AllLicensed header outside doing es (taking host object (message.Init control size) past)) (sym (at control _ a.1)) (ready_init header outside doing host past object control size serves.temporary)
     by (message.Create control size) a = subst (λ (es : List Event). AllLicensed header outside doing es (taking host object (message.Create control size) past)) (sym (at control _ a.1)) (ready_create header outside doing host past object control size serves.temporary)
     by (message.Request control page access) a =
         requested header outside doing host old.size past object control page access (held_at old object.0 page.0) events
         (record { temporary = serves.temporary; unended = serves.unended; returned = serves.stands.returned object.0 page.0 serves.temporary serves.unended serves.own; slot = serves.stands.slot object.0 page.0 })
-        (subst (λ (h : ℕ). Requested old.size h object control page (held_at old object.0 page.0) events) serves.stands.host_is a.1) stored
+        (subst (λ (h : ℕ). RequestAnswer old.size h object control page (held_at old object.0 page.0) events) serves.stands.host_is a.1) stored
     by (message.Return control page dirty keep bytes) a =
         subst (λ (es : List Event). AllLicensed header outside doing es (taking host object (message.Return control page dirty keep bytes) past)) (sym a.told) (returned header outside doing host past object control page dirty keep bytes old new (became events) serves.temporary serves.stands a.held a.no_slot.0)
     by (message.Terminate control) a = nothing (taking host object (message.Terminate control) past) a.1

@@ -20,9 +20,9 @@ use Rattle.vm_legal.proofs.Locks.{came_down, no_lock, no_request}
 use Rattle.vm_legal.specs.Debts.{IsPaid}
 use Rattle.vm_legal.specs.Licences.{created, up}
 use Rattle.vm_legal.specs.Pagers.{LacksSlot}
-use Rattle.vm_legal.specs.Steps.{Letter, absence_taken, answers, before_step, error_taken, lacks_slot, readies, since, taken}
-use Rattle.pg_default.specs.Answers.{Answered, Requested, became, error, sent_to, told_of}
-use Rattle.pg_default.specs.Stands.{Serves, Stands, taking}
+use Rattle.vm_legal.specs.Steps.{Letter, absence_taken, answers, before_step, error_taken, lacks_slot, readies, since, taken_letter}
+use Rattle.pg_default.specs.Answers.{PagerAnswer, RequestAnswer, became, error, sent_to, told_of}
+use Rattle.pg_default.specs.Stands.{PagerStands, Serves, taking}
 use Rattle.pg_default.proofs.Rows.{itself}
 use Rattle.pg_default.proofs.Standing.{is_full}
 
@@ -62,7 +62,7 @@ test_of test (Some letter) = test letter.message
 -- what the step took, and what it did of that
 record Did (header : Header) (host o : ℕ) (m : Message) (now : List Event) : Type 0 where
   created : created now ≡ None
-  took : taken now ≡ Some (record { channel = up host o; message = m })
+  took : taken_letter now ≡ Some (record { channel = up host o; message = m })
   no_error : error_taken header.size now ≡ None
   no_absence : absence_taken header.size now ≡ None
   ready : opens m ≡ true → since (readies o) now ≡ true
@@ -105,7 +105,7 @@ is_ready header host at object m control strategy past events two three is =
 one_test : (o p q : ℕ) (rest : Bool) → (p == q) ≡ true → ((o == o && p == q) || rest) ≡ true
 one_test o p q rest is = rw (itself o, is) refl
 
-requested : (header : Header) (host at size : ℕ) (object : ObjectId) (control : ℕ) (page : PageNo) (access : ℕ) (has : Option Held) (past events : List Event) → Requested size at object control page has events
+requested : (header : Header) (host at size : ℕ) (object : ObjectId) (control : ℕ) (page : PageNo) (access : ℕ) (has : Option Held) (past events : List Event) → RequestAnswer size at object control page has events
     → IsPaid header (events ++ taking host object (message.Request control page access) past)
 requested header host at size object control page access has past events is = by has is
   where
@@ -118,7 +118,7 @@ requested header host at size object control page access has past events is = by
     error_sent : IsPaid header (sent_to at object control (error page) ∷ first)
     error_sent = paid_of header host object.0 (message.Request control page access) _ (record { created = refl; took = refl; no_error = refl; no_absence = refl; ready = λ e. never e; answered = λ p e. one_test object.0 page.0 p _ e; lacking = λ p e lacks. never e })
 
-    by : (has : Option Held) → Requested size at object control page has events → IsPaid header (events ++ first)
+    by : (has : Option Held) → RequestAnswer size at object control page has events → IsPaid header (events ++ first)
     by None e = on _ e (paid_of header host object.0 (message.Request control page access) _ (record { created = refl; took = refl; no_error = refl; no_absence = refl; ready = λ e. never e; answered = λ p e. one_test object.0 page.0 p _ e; lacking = λ p e lacks. never e }))
     by (Some held.Lost) e = on _ e error_sent
     by (Some (held.Torn s)) e = on _ e error_sent
@@ -131,7 +131,7 @@ is_no_slot put.Kept = false
 is_no_slot put.Failed = false
 
 returned : (header : Header) (host : ℕ) (past : List Event) (object : ObjectId) (control : ℕ) (page : PageNo) (dirty keep : Bool) (bytes : List ℕ) (old : SlotTable) (is : PutAnswer)
-    → Stands header host old past → (HasNoSlot old object.0 page.0 → is ≡ put.NoSlot)
+    → PagerStands header host old past → (HasNoSlot old object.0 page.0 → is ≡ put.NoSlot)
     → IsPaid header (told_of is object page ++ taking host object (message.Return control page dirty keep bytes) past)
 returned header host past object control page dirty keep bytes old is s told = by is told
   where
@@ -153,7 +153,7 @@ pub paid : (header : Header) (host : ℕ) (past : List Event) (object : ObjectId
     → Serves header host past object m old new events → IsPaid header (events ++ taking host object m past)
 paid header host past object m old new events serves = by m serves.answered
   where
-    by : (m : Message) → Answered m object old new events → IsPaid header (events ++ taking host object m past)
+    by : (m : Message) → PagerAnswer m object old new events → IsPaid header (events ++ taking host object m past)
     by (message.Init control size) a = is_ready header host old.host object _ control 0 past events (λ p. refl) (λ p. refl) a.1
     by (message.Create control size) a = is_ready header host old.host object _ control 3 past events (λ p. refl) (λ p. refl) a.1
     by (message.Request control page access) a = requested header host old.host old.size object control page access (held_at old object.0 page.0) past events a.1

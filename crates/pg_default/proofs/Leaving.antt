@@ -2,7 +2,7 @@
 use Rattle.std.proofs.Common.{ℕ, ◌≡◌, List, Option, None, Ok, refl, ◌∙◌, ap}
 use Rattle.std.proofs.lemmas.Option.{none-some}
 use Rattle.pg_default.specs.Answers.{became, told_of}
-use Rattle.pg_slots.specs.Contents.{Carries, Content, Fits, PutTold, after_put, same_content, without}
+use Rattle.pg_slots.specs.Contents.{Carries, Content, PutTold, SlotsFit, after_put, same_content, without}
 use Rattle.pg_slots.specs.Slots.{SlotTable}
 use Rattle.pg_slots.specs.declared.answers.Put.{Put}
 use Rattle.pg_slots.specs.declared.answers.Put.TheVariants.{Kept, NoSlot, Failed}
@@ -18,7 +18,7 @@ pub carried_same : (areas : List ℕ → Told) (slots : SlotTable) → Carries a
 carried_same areas slots = record { agrees = λ content agrees. agrees; fits = λ content told fits. fits }
 
 -- a content that they agree on they fit where nothing is told
-pub carried_dropped : (areas : List ℕ → Told) (old new : SlotTable) (object : ℕ) → ((told : List ℕ → Told) (content : Content) → Fits told old content → Fits told new (without object content)) → Carries areas areas old new (without object)
+pub carried_dropped : (areas : List ℕ → Told) (old new : SlotTable) (object : ℕ) → ((told : List ℕ → Told) (content : Content) → SlotsFit told old content → SlotsFit told new (without object content)) → Carries areas areas old new (without object)
 carried_dropped areas old new object keeps = record {
   agrees = λ content agrees.
       let kept = keeps (λ name. None) content (record { agrees = agrees; bytes = λ o p s bytes holds is was told. absurd (none-some was told) }) in

@@ -16,7 +16,7 @@ use Rattle.vm_model.specs.declared.script.Header.{Header}
 use Rattle.vm_model.specs.Named.{named}
 use Rattle.vm_legal.specs.Pagers.{is_lost, last_return, slot_of, slots}
 use Rattle.vm_legal.specs.Steps.{is_read}
-use Rattle.pg_default.specs.Stands.{CarriesOver, IsApart, IsForeign, IsOther, Stands, content_of, is_elsewhere, is_ended, stored_of}
+use Rattle.pg_default.specs.Stands.{CarriesOver, IsApart, IsForeign, IsOther, PagerStands, content_of, is_elsewhere, is_ended, stored_of}
 use Rattle.pg_default.proofs.Carrying.{SameContent, carries_same}
 use Rattle.pg_default.proofs.Leaving.{carried_same}
 use Rattle.pg_default.proofs.Rows.{same_if}
@@ -30,7 +30,7 @@ record Leaves (header : Header) (host : ℕ) (past now : List Event) : Type 0 wh
   last : (q r : ℕ) → named header ≤ q → last_return host q r now ≡ last_return host q r past
   lost : (q r : ℕ) → named header ≤ q → is_elsewhere host q now ≡ false → is_lost q r now ≡ is_lost q r past
 
-leaves_stands : (header : Header) (host : ℕ) (table : SlotTable) (past now : List Event) → Leaves header host past now → Stands header host table past → Stands header host table now
+leaves_stands : (header : Header) (host : ℕ) (table : SlotTable) (past now : List Event) → Leaves header host past now → PagerStands header host table past → PagerStands header host table now
 leaves_stands header host table past now l s = record {
   host_is = s.host_is;
   size = s.size;
@@ -118,7 +118,7 @@ event_leaves header host (event.NoSlot object page) past is = record {
 }
 event_leaves header host e past is = record { rows = refl; ended = λ q high. refl; away = λ q own. own; last = λ q r high. refl; lost = λ q r high own. refl }
 
-pub others : (header : Header) (host : ℕ) (table : SlotTable) (e : Event) (past : List Event) → IsOther header host e past → Stands header host table past → Stands header host table (e ∷ past)
+pub others : (header : Header) (host : ℕ) (table : SlotTable) (e : Event) (past : List Event) → IsOther header host e past → PagerStands header host table past → PagerStands header host table (e ∷ past)
 others header host table e past is s = leaves_stands header host table past (e ∷ past) (event_leaves header host e past is) s
 
 content_stays : (header : Header) (host : ℕ) (past now : List Event) → Leaves header host past now → IsApart header host now → SameContent (content_of header host past) (content_of header host now)

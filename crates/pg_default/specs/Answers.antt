@@ -1,7 +1,7 @@
 -- What the default pager answers to each message, and what it leaves.
 use Rattle.std.specs.Prelude.{ℕ, ◌≡◌, ◌≤◌, ◌⊎◌, ◌↔◌, List, [], ◌∷◌, length, false, Option, Some, None, IfOk, OnErr, Result, Ok, Err}
 use Rattle.pg_slots.specs.Contents.{Content, Kept, PutTold, after_put, same_content, without}
-use Rattle.pg_slots.specs.Slots.{DropsHeld, HasNoSlot, Leaves, SlotTable, held_at, slot_at}
+use Rattle.pg_slots.specs.Slots.{DropsHeld, HasNoSlot, PutEffects, SlotTable, held_at, slot_at}
 use Rattle.pg_slots.specs.declared.answers.Put.{Put}
 use Rattle.pg_slots.specs.declared.answers.Put.TheVariants as put
 use Rattle.pg_slots.specs.declared.slot_row.Held.{Held}
@@ -64,13 +64,13 @@ Unread host object control page events =
     events ≡ sent_to host object control (error page) ∷ device_failed Read object page ∷ []
 
 -- what a request is answered, by what is held of the page
-abbrev pub Requested : ℕ → ℕ → ObjectId → ℕ → PageNo → Option Held → List Event → Type 0
-Requested size host object control page None events =
+abbrev pub RequestAnswer : ℕ → ℕ → ObjectId → ℕ → PageNo → Option Held → List Event → Type 0
+RequestAnswer size host object control page None events =
     events ≡ sent_to host object control (message.Unavailable page) ∷ []
-Requested size host object control page (Some held.Lost) events = events ≡ sent_to host object control (error page) ∷ []
-Requested size host object control page (Some (held.Torn s)) events =
+RequestAnswer size host object control page (Some held.Lost) events = events ≡ sent_to host object control (error page) ∷ []
+RequestAnswer size host object control page (Some (held.Torn s)) events =
     events ≡ sent_to host object control (error page) ∷ []
-Requested size host object control page (Some (held.Kept s)) events =
+RequestAnswer size host object control page (Some (held.Kept s)) events =
     Supplied size host object control page events ⊎ Unread host object control page events
 
 -- what became of a page that was returned, as the events tell it
@@ -85,26 +85,26 @@ told_of put.NoSlot object page = event.NoSlot object page ∷ []
 told_of put.Failed object page = device_failed Write object page ∷ []
 
 -- a page that was returned is put into the slots, and the events tell what became of it
-pub record Returned (object : ObjectId) (page : PageNo) (old new : SlotTable) (events : List Event) : Type 0 where
+pub record ReturnAnswer (object : ObjectId) (page : PageNo) (old new : SlotTable) (events : List Event) : Type 0 where
   pub told : events ≡ told_of (became events) object page
-  pub held : Leaves (became events) object.0 page.0 old new
+  pub held : PutEffects (became events) object.0 page.0 old new
   pub no_slot : (became events ≡ put.NoSlot) ↔ HasNoSlot old object.0 page.0
 
 -- what the pager of a host answers to a message about an object, and what it leaves of its slots; the newest event
 -- stands in front
-abbrev pub Answered : Message → ObjectId → SlotTable → SlotTable → List Event → Type 0
-Answered (message.Init control size) object old new events =
+abbrev pub PagerAnswer : Message → ObjectId → SlotTable → SlotTable → List Event → Type 0
+PagerAnswer (message.Init control size) object old new events =
     (new ≡ old) × (events ≡ sent_to old.host object control (message.Ready false 0) ∷ [])
-Answered (message.Create control size) object old new events =
+PagerAnswer (message.Create control size) object old new events =
     (new ≡ old) × (events ≡ sent_to old.host object control (message.Ready false 3) ∷ [])
-Answered (message.Request control page access) object old new events =
-    (new ≡ old) × Requested old.size old.host object control page (held_at old object.0 page.0) events
-Answered (message.Return control page dirty keep bytes) object old new events = Returned object page old new events
-Answered (message.Terminate control) object old new events = DropsHeld object.0 old new × (events ≡ [])
-Answered (message.Unlock control page access) object old new events = (new ≡ old) × (events ≡ [])
-Answered (message.Completed control page count) object old new events = (new ≡ old) × (events ≡ [])
-Answered (message.Changed control cache strategy) object old new events = (new ≡ old) × (events ≡ [])
-Answered m object old new events = ⊥
+PagerAnswer (message.Request control page access) object old new events =
+    (new ≡ old) × RequestAnswer old.size old.host object control page (held_at old object.0 page.0) events
+PagerAnswer (message.Return control page dirty keep bytes) object old new events = ReturnAnswer object page old new events
+PagerAnswer (message.Terminate control) object old new events = DropsHeld object.0 old new × (events ≡ [])
+PagerAnswer (message.Unlock control page access) object old new events = (new ≡ old) × (events ≡ [])
+PagerAnswer (message.Completed control page count) object old new events = (new ≡ old) × (events ≡ [])
+PagerAnswer (message.Changed control cache strategy) object old new events = (new ≡ old) × (events ≡ [])
+PagerAnswer m object old new events = ⊥
 
 -- what was stored of each page after a message was answered
 abbrev pub after_message : Message → ObjectId → Result (Listed Event) NoMemory → Content → Content

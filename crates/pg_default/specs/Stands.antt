@@ -1,6 +1,6 @@
 -- When the slots of a pager stand for a history on its host, and what of each page that history has stored.
 use Rattle.std.specs.Prelude.{ℕ, ◌≡◌, ◌≢◌, ◌<◌, ◌≤◌, ◌⊎◌, ◌==◌, ◌&&◌, ◌||◌, not, nat_lt, Bool, true, false, List, [], ◌∷◌, Option, Some, None, if◌then◌else◌}
-use Rattle.pg_slots.specs.Contents.{Agrees, Content, Fits, IsTold, Kept, Lost, Stored}
+use Rattle.pg_slots.specs.Contents.{Agrees, Content, IsTold, Kept, Lost, SlotsFit, Stored}
 use Rattle.pg_slots.specs.Slots.{SlotTable, held_at, slot_at}
 use Rattle.pg_slots.specs.declared.slot_row.Held.{Held}
 use Rattle.pg_slots.specs.declared.slot_row.Held.TheVariants as held
@@ -15,7 +15,7 @@ use Rattle.vm_model.specs.Named.{named}
 use Rattle.vm_legal.specs.Licences.{up}
 use Rattle.vm_legal.specs.Pagers.{is_lost, last_return, slot_at as slot_of_page}
 use Rattle.vm_outside.specs.Areas.{Told}
-use Rattle.pg_default.specs.Answers.{Answered}
+use Rattle.pg_default.specs.Answers.{PagerAnswer}
 
 -- the pager of the host took the end of the object
 abbrev pub is_ended : ℕ → ℕ → List Event → Bool
@@ -42,7 +42,7 @@ IsHeldOf has returned lost = ⊥
 -- The slots of a host's pager stand for a history. Whether a page was lost goes by its object and page alone, so
 -- nothing is said of the
 -- returns of an object that is another host's.
-pub record Stands (header : Header) (host : ℕ) (slots : SlotTable) (past : List Event) : Type 0 where
+pub record PagerStands (header : Header) (host : ℕ) (slots : SlotTable) (past : List Event) : Type 0 where
   pub host_is : slots.host ≡ host
   pub size : slots.size ≡ header.size
   pub count : slots.count ≡ header.slots
@@ -71,13 +71,13 @@ pub record Serves (header : Header) (host : ℕ) (past : List Event) (object : O
   pub temporary : named header ≤ object.0
   pub unended : is_ended host object.0 past ≡ false
   pub own : is_elsewhere host object.0 past ≡ false
-  pub stands : Stands header host old past
-  pub answered : Answered m object old new events
+  pub stands : PagerStands header host old past
+  pub answered : PagerAnswer m object old new events
 
 -- slots and backing fit one content, where they fitted another before
 pub record CarriesOver (before after : List ℕ → Told) (old new : SlotTable) (was now : Content) : Type 0 where
   pub agrees : Agrees old was → Agrees new now
-  pub fits : IsTold before old → Fits before old was → Fits after new now
+  pub fits : IsTold before old → SlotsFit before old was → SlotsFit after new now
 
 -- the object is declared, or another host's
 abbrev pub IsForeign : Header → ℕ → ℕ → List Event → Type 0

@@ -9,9 +9,9 @@ use Rattle.vm_model.specs.declared.event.Event.{Event}
 use Rattle.vm_model.specs.declared.event.Way.TheVariants.{Read}
 use Rattle.vm_model.specs.declared.message.Message.TheVariants as message
 
-abbrev pub given : Got → ℕ → ObjectId → ℕ → PageNo → List Event
-given (got.Page bytes) host object control page = sent_to host object control (supply page bytes) ∷ []
-given got.Never host object control page = sent_to host object control (message.Unavailable page) ∷ []
-given got.Lost host object control page = sent_to host object control (error page) ∷ []
-given got.Failed host object control page =
+abbrev pub get_answer_events : Got → ℕ → ObjectId → ℕ → PageNo → List Event
+get_answer_events (got.Page bytes) host object control page = sent_to host object control (supply page bytes) ∷ []
+get_answer_events got.Never host object control page = sent_to host object control (message.Unavailable page) ∷ []
+get_answer_events got.Lost host object control page = sent_to host object control (error page) ∷ []
+get_answer_events got.Failed host object control page =
     sent_to host object control (error page) ∷ device_failed Read object page ∷ []

@@ -1,7 +1,7 @@
 // That what a default pager answers is a step of a legal history.
 ghost use Rattle.std.specs.Prelude.{ℕ, ◌≡◌, ◌++◌, true, List, [], ◌∷◌, None, Ok};
 ghost use Rattle.pg_default.specs.Answers.{SuppliesStored, after_message};
-ghost use Rattle.pg_default.specs.Stands.{CarriesOver, IsApart, IsOther, Serves, Stands, content_of, taking};
+ghost use Rattle.pg_default.specs.Stands.{CarriesOver, IsApart, IsOther, PagerStands, Serves, content_of, taking};
 ghost use Rattle.pg_slots.specs.Contents.{Carries};
 ghost use Rattle.pg_slots.specs.Slots.{SlotTable};
 ghost use Rattle.vm_base.specs.Listing.{Listed};
@@ -26,13 +26,13 @@ ghost use Rattle.vm_outside.specs.Areas.{Told};
 #[tactic(auto, using(crate::proofs::Standing::start))]
 pub fn answers_are_legal()
     ensures start { (header : Header) (host : ℕ)
-        → Stands header host (record { host = host; size = header.size; count = header.slots; rows = [] }) [] }
+        → PagerStands header host (record { host = host; size = header.size; count = header.slots; rows = [] }) [] }
     ensures stands { (header : Header) (host : ℕ) (past : List Event) (object : ObjectId) (m : Message) (old new : SlotTable) (events : List Event)
         → Serves header host past object m old new events
-        → Stands header host new (events ++ taking host object m past) }
+        → PagerStands header host new (events ++ taking host object m past) }
 
     ensures others { (header : Header) (host : ℕ) (slots : SlotTable) (e : Event) (past : List Event)
-        → IsOther header host e past → Stands header host slots past → Stands header host slots (e ∷ past) }
+        → IsOther header host e past → PagerStands header host slots past → PagerStands header host slots (e ∷ past) }
 
     // Where the paging area tells, a supply must have the bytes that were stored.
     ensures causes { (header : Header) (outside : Outside) (doing : Command) (host : ℕ) (past : List Event) (object : ObjectId) (m : Message) (old new : SlotTable) (events : List Event)

@@ -1,7 +1,7 @@
 // The default pager of a host.
 ghost use Rattle.std.specs.Prelude.{ℕ, ◌≡◌, ◌<◌, ◌≤◌, [], List, None, IfOk, OnErr, false, length};
-ghost use Rattle.pg_default.specs.Answers.{AnswerHasCause, Answered, EndsInReply, IsToPager, LeavesAreas, LeavesBacking, ReturnsWhole, SuppliesStored, after_message};
-ghost use Rattle.pg_slots.specs.Contents.{Carries, Content, Fits, IsTold};
+ghost use Rattle.pg_default.specs.Answers.{AnswerHasCause, EndsInReply, IsToPager, LeavesAreas, LeavesBacking, PagerAnswer, ReturnsWhole, SuppliesStored, after_message};
+ghost use Rattle.pg_slots.specs.Contents.{Carries, Content, IsTold, SlotsFit};
 ghost use Rattle.pg_slots.specs.Slots.{KeepsShape};
 ghost use Rattle.vm_base.specs.Limits.{most_hosts, most_slots};
 ghost use Rattle.vm_outside.specs.Areas.{Told};
@@ -44,7 +44,7 @@ impl DefaultPager {
         requires host { host.0 < most_hosts }
         requires few { slots ≤ most_slots }
         ensures value { IfOk result (λ pager. pager ≡ record { host = host.0; size = size; count = slots; rows = [] }) }
-        ensures fits { IfOk result (λ pager. (told : List ℕ → Told) → Fits told pager (λ o p. None)) }
+        ensures fits { IfOk result (λ pager. (told : List ℕ → Told) → SlotsFit told pager (λ o p. None)) }
     {
         let slots = Slots::new(alloc, host, slots, size)?;
         Ok(DefaultPager { alloc, slots })
@@ -65,7 +65,7 @@ impl DefaultPager {
     ) -> Result<Events, NoMemory>
         requires to_pager { IsToPager message.now }
         requires whole { ReturnsWhole self.old.size message.now }
-        ensures answered { IfOk result (λ events. Answered message.now object self.old self.new events.items) }
+        ensures answered { IfOk result (λ events. PagerAnswer message.now object self.old self.new events.items) }
         ensures shape { KeepsShape self.old self.new }
         ensures few { IfOk result (λ events. length events.items ≤ 2) }
         ensures reply { IfOk result (λ events. EndsInReply message.now self.old.host object events.items) }
@@ -74,7 +74,7 @@ impl DefaultPager {
         // What the backing tells.
         ensures fits { Carries (P.area paging.old) (P.area paging.new) self.old self.new (after_message message.now object result) }
         ensures bytes { IfOk result (λ events. (content : Content) → IsTold (P.area paging.old) self.old
-            → Fits (P.area paging.old) self.old content → SuppliesStored object events.items content) }
+            → SlotsFit (P.area paging.old) self.old content → SuppliesStored object events.items content) }
         ensures told { LeavesAreas message.now object self.new (P.area paging.old) (P.area paging.new) result }
         ensures cause { AnswerHasCause (P.faults paging.old) (P.faults paging.new) result }
         ensures later { P.later paging.old paging.new }

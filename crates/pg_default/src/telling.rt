@@ -1,7 +1,7 @@
 // The events that tell what the slots gave.
 ghost use Rattle.std.specs.Prelude.{◌≡◌, ◌≤◌, [], IsOk, OnOk};
 ghost use Rattle.pg_default.specs.Answers.{device_failed, error, sent_to, supply, told_of};
-ghost use Rattle.pg_default.specs.Telling.{given};
+ghost use Rattle.pg_default.specs.Telling.{get_answer_events};
 
 use pg_slots::{Got, Put};
 use vm_base::{HostId, NoMemory, ObjectId, PageBytes, PageNo};
@@ -66,7 +66,7 @@ pub fn tell_got(
     events: &mut Events,
 ) -> Result<(), NoMemory>
     requires { events.old.items ≡ [] }
-    ensures told { OnOk result (events.new.items ≡ given got host.0 object control page) }
+    ensures told { OnOk result (events.new.items ≡ get_answer_events got host.0 object control page) }
     ensures succeeds { 2 ≤ events.old.room → IsOk result }
 {
     let reply = match got {

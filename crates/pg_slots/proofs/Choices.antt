@@ -4,7 +4,7 @@ use Rattle.std.proofs.lemmas.Bool.{false≢true}
 use Rattle.std.proofs.lemmas.Option.{none-some, same_Some}
 use Rattle.std.specs.Prelude.{MatchOption}
 use Rattle.pg_slots.proofs.Marks.{MayHave, length_marks, marked_inside, marks_dropped, marks_lost, marks_put}
-use Rattle.pg_slots.specs.Kept.{AllMarked, AreKept, AreMarked, DropsRows, FreesSlots, IsUnmarked, PutsRow, slot_among}
+use Rattle.pg_slots.specs.Kept.{AllMarked, AreMarked, AreSlotRows, DropsRows, FreesSlots, IsUnmarked, PutsRow, slot_among}
 use Rattle.pg_slots.specs.Slots.{GoesTo, HasNoSlot, IsLowestFree, SlotTable, slot_of}
 use Rattle.pg_slots.specs.declared.slot_row.Held.{Held}
 use Rattle.pg_slots.specs.declared.slot_row.Held.TheVariants.{Lost}
@@ -59,21 +59,21 @@ pub gets : (host size : ℕ) (rows : List SlotRow) (taken : List Bool) (slots : 
 gets host size rows taken slots key s view marks goes = gets_read host size rows taken key s (slot_among key.object.0 key.page.0 rows) marks refl (rw (← view) at goes)
 
 pub kept_put : (host : ℕ) (key : PageKey) (held : Held) (s : ℕ) (old between new : List SlotRow) (taken left : List Bool) → between ≡ old → PutsRow key.object.0 key.page.0 held between new → slot_of (Some held) ≡ Some s → left ≡ set taken s true → Gets old taken key s
-    → AreKept host old taken → AreKept host new left
+    → AreSlotRows host old taken → AreSlotRows host new left
 kept_put host key held s old between new taken left same puts slot is get kept = rw is (record {
   host_low = kept.host_low;
   few = rw (length_marks taken s true) kept.few;
   marks = marks_put key held s old new taken (rw same at puts) slot get.inside get.may kept.marks;
 })
 
-pub kept_lost : (host : ℕ) (key : PageKey) (old between new : List SlotRow) (taken : List Bool) → between ≡ old → PutsRow key.object.0 key.page.0 Lost between new → slot_among key.object.0 key.page.0 old ≡ None → AreKept host old taken → AreKept host new taken
+pub kept_lost : (host : ℕ) (key : PageKey) (old between new : List SlotRow) (taken : List Bool) → between ≡ old → PutsRow key.object.0 key.page.0 Lost between new → slot_among key.object.0 key.page.0 old ≡ None → AreSlotRows host old taken → AreSlotRows host new taken
 kept_lost host key old between new taken same puts none kept = record {
   host_low = kept.host_low;
   few = kept.few;
   marks = marks_lost key old new taken (rw same at puts) none kept.marks;
 }
 
-kept_dropped : (host object : ℕ) (old new : List SlotRow) (taken left : List Bool) → DropsRows object old new → FreesSlots object old taken left → AreKept host old taken → AreKept host new left
+kept_dropped : (host object : ℕ) (old new : List SlotRow) (taken left : List Bool) → DropsRows object old new → FreesSlots object old taken left → AreSlotRows host old taken → AreSlotRows host new left
 kept_dropped host object old new taken left drops frees kept = record {
   host_low = kept.host_low;
   few = rw (frees.count) kept.few;
@@ -85,7 +85,7 @@ front : (xs ys : List Bool) → take (length xs) (xs ++ ys) ≡ xs
 front [] ys = refl
 front (x ∷ xs) ys = ap (λ (z : List Bool). x ∷ z) (front xs ys)
 
-pub kept_freed : (host object n : ℕ) (old new : List SlotRow) (taken found left : List Bool) → n ≡ length taken → found ≡ taken → DropsRows object old new → FreesSlots object old found left → AreKept host old taken → AreKept host new (take n (left ++ drop (length left) taken))
+pub kept_freed : (host object n : ℕ) (old new : List SlotRow) (taken found left : List Bool) → n ≡ length taken → found ≡ taken → DropsRows object old new → FreesSlots object old found left → AreSlotRows host old taken → AreSlotRows host new (take n (left ++ drop (length left) taken))
 kept_freed host object n old new taken found left long same drops frees kept =
     let free : FreesSlots object old taken left = rw same at frees in
     let whole : n ≡ length left = long ∙ sym free.count in

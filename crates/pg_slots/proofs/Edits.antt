@@ -7,7 +7,7 @@ use Rattle.std.specs.List.{filter, insert}
 use Rattle.std.specs.Prelude.{if◌then◌else◌}
 use Rattle.vm_base.specs.declared.ids.PageKey.{PageKey}
 use Rattle.pg_slots.proofs.Places.{low_bound}
-use Rattle.pg_slots.specs.Kept.{ByKey, rank}
+use Rattle.pg_slots.specs.Kept.{ByKey, slot_rows_before}
 use Rattle.pg_slots.specs.Slots.{held_among}
 use Rattle.pg_slots.specs.declared.slot_row.Held.{Held}
 use Rattle.pg_slots.specs.declared.slot_row.SlotRow.{SlotRow}
@@ -19,7 +19,7 @@ weaker object page key [] from by_key = tt
 weaker object page key (x ∷ xs) from by_key = (later object page key x.key from by_key.0, by_key.1)
 
 pub by_key_inserted : (object page : ℕ) (new : SlotRow) (rows : List SlotRow) → ByKey object page rows → IsFrom object page new.key → held_among new.key.object.0 new.key.page.0 rows ≡ None
-    → ByKey object page (insert rows (rank new.key.object.0 new.key.page.0 rows) new)
+    → ByKey object page (insert rows (slot_rows_before new.key.object.0 new.key.page.0 rows) new)
 by_key_inserted object page new [] by_key from absent = (from, tt)
 by_key_inserted object page new (x ∷ xs) by_key from absent =
     cases_key x.key new.key.object.0 new.key.page.0
@@ -30,7 +30,7 @@ by_key_inserted object page new (x ∷ xs) by_key from absent =
     (λ (h : Behind x.key new.key.object.0 new.key.page.0). rw h.before (from, (h.place, by_key.1)))
 
 pub held_inserted : (o p : ℕ) (new : SlotRow) (rows : List SlotRow)
-    → held_among o p (insert rows (rank new.key.object.0 new.key.page.0 rows) new) ≡ (if is_page new.key o p then Some new.held else held_among o p rows)
+    → held_among o p (insert rows (slot_rows_before new.key.object.0 new.key.page.0 rows) new) ≡ (if is_page new.key o p then Some new.held else held_among o p rows)
 held_inserted o p new [] = refl
 held_inserted o p new (x ∷ xs) =
     let rest = held_inserted o p new xs in

@@ -5,7 +5,7 @@ use Rattle.std.proofs.lemmas.Option.{same_Some}
 use Rattle.std.specs.Result.{is_err}
 use Rattle.std.specs.Prelude.{IsSome, unwrap_or}
 use Rattle.pg_slots.proofs.Choices.{Gets, shown}
-use Rattle.pg_slots.specs.Contents.{Agrees, Carries, Content, Fits, IsHeldAs, IsTold, Kept, Lost, Stored, area_name, same_content, with_stored}
+use Rattle.pg_slots.specs.Contents.{Agrees, Carries, Content, IsHeldAs, IsTold, Kept, Lost, SlotsFit, Stored, area_name, same_content, with_stored}
 use Rattle.pg_slots.specs.Kept.{PutsRow}
 use Rattle.pg_slots.specs.Slots.{PutsHeld, SlotTable, held_among, held_at, slot_of}
 use Rattle.pg_slots.specs.declared.slot_row.Held.{Held}
@@ -94,7 +94,7 @@ abbrev pub ReadsPut : (List ℕ → Told) → (List ℕ → Told) → SlotTable 
 ReadsPut before after old has stored =
     (t : ℕ) (bytes : List ℕ) → has ≡ held.Kept t → stored ≡ Kept bytes → (was now : Option (List ℕ)) → before (area_name old.host) ≡ Some was → after (area_name old.host) ≡ Some now → read_at (unwrap_or now []) (t * old.size) old.size ≡ bytes
 
-has_put : (before after : List ℕ → Told) (old new : SlotTable) (o p : ℕ) (has : Held) (stored : Stored) (content : Content) → PutsHeld o p has old new → OthersAlike before after old o p → ReadsPut before after old has stored → IsTold before old → Fits before old content
+has_put : (before after : List ℕ → Told) (old new : SlotTable) (o p : ℕ) (has : Held) (stored : Stored) (content : Content) → PutsHeld o p has old new → OthersAlike before after old o p → ReadsPut before after old has stored → IsTold before old → SlotsFit before old content
     → (q r t : ℕ) (bytes : List ℕ) → held_at new q r ≡ Some (held.Kept t) → with_stored o p stored content q r ≡ Some (Kept bytes) → (now : Option (List ℕ)) → after (area_name old.host) ≡ Some now → read_at (unwrap_or now []) (t * old.size) old.size ≡ bytes
 has_put before after old new o p has stored content puts others here told fits q r t bytes holds is now tells =
     let first = there (before (area_name old.host)) told in
@@ -178,7 +178,7 @@ kept_of count size s (Some Lost) is = absurd is
 
 -- a page that is read has the bytes that were stored of it
 pub given : (before after : List ℕ → Told) (slots : SlotTable) (o p s : ℕ) (buffer page : List ℕ) (content : Content) → held_at slots o p ≡ Some (held.Kept s) → ReadTold before after (area_name slots.host) (s * slots.size) buffer (Ok tt) → length buffer ≡ slots.size → page ≡ buffer
-    → IsTold before slots → Fits before slots content → content o p ≡ Some (Kept page)
+    → IsTold before slots → SlotsFit before slots content → content o p ≡ Some (Kept page)
 given before after slots o p s buffer page content has read whole same told fits =
     let first = there (before (area_name slots.host)) told in
     let kept = kept_of slots.count slots.size s (content o p) (rw has at (fits.agrees.at o p)) in

@@ -2,7 +2,7 @@
 use Rattle.std.proofs.Common.{ℕ, zero, suc, ◌≡◌, ◌<◌, ◌≤◌, true, false, List, [], ◌∷◌, length, get_or, Option, Some, None, refl, ap, arith}
 use Rattle.std.specs.List.Sorted.{IsPartitionedBy}
 use Rattle.std.specs.Prelude.{slice_get, if◌then◌else◌}
-use Rattle.pg_slots.specs.Kept.{ByKey, rank}
+use Rattle.pg_slots.specs.Kept.{ByKey, slot_rows_before}
 use Rattle.pg_slots.specs.Slots.{held_among}
 use Rattle.pg_slots.specs.declared.slot_row.Held.{Held}
 use Rattle.pg_slots.specs.declared.slot_row.SlotRow.{SlotRow}
@@ -24,7 +24,7 @@ abbrev pub held_if : ℕ → ℕ → Option SlotRow → Option Held
 held_if o p None = None
 held_if o p (Some x) = if is_page x.key o p then Some x.held else None
 
-pub held_found : (object page o p : ℕ) (rows : List SlotRow) → ByKey object page rows → held_among o p rows ≡ held_if o p (slice_get rows (rank o p rows))
+pub held_found : (object page o p : ℕ) (rows : List SlotRow) → ByKey object page rows → held_among o p rows ≡ held_if o p (slice_get rows (slot_rows_before o p rows))
 held_found object page o p [] by_key = refl
 held_found object page o p (x ∷ xs) by_key =
     cases_key x.key o p
@@ -54,7 +54,7 @@ partitioned object page o p (x ∷ xs) by_key (suc i) (suc j) d le within before
 pub rank_is : (o p i : ℕ) (rows : List SlotRow) → i ≤ length rows
     → ((k : ℕ) (d : SlotRow) → 0 ≤ k → k < i → is_before (get_or rows k d).key o p ≡ true)
     → ((k : ℕ) (d : SlotRow) → i ≤ k → k < length rows → is_before (get_or rows k d).key o p ≡ false)
-    → i ≡ rank o p rows
+    → i ≡ slot_rows_before o p rows
 rank_is o p i [] within low high = omega arith
 rank_is o p zero (x ∷ xs) within low high = let no = high 0 x (omega arith) (omega arith) in rw no refl
 rank_is o p (suc i) (x ∷ xs) within low high =

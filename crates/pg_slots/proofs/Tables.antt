@@ -7,7 +7,7 @@ use Rattle.std.specs.Prelude.{slice_get}
 use Rattle.pg_slots.proofs.Edits.{by_key_filtered, by_key_inserted, by_key_set, held_filtered, held_inserted, held_set, is_apart}
 use Rattle.pg_slots.proofs.Places.{held_found, held_if}
 use Rattle.pg_slots.proofs.Marks.{frees}
-use Rattle.pg_slots.specs.Kept.{ByKey, DropsRows, FreesSlots, PutsRow, RowTable, freed, is_page_at, rank}
+use Rattle.pg_slots.specs.Kept.{ByKey, DropsRows, FreesSlots, PutsRow, RowTable, freed, is_page_at, slot_rows_before}
 use Rattle.pg_slots.specs.Slots.{held_among}
 use Rattle.pg_slots.specs.declared.slot_row.Held.{Held}
 use Rattle.pg_slots.specs.declared.slot_row.SlotRow.{SlotRow}
@@ -22,13 +22,13 @@ seen rows spare = record { rows = rows; spare = spare }
 pub record Placed (rows : List SlotRow) (table : RowTable) (key : PageKey) (i : ℕ) : Type 0 where
   pub kept : ByKey 0 0 rows
   pub same : table.rows ≡ rows
-  pub place : i ≡ rank key.object.0 key.page.0 rows
+  pub place : i ≡ slot_rows_before key.object.0 key.page.0 rows
 
-pub placed : (rows found : List SlotRow) (spare : ℕ) (table : RowTable) (key : PageKey) (i : ℕ) → seen rows spare ≡ table → ByKey 0 0 rows → found ≡ rows → i ≡ rank key.object.0 key.page.0 found → Placed rows table key i
+pub placed : (rows found : List SlotRow) (spare : ℕ) (table : RowTable) (key : PageKey) (i : ℕ) → seen rows spare ≡ table → ByKey 0 0 rows → found ≡ rows → i ≡ slot_rows_before key.object.0 key.page.0 found → Placed rows table key i
 placed rows found spare table key i view kept same place = record {
   kept = kept;
   same = ap (λ (z : RowTable). z.rows) (sym view);
-  place = place ∙ ap (rank key.object.0 key.page.0) same;
+  place = place ∙ ap (slot_rows_before key.object.0 key.page.0) same;
 }
 
 -- what stands at the place of a page that has a row
@@ -85,7 +85,7 @@ pub record Left (table : RowTable) (left : List SlotRow) (key : PageKey) (held :
 pub inserted : (rows left : List SlotRow) (table : RowTable) (key : PageKey) (i : ℕ) (held : Held) → Placed rows table key i → held_among key.object.0 key.page.0 table.rows ≡ None → left ≡ insert rows i (record { key = key; held = held }) → Left table left key held
 inserted rows left table key i held h none is =
     let new : SlotRow = record { key = key; held = held } in
-    let place : left ≡ insert rows (rank key.object.0 key.page.0 rows) new = is ∙ ap (λ (z : ℕ). insert rows z new) h.place in
+    let place : left ≡ insert rows (slot_rows_before key.object.0 key.page.0 rows) new = is ∙ ap (λ (z : ℕ). insert rows z new) h.place in
     rw place record {
       kept = by_key_inserted 0 0 new rows h.kept (record { above = omega arith; inside = λ le. omega arith }) (rw h.same at none);
       puts = record { at = λ o p. rw h.same (held_inserted o p new rows) };

@@ -44,7 +44,7 @@ HasAt told slots s bytes =
     → read_at (unwrap_or was []) (s * slots.size) slots.size ≡ bytes
 
 -- slots and backing fit a content: they agree, and each kept page has its bytes at its slot
-pub record Fits (told : List ℕ → Told) (slots : SlotTable) (content : Content) : Type 0 where
+pub record SlotsFit (told : List ℕ → Told) (slots : SlotTable) (content : Content) : Type 0 where
   pub agrees : Agrees slots content
   pub bytes : (o p s : ℕ) (bytes : List ℕ) → held_at slots o p ≡ Some (held.Kept s) → content o p ≡ Some (Kept bytes)
       → HasAt told slots s bytes
@@ -57,7 +57,7 @@ IsTold told slots = IsSome (told (area_name slots.host))
 -- is not told, they agree
 pub record Carries (before after : List ℕ → Told) (old new : SlotTable) (change : Content → Content) : Type 0 where
   pub agrees : (content : Content) → Agrees old content → Agrees new (change content)
-  pub fits : (content : Content) → IsTold before old → Fits before old content → Fits after new (change content)
+  pub fits : (content : Content) → IsTold before old → SlotsFit before old content → SlotsFit after new (change content)
 
 abbrev pub same_content : Content → Content
 same_content content = content
@@ -94,12 +94,12 @@ pub record PutHasCause (before now : ℕ) (result : Result Put NoMemory) : Type 
   pub same : OnErr result (now ≡ before)
 
 -- what a get answers of a page of which this was stored
-abbrev pub Answers : Got → Option Stored → Type 0
-Answers got.Never None = Unit {0}
-Answers got.Lost (Some Lost) = Unit {0}
-Answers (got.Page bytes) (Some (Kept stored)) = Unit {0}
-Answers got.Failed (Some (Kept stored)) = Unit {0}
-Answers answer stored = ⊥
+abbrev pub IsGetAnswer : Got → Option Stored → Type 0
+IsGetAnswer got.Never None = Unit {0}
+IsGetAnswer got.Lost (Some Lost) = Unit {0}
+IsGetAnswer (got.Page bytes) (Some (Kept stored)) = Unit {0}
+IsGetAnswer got.Failed (Some (Kept stored)) = Unit {0}
+IsGetAnswer answer stored = ⊥
 
 -- what a get answers of a page of which this is held
 abbrev pub AnswersHeld : Got → Option Held → Type 0
@@ -111,9 +111,9 @@ AnswersHeld got.Failed (Some (held.Kept s)) = Unit {0}
 AnswersHeld answer has = ⊥
 
 -- a page that is given has so many bytes
-abbrev pub IsWhole : ℕ → Got → Type 0
-IsWhole size (got.Page bytes) = length bytes ≡ size
-IsWhole size answer = Unit {0}
+abbrev pub IsWholePage : ℕ → Got → Type 0
+IsWholePage size (got.Page bytes) = length bytes ≡ size
+IsWholePage size answer = Unit {0}
 
 -- a page that is given has the bytes that were stored of it
 abbrev pub GivesStored : Got → Option Stored → Type 0

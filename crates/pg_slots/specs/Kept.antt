@@ -17,9 +17,9 @@ ByKey object page [] = Unit {0}
 ByKey object page (row ∷ rows) = IsFrom object page row.key × ByKey row.key.object.0 (suc row.key.page.0) rows
 
 -- how many pages come in front of one
-abbrev pub rank : ℕ → ℕ → List SlotRow → ℕ
-rank object page [] = 0
-rank object page (row ∷ rows) = if is_before row.key object page then suc (rank object page rows) else 0
+abbrev pub slot_rows_before : ℕ → ℕ → List SlotRow → ℕ
+slot_rows_before object page [] = 0
+slot_rows_before object page (row ∷ rows) = if is_before row.key object page then suc (slot_rows_before object page rows) else 0
 
 -- whether a page stands at a place
 abbrev pub is_page_at : ℕ → ℕ → Option SlotRow → Bool
@@ -66,7 +66,7 @@ pub record AreMarked (rows : List SlotRow) (taken : List Bool) : Type 0 where
   pub owned : (s : ℕ) → is_marked taken s ≡ true → HasRow rows s
   pub apart : (o p q r s : ℕ) → slot_among o p rows ≡ Some s → slot_among q r rows ≡ Some s → (o ≡ q) × (p ≡ r)
 
-pub record AreKept (host : ℕ) (rows : List SlotRow) (taken : List Bool) : Type 0 where
+pub record AreSlotRows (host : ℕ) (rows : List SlotRow) (taken : List Bool) : Type 0 where
   pub host_low : host < most_hosts
   pub few : length taken ≤ most_slots
   pub marks : AreMarked rows taken

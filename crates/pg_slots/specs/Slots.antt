@@ -40,8 +40,8 @@ pub record IsTaken (slots : SlotTable) (s : ℕ) : Type 0 where
   pub at : slot_at slots object page ≡ Some s
 
 -- each slot is some page's
-abbrev pub IsFull : SlotTable → Type 0
-IsFull slots = (s : ℕ) → s < slots.count → IsTaken slots s
+abbrev pub SlotsAreFull : SlotTable → Type 0
+SlotsAreFull slots = (s : ℕ) → s < slots.count → IsTaken slots s
 
 -- the lowest slot that is no page's
 pub record IsLowestFree (slots : SlotTable) (s : ℕ) : Type 0 where
@@ -55,7 +55,7 @@ GoesTo slots object page s = MatchOption (slot_at slots object page) (IsLowestFr
 
 -- the page has no slot, and each slot is another page's
 abbrev pub HasNoSlot : SlotTable → ℕ → ℕ → Type 0
-HasNoSlot slots object page = (slot_at slots object page ≡ None) × IsFull slots
+HasNoSlot slots object page = (slot_at slots object page ≡ None) × SlotsAreFull slots
 
 -- the host, the page size and the number of slots are as before
 pub record KeepsShape (old new : SlotTable) : Type 0 where
@@ -71,10 +71,10 @@ pub record PutsHeld (object page : ℕ) (held : Held) (old new : SlotTable) : Ty
   pub at : (o p : ℕ) → held_at new o p ≡ (if object == o && page == p then Some held else held_at old o p)
 
 -- what a put leaves of the slots: the page is in the slot that it goes to, or lost with that slot, or lost with none
-abbrev pub Leaves : Put → ℕ → ℕ → SlotTable → SlotTable → Type 0
-Leaves put.Kept object page old new = (s : ℕ) × GoesTo old object page s × PutsHeld object page (Kept s) old new
-Leaves put.Failed object page old new = (s : ℕ) × GoesTo old object page s × PutsHeld object page (Torn s) old new
-Leaves put.NoSlot object page old new = PutsHeld object page Lost old new
+abbrev pub PutEffects : Put → ℕ → ℕ → SlotTable → SlotTable → Type 0
+PutEffects put.Kept object page old new = (s : ℕ) × GoesTo old object page s × PutsHeld object page (Kept s) old new
+PutEffects put.Failed object page old new = (s : ℕ) × GoesTo old object page s × PutsHeld object page (Torn s) old new
+PutEffects put.NoSlot object page old new = PutsHeld object page Lost old new
 
 -- nothing is held of the pages of one object now, and of each other page what was held of it
 pub record DropsHeld (object : ℕ) (old new : SlotTable) : Type 0 where

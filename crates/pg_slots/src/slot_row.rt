@@ -1,6 +1,6 @@
 // A page with what is held of it, and the search in a list of them.
 ghost use Rattle.std.specs.Prelude.{◌≡◌, ◌≤◌, ◌<◌, Some, length, slice_get};
-ghost use Rattle.pg_slots.specs.Kept.{ByKey, freed, freed_row, is_page_at, rank};
+ghost use Rattle.pg_slots.specs.Kept.{ByKey, freed, freed_row, is_page_at, slot_rows_before};
 ghost use Rattle.pg_slots.specs.Slots.{slot_of};
 ghost use Rattle.vm_base.specs.Keys.{is_before};
 
@@ -44,7 +44,7 @@ fn comes_before(key: PageKey, other: PageKey) -> bool
 /// The number of pages in front of one, in a list by rising key.
 pub fn find(rows: &[SlotRow], key: PageKey) -> usize
     requires { ByKey 0 0 rows.now }
-    ensures value { result ≡ rank key.object.0 key.page.0 rows.now }
+    ensures value { result ≡ slot_rows_before key.object.0 key.page.0 rows.now }
     ensures within { result ≤ length rows.now }
 {
     rows.partition_point(|row| comes_before(row.key, key))

@@ -1,8 +1,8 @@
 // The slots.
 ghost use Rattle.std.specs.Prelude.{ℕ, ◌≡◌, ◌*◌, ◌<◌, ◌≤◌, ◌↔◌, [], List, None, Some, IfOk, MatchOption, OnErr, length, set, true};
-ghost use Rattle.pg_slots.specs.Contents.{Agrees, Answers, AnswersHeld, Carries, Content, Fits, GetHasCause, GivesStored, IsTold, IsWhole, PutHasCause, PutTold, after_put, area_name, same_content, without};
+ghost use Rattle.pg_slots.specs.Contents.{Agrees, AnswersHeld, Carries, Content, GetHasCause, GivesStored, IsGetAnswer, IsTold, IsWholePage, PutHasCause, PutTold, SlotsFit, after_put, area_name, same_content, without};
 ghost use Rattle.pg_slots.specs.Kept.{AllMarked, IsUnmarked, PutsRow};
-ghost use Rattle.pg_slots.specs.Slots.{DropsHeld, GoesTo, HasNoSlot, KeepsShape, Leaves, held_at, slot_at};
+ghost use Rattle.pg_slots.specs.Slots.{DropsHeld, GoesTo, HasNoSlot, KeepsShape, PutEffects, held_at, slot_at};
 ghost use Rattle.vm_base.specs.Limits.{most_hosts, most_slots};
 ghost use Rattle.vm_outside.specs.Areas.{SameAreas, Told};
 
@@ -32,14 +32,14 @@ pub struct Slots {
 
 impl Model for Slots {
     ghost use Rattle.std.specs.Prelude.{length};
-    ghost use Rattle.pg_slots.specs.Kept.{AreKept};
+    ghost use Rattle.pg_slots.specs.Kept.{AreSlotRows};
     ghost use Rattle.pg_slots.specs.Slots.{SlotTable};
 
     ghost Value = { SlotTable };
 
     ghost view = { λ s. record { host = s.host.0; size = s.size; count = length s.taken.items; rows = s.rows.rows } };
 
-    ghost invariant = { λ s. AreKept s.host.0 s.rows.rows s.taken.items };
+    ghost invariant = { λ s. AreSlotRows s.host.0 s.rows.rows s.taken.items };
 }
 
 impl Slots {
@@ -48,7 +48,7 @@ impl Slots {
         requires host { host.0 < most_hosts }
         requires few { count ≤ most_slots }
         ensures value { IfOk result (λ slots. slots ≡ record { host = host.0; size = size; count = count; rows = [] }) }
-        ensures fits { IfOk result (λ slots. (told : List ℕ → Told) → Fits told slots (λ o p. None)) }
+        ensures fits { IfOk result (λ slots. (told : List ℕ → Told) → SlotsFit told slots (λ o p. None)) }
     {
         let taken = vec![in alloc; false; count as usize]?;
         Ok(Slots {
@@ -77,7 +77,7 @@ impl Slots {
         paging: &mut P,
     ) -> Result<Put, NoMemory>
         requires { length bytes.now ≡ self.old.size }
-        ensures held { IfOk result (λ put. Leaves put key.object.0 key.page.0 self.old self.new) }
+        ensures held { IfOk result (λ put. PutEffects put key.object.0 key.page.0 self.old self.new) }
         ensures no_slot { IfOk result (λ put. (put ≡ Put.NoSlot) ↔ HasNoSlot self.old key.object.0 key.page.0) }
         ensures shape { KeepsShape self.old self.new }
         ensures err { OnErr result (self.new ≡ self.old) }
@@ -116,10 +116,10 @@ impl Slots {
     pub fn get<P: Backing>(&self, key: PageKey, paging: &mut P) -> Result<Got, NoMemory>
         ensures held { IfOk result (λ got. AnswersHeld got (held_at self.now key.object.0 key.page.0)) }
         ensures answers { IfOk result (λ got. (content : Content) → Agrees self.now content
-            → Answers got (content key.object.0 key.page.0)) }
-        ensures whole { IfOk result (IsWhole self.now.size) }
+            → IsGetAnswer got (content key.object.0 key.page.0)) }
+        ensures whole { IfOk result (IsWholePage self.now.size) }
         ensures bytes { IfOk result (λ got. (content : Content) → IsTold (P.area paging.old) self.now
-            → Fits (P.area paging.old) self.now content → GivesStored got (content key.object.0 key.page.0)) }
+            → SlotsFit (P.area paging.old) self.now content → GivesStored got (content key.object.0 key.page.0)) }
 
         // What the backing tells.
         ensures fits { Carries (P.area paging.old) (P.area paging.new) self.now self.now same_content }
@@ -151,8 +151,8 @@ impl Slots {
     /// memory.
     pub fn drop_object(&mut self, object: ObjectId)
         ensures held { DropsHeld object.0 self.old self.new }
-        ensures fits { (told : List ℕ → Told) (content : Content) → Fits told self.old content
-            → Fits told self.new (without object.0 content) }
+        ensures fits { (told : List ℕ → Told) (content : Content) → SlotsFit told self.old content
+            → SlotsFit told self.new (without object.0 content) }
     {
         self.rows.free(object, &mut self.taken);
         self.rows.drop_object(object);

@@ -5,51 +5,51 @@ use Rattle.std.specs.List.{list_all}
 use Rattle.std.proofs.lemmas.Bool.Decides.{nat_tests}
 use Rattle.std.proofs.lemmas.List.{get_or-set_same, get_or-set_other}
 use native.Mathlib.Decide.{ℕ_discrete}
-use Rattle.vm_model.specs.Words.{Act, Effect, SentDown, DownWord, effect_on, to_others}
-use Rattle.vm_model.specs.Side.{Side, side, move}
+use Rattle.vm_model.specs.Words.{Act, ActEffect, SentDown, DownWord, effect_on, to_others}
+use Rattle.vm_model.specs.Side.{Side, side, side_after}
 use Rattle.vm_model.specs.Server.{Wanting, trimmed_line}
 use Rattle.vm_model.specs.Server.{NoUpgrade}
 use Rattle.sms_pages.specs.Stands.{counted}
 use Rattle.vm_model.proofs.Others.{others_holds}
 
-own_effect : (k : ℕ) (e : Effect) → effect_on k (record { host = k; effect = e }) ≡ e
+own_effect : (k : ℕ) (e : ActEffect) → effect_on k (record { host = k; effect = e }) ≡ e
 own_effect k e = grind (arith, nat_tests)
 
-other_effect : (h k : ℕ) (e : Effect) → k ≢ h → effect_on h (record { host = k; effect = e }) ≡ to_others e
+other_effect : (h k : ℕ) (e : ActEffect) → k ≢ h → effect_on h (record { host = k; effect = e }) ≡ to_others e
 other_effect h k e apart = grind (arith, nat_tests)
 
-pub own_side : (k : ℕ) (e : Effect) (past : List Act) → side k (record { host = k; effect = e } ∷ past) ≡ move (side k past) e
-own_side k e past = ap (move (side k past)) (own_effect k e)
+pub own_side : (k : ℕ) (e : ActEffect) (past : List Act) → side k (record { host = k; effect = e } ∷ past) ≡ side_after (side k past) e
+own_side k e past = ap (side_after (side k past)) (own_effect k e)
 
-pub other_side : (h k : ℕ) (e : Effect) (past : List Act) → k ≢ h → side h (record { host = k; effect = e } ∷ past) ≡ move (side h past) (to_others e)
-other_side h k e past apart = ap (move (side h past)) (other_effect h k e apart)
+pub other_side : (h k : ℕ) (e : ActEffect) (past : List Act) → k ≢ h → side h (record { host = k; effect = e } ∷ past) ≡ side_after (side h past) (to_others e)
+other_side h k e past apart = ap (side_after (side h past)) (other_effect h k e apart)
 
-others_awaits : (e : Effect) (s : Side) → (move s (to_others e)).awaits ≡ s.awaits
+others_awaits : (e : ActEffect) (s : Side) → (side_after s (to_others e)).awaits ≡ s.awaits
 others_awaits e s = grind arith
 
 -- a field of each side is a list's item; the act sets it at its own host
-pub field_set : (f : Side → ℕ) (k : ℕ) (e : Effect) (v : ℕ) (xs : List ℕ) (past : List Act) → ((s : Side) → f (move s (to_others e)) ≡ f s) → k < length xs → f (move (side k past) e) ≡ v → ((g : ℕ) → f (side g past) ≡ slice_index xs g) → (g : ℕ) → f (side g (record { host = k; effect = e } ∷ past)) ≡ slice_index (slice_set xs k v) g
+pub field_set : (f : Side → ℕ) (k : ℕ) (e : ActEffect) (v : ℕ) (xs : List ℕ) (past : List Act) → ((s : Side) → f (side_after s (to_others e)) ≡ f s) → k < length xs → f (side_after (side k past) e) ≡ v → ((g : ℕ) → f (side g past) ≡ slice_index xs g) → (g : ℕ) → f (side g (record { host = k; effect = e } ∷ past)) ≡ slice_index (slice_set xs k v) g
 field_set f k e v xs past others lt own same g = elim (ℕ_discrete k g) [
   | yes is ↦ subst (λ (h : ℕ). f (side h (record { host = k; effect = e } ∷ past)) ≡ slice_index (slice_set xs k v) h) is (ap f (own_side k e past) ∙ (own ∙ sym (get_or-set_same xs k v 0 lt)))
   | no apart ↦ ap f (other_side g k e past apart) ∙ (others (side g past) ∙ (same g ∙ sym (get_or-set_other xs k g v 0 (λ is. apart (sym is)))))
 ]
 
-pub field_kept : (f : Side → ℕ) (k : ℕ) (e : Effect) (xs : List ℕ) (past : List Act) → ((s : Side) → f (move s (to_others e)) ≡ f s) → f (move (side k past) e) ≡ f (side k past) → ((g : ℕ) → f (side g past) ≡ slice_index xs g) → (g : ℕ) → f (side g (record { host = k; effect = e } ∷ past)) ≡ slice_index xs g
+pub field_kept : (f : Side → ℕ) (k : ℕ) (e : ActEffect) (xs : List ℕ) (past : List Act) → ((s : Side) → f (side_after s (to_others e)) ≡ f s) → f (side_after (side k past) e) ≡ f (side k past) → ((g : ℕ) → f (side g past) ≡ slice_index xs g) → (g : ℕ) → f (side g (record { host = k; effect = e } ∷ past)) ≡ slice_index xs g
 field_kept f k e xs past others own same g = elim (ℕ_discrete k g) [
   | yes is ↦ subst (λ (h : ℕ). f (side h (record { host = k; effect = e } ∷ past)) ≡ slice_index xs h) is (ap f (own_side k e past) ∙ (own ∙ same k))
   | no apart ↦ ap f (other_side g k e past apart) ∙ (others (side g past) ∙ same g)
 ]
 
-pub holds_set : (k : ℕ) (e : Effect) (v : ℕ) (xs : List ℕ) (past : List Act) → k < length xs → (move (side k past) e).holds ≡ v → ((g : ℕ) → (side g past).holds ≡ slice_index xs g) → (g : ℕ) → (side g (record { host = k; effect = e } ∷ past)).holds ≡ slice_index (slice_set xs k v) g
+pub holds_set : (k : ℕ) (e : ActEffect) (v : ℕ) (xs : List ℕ) (past : List Act) → k < length xs → (side_after (side k past) e).holds ≡ v → ((g : ℕ) → (side g past).holds ≡ slice_index xs g) → (g : ℕ) → (side g (record { host = k; effect = e } ∷ past)).holds ≡ slice_index (slice_set xs k v) g
 holds_set k e v xs past = field_set (λ s. s.holds) k e v xs past (others_holds e)
 
-pub awaits_set : (k : ℕ) (e : Effect) (v : ℕ) (xs : List ℕ) (past : List Act) → k < length xs → (move (side k past) e).awaits ≡ v → ((g : ℕ) → (side g past).awaits ≡ slice_index xs g) → (g : ℕ) → (side g (record { host = k; effect = e } ∷ past)).awaits ≡ slice_index (slice_set xs k v) g
+pub awaits_set : (k : ℕ) (e : ActEffect) (v : ℕ) (xs : List ℕ) (past : List Act) → k < length xs → (side_after (side k past) e).awaits ≡ v → ((g : ℕ) → (side g past).awaits ≡ slice_index xs g) → (g : ℕ) → (side g (record { host = k; effect = e } ∷ past)).awaits ≡ slice_index (slice_set xs k v) g
 awaits_set k e v xs past = field_set (λ s. s.awaits) k e v xs past (others_awaits e)
 
-pub holds_kept : (k : ℕ) (e : Effect) (xs : List ℕ) (past : List Act) → (move (side k past) e).holds ≡ (side k past).holds → ((g : ℕ) → (side g past).holds ≡ slice_index xs g) → (g : ℕ) → (side g (record { host = k; effect = e } ∷ past)).holds ≡ slice_index xs g
+pub holds_kept : (k : ℕ) (e : ActEffect) (xs : List ℕ) (past : List Act) → (side_after (side k past) e).holds ≡ (side k past).holds → ((g : ℕ) → (side g past).holds ≡ slice_index xs g) → (g : ℕ) → (side g (record { host = k; effect = e } ∷ past)).holds ≡ slice_index xs g
 holds_kept k e xs past = field_kept (λ s. s.holds) k e xs past (others_holds e)
 
-pub awaits_kept : (k : ℕ) (e : Effect) (xs : List ℕ) (past : List Act) → (move (side k past) e).awaits ≡ (side k past).awaits → ((g : ℕ) → (side g past).awaits ≡ slice_index xs g) → (g : ℕ) → (side g (record { host = k; effect = e } ∷ past)).awaits ≡ slice_index xs g
+pub awaits_kept : (k : ℕ) (e : ActEffect) (xs : List ℕ) (past : List Act) → (side_after (side k past) e).awaits ≡ (side k past).awaits → ((g : ℕ) → (side g past).awaits ≡ slice_index xs g) → (g : ℕ) → (side g (record { host = k; effect = e } ∷ past)).awaits ≡ slice_index xs g
 awaits_kept k e xs past = field_kept (λ s. s.awaits) k e xs past (others_awaits e)
 
 -- the control that the server knows of each host stays

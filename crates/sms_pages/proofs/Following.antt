@@ -15,15 +15,15 @@ use Rattle.sms_pages.specs.declared.holding.Turn.{Turn}
 use Rattle.sms_pages.specs.declared.holding.Turn.TheVariants.{Leaves, Recalls, Waits, Grants}
 use Rattle.sms_pages.specs.Directory.{is_recalled, any_recalled, leaves, turn, recall, recall_kind, recalls, recalled, grant, granted, Directory, Outcome, served, IsServed}
 use Rattle.vm_model.specs.Server.{NoUpgrade, NoRequest}
-use Rattle.sms_pages.specs.Stands.{counted, Stands, StandsFor, lock_number, reply_act, reply_acts, Hears, Follows, IsAnswered}
-use Rattle.vm_model.specs.Coherence.{Served}
+use Rattle.sms_pages.specs.Stands.{counted, DirectoryStands, StandsFor, lock_number, reply_act, reply_acts, Hears, ServingFollows, IsAnswered}
+use Rattle.vm_model.specs.Coherence.{SomebodyIsAwaited}
 use Rattle.sms_pages.proofs.Facts.{own_side, holds_set, awaits_set, holds_kept, awaits_kept, heard_kept, counted_none, counted_same, all_none}
 use Rattle.sms_pages.proofs.Recalls.{recalled_above}
 
 -- what is known so far: each reply that was sent had its cause, and the lists stand for the history with them
 pub record State (size : ℕ) (heard : ℕ → ℕ) (bytes : List ℕ) (holds awaits : List ℕ) (wants : List Wanting) (past : List Act) : Type 0 where
   pub licensed : Licensed size past
-  pub stands : Stands size holds awaits bytes wants past
+  pub stands : DirectoryStands size holds awaits bytes wants past
   pub hears : Hears heard past
 
 -- the turn's cases
@@ -76,7 +76,7 @@ any_none w holds awaits (suc n) none g lt = elim (ℕ_discrete g n) [
 allowed : (w : Wanting) (g hold await : ℕ) → is_recalled w g hold await ≡ false → await ≡ 0 → g ≢ w.host → hold ≤ 2 → hold ≤ room_for (wants_write w)
 allowed w g hold await none free apart le = grind (arith, nat_tests)
 
-others_allowed : (size : ℕ) (w : Wanting) (holds awaits bytes : List ℕ) (ws : List Wanting) (past : List Act) → Stands size holds awaits bytes ws past → any_recalled w holds awaits 8 ≡ false → list_all (λ kind. kind == 0) awaits ≡ true → OthersHold (room_for (wants_write w)) w.host past
+others_allowed : (size : ℕ) (w : Wanting) (holds awaits bytes : List ℕ) (ws : List Wanting) (past : List Act) → DirectoryStands size holds awaits bytes ws past → any_recalled w holds awaits 8 ≡ false → list_all (λ kind. kind == 0) awaits ≡ true → OthersHold (room_for (wants_write w)) w.host past
 others_allowed size w holds awaits bytes ws past s none free g apart =
     let same : (side g past).holds ≡ slice_index holds g = s.same_holds g in
     rw same (elim (lt_or g) [
@@ -315,16 +315,16 @@ left size heard bytes holds awaits w ws past s is =
     }
 
 pub served_follows : (size : ℕ) (heard : ℕ → ℕ) (bytes holds awaits : List ℕ) (wants : List Wanting) (sent : List Reply) (past : List Act)
-    → State size heard bytes holds awaits wants (reply_acts heard sent ++ past) → Follows size heard bytes (served sent holds awaits bytes wants) past
+    → State size heard bytes holds awaits wants (reply_acts heard sent ++ past) → ServingFollows size heard bytes (served sent holds awaits bytes wants) past
 served_follows size heard bytes holds awaits [] sent past s = record { licensed = s.licensed; stands = s.stands }
 served_follows size heard bytes holds awaits (w ∷ ws) sent past s =
     by_turn (turn w holds awaits) refl
     (λ t. served_follows size heard bytes holds awaits ws sent past t)
     (λ t. served_follows size heard bytes (slice_set holds w.host (granted w)) awaits ws (grant w bytes ∷ sent) past t) where
       by_turn : (t : Turn) → turn w holds awaits ≡ t
-          → (State size heard bytes holds awaits ws (reply_acts heard sent ++ past) → Follows size heard bytes (served sent holds awaits bytes ws) past)
-          → (State size heard bytes (slice_set holds w.host (granted w)) awaits ws (reply_acts heard (grant w bytes ∷ sent) ++ past) → Follows size heard bytes (served (grant w bytes ∷ sent) (slice_set holds w.host (granted w)) awaits bytes ws) past)
-          → Follows size heard bytes (elim t as (λ t. Outcome) [
+          → (State size heard bytes holds awaits ws (reply_acts heard sent ++ past) → ServingFollows size heard bytes (served sent holds awaits bytes ws) past)
+          → (State size heard bytes (slice_set holds w.host (granted w)) awaits ws (reply_acts heard (grant w bytes ∷ sent) ++ past) → ServingFollows size heard bytes (served (grant w bytes ∷ sent) (slice_set holds w.host (granted w)) awaits bytes ws) past)
+          → ServingFollows size heard bytes (elim t as (λ t. Outcome) [
             | Leaves ↦ served sent holds awaits bytes ws
             | Recalls ↦ record { holds = holds; awaits = recalled w holds awaits 8; line = w ∷ ws; replies = recalls w holds awaits 8 ++ sent }
             | Waits ↦ record { holds = holds; awaits = awaits; line = w ∷ ws; replies = sent }
@@ -336,7 +336,7 @@ served_follows size heard bytes holds awaits (w ∷ ws) sent past s =
           let e = acts_append heard (recalls w holds awaits 8) sent past in
           record {
             licensed = subst (λ (l : List Act). Licensed size l) (sym e) r.licensed;
-            stands = subst (λ (l : List Act). Stands size holds (recalled w holds awaits 8) bytes (w ∷ ws) l) (sym e) r.stands;
+            stands = subst (λ (l : List Act). DirectoryStands size holds (recalled w holds awaits 8) bytes (w ∷ ws) l) (sym e) r.stands;
           }
       by_turn Waits is on given = record { licensed = s.licensed; stands = s.stands }
       by_turn Grants is on given =
@@ -408,19 +408,19 @@ pub serving : (size : ℕ) (heard : ℕ → ℕ) (changed after : Directory) (re
 serving size heard changed after replies past licensed stands hears is =
     record {
       licensed = f.licensed;
-      stands = subst (λ (bytes : List ℕ). Stands size after.holds after.awaits bytes after.line (reply_acts heard replies ++ past)) (sym is.bytes) f.stands;
+      stands = subst (λ (bytes : List ℕ). DirectoryStands size after.holds after.awaits bytes after.line (reply_acts heard replies ++ past)) (sym is.bytes) f.stands;
       served = served_past;
     } where
       done : Outcome
       done = record { holds = after.holds; awaits = after.awaits; line = after.line; replies = replies }
 
-      f : Follows size heard changed.bytes (record { holds = after.holds; awaits = after.awaits; line = after.line; replies = replies }) past
-      f = subst (λ (s : Outcome). Follows size heard changed.bytes s past) (sym is.exact) (served_follows size heard changed.bytes changed.holds changed.awaits changed.line [] past (record { licensed = licensed; stands = stands; hears = hears }))
+      f : ServingFollows size heard changed.bytes (record { holds = after.holds; awaits = after.awaits; line = after.line; replies = replies }) past
+      f = subst (λ (s : Outcome). ServingFollows size heard changed.bytes s past) (sym is.exact) (served_follows size heard changed.bytes changed.holds changed.awaits changed.line [] past (record { licensed = licensed; stands = stands; hears = hears }))
 
       waits : after.line ≢ [] → (g : ℕ) × (0 < slice_index after.awaits g)
       waits = subst (λ (s : Outcome). s.line ≢ [] → (g : ℕ) × (0 < slice_index s.awaits g)) (sym is.exact) (served_awaited [] changed.holds changed.awaits changed.bytes changed.line stands.eight_await)
 
-      served_past : Served (reply_acts heard replies ++ past)
+      served_past : SomebodyIsAwaited (reply_acts heard replies ++ past)
       served_past some =
           let g = waits (some_counted after.holds after.line (λ none. some (f.stands.same_line ∙ none))) in
           (g.0, subst (λ (n : ℕ). 0 < n) (sym (f.stands.same_awaits g.0)) g.1)

@@ -4,12 +4,12 @@ use Rattle.std.specs.Prelude.{slice_index, slice_set, replicate}
 use Rattle.std.proofs.lemmas.Bool.Decides.{nat_tests}
 use Rattle.std.proofs.lemmas.List.{get_or-set_same, get_or-set_other, length-set}
 use native.Mathlib.Decide.{ℕ_discrete}
-use Rattle.vm_model.specs.Words.{Act, Effect, TakenUp, Asking, Unlocking, Returning, Doing, Ending}
-use Rattle.vm_model.specs.Side.{Side, side, move, after_done}
+use Rattle.vm_model.specs.Words.{Act, ActEffect, TakenUp, Asking, Unlocking, Returning, Doing, Ending}
+use Rattle.vm_model.specs.Side.{Side, side, side_after, after_done}
 use Rattle.vm_model.specs.Server.{Wanting, line, trimmed_line, joined, kept}
 use Rattle.sms_pages.specs.Directory.{Directory, requested, unlocked, saved, finished, left_by, ended, IsNew}
 use Rattle.vm_model.specs.Server.{NoUpgrade, NoRequest}
-use Rattle.sms_pages.specs.Stands.{counts, counted, InTurn, Stands, StandsFor, taken}
+use Rattle.sms_pages.specs.Stands.{counts, counted, InTurn, DirectoryStands, StandsFor, taking_act}
 use Rattle.sms_pages.proofs.Facts.{own_side, holds_set, awaits_set, holds_kept, awaits_kept, counted_lost, counted_none, counted_same, all_none}
 
 -- what joins at the end
@@ -71,7 +71,7 @@ counted_equal holds new (w ∷ ws) same = one w (slice_index holds w.host) (slic
   one w a b cs ns is same = grind (arith, nat_tests)
 
 -- what counts of the line, once the host holds v and no more than before
-trims : (size h v : ℕ) (holds awaits bytes : List ℕ) (wants : List Wanting) (past : List Act) → Stands size holds awaits bytes wants past → h < length holds → v ≤ slice_index holds h → trimmed_line h v (counted holds wants) ≡ counted (slice_set holds h v) wants
+trims : (size h v : ℕ) (holds awaits bytes : List ℕ) (wants : List Wanting) (past : List Act) → DirectoryStands size holds awaits bytes wants past → h < length holds → v ≤ slice_index holds h → trimmed_line h v (counted holds wants) ≡ counted (slice_set holds h v) wants
 trims size h v holds awaits bytes wants past s inside le = elim (ℕ_discrete v 1) [
   | yes one ↦ elim (ℕ_discrete (slice_index holds h) 1) [
     | yes read ↦ counted_same h v holds wants (read ∙ sym one) ∙ counted_equal holds (slice_set holds h v) wants (λ g. elim (ℕ_discrete g h) [
@@ -84,11 +84,11 @@ trims size h v holds awaits bytes wants past s inside le = elim (ℕ_discrete v 
 ]
 
 -- a message after which the host holds v, no more than before, and nobody joins the line
-after_lowered : (size h v : ℕ) (e : Effect) (holds awaits new_awaits bytes new_bytes : List ℕ) (wants : List Wanting) (past : List Act)
-    → Stands size holds awaits bytes wants past → h < 8 → v ≤ slice_index holds h → (move (side h past) e).holds ≡ v
+after_lowered : (size h v : ℕ) (e : ActEffect) (holds awaits new_awaits bytes new_bytes : List ℕ) (wants : List Wanting) (past : List Act)
+    → DirectoryStands size holds awaits bytes wants past → h < 8 → v ≤ slice_index holds h → (side_after (side h past) e).holds ≡ v
     → ((g : ℕ) → (side g (record { host = h; effect = e } ∷ past)).awaits ≡ slice_index new_awaits g) → length new_awaits ≡ 8
     → joined (side h past) h e (line past) ≡ line past → kept size (record { host = h; effect = e } ∷ past) ≡ new_bytes
-    → Stands size (slice_set holds h v) new_awaits new_bytes wants (record { host = h; effect = e } ∷ past)
+    → DirectoryStands size (slice_set holds h v) new_awaits new_bytes wants (record { host = h; effect = e } ∷ past)
 after_lowered size h v e holds awaits new_awaits bytes new_bytes wants past s lt le own new_same eight none_joins saved =
     record {
       same_holds = holds_set h e v holds past inside own s.same_holds;
@@ -127,7 +127,7 @@ after_request size h control access d past s lt none =
       waiting = λ g some. no_request_end g d.line r (s.waiting g (omega (arith, lowered d.holds h 0 inside (omega arith) s.bounded g))) (λ request is. absurd (gone g is some));
       writing = λ g two. no_upgrade_end g d.line r (s.writing g (omega (arith, lowered d.holds h 0 inside (omega arith) s.bounded g, s.bounded g))) (λ up. absurd (cc));
     } where
-      e : Effect
+      e : ActEffect
       e = TakenUp (Asking control access)
 
       act : Act
@@ -153,7 +153,7 @@ after_request size h control access d past s lt none =
 
 -- an unlock that joins the line
 after_upgrade : (size h access : ℕ) (d : Directory) (past : List Act) → StandsFor size d past → h < 8 → NoUpgrade h d.line → slice_index d.holds h ≡ 1 → slice_index d.awaits h ≡ 0
-    → Stands size d.holds d.awaits d.bytes (d.line ++ record { host = h; upgrade = true; access = 3 } ∷ []) (record { host = h; effect = TakenUp (Unlocking access) } ∷ past)
+    → DirectoryStands size d.holds d.awaits d.bytes (d.line ++ record { host = h; upgrade = true; access = 3 } ∷ []) (record { host = h; effect = TakenUp (Unlocking access) } ∷ past)
 after_upgrade size h access d past s lt none reads free =
     record {
       same_holds = holds_kept h e d.holds past refl s.same_holds;
@@ -167,7 +167,7 @@ after_upgrade size h access d past s lt none reads free =
       waiting = λ g some. no_request_end g d.line u (s.waiting g some) (λ request. absurd (cc));
       writing = λ g two. no_upgrade_end g d.line u (s.writing g two) (λ up is. absurd (not_both g is two));
     } where
-      e : Effect
+      e : ActEffect
       e = TakenUp (Unlocking access)
 
       act : Act
@@ -192,10 +192,10 @@ after_upgrade size h access d past s lt none reads free =
       not_both g is two = let one_now : slice_index d.holds g ≡ 1 = subst (λ (k : ℕ). slice_index d.holds k ≡ 1) is reads in omega arith
 
 -- a message that changes neither what the host holds nor whether it is awaited
-after_same : (size h : ℕ) (e : Effect) (holds awaits bytes new_bytes : List ℕ) (wants : List Wanting) (past : List Act)
-    → Stands size holds awaits bytes wants past → (move (side h past) e).holds ≡ (side h past).holds → (move (side h past) e).awaits ≡ (side h past).awaits
+after_same : (size h : ℕ) (e : ActEffect) (holds awaits bytes new_bytes : List ℕ) (wants : List Wanting) (past : List Act)
+    → DirectoryStands size holds awaits bytes wants past → (side_after (side h past) e).holds ≡ (side h past).holds → (side_after (side h past) e).awaits ≡ (side h past).awaits
     → joined (side h past) h e (line past) ≡ line past → kept size (record { host = h; effect = e } ∷ past) ≡ new_bytes
-    → Stands size holds awaits new_bytes wants (record { host = h; effect = e } ∷ past)
+    → DirectoryStands size holds awaits new_bytes wants (record { host = h; effect = e } ∷ past)
 after_same size h e holds awaits bytes new_bytes wants past s own_holds own_awaits none_joins saved =
     record {
       same_holds = holds_kept h e holds past own_holds s.same_holds;
@@ -223,7 +223,7 @@ after_unlock size h access d past s lt none = by_case (slice_index d.holds h == 
   stays a b c d ws v same free is = grind (arith, nat_tests)
 
   by_case : (b : Bool) → (slice_index d.holds h == 1 && slice_index d.awaits h == 0) ≡ b
-      → Stands size d.holds d.awaits d.bytes (if b then d.line ++ record { host = h; upgrade = true; access = 3 } ∷ [] else d.line) (record { host = h; effect = TakenUp (Unlocking access) } ∷ past)
+      → DirectoryStands size d.holds d.awaits d.bytes (if b then d.line ++ record { host = h; upgrade = true; access = 3 } ∷ [] else d.line) (record { host = h; effect = TakenUp (Unlocking access) } ∷ past)
   by_case true is = let f = joins (slice_index d.holds h) (slice_index d.awaits h) is in after_upgrade size h access d past s lt (none f.0 f.1) f.0 f.1
   by_case false is = after_same size h (TakenUp (Unlocking access)) d.holds d.awaits d.bytes d.bytes d.line past s refl refl (stays (side h past).holds (side h past).awaits (slice_index d.holds h) (slice_index d.awaits h) (line past) record { host = h; upgrade = true; access = 3 } (s.same_holds h) (s.same_awaits h) is) s.same_bytes
 
@@ -296,14 +296,14 @@ upgrade_apart holds h (w ∷ ws) reads none = by_case (counts holds w) refl (upg
     not_counted : (w : Wanting) (a : ℕ) → w.upgrade ≡ true → a ≡ 1 → (if w.upgrade then a == 1 else true) ≡ false → ⊥
     not_counted w a up one is = grind (arith, nat_tests)
 
-pub request_taken : (size h control access : ℕ) (d : Directory) (past : List Act) → StandsFor size d past → h < 8 → NoRequest h (line past) → StandsFor size (requested h access d) (taken h (Asking control access) ∷ past)
+pub request_taken : (size h control access : ℕ) (d : Directory) (past : List Act) → StandsFor size d past → h < 8 → NoRequest h (line past) → StandsFor size (requested h access d) (taking_act h (Asking control access) ∷ past)
 request_taken size h control access d past s lt none = after_request size h control access d past s lt (request_apart d.holds h d.line (subst (λ (l : List Wanting). NoRequest h l) s.same_line none))
 
-pub unlock_taken : (size h access : ℕ) (d : Directory) (past : List Act) → StandsFor size d past → h < 8 → NoUpgrade h (line past) → StandsFor size (unlocked h d) (taken h (Unlocking access) ∷ past)
+pub unlock_taken : (size h access : ℕ) (d : Directory) (past : List Act) → StandsFor size d past → h < 8 → NoUpgrade h (line past) → StandsFor size (unlocked h d) (taking_act h (Unlocking access) ∷ past)
 unlock_taken size h access d past s lt none = after_unlock size h access d past s lt (λ reads free. upgrade_apart d.holds h d.line reads (subst (λ (l : List Wanting). NoUpgrade h l) s.same_line none))
 
-pub completed_taken : (size h control count : ℕ) (d : Directory) (past : List Act) → StandsFor size d past → h < 8 → (0 < (side h past).awaits → (side h past).awaited_control ≡ control) → StandsFor size (finished h d) (taken h (Doing control count) ∷ past)
+pub completed_taken : (size h control count : ℕ) (d : Directory) (past : List Act) → StandsFor size d past → h < 8 → (0 < (side h past).awaits → (side h past).awaited_control ≡ control) → StandsFor size (finished h d) (taking_act h (Doing control count) ∷ past)
 completed_taken size h control count d past s lt mine = after_completed size h control count d past s lt (λ some. mine (subst (λ (n : ℕ). 0 < n) (sym (s.same_awaits h)) some))
 
-pub end_taken : (size h control : ℕ) (d : Directory) (past : List Act) → StandsFor size d past → h < 8 → (0 < (side h past).awaits → (side h past).awaited_control ≡ control) → StandsFor size (ended h d) (taken h (Ending control) ∷ past)
+pub end_taken : (size h control : ℕ) (d : Directory) (past : List Act) → StandsFor size d past → h < 8 → (0 < (side h past).awaits → (side h past).awaited_control ≡ control) → StandsFor size (ended h d) (taking_act h (Ending control) ∷ past)
 end_taken size h control d past s lt mine = after_end size h control d past s lt (λ some. mine (subst (λ (n : ℕ). 0 < n) (sym (s.same_awaits h)) some))

@@ -6,7 +6,7 @@ use Rattle.vm_model.specs.Words.{Act, Supplying, Locking, SentDown, TakenUp, UpW
 use Rattle.vm_model.specs.Side.{side}
 use Rattle.vm_model.specs.Server.{Wanting, line, kept, NoUpgrade, NoRequest}
 use Rattle.vm_model.specs.PageLicences.{Licensed}
-use Rattle.vm_model.specs.Coherence.{Served}
+use Rattle.vm_model.specs.Coherence.{SomebodyIsAwaited}
 use Rattle.sms_pages.specs.declared.reply.Reply.{Reply}
 use Rattle.sms_pages.specs.declared.reply.Reply.TheVariants.{Supply, Flush, CleanLock, Unlock}
 use Rattle.sms_pages.specs.Directory.{Directory, Outcome}
@@ -24,7 +24,7 @@ abbrev pub InTurn : List Wanting → Type 0
 InTurn [] = Unit {0}
 InTurn (w ∷ ws) = (w.host < most_hosts) × NoUpgrade w.host ws × (w.upgrade ≡ false → NoRequest w.host ws) × InTurn ws
 
-pub record Stands (size : ℕ) (holds awaits : List ℕ) (bytes : List ℕ) (wants : List Wanting) (past : List Act) : Type 0 where
+pub record DirectoryStands (size : ℕ) (holds awaits : List ℕ) (bytes : List ℕ) (wants : List Wanting) (past : List Act) : Type 0 where
   pub same_holds : (h : ℕ) → (side h past).holds ≡ slice_index holds h
   pub same_awaits : (h : ℕ) → (side h past).awaits ≡ slice_index awaits h
   pub same_line : line past ≡ counted holds wants
@@ -57,20 +57,20 @@ abbrev pub Hears : (ℕ → ℕ) → List Act → Type 0
 Hears heard past = (h : ℕ) → heard h ≡ (side h past).heard
 
 -- the past with the replies has a cause for each act, and what serving leaves stands for it
-pub record Follows (size : ℕ) (heard : ℕ → ℕ) (bytes : List ℕ) (s : Outcome) (past : List Act) : Type 0 where
+pub record ServingFollows (size : ℕ) (heard : ℕ → ℕ) (bytes : List ℕ) (s : Outcome) (past : List Act) : Type 0 where
   pub licensed : Licensed size (reply_acts heard s.replies ++ past)
-  pub stands : Stands size s.holds s.awaits bytes s.line (reply_acts heard s.replies ++ past)
+  pub stands : DirectoryStands size s.holds s.awaits bytes s.line (reply_acts heard s.replies ++ past)
 
 abbrev pub StandsFor : ℕ → Directory → List Act → Type 0
-StandsFor size d past = Stands size d.holds d.awaits d.bytes d.line past
+StandsFor size d past = DirectoryStands size d.holds d.awaits d.bytes d.line past
 
 -- each reply has its cause, the directory stands for the past with them, and where somebody still waits a host is
 -- awaited
 pub record IsAnswered (size : ℕ) (heard : ℕ → ℕ) (after : Directory) (replies : List Reply) (past : List Act) : Type 0 where
   pub licensed : Licensed size (reply_acts heard replies ++ past)
   pub stands : StandsFor size after (reply_acts heard replies ++ past)
-  pub served : Served (reply_acts heard replies ++ past)
+  pub served : SomebodyIsAwaited (reply_acts heard replies ++ past)
 
 -- the taking of a message of the host
-abbrev pub taken : ℕ → UpWord → Act
-taken h word = record { host = h; effect = TakenUp word }
+abbrev pub taking_act : ℕ → UpWord → Act
+taking_act h word = record { host = h; effect = TakenUp word }

@@ -7,7 +7,7 @@ ghost use Rattle.vm_model.specs.PageLicences.{Licensed};
 ghost use Rattle.sms_pages.specs.declared.reply.Reply.{Reply};
 ghost use Rattle.sms_pages.specs.Directory.{Directory, requested, unlocked, saved, finished, ended, IsNew, IsServed};
 ghost use Rattle.vm_model.specs.Server.{line, NoRequest, NoUpgrade};
-ghost use Rattle.sms_pages.specs.Stands.{StandsFor, Hears, IsAnswered, taken};
+ghost use Rattle.sms_pages.specs.Stands.{StandsFor, Hears, IsAnswered, taking_act};
 
 /// The law of a page's directory: where it stands for the history of its page, each message that the
 /// server takes leaves it standing for the history with that message, and each reply has its cause.
@@ -19,18 +19,18 @@ ghost use Rattle.sms_pages.specs.Stands.{StandsFor, Hears, IsAnswered, taken};
 pub fn directory_law()
     ensures begins { (size : ℕ) (d : Directory) → IsNew size d → StandsFor size d [] }
     ensures request { (size h control access : ℕ) (d : Directory) (past : List Act) → StandsFor size d past → h < most_hosts
-        → NoRequest h (line past) → StandsFor size (requested h access d) (taken h (Asking control access) ∷ past) }
+        → NoRequest h (line past) → StandsFor size (requested h access d) (taking_act h (Asking control access) ∷ past) }
     ensures unlock { (size h access : ℕ) (d : Directory) (past : List Act) → StandsFor size d past → h < most_hosts
-        → NoUpgrade h (line past) → StandsFor size (unlocked h d) (taken h (Unlocking access) ∷ past) }
+        → NoUpgrade h (line past) → StandsFor size (unlocked h d) (taking_act h (Unlocking access) ∷ past) }
     ensures returned { (size h : ℕ) (dirty keep : Bool) (bytes : List ℕ) (d : Directory) (past : List Act)
         → StandsFor size d past → h < most_hosts
-        → StandsFor size (saved h keep bytes d) (taken h (Returning dirty keep bytes) ∷ past) }
+        → StandsFor size (saved h keep bytes d) (taking_act h (Returning dirty keep bytes) ∷ past) }
     ensures completed { (size h control count : ℕ) (d : Directory) (past : List Act) → StandsFor size d past → h < most_hosts
         → (0 < (side h past).awaits → (side h past).awaited_control ≡ control)
-        → StandsFor size (finished h d) (taken h (Doing control count) ∷ past) }
+        → StandsFor size (finished h d) (taking_act h (Doing control count) ∷ past) }
     ensures gone { (size h control : ℕ) (d : Directory) (past : List Act) → StandsFor size d past → h < most_hosts
         → (0 < (side h past).awaits → (side h past).awaited_control ≡ control)
-        → StandsFor size (ended h d) (taken h (Ending control) ∷ past) }
+        → StandsFor size (ended h d) (taking_act h (Ending control) ∷ past) }
     ensures served { (size : ℕ) (heard : ℕ → ℕ) (changed after : Directory) (replies : List Reply) (past : List Act)
         → Licensed size past → StandsFor size changed past → Hears heard past → IsServed changed after replies
         → IsAnswered size heard after replies past }

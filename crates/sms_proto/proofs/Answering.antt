@@ -16,7 +16,7 @@ use Rattle.vm_model.specs.Server.{first, Wanting, line, kept}
 use Rattle.vm_model.specs.PagePart.{world_part}
 use Rattle.vm_model.specs.Channels.{up_queue, down_queue}
 use Rattle.vm_model.specs.PageLicences.{Licensed, Cause, SupplyRow}
-use Rattle.vm_model.specs.Coherence.{Done, StepsDone, Served, begins_step}
+use Rattle.vm_model.specs.Coherence.{Done, StepsDone, SomebodyIsAwaited, begins_step}
 use Rattle.vm_coherence.proofs.Law.{world, cause}
 use Rattle.vm_coherence.proofs.Protocol.{one_request, one_unlock, completed_awaited, ended_awaited}
 use Rattle.sms_pages.specs.declared.reply.Reply.{Reply}
@@ -24,7 +24,7 @@ use Rattle.sms_pages.specs.declared.reply.Reply.TheVariants as reply
 use Rattle.sms_pages.specs.Directory.{Directory, IsServed, IsSame, access_number}
 use Rattle.sms_pages.specs.Desk.{AllLong}
 use Rattle.std.specs.VecDeque.{deque_len, deque_capacity}
-use Rattle.sms_pages.specs.Stands.{Stands, StandsFor, IsAnswered, Hears, lock_number, reply_act, reply_acts, taken}
+use Rattle.sms_pages.specs.Stands.{DirectoryStands, StandsFor, IsAnswered, Hears, lock_number, reply_act, reply_acts, taking_act}
 use Rattle.sms_pages.proofs.Taken.{request_taken, unlock_taken, after_return, completed_taken, end_taken}
 use Rattle.sms_pages.proofs.Following.{serving}
 use Rattle.sms_proto.specs.declared.kernel.Kernel.{Kernel}
@@ -33,11 +33,11 @@ use Rattle.sms_proto.specs.declared.letter.Letter.TheVariants as letter
 use Rattle.sms_proto.specs.declared.letter.Order.{Order}
 use Rattle.sms_proto.specs.declared.letter.Order.TheVariants as order
 use Rattle.sms_proto.specs.Letters.{letter_word, order_word, letter_taken, order_sent, supply_lock}
-use Rattle.sms_proto.specs.Kernels.{Fits, Each, IsProper, IsWhole, IsPrompt, SamePage}
+use Rattle.sms_proto.specs.Kernels.{KernelFits, Each, IsProper, IsWholeOrder, IsPrompt, SamePage}
 use Rattle.vm_model.specs.declared.message.Channel.TheVariants.{Up}
 use Rattle.vm_model.specs.declared.event.Event.TheVariants.{Taken}
 use Rattle.sms_proto.specs.Steps.{taken_head, IsTaken}
-use Rattle.sms_proto.specs.Worlds.{Kept, Present, StandsAt, WorldStands, Answering, noted_by, heard_of, heard_in, reply_host, reply_order, HasPlaces, IsSupplied}
+use Rattle.sms_proto.specs.Worlds.{SameHostSide, Present, StandsAt, WorldStands, Answering, noted_by, heard_of, heard_in, reply_host, reply_order, HasPlaces, IsSupplied}
 use Rattle.sms_proto.proofs.Hosts.{kept_act, kept_wait, not_mine}
 use Rattle.sms_proto.proofs.Standing.{step_at, each_after, get_set_same, get_set_other}
 use Rattle.sms_proto.proofs.Seeing.{present_of}
@@ -62,7 +62,7 @@ letter_cause size h (letter.Return control keep bytes) past is = is
 letter_cause size h (letter.Completed control) past is = is
 letter_cause size h (letter.Terminate control) past is = is
 
-noted_stands : (size h : ℕ) (l : Letter) (d : Directory) (past : List Act) → Licensed size past → StepsDone past → StandsFor size d past → h < 8 → first (side h past).up ≡ Some (letter_word l) → StandsFor size (noted_by h l d) (taken h (letter_word l) ∷ past)
+noted_stands : (size h : ℕ) (l : Letter) (d : Directory) (past : List Act) → Licensed size past → StepsDone past → StandsFor size d past → h < 8 → first (side h past).up ≡ Some (letter_word l) → StandsFor size (noted_by h l d) (taking_act h (letter_word l) ∷ past)
 noted_stands size h (letter.Request control access) d past licensed steps s lt is = request_taken size h control (access_number access) d past s lt (one_request size h control (access_number access) past licensed is)
 noted_stands size h (letter.Unlock control) d past licensed steps s lt is = unlock_taken size h 3 d past s lt (one_unlock size h 3 past licensed steps is)
 noted_stands size h (letter.Return control keep bytes) d past licensed steps s lt is = after_return size h true keep bytes d past s lt
@@ -82,7 +82,7 @@ hears_each size ks history each g = one (slice_get ks g) (each g) where
   one None a = sym (ap (λ (s : Side). s.heard) a.nothing)
   one (Some k) p = subst (λ (n : ℕ). k.heard ≡ (side g (world_part n history)).heard) p.same_size (subst (λ (n : ℕ). k.heard ≡ (side n (world_part k.size history)).heard) p.same_host (sym p.fits.heard))
 
-pub kept_taken : (size g : ℕ) (host : HostId) (l : Letter) (past : List Event) → g ≢ host.0 → (side g (world_part size past)).step ≡ 0 → Kept size g past (letter_taken host l ∷ past)
+pub kept_taken : (size g : ℕ) (host : HostId) (l : Letter) (past : List Event) → g ≢ host.0 → (side g (world_part size past)).step ≡ 0 → SameHostSide size g past (letter_taken host l ∷ past)
 kept_taken size g host l past apart none =
     record {
       same_side = ap (λ (a : List Act). side g a) (taken_part size host l past) ∙ kept_act g host.0 (TakenUp (letter_word l)) (world_part size past) (λ is. apart (sym is)) none;
@@ -91,7 +91,7 @@ kept_taken size g host l past apart none =
       same_down = λ n. refl;
     }
 
-pub kept_sent : (size g : ℕ) (host : HostId) (control : ℕ) (o : Order) (past : List Event) → g ≢ host.0 → (side g (world_part size past)).step ≡ 0 → Kept size g past (order_sent host control o ∷ past)
+pub kept_sent : (size g : ℕ) (host : HostId) (control : ℕ) (o : Order) (past : List Event) → g ≢ host.0 → (side g (world_part size past)).step ≡ 0 → SameHostSide size g past (order_sent host control o ∷ past)
 kept_sent size g host control o past apart none =
     record {
       same_side = ap (λ (a : List Act). side g a) (sent_part size host control o past) ∙ kept_act g host.0 (SentDown control (order_word o)) (world_part size past) (λ is. apart (sym is)) none;
@@ -101,7 +101,7 @@ kept_sent size g host control o past apart none =
     }
 
 -- a letter is taken, and the line served
-pub answering_heard : (size h : ℕ) (ks : List Kernel) (d after : Directory) (replies : List Reply) (old new : List Event) (k m : Kernel) (l : Letter) (rest : List Letter) → h < length ks → slice_get ks h ≡ Some k → WorldStands size ks d old → k.up.items ≡ l ∷ rest → new ≡ letter_taken k.host l ∷ old → Fits new m → SamePage k m → IsServed (noted_by h l d) after replies → Answering size (set ks h m) after replies new
+pub answering_heard : (size h : ℕ) (ks : List Kernel) (d after : Directory) (replies : List Reply) (old new : List Event) (k m : Kernel) (l : Letter) (rest : List Letter) → h < length ks → slice_get ks h ≡ Some k → WorldStands size ks d old → k.up.items ≡ l ∷ rest → new ≡ letter_taken k.host l ∷ old → KernelFits new m → SamePage k m → IsServed (noted_by h l d) after replies → Answering size (set ks h m) after replies new
 answering_heard size h ks d after replies old new k m l rest within is w items added fits same served =
     record {
       answered = serving size (heard_in (set ks h m)) (noted_by h l d) after replies (world_part size new) licensed stands (hears_each size (set ks h m) new each) served;
@@ -116,8 +116,8 @@ answering_heard size h ks d after replies old new k m l rest within is w items a
       done : Done (world_part size old)
       done g = step_at size g old (slice_get ks g) (w.each g)
 
-      acts : world_part size new ≡ taken h (letter_word l) ∷ world_part size old
-      acts = ap (λ (e : List Event). world_part size e) added ∙ (taken_part size k.host l old ∙ ap (λ (n : ℕ). taken n (letter_word l) ∷ world_part size old) p.same_host)
+      acts : world_part size new ≡ taking_act h (letter_word l) ∷ world_part size old
+      acts = ap (λ (e : List Event). world_part size e) added ∙ (taken_part size k.host l old ∙ ap (λ (n : ℕ). taking_act n (letter_word l) ∷ world_part size old) p.same_host)
 
       front : first (side h (world_part size old)).up ≡ Some (letter_word l)
       front = subst (λ (n : ℕ). first (side h (world_part n old)).up ≡ Some (letter_word l)) p.same_size (subst (λ (n : ℕ). first (side n (world_part k.size old)).up ≡ Some (letter_word l)) p.same_host (ap (λ (q : List UpWord). first q) p.fits.up ∙ first_word k.up.items rest l items))
@@ -132,7 +132,7 @@ answering_heard size h ks d after replies old new k m l rest within is w items a
       proper = subst (λ (n : ℕ). IsProper n k.control l) p.same_size (subst (λ (q : List Letter). Each (IsProper k.size k.control) q) items p.fits.proper).0
 
       each : (g : ℕ) → StandsAt size g new (slice_get (set ks h m) g)
-      each = each_after size ks h m old new within w.each (λ g apart. subst (λ (e : List Event). Kept size g old e) (sym added) (kept_taken size g k.host l old (λ e. apart (e ∙ p.same_host)) (done g)))
+      each = each_after size ks h m old new within w.each (λ g apart. subst (λ (e : List Event). SameHostSide size g old e) (sym added) (kept_taken size g k.host l old (λ e. apart (e ∙ p.same_host)) (done g)))
           (record { same_host = ap (λ (x : HostId). x.0) same.same_host ∙ p.same_host; same_size = same.same_size ∙ p.same_size; fits = fits; prompt = prompt_same k m same p.prompt })
 
 -- a reply is sent
@@ -197,7 +197,7 @@ reply_part size heard r k past host hears licensed =
       one (reply.CleanLock host) l = refl
       one (reply.Unlock host) l = refl
 
-pub reply_whole : (size : ℕ) (heard : ℕ → ℕ) (r : Reply) (past : List Act) (bytes : List ℕ) → Licensed size (reply_act heard r ∷ past) → kept size past ≡ bytes → length bytes ≡ size → IsWhole size (reply_order r)
+pub reply_whole : (size : ℕ) (heard : ℕ → ℕ) (r : Reply) (past : List Act) (bytes : List ℕ) → Licensed size (reply_act heard r ∷ past) → kept size past ≡ bytes → length bytes ≡ size → IsWholeOrder size (reply_order r)
 reply_whole size heard (reply.Supply host lock supplied) past bytes l same long = ap (λ (b : List ℕ). length b) (l.0.3 ∙ same) ∙ long
 reply_whole size heard (reply.Flush host) past bytes l same long = tt
 reply_whole size heard (reply.CleanLock host) past bytes l same long = tt
@@ -209,12 +209,12 @@ heard_set ks h k m within is same g = elim (ℕ_discrete g h) [
   | no e ↦ ap heard_of (get_set_other ks h g m e)
 ]
 
-pub answering_sent : (size h : ℕ) (ks : List Kernel) (d : Directory) (rest : List Reply) (r : Reply) (old new : List Event) (k m : Kernel) → h < length ks → slice_get ks h ≡ Some k → h ≡ (reply_host r).0 → Answering size ks d (rest ++ r ∷ []) old → new ≡ order_sent k.host k.heard (reply_order r) ∷ old → Fits new m → SamePage k m → m.heard ≡ k.heard → Answering size (set ks h m) d rest new
+pub answering_sent : (size h : ℕ) (ks : List Kernel) (d : Directory) (rest : List Reply) (r : Reply) (old new : List Event) (k m : Kernel) → h < length ks → slice_get ks h ≡ Some k → h ≡ (reply_host r).0 → Answering size ks d (rest ++ r ∷ []) old → new ≡ order_sent k.host k.heard (reply_order r) ∷ old → KernelFits new m → SamePage k m → m.heard ≡ k.heard → Answering size (set ks h m) d rest new
 answering_sent size h ks d rest r old new k m within is mine a added fits same heard =
     record {
       answered = subst (λ (f : ℕ → ℕ). IsAnswered size f d rest (world_part size new)) (λ i g. sym (heard_set ks h k m within is heard g) i) answered;
       steps = subst (λ (l : List Act). StepsDone l) (sym acts) (none r, a.steps);
-      each = each_after size ks h m old new within a.each (λ g apart. subst (λ (e : List Event). Kept size g old e) (sym added) (kept_sent size g k.host k.heard (reply_order r) old (λ e. apart (e ∙ p.same_host)) (step_at size g old (slice_get ks g) (a.each g))))
+      each = each_after size ks h m old new within a.each (λ g apart. subst (λ (e : List Event). SameHostSide size g old e) (sym added) (kept_sent size g k.host k.heard (reply_order r) old (λ e. apart (e ∙ p.same_host)) (step_at size g old (slice_get ks g) (a.each g))))
           (record { same_host = ap (λ (x : HostId). x.0) same.same_host ∙ p.same_host; same_size = same.same_size ∙ p.same_size; fits = fits; prompt = prompt_same k m same p.prompt });
       few = omega (arith, a.few, length-set {A = Kernel} ks h m);
       long = a.long;
@@ -239,7 +239,7 @@ answering_sent size h ks d rest r old new k m within is mine a added fits same h
           record {
             licensed = subst (λ (l : List Act). Licensed size l) moved a.answered.licensed;
             stands = subst (λ (l : List Act). StandsFor size d l) moved a.answered.stands;
-            served = subst (λ (l : List Act). Served l) moved a.answered.served;
+            served = subst (λ (l : List Act). SomebodyIsAwaited l) moved a.answered.served;
           }
 
       none : (r : Reply) → begins_step (reply_act (heard_in ks) r).effect ≡ true → Done (world_part size old)
@@ -263,13 +263,13 @@ answering_none size ks d history a =
 
 -- the pages at hand
 
-pub supplied_long : (size : ℕ) (o : Order) (pages : List (List ℕ)) → IsWhole size o → AllLong size pages → IsSupplied o pages
+pub supplied_long : (size : ℕ) (o : Order) (pages : List (List ℕ)) → IsWholeOrder size o → AllLong size pages → IsSupplied o pages
 supplied_long size (order.Supply writes bytes) pages whole long = subst (λ (n : ℕ). AllLong n pages) (sym whole) long
 supplied_long size order.Flush pages whole long = tt
 supplied_long size order.Clean pages whole long = tt
 supplied_long size order.Unlock pages whole long = tt
 
-pub answer_whole : (size : ℕ) (ks : List Kernel) (d : Directory) (rest : List Reply) (r : Reply) (history : List Event) → Answering size ks d (rest ++ r ∷ []) history → IsWhole size (reply_order r)
+pub answer_whole : (size : ℕ) (ks : List Kernel) (d : Directory) (rest : List Reply) (r : Reply) (history : List Event) → Answering size ks d (rest ++ r ∷ []) history → IsWholeOrder size (reply_order r)
 answer_whole size ks d rest r history a = reply_whole size (heard_in ks) r (world_part size history) d.bytes (oldest_licensed size ks d rest r history a) (kept_acts (rest ++ r ∷ []) ∙ a.answered.stands.same_bytes) a.long where
   kept_acts : (rs : List Reply) → kept size (world_part size history) ≡ kept size (reply_acts (heard_in ks) rs ++ world_part size history)
   kept_acts [] = refl
@@ -301,7 +301,7 @@ set_places_below n i ks m within places own g k lt is = elim (ℕ_discrete g i) 
 ]
 
 -- a host whose room alone changes
-pub set_same : (size : ℕ) (history : List Event) (ks : List Kernel) (h : ℕ) (k m : Kernel) → h < length ks → slice_get ks h ≡ Some k → ((e : List Event) → Fits e k → Fits e m) → SamePage k m → ((g : ℕ) → StandsAt size g history (slice_get ks g)) → (g : ℕ) → StandsAt size g history (slice_get (set ks h m) g)
+pub set_same : (size : ℕ) (history : List Event) (ks : List Kernel) (h : ℕ) (k m : Kernel) → h < length ks → slice_get ks h ≡ Some k → ((e : List Event) → KernelFits e k → KernelFits e m) → SamePage k m → ((g : ℕ) → StandsAt size g history (slice_get ks g)) → (g : ℕ) → StandsAt size g history (slice_get (set ks h m) g)
 set_same size history ks h k m within is fits same each g = elim (ℕ_discrete g h) [
   | yes e ↦ subst (λ (n : ℕ). StandsAt size n history (slice_get (set ks h m) n)) (sym e) (subst (λ (o : Option Kernel). StandsAt size h history o) (sym (get_set_same ks h m within)) own)
   | no e ↦ subst (λ (o : Option Kernel). StandsAt size g history o) (sym (get_set_other ks h g m e)) (each g)
@@ -319,10 +319,10 @@ stands_reserved size ks d e history same w =
       licensed = w.licensed;
       steps = w.steps;
       served = w.served;
-      noted = subst (λ (x : List ℕ). Stands size x e.awaits e.bytes e.line (world_part size history)) (sym same.holds)
-          (subst (λ (x : List ℕ). Stands size d.holds x e.bytes e.line (world_part size history)) (sym same.awaits)
-          (subst (λ (x : List ℕ). Stands size d.holds d.awaits x e.line (world_part size history)) (sym same.bytes)
-          (subst (λ (x : List Wanting). Stands size d.holds d.awaits d.bytes x (world_part size history)) (sym same.line) w.noted)));
+      noted = subst (λ (x : List ℕ). DirectoryStands size x e.awaits e.bytes e.line (world_part size history)) (sym same.holds)
+          (subst (λ (x : List ℕ). DirectoryStands size d.holds x e.bytes e.line (world_part size history)) (sym same.awaits)
+          (subst (λ (x : List ℕ). DirectoryStands size d.holds d.awaits x e.line (world_part size history)) (sym same.bytes)
+          (subst (λ (x : List Wanting). DirectoryStands size d.holds d.awaits d.bytes x (world_part size history)) (sym same.line) w.noted)));
       each = w.each;
       few = w.few;
       long = ap (λ (b : List ℕ). length b) same.bytes ∙ w.long;

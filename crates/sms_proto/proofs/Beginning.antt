@@ -1,7 +1,7 @@
 -- A kernel that begins an access.
 use Rattle.std.proofs.Common.{◌≡◌, ◌≢◌, ◌≤◌, ◌+◌, ◌%◌, ◌∙◌, ℕ, List, [], ◌∷◌, Bool, true, false, if◌then◌else◌, Option, Some, None, arith, refl, ap, sym, map}
 use Rattle.vm_model.specs.declared.event.Event.{Event}
-use Rattle.vm_model.specs.Words.{Act, Effect, Begins, Opens}
+use Rattle.vm_model.specs.Words.{Act, ActEffect, Begins, Opens}
 use Rattle.vm_model.specs.Side.{Side, side, opened}
 use Rattle.vm_model.specs.Waiters.{waiters, waiters_after}
 use Rattle.vm_model.specs.PagePart.{world_part}
@@ -12,7 +12,7 @@ use Rattle.sms_proto.specs.declared.kernel.Want.{Want}
 use Rattle.sms_proto.specs.declared.letter.Letter.{Letter}
 use Rattle.sms_proto.specs.declared.letter.Letter.TheVariants as letter
 use Rattle.sms_proto.specs.Letters.{order_message, order_word}
-use Rattle.sms_proto.specs.Kernels.{Fits, Each, IsProper, seen, waiting}
+use Rattle.sms_proto.specs.Kernels.{KernelFits, Each, IsProper, seen, waiting}
 use Rattle.sms_proto.specs.Steps.{begun_event}
 
 abbrev pub begins : ℕ → ℕ → Bool → ℕ → Act
@@ -49,10 +49,10 @@ zero_at size = omega arith
 
 begun_waits : (size h value : ℕ) (store : Bool) (acts : List Act) → waiters h acts ≡ [] → waiters h (begins size h store value ∷ acts) ≡ record { task = h; store = store; at = 0; size = 8; value = value } ∷ []
 begun_waits size h value store acts none =
-    ap (λ (e : Effect). waiters_after e (waiters h acts)) (own_effect (begins size h store value)) ∙ (ap (λ (n : ℕ). record { task = h; store = store; at = n; size = 8; value = value } ∷ waiters h acts) (zero_at size) ∙ ap (λ ws. record { task = h; store = store; at = 0; size = 8; value = value } ∷ ws) none)
+    ap (λ (e : ActEffect). waiters_after e (waiters h acts)) (own_effect (begins size h store value)) ∙ (ap (λ (n : ℕ). record { task = h; store = store; at = n; size = 8; value = value } ∷ waiters h acts) (zero_at size) ∙ ap (λ ws. record { task = h; store = store; at = 0; size = 8; value = value } ∷ ws) none)
 
 -- a kernel to which nothing happens but that another access waits
-pub fits_same : (old new : List Event) (k : Kernel) (w : Option Want) → seen new k ≡ seen old k → waiters k.host.0 (world_part k.size new) ≡ waiting k.host.0 w → up_queue k.host.0 0 new ≡ up_queue k.host.0 0 old → ((n : ℕ) → down_queue k.host.0 0 n new ≡ down_queue k.host.0 0 n old) → (k.asked ≡ true → w ≢ None) → Fits old k → Fits new (record k { want = w })
+pub fits_same : (old new : List Event) (k : Kernel) (w : Option Want) → seen new k ≡ seen old k → waiters k.host.0 (world_part k.size new) ≡ waiting k.host.0 w → up_queue k.host.0 0 new ≡ up_queue k.host.0 0 old → ((n : ℕ) → down_queue k.host.0 0 n new ≡ down_queue k.host.0 0 n old) → (k.asked ≡ true → w ≢ None) → KernelFits old k → KernelFits new (record k { want = w })
 fits_same old new k w same waits sent down asked f =
     record {
       control = ap (λ (t : Side). t.control) same ∙ f.control;
@@ -85,7 +85,7 @@ fits_same old new k w same waits sent down asked f =
       front = f.front;
     }
 
-pub fits_begun : (history : List Event) (k : Kernel) (want : Want) → Fits history k → k.live ≡ true → k.want ≡ None → (want.store ≡ false → want.value ≡ 0) → Fits (begun_event k.host.0 want.store want.value ∷ history) (record k { want = Some want })
+pub fits_begun : (history : List Event) (k : Kernel) (want : Want) → KernelFits history k → k.live ≡ true → k.want ≡ None → (want.store ≡ false → want.value ≡ 0) → KernelFits (begun_event k.host.0 want.store want.value ∷ history) (record k { want = Some want })
 fits_begun history k want f live idle plain =
     fits_same history (begun_event k.host.0 want.store want.value ∷ history) k (Some want)
     (ap (λ (l : List Act). side k.host.0 l) part ∙ own_side (begins k.size k.host.0 want.store want.value) (world_part k.size history))
@@ -108,7 +108,7 @@ proper_later size m n (l ∷ ls) le each = (one l each.0, proper_later size m n 
   one (letter.Terminate control) p = tt
 
 -- a new control of a host that had none
-pub fits_anew : (history : List Event) (k : Kernel) (want : Want) (next : ℕ) → Fits history k → k.live ≡ false → next ≡ k.control + 1 → k.want ≡ None → (want.store ≡ false → want.value ≡ 0) → Fits (begun_event k.host.0 want.store want.value ∷ history) (record k { control = next; live = true; want = Some want })
+pub fits_anew : (history : List Event) (k : Kernel) (want : Want) (next : ℕ) → KernelFits history k → k.live ≡ false → next ≡ k.control + 1 → k.want ≡ None → (want.store ≡ false → want.value ≡ 0) → KernelFits (begun_event k.host.0 want.store want.value ∷ history) (record k { control = next; live = true; want = Some want })
 fits_anew history k want next f gone is idle plain =
     record {
       control = ap (λ (t : Side). t.control) now ∙ (ap (λ (n : ℕ). n + 1) f.control ∙ sym is);
@@ -147,4 +147,4 @@ fits_anew history k want next f gone is idle plain =
       now = ap (λ (l : List Act). side k.host.0 l) part ∙ (own_side (begins k.size k.host.0 want.store want.value) (opens k.host.0 (seen history k).control ∷ world_part k.size history) ∙ own_side (opens k.host.0 (seen history k).control) (world_part k.size history))
 
       others_wait : waiters k.host.0 (opens k.host.0 (seen history k).control ∷ world_part k.size history) ≡ waiters k.host.0 (world_part k.size history)
-      others_wait = ap (λ (e : Effect). waiters_after e (waiters k.host.0 (world_part k.size history))) (own_effect (opens k.host.0 (seen history k).control))
+      others_wait = ap (λ (e : ActEffect). waiters_after e (waiters k.host.0 (world_part k.size history))) (own_effect (opens k.host.0 (seen history k).control))

@@ -7,8 +7,8 @@ use Rattle.vm_model.specs.declared.message.Message.{Message}
 use Rattle.vm_model.specs.declared.message.Message.TheVariants as message
 use Rattle.vm_model.specs.declared.event.Event.{Event}
 use Rattle.vm_model.specs.declared.event.Event.TheVariants as event
-use Rattle.vm_model.specs.Words.{Act, UpWord, DownWord, Effect, Opens, SendsUp, TakenUp, SentDown, TakesDown, Drops, Begins, Loads, Stores, StepBegins, Nothing, down_word, sent_effect, to_others, act_of}
-use Rattle.vm_model.specs.Side.{Side, side, move, hears, reaches, sent_up}
+use Rattle.vm_model.specs.Words.{Act, UpWord, DownWord, ActEffect, Opens, SendsUp, TakenUp, SentDown, TakesDown, Drops, Begins, Loads, Stores, StepBegins, Nothing, down_word, sent_effect, to_others, act_of}
+use Rattle.vm_model.specs.Side.{Side, side, side_after, hears, reaches, sent_up}
 use Rattle.vm_model.specs.Waiters.{Waiter, waiters, waiters_after}
 use Rattle.vm_model.specs.Server.{Wanting, line, joined, kept, kept_after, trimmed_line}
 use Rattle.vm_model.specs.Channels.{up_queue, down_queue}
@@ -18,17 +18,17 @@ use Rattle.vm_coherence.proofs.Law.{other_effect, other_side}
 use Rattle.sms_pages.specs.Directory.{Directory}
 use Rattle.sms_pages.specs.Stands.{StandsFor}
 use Rattle.sms_pages.proofs.Facts.{holds_kept, awaits_kept, counted_same}
-use Rattle.sms_proto.specs.Worlds.{Kept, Moved}
+use Rattle.sms_proto.specs.Worlds.{Moved, SameHostSide}
 use Rattle.sms_proto.specs.Adds.{Adds, Same, More, HostDoes}
 
 -- acts
 
-abbrev pub is_own : Effect → Bool
+abbrev pub is_own : ActEffect → Bool
 is_own (TakenUp word) = false
 is_own (SentDown control word) = false
 is_own e = true
 
-own_holds : (e : Effect) (s : Side) → is_own e ≡ true → (move s e).holds ≡ s.holds
+own_holds : (e : ActEffect) (s : Side) → is_own e ≡ true → (side_after s e).holds ≡ s.holds
 own_holds (TakenUp word) s own = absurd (cc)
 own_holds (SentDown control word) s own = absurd (cc)
 own_holds (SendsUp control word) s own = sends word s where
@@ -39,7 +39,7 @@ own_holds (TakesDown control word) s own = takes word s (reaches s control) wher
   takes w s b = grind arith
 own_holds e s own = refl
 
-own_awaits : (e : Effect) (s : Side) → is_own e ≡ true → (move s e).awaits ≡ s.awaits
+own_awaits : (e : ActEffect) (s : Side) → is_own e ≡ true → (side_after s e).awaits ≡ s.awaits
 own_awaits (TakenUp word) s own = absurd (cc)
 own_awaits (SentDown control word) s own = absurd (cc)
 own_awaits (SendsUp control word) s own = sends word s where
@@ -50,17 +50,17 @@ own_awaits (TakesDown control word) s own = takes word s (reaches s control) whe
   takes w s b = grind arith
 own_awaits e s own = refl
 
-own_joins : (e : Effect) (s : Side) (h : ℕ) (ws : List Wanting) → is_own e ≡ true → joined s h e ws ≡ ws
+own_joins : (e : ActEffect) (s : Side) (h : ℕ) (ws : List Wanting) → is_own e ≡ true → joined s h e ws ≡ ws
 own_joins (TakenUp word) s h ws own = absurd (cc)
 own_joins (SentDown control word) s h ws own = absurd (cc)
 own_joins e s h ws own = refl
 
-own_keeps : (e : Effect) (page : List ℕ) → is_own e ≡ true → kept_after e page ≡ page
+own_keeps : (e : ActEffect) (page : List ℕ) → is_own e ≡ true → kept_after e page ≡ page
 own_keeps (TakenUp word) page own = absurd (cc)
 own_keeps (SentDown control word) page own = absurd (cc)
 own_keeps e page own = refl
 
-pub stands_act : (size h : ℕ) (e : Effect) (d : Directory) (past : List Act) → is_own e ≡ true → StandsFor size d past → StandsFor size d (record { host = h; effect = e } ∷ past)
+pub stands_act : (size h : ℕ) (e : ActEffect) (d : Directory) (past : List Act) → is_own e ≡ true → StandsFor size d past → StandsFor size d (record { host = h; effect = e } ∷ past)
 stands_act size h e d past own s =
     record {
       same_holds = holds_kept h e d.holds past (own_holds e (side h past) own) s.same_holds;
@@ -75,30 +75,30 @@ stands_act size h e d past own s =
       writing = s.writing;
     }
 
-idle_others : (e : Effect) (s : Side) → s.step ≡ 0 → move s (to_others e) ≡ s
+idle_others : (e : ActEffect) (s : Side) → s.step ≡ 0 → side_after s (to_others e) ≡ s
 idle_others (TakenUp word) s none = ap (λ (n : ℕ). record s { step = n }) (sym none)
 idle_others (TakesDown control word) s none = ap (λ (n : ℕ). record s { step = n }) (sym none)
 idle_others StepBegins s none = ap (λ (n : ℕ). record s { step = n }) (sym none)
 idle_others e s none = refl
 
-others_wait : (e : Effect) (ws : List Waiter) → waiters_after (to_others e) ws ≡ ws
+others_wait : (e : ActEffect) (ws : List Waiter) → waiters_after (to_others e) ws ≡ ws
 others_wait (TakenUp word) ws = refl
 others_wait (TakesDown control word) ws = refl
 others_wait StepBegins ws = refl
 others_wait e ws = refl
 
-pub kept_act : (g h : ℕ) (e : Effect) (past : List Act) → h ≢ g → (side g past).step ≡ 0 → side g (record { host = h; effect = e } ∷ past) ≡ side g past
+pub kept_act : (g h : ℕ) (e : ActEffect) (past : List Act) → h ≢ g → (side g past).step ≡ 0 → side g (record { host = h; effect = e } ∷ past) ≡ side g past
 kept_act g h e past apart none = other_side g (record { host = h; effect = e }) past apart ∙ idle_others e (side g past) none
 
-pub kept_wait : (g h : ℕ) (e : Effect) (past : List Act) → h ≢ g → waiters g (record { host = h; effect = e } ∷ past) ≡ waiters g past
-kept_wait g h e past apart = ap (λ (x : Effect). waiters_after x (waiters g past)) (other_effect g (record { host = h; effect = e }) apart) ∙ others_wait e (waiters g past)
+pub kept_wait : (g h : ℕ) (e : ActEffect) (past : List Act) → h ≢ g → waiters g (record { host = h; effect = e } ∷ past) ≡ waiters g past
+kept_wait g h e past apart = ap (λ (x : ActEffect). waiters_after x (waiters g past)) (other_effect g (record { host = h; effect = e }) apart) ∙ others_wait e (waiters g past)
 
 -- events
 
-pub kept_none : (size g : ℕ) (old : List Event) → Kept size g old old
+pub kept_none : (size g : ℕ) (old : List Event) → SameHostSide size g old old
 kept_none size g old = record { same_side = refl; same_waits = refl; same_up = refl; same_down = λ n. refl }
 
-pub kept_more : (size g : ℕ) (old middle new : List Event) → Kept size g old middle → Kept size g middle new → Kept size g old new
+pub kept_more : (size g : ℕ) (old middle new : List Event) → SameHostSide size g old middle → SameHostSide size g middle new → SameHostSide size g old new
 kept_more size g old middle new a b =
     record {
       same_side = b.same_side ∙ a.same_side;
@@ -132,11 +132,11 @@ pub away : (a g h : ℕ) → a ≡ h → g ≢ h → a ≢ g
 away a g h own apart is = apart (sym is ∙ own)
 
 -- a beginning, with or without a new control
-begun_side : (g h : ℕ) (e : Effect) (control : ℕ) (live : Bool) (past : List Act) → h ≢ g → (side g past).step ≡ 0 → side g (record { host = h; effect = e } ∷ (if live then past else record { host = h; effect = Opens control true } ∷ past)) ≡ side g past
+begun_side : (g h : ℕ) (e : ActEffect) (control : ℕ) (live : Bool) (past : List Act) → h ≢ g → (side g past).step ≡ 0 → side g (record { host = h; effect = e } ∷ (if live then past else record { host = h; effect = Opens control true } ∷ past)) ≡ side g past
 begun_side g h e control true past apart none = kept_act g h e past apart none
 begun_side g h e control false past apart none = kept_act g h e (record { host = h; effect = Opens control true } ∷ past) apart (ap (λ (s : Side). s.step) (kept_act g h (Opens control true) past apart none) ∙ none) ∙ kept_act g h (Opens control true) past apart none
 
-begun_wait : (g h : ℕ) (e : Effect) (control : ℕ) (live : Bool) (past : List Act) → h ≢ g → waiters g (record { host = h; effect = e } ∷ (if live then past else record { host = h; effect = Opens control true } ∷ past)) ≡ waiters g past
+begun_wait : (g h : ℕ) (e : ActEffect) (control : ℕ) (live : Bool) (past : List Act) → h ≢ g → waiters g (record { host = h; effect = e } ∷ (if live then past else record { host = h; effect = Opens control true } ∷ past)) ≡ waiters g past
 begun_wait g h e control true past apart = kept_wait g h e past apart
 begun_wait g h e control false past apart = kept_wait g h e (record { host = h; effect = Opens control true } ∷ past) apart ∙ kept_wait g h (Opens control true) past apart
 
@@ -144,11 +144,11 @@ begun_wait g h e control false past apart = kept_wait g h e (record { host = h; 
 abbrev pub event_act : ℕ → Event → Act
 event_act size e = act_of size 0 0 (λ task. task) (λ task address. true) (λ host object page. []) e
 
-abbrev pub is_beginning : Effect → Bool
+abbrev pub is_beginning : ActEffect → Bool
 is_beginning (Begins task store at size value) = true
 is_beginning e = false
 
-no_opening : (s : Side) (h : ℕ) (e : Effect) (past : List Act) → is_beginning e ≡ false → with_control s h e past ≡ past
+no_opening : (s : Side) (h : ℕ) (e : ActEffect) (past : List Act) → is_beginning e ≡ false → with_control s h e past ≡ past
 no_opening s h (Begins task store at size value) past plain = absurd (cc)
 no_opening s h e past plain = refl
 
@@ -165,7 +165,7 @@ took_own : (b : Bool) (control : ℕ) (w : DownWord) → is_own (if b then Takes
 took_own true control w = refl
 took_own false control w = refl
 
-own_if : (b : Bool) (e : Effect) → is_own e ≡ true → is_own (if b then e else Nothing) ≡ true
+own_if : (b : Bool) (e : ActEffect) → is_own e ≡ true → is_own (if b then e else Nothing) ≡ true
 own_if true e own = own
 own_if false e own = refl
 
@@ -179,7 +179,7 @@ took_plain : (b : Bool) (control : ℕ) (w : DownWord) → is_beginning (if b th
 took_plain true control w = refl
 took_plain false control w = refl
 
-plain_if : (b : Bool) (e : Effect) → is_beginning e ≡ false → is_beginning (if b then e else Nothing) ≡ false
+plain_if : (b : Bool) (e : ActEffect) → is_beginning e ≡ false → is_beginning (if b then e else Nothing) ≡ false
 plain_if true e plain = plain
 plain_if false e plain = refl
 
@@ -219,7 +219,7 @@ kept_down size g h (event.Taken (Up host object) m) past own apart n = absurd ow
 kept_down size g h (event.Sent (Down host object control) m) past own apart n = absurd own
 kept_down size g h e past own apart n = refl
 
-pub kept_event : (size g h : ℕ) (e : Event) (past : List Event) → IsHosts h e → g ≢ h → (side g (world_part size past)).step ≡ 0 → Kept size g past (e ∷ past)
+pub kept_event : (size g h : ℕ) (e : Event) (past : List Event) → IsHosts h e → g ≢ h → (side g (world_part size past)).step ≡ 0 → SameHostSide size g past (e ∷ past)
 kept_event size g h e past own apart none =
     record {
       same_side = ap (λ (l : List Act). side g l) (plain_part size e past (hosts_plain size h e own)) ∙ kept_act g (event_act size e).host (event_act size e).effect (world_part size past) (away (event_act size e).host g h (hosts_act size h e own) apart) none;
@@ -237,7 +237,7 @@ sent_step true (message.Create control size) = refl
 sent_step true m = refl
 sent_step false m = refl
 
-step_if : (b : Bool) (e : Effect) → begins_step e ≡ false → begins_step (if b then e else Nothing) ≡ false
+step_if : (b : Bool) (e : ActEffect) → begins_step e ≡ false → begins_step (if b then e else Nothing) ≡ false
 step_if true e none = none
 step_if false e none = refl
 
@@ -257,11 +257,11 @@ steps_event size h e past own s = subst (λ (l : List Act). StepsDone l) (sym (p
 
 -- the beginning of an access
 
-begun_stands : (size h : ℕ) (e : Effect) (control : ℕ) (live : Bool) (d : Directory) (past : List Act) → is_own e ≡ true → StandsFor size d past → StandsFor size d (record { host = h; effect = e } ∷ (if live then past else record { host = h; effect = Opens control true } ∷ past))
+begun_stands : (size h : ℕ) (e : ActEffect) (control : ℕ) (live : Bool) (d : Directory) (past : List Act) → is_own e ≡ true → StandsFor size d past → StandsFor size d (record { host = h; effect = e } ∷ (if live then past else record { host = h; effect = Opens control true } ∷ past))
 begun_stands size h e control true d past own s = stands_act size h e d past own s
 begun_stands size h e control false d past own s = stands_act size h e d (record { host = h; effect = Opens control true } ∷ past) own (stands_act size h (Opens control true) d past refl s)
 
-begun_steps : (h : ℕ) (e : Effect) (control : ℕ) (live : Bool) (past : List Act) → begins_step e ≡ false → StepsDone past → StepsDone (record { host = h; effect = e } ∷ (if live then past else record { host = h; effect = Opens control true } ∷ past))
+begun_steps : (h : ℕ) (e : ActEffect) (control : ℕ) (live : Bool) (past : List Act) → begins_step e ≡ false → StepsDone past → StepsDone (record { host = h; effect = e } ∷ (if live then past else record { host = h; effect = Opens control true } ∷ past))
 begun_steps h e control true past none s = (λ b. absurd (no_step (begins_step e) none b), s)
 begun_steps h e control false past none s = (λ b. absurd (no_step (begins_step e) none b), (λ b. absurd (cc), s))
 

@@ -4,7 +4,7 @@ use Rattle.std.proofs.lemmas.Bool.Decides.{nat_tests}
 use Rattle.vm_base.specs.declared.ids.HostId.{HostId}
 use Rattle.vm_model.specs.declared.message.Message.{Message}
 use Rattle.vm_model.specs.declared.event.Event.{Event}
-use Rattle.vm_model.specs.Words.{Act, Effect, DownWord, TakenUp, SentDown}
+use Rattle.vm_model.specs.Words.{Act, ActEffect, DownWord, TakenUp, SentDown}
 use Rattle.vm_model.specs.Side.{Side, side, rest, taken_up, sent_down, reaches}
 use Rattle.vm_model.specs.Waiters.{waiters, waiters_after}
 use Rattle.vm_model.specs.PagePart.{world_part}
@@ -16,7 +16,7 @@ use Rattle.sms_proto.specs.declared.letter.Letter.TheVariants as letter
 use Rattle.sms_proto.specs.declared.letter.Order.{Order}
 use Rattle.sms_proto.specs.declared.letter.Order.TheVariants as order
 use Rattle.sms_proto.specs.Letters.{letter_message, letter_word, order_message, order_word, letter_taken, order_sent, heard_by}
-use Rattle.sms_proto.specs.Kernels.{Fits, Each, IsProper, IsWhole, seen}
+use Rattle.sms_proto.specs.Kernels.{KernelFits, Each, IsProper, IsWholeOrder, seen}
 use Rattle.sms_proto.proofs.Queues.{map_end, each_end}
 
 record SameHost (s t : Side) : Type 0 where
@@ -46,9 +46,9 @@ record Mailed (old new : List Event) (k m : Kernel) : Type 0 where
   gone_down : k.live ≡ false → m.down.items ≡ []
   heard_before : m.heard ≤ k.control
   proper : Each (IsProper k.size k.control) m.up.items
-  supplies : Each (IsWhole k.size) m.down.items
+  supplies : Each (IsWholeOrder k.size) m.down.items
 
-fits_mailed : (old new : List Event) (k m : Kernel) → Mailed old new k m → Fits old k → Fits new (mailed k m)
+fits_mailed : (old new : List Event) (k m : Kernel) → Mailed old new k m → KernelFits old k → KernelFits new (mailed k m)
 fits_mailed old new k m n f =
     record {
       control = n.same.control ∙ f.control;
@@ -138,7 +138,7 @@ mine a x y = grind (arith, nat_tests)
 same_side : (s t : Side) (u : Side) → t ≡ u → SameHost s u → SameHost s t
 same_side s t u is same = subst (λ (v : Side). SameHost s v) (sym is) same
 
-pub fits_heard : (history : List Event) (k m : Kernel) (l : Letter) → Fits history k → k.up.items ≡ l ∷ m.up.items → m.down.items ≡ k.down.items → m.heard ≡ heard_by k.heard l → Fits (letter_taken k.host l ∷ history) (mailed k m)
+pub fits_heard : (history : List Event) (k m : Kernel) (l : Letter) → KernelFits history k → k.up.items ≡ l ∷ m.up.items → m.down.items ≡ k.down.items → m.heard ≡ heard_by k.heard l → KernelFits (letter_taken k.host l ∷ history) (mailed k m)
 fits_heard history k m l f first down heard =
     fits_mailed history (letter_taken k.host l ∷ history) k m
     (record {
@@ -147,14 +147,14 @@ fits_heard history k m l f first down heard =
       up = ap (λ (t : Side). t.up) now ∙ (heard_rest (seen history k) l ∙ (ap rest f.up ∙ ap (λ (ls : List Letter). rest (map letter_word ls)) first));
       down = ap (λ (t : Side). t.down) now ∙ (heard_down (seen history k) l ∙ (f.down ∙ ap (map order_word) (sym down)));
       heard = ap (λ (t : Side). t.heard) now ∙ (heard_heard (seen history k) l ∙ (ap (λ (n : ℕ). heard_by n l) f.heard ∙ sym heard));
-      waits = ap (λ (a : List Act). waiters k.host.0 a) (taken_part k.size k.host l history) ∙ ap (λ (e : Effect). waiters_after e (waiters k.host.0 (world_part k.size history))) (own_effect (record { host = k.host.0; effect = TakenUp (letter_word l) }));
+      waits = ap (λ (a : List Act). waiters k.host.0 a) (taken_part k.size k.host l history) ∙ ap (λ (e : ActEffect). waiters_after e (waiters k.host.0 (world_part k.size history))) (own_effect (record { host = k.host.0; effect = TakenUp (letter_word l) }));
       sent = mine k.host.0 (rest (up_queue k.host.0 0 history)) (up_queue k.host.0 0 history) ∙ (ap rest f.sent ∙ ap (λ (ls : List Letter). rest (map letter_message ls)) first);
       coming = λ live. f.coming live ∙ ap (map order_message) (sym down);
       later = λ n lt. refl;
       gone_down = λ gone. down ∙ f.gone_down gone;
       heard_before = subst (λ (n : ℕ). n ≤ k.control) (sym heard) (heard_most k.size k.control k.heard l each.0 f.heard_before);
       proper = each.1;
-      supplies = subst (λ (os : List Order). Each (IsWhole k.size) os) (sym down) f.supplies;
+      supplies = subst (λ (os : List Order). Each (IsWholeOrder k.size) os) (sym down) f.supplies;
     })
     f where
       each : Each (IsProper k.size k.control) (l ∷ m.up.items)
@@ -203,8 +203,8 @@ posted_words : (b : Bool) (os : List Order) (o : Order) → (if b then map order
 posted_words true os o = sym (map_end order_word os o)
 posted_words false os o = refl
 
-posted_whole : (size : ℕ) (b : Bool) (os : List Order) (o : Order) → Each (IsWhole size) os → IsWhole size o → Each (IsWhole size) (posted b os o)
-posted_whole size true os o each own = each_end (IsWhole size) os o each own
+posted_whole : (size : ℕ) (b : Bool) (os : List Order) (o : Order) → Each (IsWholeOrder size) os → IsWholeOrder size o → Each (IsWholeOrder size) (posted b os o)
+posted_whole size true os o each own = each_end (IsWholeOrder size) os o each own
 posted_whole size false os o each own = each
 
 posted_queue : (h control heard : ℕ) (live : Bool) (q : List Message) (os : List Order) (o : Order) → live ≡ true → q ≡ map order_message os → (if (h == h) && (true && heard == control) then q ++ order_message o ∷ [] else q) ≡ map order_message (posted (live && control == heard) os o)
@@ -220,7 +220,7 @@ posted_gone false b os o gone none = none
 posted_later : (h heard n : ℕ) (q r : List Message) → heard < n → (if (h == h) && (true && heard == n) then r else q) ≡ q
 posted_later h heard n q r lt = grind (arith, nat_tests)
 
-pub fits_posted : (history : List Event) (k m : Kernel) (o : Order) → Fits history k → m.up.items ≡ k.up.items → m.down.items ≡ posted (k.live && k.control == k.heard) k.down.items o → m.heard ≡ k.heard → IsWhole k.size o → Fits (order_sent k.host k.heard o ∷ history) (mailed k m)
+pub fits_posted : (history : List Event) (k m : Kernel) (o : Order) → KernelFits history k → m.up.items ≡ k.up.items → m.down.items ≡ posted (k.live && k.control == k.heard) k.down.items o → m.heard ≡ k.heard → IsWholeOrder k.size o → KernelFits (order_sent k.host k.heard o ∷ history) (mailed k m)
 fits_posted history k m o f up down heard whole =
     fits_mailed history (order_sent k.host k.heard o ∷ history) k m
     (record {
@@ -229,14 +229,14 @@ fits_posted history k m o f up down heard whole =
       up = ap (λ (t : Side). t.up) now ∙ ((sent_server (seen history k) k.heard o).up ∙ (f.up ∙ ap (map letter_word) (sym up)));
       down = ap (λ (t : Side). t.down) now ∙ (sent_queue (seen history k) k.heard o ∙ (ap (λ (b : Bool). if b && (seen history k).control == k.heard then (seen history k).down ++ order_word o ∷ [] else (seen history k).down) f.live ∙ (ap (λ (n : ℕ). if k.live && n == k.heard then (seen history k).down ++ order_word o ∷ [] else (seen history k).down) f.control ∙ (ap (λ (ws : List DownWord). if k.live && k.control == k.heard then ws ++ order_word o ∷ [] else ws) f.down ∙ (posted_words (k.live && k.control == k.heard) k.down.items o ∙ ap (map order_word) (sym down))))));
       heard = ap (λ (t : Side). t.heard) now ∙ ((sent_server (seen history k) k.heard o).heard ∙ (f.heard ∙ sym heard));
-      waits = ap (λ (a : List Act). waiters k.host.0 a) (sent_part k.size k.host k.heard o history) ∙ ap (λ (e : Effect). waiters_after e (waiters k.host.0 (world_part k.size history))) (own_effect (record { host = k.host.0; effect = SentDown k.heard (order_word o) }));
+      waits = ap (λ (a : List Act). waiters k.host.0 a) (sent_part k.size k.host k.heard o history) ∙ ap (λ (e : ActEffect). waiters_after e (waiters k.host.0 (world_part k.size history))) (own_effect (record { host = k.host.0; effect = SentDown k.heard (order_word o) }));
       sent = f.sent ∙ ap (map letter_message) (sym up);
       coming = λ live. posted_queue k.host.0 k.control k.heard k.live (down_queue k.host.0 0 k.control history) k.down.items o live (f.coming live) ∙ ap (map order_message) (sym down);
       later = λ n lt. posted_later k.host.0 k.heard n (down_queue k.host.0 0 n history) _ (omega (arith, f.heard_before));
       gone_down = λ gone. down ∙ posted_gone k.live (k.control == k.heard) k.down.items o gone (f.gone_down gone);
       heard_before = subst (λ (n : ℕ). n ≤ k.control) (sym heard) f.heard_before;
       proper = subst (λ (ls : List Letter). Each (IsProper k.size k.control) ls) (sym up) f.proper;
-      supplies = subst (λ (os : List Order). Each (IsWhole k.size) os) (sym down) (posted_whole k.size (k.live && k.control == k.heard) k.down.items o f.supplies whole);
+      supplies = subst (λ (os : List Order). Each (IsWholeOrder k.size) os) (sym down) (posted_whole k.size (k.live && k.control == k.heard) k.down.items o f.supplies whole);
     })
     f where
       now : seen (order_sent k.host k.heard o ∷ history) k ≡ sent_down (seen history k) k.heard (order_word o)

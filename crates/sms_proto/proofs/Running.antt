@@ -2,10 +2,10 @@
 use Rattle.std.proofs.Common.{zero, suc, ◌≡◌, ◌<◌, ◌∙◌, ℕ, List, [], ◌∷◌, ◌++◌, refl, ap, subst, arith, take, take-suc, get_or, length, ◌+◌}
 use Rattle.vm_model.specs.declared.event.Event.{Event}
 use Rattle.sms_proto.specs.declared.step.WorldStep.{WorldStep}
-use Rattle.sms_proto.specs.Steps.{Takes, Runs}
+use Rattle.sms_proto.specs.Steps.{Takes, TakesSteps}
 use Rattle.sms_proto.specs.World.{AllWithin, step_host}
 
-pub runs_end : (size : ℕ) (steps : List WorldStep) (s : WorldStep) (old middle new : List Event) → Runs size steps old middle → Takes size s middle new → Runs size (steps ++ s ∷ []) old new
+pub runs_end : (size : ℕ) (steps : List WorldStep) (s : WorldStep) (old middle new : List Event) → TakesSteps size steps old middle → Takes size s middle new → TakesSteps size (steps ++ s ∷ []) old new
 runs_end size [] s old middle new runs takes = (new, subst (λ (e : List Event). Takes size s e new) runs takes, refl)
 runs_end size (x ∷ steps) s old middle new runs takes = (runs.0, runs.1, runs_end size steps s runs.0 middle new runs.2 takes)
 

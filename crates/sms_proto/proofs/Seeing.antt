@@ -21,15 +21,15 @@ use Rattle.sms_proto.specs.declared.kernel.Want.{Want}
 use Rattle.sms_proto.specs.declared.letter.Order.{Order}
 use Rattle.sms_proto.specs.Adds.{HostDoes}
 use Rattle.sms_proto.specs.Letters.{order_message, taken_first}
-use Rattle.sms_proto.specs.Kernels.{Fits, IsPrompt, seen, waiting, order_head, evicted_by, left_by, given_up, idle_head, where_idle}
-use Rattle.sms_proto.specs.Steps.{Goes, begun_event, put_away_event, when_idle, taken_head, down_head, gives_up, left}
+use Rattle.sms_proto.specs.Kernels.{KernelFits, IsPrompt, seen, waiting, order_head, evicted_by, left_by, given_up, idle_head, where_idle}
+use Rattle.sms_proto.specs.Steps.{StepEvents, begun_event, put_away_event, when_idle, taken_head, down_head, gives_up, left}
 use Rattle.sms_proto.specs.Worlds.{Moved, Present, StandsAt, WorldStands}
 use Rattle.sms_proto.proofs.Standing.{stands_host}
 
 pub present_of : (size h : ℕ) (ks : List Kernel) (d : Directory) (old : List Event) (k : Kernel) → WorldStands size ks d old → slice_get ks h ≡ Some k → Present size h old k
 present_of size h ks d old k w is = subst (λ (o : Option Kernel). StandsAt size h old o) is (w.each h)
 
-pub stage_stands : (size : ℕ) (ks : List Kernel) (d : Directory) (old new : List Event) (h : ℕ) (k m : Kernel) → h < length ks → slice_get ks h ≡ Some k → WorldStands size ks d old → Fits new m → IsPrompt m → Licensed m.size (world_part m.size new) → m.host ≡ k.host → m.size ≡ k.size → Moved k.size k.host.0 old new → WorldStands size (set ks h m) d new
+pub stage_stands : (size : ℕ) (ks : List Kernel) (d : Directory) (old new : List Event) (h : ℕ) (k m : Kernel) → h < length ks → slice_get ks h ≡ Some k → WorldStands size ks d old → KernelFits new m → IsPrompt m → Licensed m.size (world_part m.size new) → m.host ≡ k.host → m.size ≡ k.size → Moved k.size k.host.0 old new → WorldStands size (set ks h m) d new
 stage_stands size ks d old new h k m within is w fits prompt licensed host pages moved =
     stands_host size ks d old new h m within w
     (record { same_host = ap (λ (g : HostId). g.0) host ∙ p.same_host; same_size = pages ∙ p.same_size; fits = fits; prompt = prompt })
@@ -48,12 +48,12 @@ idle_where : {A : Type 0} (h : ℕ) (w : Option Want) (x y : A) → where_idle w
 idle_where h None x y = refl
 idle_where h (Some want) x y = refl
 
-pub saw_access : (size : ℕ) (host : HostId) (old new : List Event) (k : Kernel) (store : Bool) (value : ℕ) → Present size host.0 old k → Goes (HostDoes k.host.0) (idle_head k.want (begun_event k.host.0 store value)) old new → Goes (HostDoes host.0) (when_idle (waiters host.0 (world_part size old)) (Some (begun_event host.0 store value)) None) old new
+pub saw_access : (size : ℕ) (host : HostId) (old new : List Event) (k : Kernel) (store : Bool) (value : ℕ) → Present size host.0 old k → StepEvents (HostDoes k.host.0) (idle_head k.want (begun_event k.host.0 store value)) old new → StepEvents (HostDoes host.0) (when_idle (waiters host.0 (world_part size old)) (Some (begun_event host.0 store value)) None) old new
 saw_access size host old new k store value p goes =
-    subst (λ (n : ℕ). Goes (HostDoes host.0) (when_idle (waiters host.0 (world_part n old)) (Some (begun_event host.0 store value)) None) old new) p.same_size
-    (subst (λ (h : ℕ). Goes (HostDoes h) (when_idle (waiters h (world_part k.size old)) (Some (begun_event h store value)) None) old new) p.same_host
-    (subst (λ (ws : List Waiter). Goes (HostDoes k.host.0) (when_idle ws (Some (begun_event k.host.0 store value)) None) old new) (sym p.fits.waits)
-    (subst (λ (o : Option Event). Goes (HostDoes k.host.0) o old new) (idle_when k.host.0 k.want (begun_event k.host.0 store value)) goes)))
+    subst (λ (n : ℕ). StepEvents (HostDoes host.0) (when_idle (waiters host.0 (world_part n old)) (Some (begun_event host.0 store value)) None) old new) p.same_size
+    (subst (λ (h : ℕ). StepEvents (HostDoes h) (when_idle (waiters h (world_part k.size old)) (Some (begun_event h store value)) None) old new) p.same_host
+    (subst (λ (ws : List Waiter). StepEvents (HostDoes k.host.0) (when_idle ws (Some (begun_event k.host.0 store value)) None) old new) (sym p.fits.waits)
+    (subst (λ (o : Option Event). StepEvents (HostDoes k.host.0) o old new) (idle_when k.host.0 k.want (begun_event k.host.0 store value)) goes)))
 
 given_by : (k : Kernel) (s : Side) → s.right ≡ k.right → s.control ≡ k.control → s.dirty ≡ k.dirty → (0 < k.right → s.bytes ≡ k.bytes) → given_up k ≡ gives_up k.host.0 s
 given_by k s right control dirty bytes = by_right (0 == k.right) refl where
@@ -91,11 +91,11 @@ saw_left size h old new k p is =
     ∙ ap (λ (b : Bool). if b then when_idle (waiters k.host.0 (world_part k.size old)) (ends k.host old (seen old k).control (gives_up k.host.0 (seen old k))) old else old) (sym p.fits.live))))
 
 -- the oldest order is the oldest message
-pub saw_order : (size : ℕ) (host : HostId) (old new : List Event) (k : Kernel) → Present size host.0 old k → Goes (HostDoes k.host.0) (order_head k) old new → Goes (HostDoes host.0) (down_head host (side host.0 (world_part size old)).live (side host.0 (world_part size old)).control (down_queue host.0 0 (side host.0 (world_part size old)).control old)) old new
+pub saw_order : (size : ℕ) (host : HostId) (old new : List Event) (k : Kernel) → Present size host.0 old k → StepEvents (HostDoes k.host.0) (order_head k) old new → StepEvents (HostDoes host.0) (down_head host (side host.0 (world_part size old)).live (side host.0 (world_part size old)).control (down_queue host.0 0 (side host.0 (world_part size old)).control old)) old new
 saw_order size host old new k p goes =
-    subst (λ (n : ℕ). Goes (HostDoes host.0) (down_head host (side host.0 (world_part n old)).live (side host.0 (world_part n old)).control (down_queue host.0 0 (side host.0 (world_part n old)).control old)) old new) p.same_size
-    (subst (λ (g : HostId). Goes (HostDoes g.0) (down_head g (side g.0 (world_part k.size old)).live (side g.0 (world_part k.size old)).control (down_queue g.0 0 (side g.0 (world_part k.size old)).control old)) old new) (ap (λ (n : ℕ). record { 0 = n }) p.same_host)
-    (subst (λ (o : Option Event). Goes (HostDoes k.host.0) o old new) (heads ∙ turned) goes)) where
+    subst (λ (n : ℕ). StepEvents (HostDoes host.0) (down_head host (side host.0 (world_part n old)).live (side host.0 (world_part n old)).control (down_queue host.0 0 (side host.0 (world_part n old)).control old)) old new) p.same_size
+    (subst (λ (g : HostId). StepEvents (HostDoes g.0) (down_head g (side g.0 (world_part k.size old)).live (side g.0 (world_part k.size old)).control (down_queue g.0 0 (side g.0 (world_part k.size old)).control old)) old new) (ap (λ (n : ℕ). record { 0 = n }) p.same_host)
+    (subst (λ (o : Option Event). StepEvents (HostDoes k.host.0) o old new) (heads ∙ turned) goes)) where
       first_taken : (os : List Order) → taken_first k.host k.control (first os) ≡ taken_head (Down k.host (record { 0 = 0 }) k.control) (map order_message os)
       first_taken [] = refl
       first_taken (o ∷ os) = refl

@@ -10,16 +10,16 @@ use Rattle.vm_model.specs.Words.{Act}
 use Rattle.vm_model.specs.Side.{Side, side}
 use Rattle.vm_model.specs.PagePart.{world_part}
 use Rattle.vm_model.specs.PageLicences.{Licensed}
-use Rattle.vm_model.specs.Coherence.{Done, Served}
+use Rattle.vm_model.specs.Coherence.{Done, SomebodyIsAwaited}
 use Rattle.sms_pages.specs.Directory.{Directory}
 use Rattle.sms_pages.specs.Stands.{StandsFor}
 use Rattle.sms_proto.specs.declared.kernel.Kernel.{Kernel}
-use Rattle.sms_proto.specs.Worlds.{Kept, Moved, Present, StandsAt, WorldStands}
+use Rattle.sms_proto.specs.Worlds.{Moved, Present, SameHostSide, StandsAt, WorldStands}
 use Rattle.sms_proto.proofs.Beginning.{fits_same}
 
 -- a host to which nothing happens
 
-kept_present : (size g : ℕ) (old new : List Event) (k : Kernel) → Present size g old k → Kept size g old new → Present size g new k
+kept_present : (size g : ℕ) (old new : List Event) (k : Kernel) → Present size g old k → SameHostSide size g old new → Present size g new k
 kept_present size g old new k p kept =
     record {
       same_host = p.same_host;
@@ -27,10 +27,10 @@ kept_present size g old new k p kept =
       fits = fits_same old new k k.want mine.same_side (mine.same_waits ∙ p.fits.waits) mine.same_up mine.same_down p.fits.asked_waits p.fits;
       prompt = p.prompt;
     } where
-      mine : Kept k.size k.host.0 old new
-      mine = subst (λ (n : ℕ). Kept n k.host.0 old new) (sym p.same_size) (subst (λ (n : ℕ). Kept size n old new) (sym p.same_host) kept)
+      mine : SameHostSide k.size k.host.0 old new
+      mine = subst (λ (n : ℕ). SameHostSide n k.host.0 old new) (sym p.same_size) (subst (λ (n : ℕ). SameHostSide size n old new) (sym p.same_host) kept)
 
-pub kept_at : (size g : ℕ) (old new : List Event) (o : Option Kernel) → StandsAt size g old o → Kept size g old new → StandsAt size g new o
+pub kept_at : (size g : ℕ) (old new : List Event) (o : Option Kernel) → StandsAt size g old o → SameHostSide size g old new → StandsAt size g new o
 kept_at size g old new None a kept = record { nothing = kept.same_side ∙ a.nothing; no_waits = kept.same_waits ∙ a.no_waits }
 kept_at size g old new (Some k) p kept = kept_present size g old new k p kept
 
@@ -48,14 +48,14 @@ get_set_other (x ∷ ks) zero (suc g) k apart = refl
 get_set_other (x ∷ ks) (suc h) zero k apart = refl
 get_set_other (x ∷ ks) (suc h) (suc g) k apart = get_set_other ks h g k (λ e. apart (ap (λ (n : ℕ). suc n) e))
 
-pub each_after : (size : ℕ) (ks : List Kernel) (h : ℕ) (k : Kernel) (old new : List Event) → h < length ks → ((g : ℕ) → StandsAt size g old (slice_get ks g)) → ((g : ℕ) → g ≢ h → Kept size g old new) → Present size h new k → (g : ℕ) → StandsAt size g new (slice_get (set ks h k) g)
+pub each_after : (size : ℕ) (ks : List Kernel) (h : ℕ) (k : Kernel) (old new : List Event) → h < length ks → ((g : ℕ) → StandsAt size g old (slice_get ks g)) → ((g : ℕ) → g ≢ h → SameHostSide size g old new) → Present size h new k → (g : ℕ) → StandsAt size g new (slice_get (set ks h k) g)
 each_after size ks h k old new within each kept own g = elim (ℕ_discrete g h) [
   | yes e ↦ subst (λ (n : ℕ). StandsAt size n new (slice_get (set ks h k) n)) (sym e) (subst (λ (o : Option Kernel). StandsAt size h new o) (sym (get_set_same ks h k within)) own)
   | no e ↦ subst (λ (o : Option Kernel). StandsAt size g new o) (sym (get_set_other ks h g k e)) (kept_at size g old new (slice_get ks g) (each g) (kept g e))
 ]
 
 -- the line and who is awaited stay
-served_same : (size : ℕ) (d : Directory) (old new : List Act) → StandsFor size d old → StandsFor size d new → Served old → Served new
+served_same : (size : ℕ) (d : Directory) (old new : List Act) → StandsFor size d old → StandsFor size d new → SomebodyIsAwaited old → SomebodyIsAwaited new
 served_same size d old new a b served some =
     let awaited = served (λ none. some (b.same_line ∙ (sym a.same_line ∙ none))) in
     (awaited.0, subst (λ (n : ℕ). 0 < n) (a.same_awaits awaited.0 ∙ sym (b.same_awaits awaited.0)) awaited.1)

@@ -5,7 +5,7 @@ use Rattle.vm_model.specs.Server.{first}
 use Rattle.sms_proto.specs.declared.letter.Order.{Order}
 use Rattle.sms_proto.specs.declared.letter.Order.TheVariants as order
 use Rattle.sms_proto.specs.Letters.{supply_lock}
-use Rattle.sms_proto.specs.Kernels.{Each, IsWhole, lock_with}
+use Rattle.sms_proto.specs.Kernels.{Each, IsWholeOrder, lock_with}
 
 pub supply_locks : (writes : Bool) → lock_with (right_of (supply_lock writes)) ≡ supply_lock writes
 supply_locks true = refl
@@ -23,6 +23,6 @@ pub supplied_yes : (right lock : ℕ) (asked : Bool) → asked ≡ true → supp
 supplied_yes right lock true is = refl
 supplied_yes right lock false is = absurd (cc)
 
-pub first_whole : (size : ℕ) (items : List Order) (writes : Bool) (bytes : List ℕ) → first items ≡ Some (order.Supply writes bytes) → Each (IsWhole size) items → length bytes ≡ size
+pub first_whole : (size : ℕ) (items : List Order) (writes : Bool) (bytes : List ℕ) → first items ≡ Some (order.Supply writes bytes) → Each (IsWholeOrder size) items → length bytes ≡ size
 first_whole size [] writes bytes is each = absurd (cc)
 first_whole size (o ∷ os) writes bytes is each = grind (arith, each.0)

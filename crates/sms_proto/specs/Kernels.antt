@@ -48,9 +48,9 @@ IsProper size control (letter.Request asker access) = asker ≤ control
 IsProper size control (letter.Return returner keep bytes) = length bytes ≡ size
 IsProper size control l = Unit {0}
 
-abbrev pub IsWhole : ℕ → Order → Type 0
-IsWhole size (order.Supply writes bytes) = length bytes ≡ size
-IsWhole size o = Unit {0}
+abbrev pub IsWholeOrder : ℕ → Order → Type 0
+IsWholeOrder size (order.Supply writes bytes) = length bytes ≡ size
+IsWholeOrder size o = Unit {0}
 
 -- the lock of a page that is here
 abbrev pub lock_with : ℕ → ℕ
@@ -60,7 +60,7 @@ lock_with right = if right == 2 then 0 else 2
 abbrev pub seen : List Event → Kernel → Side
 seen history k = side k.host.0 (world_part k.size history)
 
-pub record Fits (history : List Event) (k : Kernel) : Type 0 where
+pub record KernelFits (history : List Event) (k : Kernel) : Type 0 where
   pub control : (seen history k).control ≡ k.control
   pub live : (seen history k).live ≡ k.live
   pub ready : k.live ≡ true → (seen history k).ready ≡ true
@@ -87,7 +87,7 @@ pub record Fits (history : List Event) (k : Kernel) : Type 0 where
   pub bounded : k.right ≤ 2
   pub heard_before : k.heard ≤ k.control
   pub proper : Each (IsProper k.size k.control) k.up.items
-  pub supplies : Each (IsWhole k.size) k.down.items
+  pub supplies : Each (IsWholeOrder k.size) k.down.items
   pub whole : length k.bytes ≡ k.size
   pub front : 8 ≤ k.size
 

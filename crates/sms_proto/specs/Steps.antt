@@ -27,9 +27,9 @@ begun_event h true value = event.BegunStore (record { 0 = h }) 0 8 value
 begun_event h false value = event.BegunLoad (record { 0 = h }) 0 8
 
 -- the events of a step behind its first, where it has one; else nothing
-abbrev pub Goes : (Event → Type 0) → Option Event → List Event → List Event → Type 0
-Goes P None old new = new ≡ old
-Goes P (Some e) old new = Adds P (e ∷ old) new
+abbrev pub StepEvents : (Event → Type 0) → Option Event → List Event → List Event → Type 0
+StepEvents P None old new = new ≡ old
+StepEvents P (Some e) old new = Adds P (e ∷ old) new
 
 -- one or the other, as no access waits or one does
 abbrev pub when_idle : {A : Type 0} → List Waiter → A → A → A
@@ -55,20 +55,20 @@ left h s ws old =
 
 -- what a step makes of the events; where it isn't possible they are as before
 abbrev pub Takes : ℕ → WorldStep → List Event → List Event → Type 0
-Takes size (step.Load host) old new = Goes (HostDoes host.0) (when_idle (waiters host.0 (world_part size old)) (Some (begun_event host.0 false 0)) None) old new
-Takes size (step.Store host value) old new = Goes (HostDoes host.0) (when_idle (waiters host.0 (world_part size old)) (Some (begun_event host.0 true value)) None) old new
+Takes size (step.Load host) old new = StepEvents (HostDoes host.0) (when_idle (waiters host.0 (world_part size old)) (Some (begun_event host.0 false 0)) None) old new
+Takes size (step.Store host value) old new = StepEvents (HostDoes host.0) (when_idle (waiters host.0 (world_part size old)) (Some (begun_event host.0 true value)) None) old new
 Takes size (step.Evict host) old new = new ≡ when_idle (waiters host.0 (world_part size old)) (gives_up host.0 (side host.0 (world_part size old)) ++ old) old
 Takes size (step.Leave host) old new =
     new ≡ left host.0 (side host.0 (world_part size old)) (waiters host.0 (world_part size old)) old
 Takes size (step.TakeUp host) old new =
-    Goes ServerDoes (taken_head (Up host (record { 0 = 0 })) (up_queue host.0 0 old)) old new
+    StepEvents ServerDoes (taken_head (Up host (record { 0 = 0 })) (up_queue host.0 0 old)) old new
 Takes size (step.TakeDown host) old new =
-    Goes (HostDoes host.0) (down_head host (side host.0 (world_part size old)).live (side host.0 (world_part size old)).control (down_queue host.0 0 (side host.0 (world_part size old)).control old)) old new
+    StepEvents (HostDoes host.0) (down_head host (side host.0 (world_part size old)).live (side host.0 (world_part size old)).control (down_queue host.0 0 (side host.0 (world_part size old)).control old)) old new
 
 -- the steps, taken one by one
-abbrev pub Runs : ℕ → List WorldStep → List Event → List Event → Type 0
-Runs size [] old new = new ≡ old
-Runs size (s ∷ steps) old new = (middle : List Event) × Takes size s old middle × Runs size steps middle new
+abbrev pub TakesSteps : ℕ → List WorldStep → List Event → List Event → Type 0
+TakesSteps size [] old new = new ≡ old
+TakesSteps size (s ∷ steps) old new = (middle : List Event) × Takes size s old middle × TakesSteps size steps middle new
 
 -- what one taking adds first
 abbrev pub IsTaken : Option Event → List Event → List Event → Type 0

@@ -10,7 +10,7 @@ ghost use Rattle.vm_model.specs.Side.{right_of, locked};
 ghost use Rattle.sms_proto.specs.Letters.{supply_lock};
 ghost use Rattle.sms_proto.specs.Steps.{put_away_event, begun_event};
 ghost use Rattle.sms_proto.specs.Adds.{Adds, HostDoes};
-ghost use Rattle.sms_proto.specs.Kernels.{Fits, HasRoom, IsPrompt};
+ghost use Rattle.sms_proto.specs.Kernels.{HasRoom, IsPrompt, KernelFits};
 
 use crate::letter::{Letter, Order, access_of};
 use std::alloc::Global;
@@ -122,7 +122,7 @@ impl Kernel {
     /// The kernel of a host that has nothing of the page.
     #[tactic(auto, using(crate::proofs::Pages::load_within))]
     pub fn new(alloc: Global, host: HostId, size: PageSize) -> Result<Kernel, NoMemory>
-        ensures fits { IfOk result (λ kernel. Fits [] kernel) }
+        ensures fits { IfOk result (λ kernel. KernelFits [] kernel) }
         ensures prompt { IfOk result (λ kernel. IsPrompt kernel) }
         ensures same { IfOk result (λ kernel. (kernel.host ≡ host) × (kernel.size ≡ size)) }
     {
@@ -161,10 +161,10 @@ impl Kernel {
         requires here { 0 < self.old.right }
         requires clean { self.old.dirty ≡ false }
         requires room { HasRoom 1 events.old self.old }
-        requires fits { Fits events.old.items self.old }
+        requires fits { KernelFits events.old.items self.old }
         requires licensed { Licensed self.old.size (world_part self.old.size events.old.items) }
         ensures ok { IsOk result }
-        ensures fits { OnOk result (Fits events.new.items self.new) }
+        ensures fits { OnOk result (KernelFits events.new.items self.new) }
         ensures licensed { OnOk result (Licensed self.new.size (world_part self.new.size events.new.items)) }
         ensures adds { OnOk result (Adds (HostDoes self.old.host.0) events.old.items events.new.items) }
         ensures same { (self.new.host ≡ self.old.host) × (self.new.size ≡ self.old.size) }
@@ -197,16 +197,16 @@ impl Kernel {
         requires here { 0 < self.old.right }
         requires dirty { self.old.dirty ≡ true }
         requires room { HasRoom 1 events.old self.old }
-        requires fits { Fits events.old.items self.old }
+        requires fits { KernelFits events.old.items self.old }
         requires licensed { Licensed self.old.size (world_part self.old.size events.old.items) }
-        ensures fits { OnOk result (Fits events.new.items self.new) }
+        ensures fits { OnOk result (KernelFits events.new.items self.new) }
         ensures licensed { OnOk result (Licensed self.new.size (world_part self.new.size events.new.items)) }
         ensures adds { OnOk result (Adds (HostDoes self.old.host.0) events.old.items events.new.items) }
         ensures same { (self.new.host ≡ self.old.host) × (self.new.size ≡ self.old.size) }
         ensures exact { OnOk result (events.new.items ≡ Sent (Up self.old.host (record { 0 = 0 })) (Return self.old.control (record { 0 = 0 }) true false self.old.bytes) ∷ events.old.items) }
         ensures kept { OnOk result ((self.new.right ≡ 0) × (self.new.want ≡ self.old.want)
             × (self.new.live ≡ self.old.live) × (self.new.asked ≡ self.old.asked)) }
-        ensures err { OnErr result (Fits events.new.items self.new × (events.new.items ≡ events.old.items)) }
+        ensures err { OnErr result (KernelFits events.new.items self.new × (events.new.items ≡ events.old.items)) }
         ensures room { (n : ℕ) → HasRoom (n + 1) events.old self.old → HasRoom n events.new self.new }
     {
         let letter = Letter::Return {
@@ -227,9 +227,9 @@ impl Kernel {
     pub fn put_away(&mut self, events: &mut Events) -> Result<(), NoMemory>
         requires here { 0 < self.old.right }
         requires room { HasRoom 1 events.old self.old }
-        requires fits { Fits events.old.items self.old }
+        requires fits { KernelFits events.old.items self.old }
         requires licensed { Licensed self.old.size (world_part self.old.size events.old.items) }
-        ensures fits { OnOk result (Fits events.new.items self.new) }
+        ensures fits { OnOk result (KernelFits events.new.items self.new) }
         ensures licensed { OnOk result (Licensed self.new.size (world_part self.new.size events.new.items)) }
         ensures adds { OnOk result (Adds (HostDoes self.old.host.0) events.old.items events.new.items) }
         ensures same { (self.new.host ≡ self.old.host) × (self.new.size ≡ self.old.size) }
@@ -237,7 +237,7 @@ impl Kernel {
             ≡ put_away_event self.old.host.0 self.old.control self.old.dirty self.old.bytes ∷ events.old.items) }
         ensures kept { OnOk result ((self.new.right ≡ 0) × (self.new.want ≡ self.old.want)
             × (self.new.live ≡ self.old.live) × (self.new.asked ≡ self.old.asked)) }
-        ensures err { OnErr result (Fits events.new.items self.new × (events.new.items ≡ events.old.items)) }
+        ensures err { OnErr result (KernelFits events.new.items self.new × (events.new.items ≡ events.old.items)) }
         ensures room { (n : ℕ) → HasRoom (n + 1) events.old self.old → HasRoom n events.new self.new }
     {
         if self.dirty {
@@ -254,10 +254,10 @@ impl Kernel {
         requires away { self.old.right ≡ 0 }
         requires plain { self.old.asked ≡ false }
         requires room { HasRoom 1 events.old self.old }
-        requires fits { Fits events.old.items self.old }
+        requires fits { KernelFits events.old.items self.old }
         requires licensed { Licensed self.old.size (world_part self.old.size events.old.items) }
         ensures ok { IsOk result }
-        ensures fits { OnOk result (Fits events.new.items self.new) }
+        ensures fits { OnOk result (KernelFits events.new.items self.new) }
         ensures licensed { OnOk result (Licensed self.new.size (world_part self.new.size events.new.items)) }
         ensures adds { OnOk result (Adds (HostDoes self.old.host.0) events.old.items events.new.items) }
         ensures same { (self.new.host ≡ self.old.host) × (self.new.size ≡ self.old.size) }
@@ -285,10 +285,10 @@ impl Kernel {
         requires plain { self.old.asked ≡ false }
         requires waits { self.old.want ≡ Some want }
         requires room { HasRoom 1 events.old self.old }
-        requires fits { Fits events.old.items self.old }
+        requires fits { KernelFits events.old.items self.old }
         requires licensed { Licensed self.old.size (world_part self.old.size events.old.items) }
         ensures ok { IsOk result }
-        ensures fits { OnOk result (Fits events.new.items self.new) }
+        ensures fits { OnOk result (KernelFits events.new.items self.new) }
         ensures licensed { OnOk result (Licensed self.new.size (world_part self.new.size events.new.items)) }
         ensures adds { OnOk result (Adds (HostDoes self.old.host.0) events.old.items events.new.items) }
         ensures same { (self.new.host ≡ self.old.host) × (self.new.size ≡ self.old.size) }
@@ -318,10 +318,10 @@ impl Kernel {
         requires waits { self.old.want ≡ Some want }
         requires store { want.store ≡ true }
         requires room { HasRoom 1 events.old self.old }
-        requires fits { Fits events.old.items self.old }
+        requires fits { KernelFits events.old.items self.old }
         requires licensed { Licensed self.old.size (world_part self.old.size events.old.items) }
         ensures ok { IsOk result }
-        ensures fits { OnOk result (Fits events.new.items self.new) }
+        ensures fits { OnOk result (KernelFits events.new.items self.new) }
         ensures licensed { OnOk result (Licensed self.new.size (world_part self.new.size events.new.items)) }
         ensures adds { OnOk result (Adds (HostDoes self.old.host.0) events.old.items events.new.items) }
         ensures same { (self.new.host ≡ self.old.host) × (self.new.size ≡ self.old.size) }
@@ -347,10 +347,10 @@ impl Kernel {
         requires waits { self.old.want ≡ Some want }
         requires load { want.store ≡ false }
         requires room { HasRoom 1 events.old self.old }
-        requires fits { Fits events.old.items self.old }
+        requires fits { KernelFits events.old.items self.old }
         requires licensed { Licensed self.old.size (world_part self.old.size events.old.items) }
         ensures ok { IsOk result }
-        ensures fits { OnOk result (Fits events.new.items self.new) }
+        ensures fits { OnOk result (KernelFits events.new.items self.new) }
         ensures licensed { OnOk result (Licensed self.new.size (world_part self.new.size events.new.items)) }
         ensures adds { OnOk result (Adds (HostDoes self.old.host.0) events.old.items events.new.items) }
         ensures same { (self.new.host ≡ self.old.host) × (self.new.size ≡ self.old.size) }
@@ -374,10 +374,10 @@ impl Kernel {
         requires store { want.store ≡ true }
         requires fits_in { want.value < 2 ^ 64 }
         requires room { HasRoom 1 events.old self.old }
-        requires fits { Fits events.old.items self.old }
+        requires fits { KernelFits events.old.items self.old }
         requires licensed { Licensed self.old.size (world_part self.old.size events.old.items) }
         ensures ok { IsOk result }
-        ensures fits { OnOk result (Fits events.new.items self.new) }
+        ensures fits { OnOk result (KernelFits events.new.items self.new) }
         ensures licensed { OnOk result (Licensed self.new.size (world_part self.new.size events.new.items)) }
         ensures adds { OnOk result (Adds (HostDoes self.old.host.0) events.old.items events.new.items) }
         ensures same { (self.new.host ≡ self.old.host) × (self.new.size ≡ self.old.size) }
@@ -401,10 +401,10 @@ impl Kernel {
     pub fn go_on(&mut self, events: &mut Events) -> Result<(), NoMemory>
         requires live { self.old.want ≢ None → self.old.live ≡ true }
         requires room { HasRoom 1 events.old self.old }
-        requires fits { Fits events.old.items self.old }
+        requires fits { KernelFits events.old.items self.old }
         requires licensed { Licensed self.old.size (world_part self.old.size events.old.items) }
         ensures ok { IsOk result }
-        ensures fits { OnOk result (Fits events.new.items self.new) }
+        ensures fits { OnOk result (KernelFits events.new.items self.new) }
         ensures licensed { OnOk result (Licensed self.new.size (world_part self.new.size events.new.items)) }
         ensures adds { OnOk result (Adds (HostDoes self.old.host.0) events.old.items events.new.items) }
         ensures same { (self.new.host ≡ self.old.host) × (self.new.size ≡ self.old.size) }
@@ -437,10 +437,10 @@ impl Kernel {
         requires idle { self.old.want ≡ None }
         requires plain { want.store ≡ false → want.value ≡ 0 }
         requires room { HasRoom 2 events.old self.old }
-        requires fits { Fits events.old.items self.old }
+        requires fits { KernelFits events.old.items self.old }
         requires licensed { Licensed self.old.size (world_part self.old.size events.old.items) }
         ensures ok { IsOk result }
-        ensures fits { OnOk result (Fits events.new.items self.new) }
+        ensures fits { OnOk result (KernelFits events.new.items self.new) }
         ensures licensed { OnOk result (Licensed self.new.size (world_part self.new.size events.new.items)) }
         ensures same { (self.new.host ≡ self.old.host) × (self.new.size ≡ self.old.size) }
         ensures exact { OnOk result (events.new.items
@@ -465,10 +465,10 @@ impl Kernel {
         requires idle { self.old.want ≡ None }
         requires plain { want.store ≡ false → want.value ≡ 0 }
         requires room { HasRoom 2 events.old self.old }
-        requires fits { Fits events.old.items self.old }
+        requires fits { KernelFits events.old.items self.old }
         requires licensed { Licensed self.old.size (world_part self.old.size events.old.items) }
         ensures ok { IsOk result }
-        ensures fits { OnOk result (Fits events.new.items self.new) }
+        ensures fits { OnOk result (KernelFits events.new.items self.new) }
         ensures licensed { OnOk result (Licensed self.new.size (world_part self.new.size events.new.items)) }
         ensures same { (self.new.host ≡ self.old.host) × (self.new.size ≡ self.old.size) }
         ensures exact { OnOk result (events.new.items

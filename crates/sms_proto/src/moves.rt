@@ -3,8 +3,8 @@ ghost use Rattle.std.specs.Prelude.{◌≡◌, ◌≢◌, ◌+◌, ◌<◌, ◌�
 ghost use Rattle.vm_model.specs.PagePart.{world_part};
 ghost use Rattle.vm_model.specs.PageLicences.{Licensed};
 ghost use Rattle.sms_proto.specs.Adds.{HostDoes};
-ghost use Rattle.sms_proto.specs.Kernels.{Fits, HasRoom, IsPrompt, access_head, order_head, evicted_by, left_by, given_up};
-ghost use Rattle.sms_proto.specs.Steps.{Goes, begun_event};
+ghost use Rattle.sms_proto.specs.Kernels.{KernelFits, HasRoom, IsPrompt, access_head, order_head, evicted_by, left_by, given_up};
+ghost use Rattle.sms_proto.specs.Steps.{StepEvents, begun_event};
 ghost use Rattle.sms_proto.specs.Worlds.{Moved};
 
 use crate::kernel::{Kernel, Right, Want};
@@ -14,8 +14,8 @@ use vm_model::Events;
 impl Kernel {
     // Makes room for a step's events and letters.
     fn prepare(&mut self, events: &mut Events) -> Result<(), NoMemory>
-        requires fits { Fits events.old.items self.old }
-        ensures fits { Fits events.new.items self.new }
+        requires fits { KernelFits events.old.items self.old }
+        ensures fits { KernelFits events.new.items self.new }
         ensures same { (self.new.host ≡ self.old.host) × (self.new.size ≡ self.old.size)
             × (self.new.live ≡ self.old.live) × (self.new.want ≡ self.old.want) × (self.new.right ≡ self.old.right)
             × (self.new.asked ≡ self.old.asked) × (self.new.unlocking ≡ self.old.unlocking)
@@ -35,9 +35,9 @@ impl Kernel {
         requires idle { self.old.want ≡ None }
         requires plain { want.store ≡ false → want.value ≡ 0 }
         requires room { HasRoom 2 events.old self.old }
-        requires fits { Fits events.old.items self.old }
+        requires fits { KernelFits events.old.items self.old }
         requires licensed { Licensed self.old.size (world_part self.old.size events.old.items) }
-        ensures fits { Fits events.new.items self.new }
+        ensures fits { KernelFits events.new.items self.new }
         ensures licensed { Licensed self.new.size (world_part self.new.size events.new.items) }
         ensures same { (self.new.host ≡ self.old.host) × (self.new.size ≡ self.old.size) }
         ensures exact { OnOk result (events.new.items
@@ -61,16 +61,16 @@ impl Kernel {
     /// then nothing has changed.
     pub fn access(&mut self, want: Want, events: &mut Events) -> Result<(), NoMemory>
         requires plain { want.store ≡ false → want.value ≡ 0 }
-        requires fits { Fits events.old.items self.old }
+        requires fits { KernelFits events.old.items self.old }
         requires prompt { IsPrompt self.old }
         requires licensed { Licensed self.old.size (world_part self.old.size events.old.items) }
-        ensures fits { Fits events.new.items self.new }
+        ensures fits { KernelFits events.new.items self.new }
         ensures prompt { IsPrompt self.new }
         ensures licensed { Licensed self.new.size (world_part self.new.size events.new.items) }
         ensures same { (self.new.host ≡ self.old.host) × (self.new.size ≡ self.old.size) }
         ensures moved { Moved self.old.size self.old.host.0 events.old.items events.new.items }
         ensures err { OnErr result (events.new.items ≡ events.old.items) }
-        ensures goes { OnOk result (Goes (HostDoes self.old.host.0) (access_head self.old want) events.old.items events.new.items) }
+        ensures goes { OnOk result (StepEvents (HostDoes self.old.host.0) (access_head self.old want) events.old.items events.new.items) }
     {
         self.prepare(events)?;
         if self.want.is_some() {
@@ -84,16 +84,16 @@ impl Kernel {
     /// The kernel takes the oldest message from the server to its control, if there is one. It fails
     /// for want of memory alone, and then nothing has changed.
     pub fn take_down(&mut self, events: &mut Events) -> Result<(), NoMemory>
-        requires fits { Fits events.old.items self.old }
+        requires fits { KernelFits events.old.items self.old }
         requires prompt { IsPrompt self.old }
         requires licensed { Licensed self.old.size (world_part self.old.size events.old.items) }
-        ensures fits { Fits events.new.items self.new }
+        ensures fits { KernelFits events.new.items self.new }
         ensures prompt { IsPrompt self.new }
         ensures licensed { Licensed self.new.size (world_part self.new.size events.new.items) }
         ensures same { (self.new.host ≡ self.old.host) × (self.new.size ≡ self.old.size) }
         ensures moved { Moved self.old.size self.old.host.0 events.old.items events.new.items }
         ensures err { OnErr result (events.new.items ≡ events.old.items) }
-        ensures goes { OnOk result (Goes (HostDoes self.old.host.0) (order_head self.old) events.old.items events.new.items) }
+        ensures goes { OnOk result (StepEvents (HostDoes self.old.host.0) (order_head self.old) events.old.items events.new.items) }
     {
         if !self.live || self.down.is_empty() {
             return Ok(());
@@ -107,9 +107,9 @@ impl Kernel {
     // Gives the page up, if it is here.
     fn clear(&mut self, events: &mut Events) -> Result<(), NoMemory>
         requires room { HasRoom 2 events.old self.old }
-        requires fits { Fits events.old.items self.old }
+        requires fits { KernelFits events.old.items self.old }
         requires licensed { Licensed self.old.size (world_part self.old.size events.old.items) }
-        ensures fits { Fits events.new.items self.new }
+        ensures fits { KernelFits events.new.items self.new }
         ensures licensed { Licensed self.new.size (world_part self.new.size events.new.items) }
         ensures exact { OnOk result (events.new.items ≡ given_up self.old ++ events.old.items) }
         ensures kept { OnOk result ((self.new.right ≡ 0) × (self.new.want ≡ self.old.want)
@@ -128,10 +128,10 @@ impl Kernel {
     /// The host gives the page up, if it has it and its task waits for no access. It fails for want of
     /// memory alone, and then nothing has changed.
     pub fn evict(&mut self, events: &mut Events) -> Result<(), NoMemory>
-        requires fits { Fits events.old.items self.old }
+        requires fits { KernelFits events.old.items self.old }
         requires prompt { IsPrompt self.old }
         requires licensed { Licensed self.old.size (world_part self.old.size events.old.items) }
-        ensures fits { Fits events.new.items self.new }
+        ensures fits { KernelFits events.new.items self.new }
         ensures prompt { IsPrompt self.new }
         ensures licensed { Licensed self.new.size (world_part self.new.size events.new.items) }
         ensures same { (self.new.host ≡ self.old.host) × (self.new.size ≡ self.old.size) }
@@ -150,10 +150,10 @@ impl Kernel {
     /// The host gives the page up and ends its control, if it has one and its task waits for no access.
     /// It fails for want of memory alone, and then nothing has changed.
     pub fn leave(&mut self, events: &mut Events) -> Result<(), NoMemory>
-        requires fits { Fits events.old.items self.old }
+        requires fits { KernelFits events.old.items self.old }
         requires prompt { IsPrompt self.old }
         requires licensed { Licensed self.old.size (world_part self.old.size events.old.items) }
-        ensures fits { Fits events.new.items self.new }
+        ensures fits { KernelFits events.new.items self.new }
         ensures prompt { IsPrompt self.new }
         ensures licensed { Licensed self.new.size (world_part self.new.size events.new.items) }
         ensures same { (self.new.host ≡ self.old.host) × (self.new.size ≡ self.old.size) }

@@ -8,9 +8,9 @@ ghost use Rattle.vm_model.specs.PageLicences.{Licensed};
 ghost use Rattle.vm_model.specs.Server.{first};
 ghost use Rattle.sms_proto.specs.declared.letter.Order.TheVariants as order;
 ghost use Rattle.sms_proto.specs.Adds.{Adds, HostDoes};
-ghost use Rattle.sms_proto.specs.Kernels.{Fits, HasRoom, IsPrompt};
+ghost use Rattle.sms_proto.specs.Kernels.{HasRoom, IsPrompt, KernelFits};
 ghost use Rattle.sms_proto.specs.Letters.{order_message, order_taken, taken_first, supply_lock, done_event, return_event, drop_event};
-ghost use Rattle.sms_proto.specs.Steps.{Goes};
+ghost use Rattle.sms_proto.specs.Steps.{StepEvents};
 
 use crate::kernel::{Kernel, OBJECT, PAGE, Right};
 use crate::letter::{Letter, Order, lock};
@@ -57,10 +57,10 @@ impl Kernel {
         requires live { self.old.live ≡ true }
         requires head { first self.old.down.items ≡ Some (order.Supply writes bytes) }
         requires room { HasRoom 2 events.old self.old }
-        requires fits { Fits events.old.items self.old }
+        requires fits { KernelFits events.old.items self.old }
         requires licensed { Licensed self.old.size (world_part self.old.size events.old.items) }
         ensures ok { IsOk result }
-        ensures fits { OnOk result (Fits events.new.items self.new) }
+        ensures fits { OnOk result (KernelFits events.new.items self.new) }
         ensures licensed { OnOk result (Licensed self.new.size (world_part self.new.size events.new.items)) }
         ensures adds { OnOk result (Adds (HostDoes self.old.host.0) (order_taken self.old.host self.old.control (order.Supply writes bytes) ∷ events.old.items) events.new.items) }
         ensures same { (self.new.host ≡ self.old.host) × (self.new.size ≡ self.old.size)
@@ -86,10 +86,10 @@ impl Kernel {
         requires live { self.old.live ≡ true }
         requires head { first self.old.down.items ≡ Some order.Unlock }
         requires room { HasRoom 2 events.old self.old }
-        requires fits { Fits events.old.items self.old }
+        requires fits { KernelFits events.old.items self.old }
         requires licensed { Licensed self.old.size (world_part self.old.size events.old.items) }
         ensures ok { IsOk result }
-        ensures fits { OnOk result (Fits events.new.items self.new) }
+        ensures fits { OnOk result (KernelFits events.new.items self.new) }
         ensures licensed { OnOk result (Licensed self.new.size (world_part self.new.size events.new.items)) }
         ensures adds { OnOk result (Adds (HostDoes self.old.host.0) (order_taken self.old.host self.old.control order.Unlock ∷ events.old.items) events.new.items) }
         ensures same { (self.new.host ≡ self.old.host) × (self.new.size ≡ self.old.size)
@@ -110,10 +110,10 @@ impl Kernel {
         requires head { first self.old.down.items ≡ Some order.Flush }
         requires away { self.old.right ≡ 0 }
         requires room { HasRoom 4 events.old self.old }
-        requires fits { Fits events.old.items self.old }
+        requires fits { KernelFits events.old.items self.old }
         requires licensed { Licensed self.old.size (world_part self.old.size events.old.items) }
         ensures ok { IsOk result }
-        ensures fits { OnOk result (Fits events.new.items self.new) }
+        ensures fits { OnOk result (KernelFits events.new.items self.new) }
         ensures licensed { OnOk result (Licensed self.new.size (world_part self.new.size events.new.items)) }
         ensures adds { OnOk result (Adds (HostDoes self.old.host.0) (order_taken self.old.host self.old.control order.Flush ∷ events.old.items) events.new.items) }
         ensures same { (self.new.host ≡ self.old.host) × (self.new.size ≡ self.old.size)
@@ -138,10 +138,10 @@ impl Kernel {
         requires here { 0 < self.old.right }
         requires clean { self.old.dirty ≡ false }
         requires room { HasRoom 4 events.old self.old }
-        requires fits { Fits events.old.items self.old }
+        requires fits { KernelFits events.old.items self.old }
         requires licensed { Licensed self.old.size (world_part self.old.size events.old.items) }
         ensures ok { IsOk result }
-        ensures fits { OnOk result (Fits events.new.items self.new) }
+        ensures fits { OnOk result (KernelFits events.new.items self.new) }
         ensures licensed { OnOk result (Licensed self.new.size (world_part self.new.size events.new.items)) }
         ensures adds { OnOk result (Adds (HostDoes self.old.host.0) (order_taken self.old.host self.old.control order.Flush ∷ events.old.items) events.new.items) }
         ensures same { (self.new.host ≡ self.old.host) × (self.new.size ≡ self.old.size)
@@ -169,15 +169,15 @@ impl Kernel {
         requires here { 0 < self.old.right }
         requires dirty { self.old.dirty ≡ true }
         requires room { HasRoom 4 events.old self.old }
-        requires fits { Fits events.old.items self.old }
+        requires fits { KernelFits events.old.items self.old }
         requires licensed { Licensed self.old.size (world_part self.old.size events.old.items) }
-        ensures fits { OnOk result (Fits events.new.items self.new) }
+        ensures fits { OnOk result (KernelFits events.new.items self.new) }
         ensures licensed { OnOk result (Licensed self.new.size (world_part self.new.size events.new.items)) }
         ensures adds { OnOk result (Adds (HostDoes self.old.host.0) (order_taken self.old.host self.old.control order.Flush ∷ events.old.items) events.new.items) }
         ensures same { (self.new.host ≡ self.old.host) × (self.new.size ≡ self.old.size)
             × (self.new.live ≡ self.old.live) }
         ensures room { OnOk result (HasRoom 1 events.new self.new) }
-        ensures err { OnErr result (Fits events.new.items self.new × (events.new.items ≡ events.old.items)) }
+        ensures err { OnErr result (KernelFits events.new.items self.new × (events.new.items ≡ events.old.items)) }
     {
         let letter = Letter::Return {
             control: self.control,
@@ -206,10 +206,10 @@ impl Kernel {
         requires head { first self.old.down.items ≡ Some order.Clean }
         requires saved { 0 < self.old.right → self.old.dirty ≡ false }
         requires room { HasRoom 4 events.old self.old }
-        requires fits { Fits events.old.items self.old }
+        requires fits { KernelFits events.old.items self.old }
         requires licensed { Licensed self.old.size (world_part self.old.size events.old.items) }
         ensures ok { IsOk result }
-        ensures fits { OnOk result (Fits events.new.items self.new) }
+        ensures fits { OnOk result (KernelFits events.new.items self.new) }
         ensures licensed { OnOk result (Licensed self.new.size (world_part self.new.size events.new.items)) }
         ensures adds { OnOk result (Adds (HostDoes self.old.host.0) (order_taken self.old.host self.old.control order.Clean ∷ events.old.items) events.new.items) }
         ensures same { (self.new.host ≡ self.old.host) × (self.new.size ≡ self.old.size)
@@ -236,15 +236,15 @@ impl Kernel {
         requires here { 0 < self.old.right }
         requires dirty { self.old.dirty ≡ true }
         requires room { HasRoom 4 events.old self.old }
-        requires fits { Fits events.old.items self.old }
+        requires fits { KernelFits events.old.items self.old }
         requires licensed { Licensed self.old.size (world_part self.old.size events.old.items) }
-        ensures fits { OnOk result (Fits events.new.items self.new) }
+        ensures fits { OnOk result (KernelFits events.new.items self.new) }
         ensures licensed { OnOk result (Licensed self.new.size (world_part self.new.size events.new.items)) }
         ensures adds { OnOk result (Adds (HostDoes self.old.host.0) (order_taken self.old.host self.old.control order.Clean ∷ events.old.items) events.new.items) }
         ensures same { (self.new.host ≡ self.old.host) × (self.new.size ≡ self.old.size)
             × (self.new.live ≡ self.old.live) }
         ensures room { OnOk result (HasRoom 1 events.new self.new) }
-        ensures err { OnErr result (Fits events.new.items self.new × (events.new.items ≡ events.old.items)) }
+        ensures err { OnErr result (KernelFits events.new.items self.new × (events.new.items ≡ events.old.items)) }
     {
         let letter = Letter::Return {
             control: self.control,
@@ -271,15 +271,15 @@ impl Kernel {
         requires live { self.old.live ≡ true }
         requires head { first self.old.down.items ≡ Some order.Flush }
         requires room { HasRoom 4 events.old self.old }
-        requires fits { Fits events.old.items self.old }
+        requires fits { KernelFits events.old.items self.old }
         requires licensed { Licensed self.old.size (world_part self.old.size events.old.items) }
-        ensures fits { OnOk result (Fits events.new.items self.new) }
+        ensures fits { OnOk result (KernelFits events.new.items self.new) }
         ensures licensed { OnOk result (Licensed self.new.size (world_part self.new.size events.new.items)) }
         ensures adds { OnOk result (Adds (HostDoes self.old.host.0) (order_taken self.old.host self.old.control order.Flush ∷ events.old.items) events.new.items) }
         ensures same { (self.new.host ≡ self.old.host) × (self.new.size ≡ self.old.size)
             × (self.new.live ≡ self.old.live) }
         ensures room { OnOk result (HasRoom 1 events.new self.new) }
-        ensures err { OnErr result (Fits events.new.items self.new × (events.new.items ≡ events.old.items)) }
+        ensures err { OnErr result (KernelFits events.new.items self.new × (events.new.items ≡ events.old.items)) }
     {
         if self.right == Right::AWAY {
             return self.flush_nothing(events);
@@ -296,15 +296,15 @@ impl Kernel {
         requires live { self.old.live ≡ true }
         requires head { first self.old.down.items ≡ Some order.Clean }
         requires room { HasRoom 4 events.old self.old }
-        requires fits { Fits events.old.items self.old }
+        requires fits { KernelFits events.old.items self.old }
         requires licensed { Licensed self.old.size (world_part self.old.size events.old.items) }
-        ensures fits { OnOk result (Fits events.new.items self.new) }
+        ensures fits { OnOk result (KernelFits events.new.items self.new) }
         ensures licensed { OnOk result (Licensed self.new.size (world_part self.new.size events.new.items)) }
         ensures adds { OnOk result (Adds (HostDoes self.old.host.0) (order_taken self.old.host self.old.control order.Clean ∷ events.old.items) events.new.items) }
         ensures same { (self.new.host ≡ self.old.host) × (self.new.size ≡ self.old.size)
             × (self.new.live ≡ self.old.live) }
         ensures room { OnOk result (HasRoom 1 events.new self.new) }
-        ensures err { OnErr result (Fits events.new.items self.new × (events.new.items ≡ events.old.items)) }
+        ensures err { OnErr result (KernelFits events.new.items self.new × (events.new.items ≡ events.old.items)) }
     {
         if self.right != Right::AWAY && self.dirty {
             self.clean_dirty(events)
@@ -317,11 +317,11 @@ impl Kernel {
     pub fn take_order(&mut self, events: &mut Events) -> Result<(), NoMemory>
         requires live { self.old.live ≡ true }
         requires room { HasRoom 4 events.old self.old }
-        requires fits { Fits events.old.items self.old }
+        requires fits { KernelFits events.old.items self.old }
         requires licensed { Licensed self.old.size (world_part self.old.size events.old.items) }
-        ensures fits { Fits events.new.items self.new }
+        ensures fits { KernelFits events.new.items self.new }
         ensures licensed { Licensed self.new.size (world_part self.new.size events.new.items) }
-        ensures goes { OnOk result (Goes (HostDoes self.old.host.0) (taken_first self.old.host self.old.control (first self.old.down.items)) events.old.items events.new.items) }
+        ensures goes { OnOk result (StepEvents (HostDoes self.old.host.0) (taken_first self.old.host self.old.control (first self.old.down.items)) events.old.items events.new.items) }
         ensures same { (self.new.host ≡ self.old.host) × (self.new.size ≡ self.old.size)
             × (self.new.live ≡ self.old.live) }
         ensures room { OnOk result (HasRoom 1 events.new self.new) }

@@ -6,7 +6,7 @@ ghost use Rattle.vm_model.specs.declared.message.Channel.TheVariants.{Up};
 ghost use Rattle.vm_model.specs.Server.{first};
 ghost use Rattle.sms_proto.specs.declared.letter.Letter.{Letter};
 ghost use Rattle.sms_proto.specs.Letters.{letter_message, order_message, order_sent, heard_by};
-ghost use Rattle.sms_proto.specs.Kernels.{Fits, IsWhole, IsPrompt, SamePage};
+ghost use Rattle.sms_proto.specs.Kernels.{KernelFits, IsWholeOrder, IsPrompt, SamePage};
 
 use crate::kernel::{Kernel, OBJECT};
 use crate::letter::Order;
@@ -23,9 +23,9 @@ impl Kernel {
     ) -> Result<(), NoMemory>
         requires room { 0 < events.old.room }
         ensures ok { IsOk result }
-        ensures fits { (letter : Letter) → Fits events.old.items self.old → first self.old.up.items ≡ Some letter
+        ensures fits { (letter : Letter) → KernelFits events.old.items self.old → first self.old.up.items ≡ Some letter
             → message ≡ letter_message letter → heard ≡ heard_by self.old.heard letter
-            → OnOk result (Fits events.new.items self.new) }
+            → OnOk result (KernelFits events.new.items self.new) }
         ensures exact { OnOk result (events.new.items
             ≡ Taken (Up self.old.host (record { 0 = 0 })) message ∷ events.old.items) }
         ensures page { SamePage self.old self.new }
@@ -57,10 +57,10 @@ impl Kernel {
         requires events { 0 < events.old.room }
         requires place { deque_len self.old.down < deque_capacity self.old.down }
         requires message { message ≡ order_message order }
-        requires whole { IsWhole self.old.size order }
-        requires fits { Fits events.old.items self.old }
+        requires whole { IsWholeOrder self.old.size order }
+        requires fits { KernelFits events.old.items self.old }
         ensures ok { IsOk result }
-        ensures fits { OnOk result (Fits events.new.items self.new) }
+        ensures fits { OnOk result (KernelFits events.new.items self.new) }
         ensures exact { OnOk result (events.new.items
             ≡ order_sent self.old.host self.old.heard order ∷ events.old.items) }
         ensures page { SamePage self.old self.new }

@@ -10,7 +10,7 @@ ghost use Rattle.vm_model.specs.Channels.{up_queue};
 ghost use Rattle.sms_proto.specs.declared.step.WorldStep.TheVariants as step;
 ghost use Rattle.sms_proto.specs.Steps.{Takes, taken_head, IsTaken};
 ghost use Rattle.sms_proto.specs.Adds.{Adds, ServerDoes};
-ghost use Rattle.sms_proto.specs.Kernels.{Fits, IsWhole, SamePage};
+ghost use Rattle.sms_proto.specs.Kernels.{IsWholeOrder, KernelFits, SamePage};
 ghost use Rattle.sms_proto.specs.Letters.{order_message, heard_by, letter_taken, order_sent};
 ghost use Rattle.sms_proto.specs.Worlds.{WorldStands, StandsAt, Answering, HasPlaces, IsLong, IsSupplied, noted_by, reply_host, reply_order};
 
@@ -41,7 +41,7 @@ fn make_pages(
 impl Kernel {
     // Makes room for so many orders.
     fn make_places(&mut self, count: u32) -> Result<(), NoMemory>
-        ensures fits { (history : List Event) → Fits history self.old → Fits history self.new }
+        ensures fits { (history : List Event) → KernelFits history self.old → KernelFits history self.new }
         ensures page { SamePage self.old self.new }
         ensures places { OnOk result (deque_len self.new.down + count ≤ deque_capacity self.new.down) }
     {
@@ -144,7 +144,7 @@ fn message_of(order: &Order, pages: &mut Listing<PageBytes>) -> Result<Message, 
     requires long { IsSupplied order.now pages.old.items }
     requires some { 0 < length pages.old.items }
     ensures message { IfOk result (λ message. message ≡ order_message order.now) }
-    ensures long { (size : ℕ) → IsWhole size order.now → AllLong size pages.old.items → AllLong size pages.new.items }
+    ensures long { (size : ℕ) → IsWholeOrder size order.now → AllLong size pages.old.items → AllLong size pages.new.items }
     ensures fewer { length pages.old.items ≤ length pages.new.items + 1 }
     ensures ok { IsOk result }
 {

@@ -1,7 +1,7 @@
 // The page world.
 ghost use Rattle.std.specs.Prelude.{◌≡◌, ◌≤◌, ◌<◌, [], List, ℕ, take, length, slice_get, OnOk, OnErr, IfOk};
 ghost use Rattle.vm_base.specs.Limits.{most_hosts};
-ghost use Rattle.sms_proto.specs.Steps.{Runs, Takes};
+ghost use Rattle.sms_proto.specs.Steps.{Takes, TakesSteps};
 ghost use Rattle.sms_proto.specs.Worlds.{StandsAt};
 ghost use Rattle.sms_proto.specs.World.{AllWithin, IsPageWorld, step_host};
 
@@ -79,9 +79,9 @@ impl World {
     fn take_steps(&mut self, steps: &[WorldStep]) -> Result<(), NoMemory>
         requires { AllWithin self.old.hosts steps.now }
         ensures same { (self.new.size ≡ self.old.size) × (self.new.hosts ≡ self.old.hosts) }
-        ensures runs { OnOk result (Runs self.old.size steps.now self.old.events self.new.events) }
+        ensures runs { OnOk result (TakesSteps self.old.size steps.now self.old.events self.new.events) }
         ensures err { OnErr result ((n : ℕ) × (n ≤ length steps.now)
-            × Runs self.old.size (take n steps.now) self.old.events self.new.events) }
+            × TakesSteps self.old.size (take n steps.now) self.old.events self.new.events) }
     {
         for step in steps {
             self.step(step)?;
@@ -105,9 +105,9 @@ impl World {
     pub fn run(&mut self, steps: &[WorldStep]) -> Result<(), NoMemory>
         requires { AllWithin self.old.hosts steps.now }
         ensures same { (self.new.size ≡ self.old.size) × (self.new.hosts ≡ self.old.hosts) }
-        ensures runs { OnOk result (Runs self.old.size steps.now self.old.events self.new.events) }
+        ensures runs { OnOk result (TakesSteps self.old.size steps.now self.old.events self.new.events) }
         ensures err { OnErr result ((n : ℕ) × (n ≤ length steps.now)
-            × Runs self.old.size (take n steps.now) self.old.events self.new.events) }
+            × TakesSteps self.old.size (take n steps.now) self.old.events self.new.events) }
         ensures holds { IsPageWorld self.new.size self.new.hosts self.new.events }
     {
         let result = self.take_steps(steps);

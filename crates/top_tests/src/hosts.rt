@@ -3,7 +3,7 @@ ghost use Rattle.std.specs.Prelude.{◌≡◌, All, List, [], ℕ, true, IfOk};
 ghost use Rattle.vm_legal.specs.Outside.{Outside};
 ghost use Rattle.vm_outside.specs.Areas.{Told};
 ghost use Rattle.vm_model.specs.Ranges.{InRange, KeepsRanges};
-ghost use Rattle.vm_system.specs.Stands.{AllTold, Kept, Stands};
+ghost use Rattle.vm_system.specs.Stands.{AllTold, PagingIsKept, SystemStands};
 ghost use Rattle.vm_system.specs.Steps.{Setting, is_built};
 
 use std::alloc::Global;
@@ -108,8 +108,8 @@ fn run<F: Backing, P: Backing>(
     ghost given: { Setting }
     requires header { given.header ≡ script.now.header }
     requires ranges { All (λ numbered. InRange script.now.header numbered.command) script.now.commands.items }
-    requires stands { Stands given.header given.outside system.old }
-    requires kept { Kept given.header given.outside (P.area paging.old.inner) system.old }
+    requires stands { SystemStands given.header given.outside system.old }
+    requires kept { PagingIsKept given.header given.outside (P.area paging.old.inner) system.old }
 {
     'commands: for i in 0..script.commands.len() {
         let numbered = script.commands.at(i);
@@ -130,8 +130,8 @@ fn run_in_memory(
     ghost given: { Setting }
     requires header { given.header ≡ script.now.header }
     requires ranges { All (λ numbered. InRange script.now.header numbered.command) script.now.commands.items }
-    requires stands { Stands given.header given.outside system.old }
-    requires kept { Kept given.header given.outside (⟦<SureBacking as Backing>⟧.area paging.old.inner) system.old }
+    requires stands { SystemStands given.header given.outside system.old }
+    requires kept { PagingIsKept given.header given.outside (⟦<SureBacking as Backing>⟧.area paging.old.inner) system.old }
 {
     run(script, system, files, paging)
 }
@@ -162,8 +162,8 @@ fn parsed(alloc: Global) -> Result<Script, Fail>
 fn started(alloc: Global, script: &Script) -> Result<System, NoMemory>
     requires ranges { KeepsRanges script.now }
     requires plain { script.now.header.objects.items ≡ [] }
-    ensures stands { (outside : Outside) → IfOk result (λ system. Stands script.now.header outside system) }
-    ensures kept { (outside : Outside) → (areas : List ℕ → Told) → IfOk result (λ system. (outside.paging ≡ true → AllTold areas system.pagers.items) → Kept script.now.header outside areas system) }
+    ensures stands { (outside : Outside) → IfOk result (λ system. SystemStands script.now.header outside system) }
+    ensures kept { (outside : Outside) → (areas : List ℕ → Told) → IfOk result (λ system. (outside.paging ≡ true → AllTold areas system.pagers.items) → PagingIsKept script.now.header outside areas system) }
 {
     System::new(alloc, &script.header)
 }

@@ -1,7 +1,7 @@
 // Each call once, on a host of four frames where nothing is on its way.
 ghost use Rattle.std.specs.Prelude.{◌≡◌, IfOk};
 ghost use Rattle.vm_kernel.specs.Matches.{IsPlain};
-ghost use Rattle.vm_system.specs.Stands.{Kept, Stands};
+ghost use Rattle.vm_system.specs.Stands.{PagingIsKept, SystemStands};
 ghost use Rattle.vm_system.specs.Steps.{Setting};
 
 use std::alloc::Global;
@@ -35,8 +35,8 @@ fn settle_all(
 ) -> Result<(u32, bool, u32), SystemStop>
     ghost given: { Setting }
     requires header { given.header ≡ header.now }
-    requires stands { Stands given.header given.outside system.old }
-    requires kept { Kept given.header given.outside (⟦<SureBacking as Backing>⟧.area paging.old.inner) system.old }
+    requires stands { SystemStands given.header given.outside system.old }
+    requires kept { PagingIsKept given.header given.outside (⟦<SureBacking as Backing>⟧.area paging.old.inner) system.old }
 {
     let command = Command::Settle { count: 2 };
     let events = system.step(1, &command, files, paging)?;

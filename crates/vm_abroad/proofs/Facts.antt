@@ -16,7 +16,7 @@ use Rattle.vm_legal.specs.Outside.{Outside}
 use Rattle.vm_legal.specs.Stretches.{EachIn}
 use Rattle.vm_legal.specs.Used.{in_use}
 use Rattle.vm_legal.specs.Walks.{Below}
-use Rattle.vm_abroad.specs.Same.{SameFacts, SamePages, SameTask, Stays}
+use Rattle.vm_abroad.specs.Same.{SameFacts, SameForHost, SamePages, SameTask}
 use Rattle.vm_abroad.specs.Sound.{IsAbroad, IsAmong, IsHeldOn, IsMade, IsRegionOf, Knows, Sound}
 use Rattle.vm_abroad.proofs.Chains.{below_was}
 use Rattle.vm_abroad.proofs.Pages.{pages_abroad}
@@ -136,7 +136,7 @@ knows_same header h old new sound same knows = record {
   chains = λ r small own. chain_same header h r old new sound same knows own;
 }
 
-pub stays : (header : Header) (outside : Outside) (h : ℕ) (events past : List Event) → Sound header past → Knows header h past → EachIn (IsAbroad header outside h) events past → Stays header h past (events ++ past)
+pub stays : (header : Header) (outside : Outside) (h : ℕ) (events past : List Event) → Sound header past → Knows header h past → EachIn (IsAbroad header outside h) events past → SameForHost header h past (events ++ past)
 stays header outside h [] past sound knows abroad = record { same = same_none header h past; sound = sound; knows = knows }
 stays header outside h (e ∷ events) past sound knows abroad =
     let was = stays header outside h events past sound knows abroad.1 in

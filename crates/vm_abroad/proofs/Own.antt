@@ -10,9 +10,9 @@ use Rattle.vm_model.specs.declared.message.Message.{Message}
 use Rattle.vm_model.specs.declared.message.Message.TheVariants as message
 use Rattle.vm_model.specs.declared.script.Header.{Header}
 use Rattle.vm_model.specs.Controls.{control_after, is_control, last_control, live_after, live_control}
-use Rattle.vm_model.specs.Local.{Local, Place, effect, local, moved}
+use Rattle.vm_model.specs.Local.{Local, Place, effect, local, local_after}
 use Rattle.vm_legal.specs.Accesses.{is_ready}
-use Rattle.vm_legal.specs.Frames.{change, changed, frames_held, frames_wired, returns_out, sent_up, taken_down, taken_up}
+use Rattle.vm_legal.specs.Frames.{change, frames_after, frames_held, frames_wired, returns_out, sent_up, taken_down, taken_up}
 use Rattle.vm_legal.specs.Homes.{gives_frame, is_home}
 use Rattle.vm_abroad.specs.Own.{own_change, own_effect, own_last, own_live, own_out, own_ready, own_wired}
 
@@ -40,8 +40,8 @@ effect_own header h place others (event.Taken (Down at object control) m) past i
 effect_own header h place others other past is = refl
 
 pub local_own : (header : Header) (h : ℕ) (e : Event) (past : List Event) → is_home header h e past ≡ true → (place : Place)
-    → local header.size h place (e ∷ past) ≡ moved header.size (own_effect place (λ source. local header.size h source past) (live_control h place.object past) e) (local header.size h place past)
-local_own header h e past is place = ap (λ z. moved header.size z (local header.size h place past)) (effect_own header h place (λ source. local header.size h source past) e past is)
+    → local header.size h place (e ∷ past) ≡ local_after header.size (own_effect place (λ source. local header.size h source past) (live_control h place.object past) e) (local header.size h place past)
+local_own header h e past is place = ap (λ z. local_after header.size z (local header.size h place past)) (effect_own header h place (λ source. local header.size h source past) e past is)
 
 -- controls
 
@@ -106,8 +106,8 @@ change_own header h other past is = refl
 
 pub held_own : (header : Header) (h : ℕ) (e : Event) (past : List Event) → is_home header h e past ≡ true
     → frames_held header.size h (e ∷ past)
-    ≡ changed (own_change (λ o control page. is_control control (live_control h o past) && (local header.size h (record { object = o; page = page }) past).asked) e) (frames_held header.size h past)
-held_own header h e past is = ap (λ z. changed z (frames_held header.size h past)) (change_own header h e past is)
+    ≡ frames_after (own_change (λ o control page. is_control control (live_control h o past) && (local header.size h (record { object = o; page = page }) past).asked) e) (frames_held header.size h past)
+held_own header h e past is = ap (λ z. frames_after z (frames_held header.size h past)) (change_own header h e past is)
 
 pub wired_own : (header : Header) (h : ℕ) (e : Event) (past : List Event) → is_home header h e past ≡ true → frames_wired h (e ∷ past) ≡ own_wired e (frames_wired h past)
 wired_own header h (event.Wired at count) past is = rw is refl

@@ -9,9 +9,9 @@ use Rattle.vm_model.specs.declared.message.Message.{Message}
 use Rattle.vm_model.specs.declared.message.Message.TheVariants as message
 use Rattle.vm_model.specs.declared.script.Header.{Header}
 use Rattle.vm_model.specs.Controls.{control_after, is_control, last_control, live_after, live_control}
-use Rattle.vm_model.specs.Local.{Elsewhere, Local, Place, effect, local, moved}
+use Rattle.vm_model.specs.Local.{Elsewhere, Local, Place, effect, local, local_after}
 use Rattle.vm_legal.specs.Accesses.{is_ready}
-use Rattle.vm_legal.specs.Frames.{Keeps, change, changed, frames_held, frames_wired, returns_out, sent_up, taken_down, taken_up}
+use Rattle.vm_legal.specs.Frames.{Keeps, change, frames_after, frames_held, frames_wired, returns_out, sent_up, taken_down, taken_up}
 use Rattle.vm_legal.specs.Homes.{gives_frame, is_home}
 use Rattle.vm_abroad.specs.Same.{SamePages}
 
@@ -30,7 +30,7 @@ effect_abroad header h place others (event.Taken (Down at object control) m) pas
 effect_abroad header h place others other past is = refl
 
 pub local_abroad : (header : Header) (h : ℕ) (e : Event) (past : List Event) → is_home header h e past ≡ false → (place : Place) → local header.size h place (e ∷ past) ≡ local header.size h place past
-local_abroad header h e past is place = ap (λ z. moved header.size z (local header.size h place past)) (effect_abroad header h place (λ source. local header.size h source past) e past is)
+local_abroad header h e past is place = ap (λ z. local_after header.size z (local header.size h place past)) (effect_abroad header h place (λ source. local header.size h source past) e past is)
 
 -- controls
 
@@ -99,7 +99,7 @@ change_abroad header h (event.Taken (Down at object control) m) past is =
 change_abroad header h other past is = refl
 
 pub held_abroad : (header : Header) (h : ℕ) (e : Event) (past : List Event) → is_home header h e past ≡ false → frames_held header.size h (e ∷ past) ≡ frames_held header.size h past
-held_abroad header h e past is = ap (λ z. changed z (frames_held header.size h past)) (change_abroad header h e past is)
+held_abroad header h e past is = ap (λ z. frames_after z (frames_held header.size h past)) (change_abroad header h e past is)
 
 pub wired_abroad : (header : Header) (h : ℕ) (e : Event) (past : List Event) → is_home header h e past ≡ false → frames_wired h (e ∷ past) ≡ frames_wired h past
 wired_abroad header h (event.Wired at count) past is = rw is refl

@@ -17,7 +17,7 @@ use Rattle.vm_legal.specs.Accesses.{Comes, Copies, Elsewhere, HasPlace, Nowhere,
 use Rattle.vm_legal.specs.Frames.{frames_free}
 use Rattle.vm_legal.specs.Homes.{is_open, is_used}
 use Rattle.vm_legal.specs.Licences.{IsUnheld}
-use Rattle.vm_legal.specs.Prompt.{AReady, AnAnswer, AnUnlock, Awaits, IsExhausted, IsFull, IsSource, IsSwept, NoneInVain, WaitsForPager}
+use Rattle.vm_legal.specs.Prompt.{AReady, AnAnswer, AnUnlock, Awaits, HostIsFull, IsExhausted, IsSource, IsSwept, NoneInVain, WaitsForPager}
 use Rattle.vm_legal.specs.Walks.{Below, IsTop, Reach, Sight, Sinks, Walks, page_on, sight}
 use Rattle.vm_abroad.specs.Same.{SameFacts}
 use Rattle.vm_abroad.specs.Sound.{IsMade, IsRegionOf, Knows, Sound}
@@ -183,7 +183,7 @@ module _ (header : Header) (h : ℕ) (old new : List Event) (sound : Sound heade
   free_now : frames_free header h new ≡ frames_free header h old
   free_now = let held = same.pages.held in let wired = same.pages.wired in omega (arith, held, wired)
 
-  pub full_now : IsFull header h old → IsFull header h new
+  pub full_now : HostIsFull header h old → HostIsFull header h new
   full_now is = record {
     none = free_now ∙ is.none;
     why = elim (is.why) [ inl out ↦ inl (subst (λ (z : ℕ). 0 < z) (sym same.pages.out) out) | inr exhausted ↦ inr (exhausted_now exhausted) ];

@@ -6,11 +6,11 @@ use Rattle.vm_model.specs.declared.event.Event.TheVariants as event
 use Rattle.vm_model.specs.declared.message.Channel.TheVariants.{Up, Down}
 use Rattle.vm_model.specs.declared.message.Message.TheVariants as message
 use Rattle.vm_model.specs.Controls.{is_control, without_control}
-use Rattle.vm_model.specs.Local.{Drops, Effect, Elsewhere, Local, Place, Raises, Stores, Zeroes, is_place, sent_effect, taken_effect}
-use Rattle.vm_legal.specs.Frames.{Change, Gives, Keeps, Takes, sent_up, taken_down, taken_up}
+use Rattle.vm_model.specs.Local.{Drops, Elsewhere, Local, LocalEffect, Place, Raises, Stores, Zeroes, is_place, sent_effect, taken_effect}
+use Rattle.vm_legal.specs.Frames.{FrameChange, Gives, Keeps, Takes, sent_up, taken_down, taken_up}
 
 -- to a place of the host, with what the host has of the others, and the live control of its object
-abbrev pub own_effect : Place → (Place → Local) → Option ℕ → Event → Effect
+abbrev pub own_effect : Place → (Place → Local) → Option ℕ → Event → LocalEffect
 own_effect place others live (event.Zeroed at object page) = if is_place place object.0 page.0 then Zeroes else Elsewhere
 own_effect place others live (event.Raised at lower lower_page upper upper_page) =
     if is_place place upper.0 upper_page.0 then Raises (others (record { object = lower.0; page = lower_page.0 })).bytes else Elsewhere
@@ -23,7 +23,7 @@ own_effect place others live (event.Taken (Down at object control) m) = if objec
 own_effect place others live other = Elsewhere
 
 -- to its frames; whether its live control of an object has asked for a page comes in as a function
-abbrev pub own_change : (ℕ → ℕ → ℕ → Bool) → Event → Change
+abbrev pub own_change : (ℕ → ℕ → ℕ → Bool) → Event → FrameChange
 own_change asked (event.Zeroed at object page) = Takes
 own_change asked (event.Raised at lower lower_page upper upper_page) = Takes
 own_change asked (event.CopiedPage task page object object_page target) = Takes

@@ -51,7 +51,7 @@ pub record SameFacts (header : Header) (h : ℕ) (old new : List Event) : Type 0
   pub backing : (o : ℕ) → o < next_object header old → backing_of header o new ≡ backing_of header o old
 
 -- Nothing of it has changed for a host, whose tables say as much as before
-pub record Stays (header : Header) (h : ℕ) (old new : List Event) : Type 0 where
+pub record SameForHost (header : Header) (h : ℕ) (old new : List Event) : Type 0 where
   pub same : SameFacts header h old new
   pub sound : Sound header new
   pub knows : Knows header h new

@@ -9,8 +9,8 @@ use Rattle.vm_legal.specs.Licences.{HasCause}
 use Rattle.vm_legal.specs.Outside.{Outside}
 
 -- whosever the event is, it is this host's
-abbrev pub IsOwn : Header → ℕ → Event → List Event → Type 0
-IsOwn header g e past = (h : ℕ) → is_home header h e past ≡ true → h ≡ g
+abbrev pub IsOnlyOfHost : Header → ℕ → Event → List Event → Type 0
+IsOnlyOfHost header g e past = (h : ℕ) → is_home header h e past ≡ true → h ≡ g
 
 -- a task that begins doesn't live yet
 abbrev pub IsNew : Event → List Event → Type 0
@@ -21,7 +21,7 @@ IsNew other past = Unit {0}
 pub record IsOfHost (header : Header) (outside : Outside) (g : ℕ) (e : Event) (past : List Event) : Type 0 where
   pub cause : HasCause header outside e past
   pub enters : EntersNext e past
-  pub own : IsOwn header g e past
+  pub own : IsOnlyOfHost header g e past
 
 -- no region waits for its entry
 abbrev pub IsShut : List Event → Type 0

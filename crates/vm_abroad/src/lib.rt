@@ -10,34 +10,34 @@ ghost use Rattle.vm_model.specs.declared.command.Numbered.{Numbered};
 ghost use Rattle.vm_model.specs.declared.event.Event.{Event};
 ghost use Rattle.vm_model.specs.declared.script.Header.{Header};
 ghost use Rattle.vm_model.specs.Controls.{is_control, last_control, live_control};
-ghost use Rattle.vm_model.specs.Local.{Place, local, moved};
+ghost use Rattle.vm_model.specs.Local.{Place, local, local_after};
 ghost use Rattle.vm_model.specs.Moments.{EachEvent};
 ghost use Rattle.vm_legal.specs.Accesses.{is_ready};
 ghost use Rattle.vm_legal.specs.Follows.{FollowsSoFar};
-ghost use Rattle.vm_legal.specs.Frames.{changed, frames_held, frames_wired, returns_out};
+ghost use Rattle.vm_legal.specs.Frames.{frames_after, frames_held, frames_wired, returns_out};
 ghost use Rattle.vm_legal.specs.Homes.{EntersNext, is_home};
 ghost use Rattle.vm_legal.specs.Licences.{HasCause};
 ghost use Rattle.vm_legal.specs.Outside.{Outside};
-ghost use Rattle.vm_legal.specs.Prompt.{IsFull, IsSwept, NoneInVain};
+ghost use Rattle.vm_legal.specs.Prompt.{HostIsFull, IsSwept, NoneInVain};
 ghost use Rattle.vm_legal.specs.Stretches.{EachIn};
 ghost use Rattle.vm_abroad.specs.Own.{own_change, own_effect, own_last, own_live, own_out, own_ready, own_wired};
 ghost use Rattle.vm_abroad.specs.Run as run;
-ghost use Rattle.vm_abroad.specs.Same.{SameFacts, Stays};
+ghost use Rattle.vm_abroad.specs.Same.{SameFacts, SameForHost};
 ghost use Rattle.vm_abroad.specs.Sound.{IsAbroad, Knows, Sound};
-ghost use Rattle.vm_abroad.specs.Whose.{IsNew, IsOfHost, IsOwn, IsShut};
+ghost use Rattle.vm_abroad.specs.Whose.{IsNew, IsOfHost, IsOnlyOfHost, IsShut};
 
 /// Where regions are in use, and what their tables say of one host, it reads the same behind events that
 /// are nothing to it; and so it goes on.
 #[tactic(auto, using(crate::proofs::Facts::stays))]
 pub fn others_are_nothing()
-    ensures { (header : Header) (outside : Outside) (h : ℕ) (events past : List Event) → Sound header past → Knows header h past → EachIn (IsAbroad header outside h) events past → Stays header h past (events ++ past) }
+    ensures { (header : Header) (outside : Outside) (h : ℕ) (events past : List Event) → Sound header past → Knows header h past → EachIn (IsAbroad header outside h) events past → SameForHost header h past (events ++ past) }
 {}
 
 /// Whoever waits on a host waits as before, and for the same; its frames are as short as before, and
 /// nothing more is left behind.
 #[tactic(auto, using(crate::proofs::Waits::swept_now))]
 pub fn who_waits_waits_as_before()
-    ensures full { (header : Header) (h : ℕ) (old new : List Event) → Sound header old → Knows header h old → SameFacts header h old new → IsFull header h old → IsFull header h new }
+    ensures full { (header : Header) (h : ℕ) (old new : List Event) → Sound header old → Knows header h old → SameFacts header h old new → HostIsFull header h old → HostIsFull header h new }
     ensures vain { (header : Header) (h : ℕ) (old new : List Event) → Sound header old → Knows header h old → SameFacts header h old new → NoneInVain header h old → NoneInVain header h new }
     ensures swept { (header : Header) (h : ℕ) (old new : List Event) → Sound header old → Knows header h old → SameFacts header h old new → IsShut old → IsSwept header h old → IsSwept header h new }
 {}
@@ -45,11 +45,11 @@ pub fn who_waits_waits_as_before()
 /// What a host's own event does to the host's pages, controls and frames: nothing is asked of numbers of hosts.
 #[tactic(auto, using(crate::proofs::Own::local_own, crate::proofs::Own::live_own, crate::proofs::Own::last_own, crate::proofs::Own::ready_own, crate::proofs::Own::held_own, crate::proofs::Own::wired_own, crate::proofs::Own::out_own))]
 pub fn own_events_move_their_host()
-    ensures local { (header : Header) (h : ℕ) (e : Event) (past : List Event) → is_home header h e past ≡ true → (place : Place) → local header.size h place (e ∷ past) ≡ moved header.size (own_effect place (λ source. local header.size h source past) (live_control h place.object past) e) (local header.size h place past) }
+    ensures local { (header : Header) (h : ℕ) (e : Event) (past : List Event) → is_home header h e past ≡ true → (place : Place) → local header.size h place (e ∷ past) ≡ local_after header.size (own_effect place (λ source. local header.size h source past) (live_control h place.object past) e) (local header.size h place past) }
     ensures live { (header : Header) (h : ℕ) (e : Event) (past : List Event) → is_home header h e past ≡ true → (o : ℕ) → live_control h o (e ∷ past) ≡ own_live o e (live_control h o past) }
     ensures last { (header : Header) (h : ℕ) (e : Event) (past : List Event) → is_home header h e past ≡ true → (o : ℕ) → last_control h o (e ∷ past) ≡ own_last o e (last_control h o past) }
     ensures ready { (header : Header) (h : ℕ) (e : Event) (past : List Event) → is_home header h e past ≡ true → (o : ℕ) → is_ready h o (e ∷ past) ≡ own_ready o (live_control h o past) e (is_ready h o past) }
-    ensures held { (header : Header) (h : ℕ) (e : Event) (past : List Event) → is_home header h e past ≡ true → frames_held header.size h (e ∷ past) ≡ changed (own_change (λ o control page. is_control control (live_control h o past) && (local header.size h (record { object = o; page = page }) past).asked) e) (frames_held header.size h past) }
+    ensures held { (header : Header) (h : ℕ) (e : Event) (past : List Event) → is_home header h e past ≡ true → frames_held header.size h (e ∷ past) ≡ frames_after (own_change (λ o control page. is_control control (live_control h o past) && (local header.size h (record { object = o; page = page }) past).asked) e) (frames_held header.size h past) }
     ensures wired { (header : Header) (h : ℕ) (e : Event) (past : List Event) → is_home header h e past ≡ true → frames_wired h (e ∷ past) ≡ own_wired e (frames_wired h past) }
     ensures out { (header : Header) (h : ℕ) (e : Event) (past : List Event) → is_home header h e past ≡ true → returns_out h (e ∷ past) ≡ own_out e (returns_out h past) }
 {}
@@ -57,7 +57,7 @@ pub fn own_events_move_their_host()
 /// An event of one host is no other's, so it is nothing to the others.
 #[tactic(auto, using(crate::proofs::Whose::abroad_of_own))]
 pub fn events_have_one_home()
-    ensures one { (header : Header) (outside : Outside) (g : ℕ) (e : Event) (past : List Event) → Sound header past → HasCause header outside e past → EntersNext e past → IsNew e past → is_home header g e past ≡ true → IsOwn header g e past }
+    ensures one { (header : Header) (outside : Outside) (g : ℕ) (e : Event) (past : List Event) → Sound header past → HasCause header outside e past → EntersNext e past → IsNew e past → is_home header g e past ≡ true → IsOnlyOfHost header g e past }
     ensures others { (header : Header) (outside : Outside) (g h : ℕ) (events past : List Event) → h ≢ g → EachIn (IsOfHost header outside g) events past → EachIn (IsAbroad header outside h) events past }
 {}
 

@@ -2,8 +2,8 @@
 use Rattle.std.proofs.Common.{◌≡◌, ℕ, ◌+◌, ◌==◌, ◌&&◌, if◌then◌else◌, ◌<◌, ◌≢◌, List, arith, Bool, true, false, Some}
 use Rattle.std.proofs.lemmas.Bool.Decides.{nat_tests}
 use native.Mathlib.Decide.{ℕ_discrete}
-use Rattle.vm_model.specs.Words.{Asking, Unlocking, Returning, Doing, Ending, Supplying, Locking, Effect, SendsUp, TakenUp, SentDown, Drops, Stores}
-use Rattle.vm_model.specs.Side.{Side, nobody, opened, put_down, hears, move}
+use Rattle.vm_model.specs.Words.{Asking, Unlocking, Returning, Doing, Ending, Supplying, Locking, ActEffect, SendsUp, TakenUp, SentDown, Drops, Stores}
+use Rattle.vm_model.specs.Side.{Side, nobody, opened, put_down, hears, side_after}
 use Rattle.vm_model.specs.Waiters.{Waiter}
 use Rattle.vm_model.specs.Server.{first}
 use Rattle.vm_model.specs.PageLicences.{MaySend}
@@ -15,13 +15,13 @@ use Rattle.vm_coherence.proofs.Ways.{strange, does_of, strange_le, does_le, ends
 abbrev pub gate : ℕ → ℕ → ℕ
 gate holds n = if holds == 1 then n else 0
 
-abbrev pub counted_in : Side → Effect → ℕ → ℕ
+abbrev pub counted_in : Side → ActEffect → ℕ → ℕ
 counted_in s (TakenUp (Unlocking access)) n = if s.holds == 1 && s.awaits == 0 then n + 1 else n
 counted_in s e n = n
 
 -- the pending unlocks of a host, after one that it had
-abbrev pub after : Side → ℕ → Effect → ℕ
-after s n e = gate (move s e).holds (counted_in s e n)
+abbrev pub after : Side → ℕ → ActEffect → ℕ
+after s n e = gate (side_after s e).holds (counted_in s e n)
 
 -- of a host that has so many unlocks pending
 pub record Carried (s : Side) (n : ℕ) : Type 0 where
@@ -38,22 +38,22 @@ pub record Carried (s : Side) (n : ℕ) : Type 0 where
   pub step_first : 0 < s.step → s.unlocking ≡ false
   pub upgrading_reads : 0 < n → s.holds ≡ 1
 
-pub carried_asking : (ws : List Waiter) (rs : List ℕ) (s : Side) (n : ℕ) (control asker access : ℕ) → Sound s → Carried s n → s.live ≡ true → MaySend ws rs s (Asking asker access) → Carried (move s (SendsUp control (Asking asker access))) (after s n (SendsUp control (Asking asker access)))
+pub carried_asking : (ws : List Waiter) (rs : List ℕ) (s : Side) (n : ℕ) (control asker access : ℕ) → Sound s → Carried s n → s.live ≡ true → MaySend ws rs s (Asking asker access) → Carried (side_after s (SendsUp control (Asking asker access))) (after s n (SendsUp control (Asking asker access)))
 carried_asking ws rs s n control asker access ok k live may = grind (arith, nat_tests, sum_up_end, unlocks_left_end)
 
-pub carried_unlocking : (ws : List Waiter) (rs : List ℕ) (s : Side) (n : ℕ) (control access : ℕ) → Sound s → Carried s n → MaySend ws rs s (Unlocking access) → Carried (move s (SendsUp control (Unlocking access))) (after s n (SendsUp control (Unlocking access)))
+pub carried_unlocking : (ws : List Waiter) (rs : List ℕ) (s : Side) (n : ℕ) (control access : ℕ) → Sound s → Carried s n → MaySend ws rs s (Unlocking access) → Carried (side_after s (SendsUp control (Unlocking access))) (after s n (SendsUp control (Unlocking access)))
 carried_unlocking ws rs s n control access ok k may = grind (arith, nat_tests, sum_up_end, unlocks_left_end)
 
-pub carried_returning : (ws : List Waiter) (rs : List ℕ) (s : Side) (n : ℕ) (control : ℕ) (dirty keep : Bool) (bytes : List ℕ) → Sound s → Carried s n → MaySend ws rs s (Returning dirty keep bytes) → Carried (move s (SendsUp control (Returning dirty keep bytes))) (after s n (SendsUp control (Returning dirty keep bytes)))
+pub carried_returning : (ws : List Waiter) (rs : List ℕ) (s : Side) (n : ℕ) (control : ℕ) (dirty keep : Bool) (bytes : List ℕ) → Sound s → Carried s n → MaySend ws rs s (Returning dirty keep bytes) → Carried (side_after s (SendsUp control (Returning dirty keep bytes))) (after s n (SendsUp control (Returning dirty keep bytes)))
 carried_returning ws rs s n control dirty keep bytes ok k may = grind (arith, nat_tests, sum_up_end, unlocks_left_end, outcome_le, drain_0)
 
-pub carried_doing : (ws : List Waiter) (rs : List ℕ) (s : Side) (n : ℕ) (control told count : ℕ) → Sound s → Carried s n → MaySend ws rs s (Doing told count) → Carried (move s (SendsUp control (Doing told count))) (after s n (SendsUp control (Doing told count)))
+pub carried_doing : (ws : List Waiter) (rs : List ℕ) (s : Side) (n : ℕ) (control told count : ℕ) → Sound s → Carried s n → MaySend ws rs s (Doing told count) → Carried (side_after s (SendsUp control (Doing told count))) (after s n (SendsUp control (Doing told count)))
 carried_doing ws rs s n control told count ok k may = grind (arith, nat_tests, sum_up_end)
 
-pub carried_ending : (ws : List Waiter) (rs : List ℕ) (s : Side) (n : ℕ) (control told : ℕ) → Sound s → Carried s n → MaySend ws rs s (Ending told) → Carried (move s (SendsUp control (Ending told))) (after s n (SendsUp control (Ending told)))
+pub carried_ending : (ws : List Waiter) (rs : List ℕ) (s : Side) (n : ℕ) (control told : ℕ) → Sound s → Carried s n → MaySend ws rs s (Ending told) → Carried (side_after s (SendsUp control (Ending told))) (after s n (SendsUp control (Ending told)))
 carried_ending ws rs s n control told ok k may = grind (arith, nat_tests, sum_up_end, unlocks_left_end)
 
-pub carried_drops : (s : Side) (n : ℕ) → Sound s → Carried s n → Carried (move s Drops) (after s n Drops)
+pub carried_drops : (s : Side) (n : ℕ) → Sound s → Carried s n → Carried (side_after s Drops) (after s n Drops)
 carried_drops s n ok k = grind (arith, nat_tests, outcome_le, drain_0)
 
 pub carried_rest : (s : Side) (n : ℕ) → Sound s → Carried s n → s.step ≡ 0 → Carried (record s { step = 0 }) (gate s.holds n)
@@ -62,7 +62,7 @@ carried_rest s n ok k none = grind (arith, nat_tests)
 pub carried_same : (s : Side) (n : ℕ) → Carried s n → Carried s (gate s.holds n)
 carried_same s n k = grind (arith, nat_tests)
 
-pub carried_stores : (s : Side) (n task at size value : ℕ) → Sound s → Carried s n → Carried (move s (Stores task at size value)) (after s n (Stores task at size value))
+pub carried_stores : (s : Side) (n task at size value : ℕ) → Sound s → Carried s n → Carried (side_after s (Stores task at size value)) (after s n (Stores task at size value))
 carried_stores s n task at size value ok k = grind (arith, nat_tests)
 
 pub carried_opens : (s : Side) (n control : ℕ) (ready : Bool) → Sound s → Carried s n → s.live ≡ false → control ≡ s.control + 1 → Carried (opened s control ready) (gate s.holds n)
@@ -73,10 +73,10 @@ carried_ready s n ok k none = grind (arith, nat_tests)
 
 -- what the server takes
 
-pub carried_heard_asking : (s : Side) (n : ℕ) (asker access : ℕ) → Sound s → Carried s n → first s.up ≡ Some (Asking asker access) → s.step ≡ 0 → Carried (move s (TakenUp (Asking asker access))) (after s n (TakenUp (Asking asker access)))
+pub carried_heard_asking : (s : Side) (n : ℕ) (asker access : ℕ) → Sound s → Carried s n → first s.up ≡ Some (Asking asker access) → s.step ≡ 0 → Carried (side_after s (TakenUp (Asking asker access))) (after s n (TakenUp (Asking asker access)))
 carried_heard_asking s n asker access ok k is none = grind (arith, nat_tests)
 
-pub carried_heard_unlocking : (s : Side) (n : ℕ) (access : ℕ) → Sound s → Carried s n → first s.up ≡ Some (Unlocking access) → s.step ≡ 0 → Carried (move s (TakenUp (Unlocking access))) (after s n (TakenUp (Unlocking access)))
+pub carried_heard_unlocking : (s : Side) (n : ℕ) (access : ℕ) → Sound s → Carried s n → first s.up ≡ Some (Unlocking access) → s.step ≡ 0 → Carried (side_after s (TakenUp (Unlocking access))) (after s n (TakenUp (Unlocking access)))
 carried_heard_unlocking s n access ok k is none =
     record {
       asked_carried = grind (arith, nat_tests);
@@ -93,21 +93,21 @@ carried_heard_unlocking s n access ok k is none =
       upgrading_reads = grind (arith, nat_tests);
     }
 
-pub carried_heard_returning : (s : Side) (n : ℕ) (dirty keep : Bool) (bytes : List ℕ) → Sound s → Carried s n → first s.up ≡ Some (Returning dirty keep bytes) → s.step ≡ 0 → Carried (move s (TakenUp (Returning dirty keep bytes))) (after s n (TakenUp (Returning dirty keep bytes)))
+pub carried_heard_returning : (s : Side) (n : ℕ) (dirty keep : Bool) (bytes : List ℕ) → Sound s → Carried s n → first s.up ≡ Some (Returning dirty keep bytes) → s.step ≡ 0 → Carried (side_after s (TakenUp (Returning dirty keep bytes))) (after s n (TakenUp (Returning dirty keep bytes)))
 carried_heard_returning s n dirty keep bytes ok k is none = grind (arith, nat_tests, drain_up)
 
-pub carried_heard_doing : (s : Side) (n : ℕ) (control count : ℕ) → Sound s → Carried s n → first s.up ≡ Some (Doing control count) → s.step ≡ 0 → Carried (move s (TakenUp (Doing control count))) (after s n (TakenUp (Doing control count)))
+pub carried_heard_doing : (s : Side) (n : ℕ) (control count : ℕ) → Sound s → Carried s n → first s.up ≡ Some (Doing control count) → s.step ≡ 0 → Carried (side_after s (TakenUp (Doing control count))) (after s n (TakenUp (Doing control count)))
 carried_heard_doing s n control count ok k is none = grind (arith, nat_tests, drain_up)
 
-pub carried_heard_ending : (s : Side) (n : ℕ) (control : ℕ) → Sound s → Carried s n → first s.up ≡ Some (Ending control) → s.step ≡ 0 → Carried (move s (TakenUp (Ending control))) (after s n (TakenUp (Ending control)))
+pub carried_heard_ending : (s : Side) (n : ℕ) (control : ℕ) → Sound s → Carried s n → first s.up ≡ Some (Ending control) → s.step ≡ 0 → Carried (side_after s (TakenUp (Ending control))) (after s n (TakenUp (Ending control)))
 carried_heard_ending s n control ok k is none = grind (arith, nat_tests, drain_up)
 
 -- what the server sends
 
-pub carried_supply : (s : Side) (n : ℕ) (control lock : ℕ) (precious : Bool) (bytes : List ℕ) → Sound s → Carried s n → MayAnswer s (Supplying lock precious bytes) → control ≡ s.heard → Carried (move s (SentDown control (Supplying lock precious bytes))) (after s n (SentDown control (Supplying lock precious bytes)))
+pub carried_supply : (s : Side) (n : ℕ) (control lock : ℕ) (precious : Bool) (bytes : List ℕ) → Sound s → Carried s n → MayAnswer s (Supplying lock precious bytes) → control ≡ s.heard → Carried (side_after s (SentDown control (Supplying lock precious bytes))) (after s n (SentDown control (Supplying lock precious bytes)))
 carried_supply s n control lock precious bytes ok k may fits = grind (arith, nat_tests, sum_down_end, outcome_end)
 
-pub carried_upgrade : (s : Side) (n : ℕ) (control count returns lock : ℕ) (flush : Bool) → Sound s → Carried s n → MayAnswer s (Locking count returns flush lock false) → control ≡ s.heard → Carried (move s (SentDown control (Locking count returns flush lock false))) (after s n (SentDown control (Locking count returns flush lock false)))
+pub carried_upgrade : (s : Side) (n : ℕ) (control count returns lock : ℕ) (flush : Bool) → Sound s → Carried s n → MayAnswer s (Locking count returns flush lock false) → control ≡ s.heard → Carried (side_after s (SentDown control (Locking count returns flush lock false))) (after s n (SentDown control (Locking count returns flush lock false)))
 carried_upgrade s n control count returns lock flush ok k may fits = grind (arith, nat_tests, sum_down_end, outcome_end, outcome_le s.down s.right, ends_le s.heard s.up, drain_up s.down s.right)
 
 put_reply : (s : Side) (control count returns lock : ℕ) (flush : Bool) → s.live ≡ true → s.control ≡ control → 0 < sum_down any_reply (put_down s control (Locking count returns flush lock true))
@@ -125,7 +125,7 @@ order_carried s n control count returns lock flush k holds fits = elim (ℕ_disc
   | no some ↦ omega arith
 ]
 
-pub carried_order : (s : Side) (n : ℕ) (control count returns lock : ℕ) (flush : Bool) → Sound s → Carried s n → MayAnswer s (Locking count returns flush lock true) → 0 < s.holds → control ≡ s.heard → Carried (move s (SentDown control (Locking count returns flush lock true))) (after s n (SentDown control (Locking count returns flush lock true)))
+pub carried_order : (s : Side) (n : ℕ) (control count returns lock : ℕ) (flush : Bool) → Sound s → Carried s n → MayAnswer s (Locking count returns flush lock true) → 0 < s.holds → control ≡ s.heard → Carried (side_after s (SentDown control (Locking count returns flush lock true))) (after s n (SentDown control (Locking count returns flush lock true)))
 carried_order s n control count returns lock flush ok k may holds fits =
     record {
       asked_carried = grind (arith, nat_tests, sum_down_end);

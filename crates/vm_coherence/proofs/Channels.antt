@@ -6,8 +6,8 @@ use Rattle.vm_model.specs.declared.message.Message.{Message}
 use Rattle.vm_model.specs.declared.message.Message.TheVariants as message
 use Rattle.vm_model.specs.declared.event.Event.{Event}
 use Rattle.vm_model.specs.declared.event.Event.TheVariants as event
-use Rattle.vm_model.specs.Words.{UpWord, OtherUp, DownWord, Effect, SendsUp, TakenUp, SentDown, TakesDown, Puts, Drops, Begins, Loads, Stores, Fails, BeginsCopy, Copies, EndsCopy, StepBegins, Nothing, up_word, down_word, times_meant, sent_effect, act_if, act_of, to_others, effect_on}
-use Rattle.vm_model.specs.Side.{Side, rest, sent_up, taken_up, move, side}
+use Rattle.vm_model.specs.Words.{UpWord, OtherUp, DownWord, ActEffect, SendsUp, TakenUp, SentDown, TakesDown, Puts, Drops, Begins, Loads, Stores, Fails, BeginsCopy, Copies, EndsCopy, StepBegins, Nothing, up_word, down_word, times_meant, sent_effect, act_if, act_of, to_others, effect_on}
+use Rattle.vm_model.specs.Side.{Side, rest, sent_up, taken_up, side_after, side}
 use Rattle.vm_model.specs.Server.{first, line}
 use Rattle.vm_model.specs.TaskPlace.{task_host, means_page}
 use Rattle.vm_model.specs.PagePart.{page_part}
@@ -31,18 +31,18 @@ taken_queue : (w : UpWord) (s : Side) (ws : List UpWord) → s.up ≡ with_word 
 taken_queue w s ws is = grind arith
 
 -- what a host sends adds its word
-sends : (p : ℕ) (m : Message) (s : Side) → (move s (sent_effect p m)).up ≡ s.up ++ with_word (up_word p m) []
+sends : (p : ℕ) (m : Message) (s : Side) → (side_after s (sent_effect p m)).up ≡ s.up ++ with_word (up_word p m) []
 sends p (message.Init control size) s = sent_queue OtherUp s
 sends p (message.Create control size) s = sent_queue OtherUp s
 sends p m s = sent_queue (up_word p m) s
 
 -- nothing else touches what is on the way up
-abbrev pub IsSilent : Effect → Type 0
+abbrev pub IsSilent : ActEffect → Type 0
 IsSilent (SendsUp control word) = ⊥
 IsSilent (TakenUp word) = ⊥
 IsSilent e = Unit {0}
 
-still_up : (e : Effect) (s : Side) → IsSilent e → (move s e).up ≡ s.up
+still_up : (e : ActEffect) (s : Side) → IsSilent e → (side_after s e).up ≡ s.up
 still_up e s still = grind (arith, nat_tests)
 
 -- what is taken from this channel is its first
@@ -53,46 +53,46 @@ HeadOf h o e q = Unit {0}
 took : (p : ℕ) (q : List Message) (m : Message) → first q ≡ Some m → up_words p q ≡ with_word (up_word p m) (up_words p (rest q))
 took p q m is = grind arith
 
-sent_step : (host object : ℕ) (m : Message) (h o p : ℕ) (s : Side) (q : List Message) → s.up ≡ up_words p q → (move s (effect_on h (record { host = host; effect = if object == o then sent_effect p m else Nothing }))).up ≡ up_words p (if host == h && object == o then q ++ m ∷ [] else q)
+sent_step : (host object : ℕ) (m : Message) (h o p : ℕ) (s : Side) (q : List Message) → s.up ≡ up_words p q → (side_after s (effect_on h (record { host = host; effect = if object == o then sent_effect p m else Nothing }))).up ≡ up_words p (if host == h && object == o then q ++ m ∷ [] else q)
 sent_step host object m h o p s q is = by_cases (host == h) (object == o) refl where
-  to_others_up : (e : Effect) (s : Side) → (move s (to_others e)).up ≡ s.up
+  to_others_up : (e : ActEffect) (s : Side) → (side_after s (to_others e)).up ≡ s.up
   to_others_up e s = grind arith
 
-  by_cases : (b c : Bool) → (host == h) ≡ b → (move s (if b then (if c then sent_effect p m else Nothing) else to_others (if c then sent_effect p m else Nothing))).up ≡ up_words p (if b && c then q ++ m ∷ [] else q)
+  by_cases : (b c : Bool) → (host == h) ≡ b → (side_after s (if b then (if c then sent_effect p m else Nothing) else to_others (if c then sent_effect p m else Nothing))).up ≡ up_words p (if b && c then q ++ m ∷ [] else q)
   by_cases true true e = sends p m s ∙ (ap (λ (l : List UpWord). l ++ with_word (up_word p m) []) is ∙ sym (words_end p q m))
   by_cases true false e = is
   by_cases false true e = to_others_up (sent_effect p m) s ∙ is
   by_cases false false e = is
 
-taken_step : (host object : ℕ) (m : Message) (h o p : ℕ) (s : Side) (q : List Message) → s.up ≡ up_words p q → (host ≡ h → object ≡ o → first q ≡ Some m) → (move s (effect_on h (record { host = host; effect = if object == o then TakenUp (up_word p m) else StepBegins }))).up ≡ up_words p (if host == h && object == o then rest q else q)
+taken_step : (host object : ℕ) (m : Message) (h o p : ℕ) (s : Side) (q : List Message) → s.up ≡ up_words p q → (host ≡ h → object ≡ o → first q ≡ Some m) → (side_after s (effect_on h (record { host = host; effect = if object == o then TakenUp (up_word p m) else StepBegins }))).up ≡ up_words p (if host == h && object == o then rest q else q)
 taken_step host object m h o p s q is head =
     grind (arith, nat_tests, taken_queue (up_word p m) s (up_words p (rest q)), took p q m)
 
 -- other events are silent, each at its host and at all others
-silent_event : (size o p : ℕ) (host_of : ℕ → ℕ) (means : ℕ → ℕ → Bool) (held : ℕ → ℕ → ℕ → List ℕ) (h : ℕ) (s : Side) (host : ℕ) (b : Bool) (e : Effect) → IsSilent e → (move s (effect_on h (act_if b host e))).up ≡ s.up
+silent_event : (size o p : ℕ) (host_of : ℕ → ℕ) (means : ℕ → ℕ → Bool) (held : ℕ → ℕ → ℕ → List ℕ) (h : ℕ) (s : Side) (host : ℕ) (b : Bool) (e : ActEffect) → IsSilent e → (side_after s (effect_on h (act_if b host e))).up ≡ s.up
 silent_event size o p host_of means held h s host b e still = by_cases (host == h) b where
-  others_up : (e : Effect) (s : Side) → (move s (to_others e)).up ≡ s.up
+  others_up : (e : ActEffect) (s : Side) → (side_after s (to_others e)).up ≡ s.up
   others_up e s = grind arith
 
-  by_cases : (c b : Bool) → (move s (if c then (if b then e else Nothing) else to_others (if b then e else Nothing))).up ≡ s.up
+  by_cases : (c b : Bool) → (side_after s (if c then (if b then e else Nothing) else to_others (if b then e else Nothing))).up ≡ s.up
   by_cases true true = still_up e s still
   by_cases true false = refl
   by_cases false true = others_up e s
   by_cases false false = refl
 
-silent_if : (b : Bool) (e f : Effect) → IsSilent e → IsSilent f → IsSilent (if b then e else f)
+silent_if : (b : Bool) (e f : ActEffect) → IsSilent e → IsSilent f → IsSilent (if b then e else f)
 silent_if true e f one two = one
 silent_if false e f one two = two
 
-down_taken : (host object control : ℕ) (word : DownWord) (h o : ℕ) (s : Side) → (move s (effect_on h (record { host = host; effect = if object == o then TakesDown control word else StepBegins }))).up ≡ s.up
+down_taken : (host object control : ℕ) (word : DownWord) (h o : ℕ) (s : Side) → (side_after s (effect_on h (record { host = host; effect = if object == o then TakesDown control word else StepBegins }))).up ≡ s.up
 down_taken host object control word h o s = by_cases (host == h) (object == o) where
-  by_cases : (c b : Bool) → (move s (if c then (if b then TakesDown control word else StepBegins) else to_others (if b then TakesDown control word else StepBegins))).up ≡ s.up
+  by_cases : (c b : Bool) → (side_after s (if c then (if b then TakesDown control word else StepBegins) else to_others (if b then TakesDown control word else StepBegins))).up ≡ s.up
   by_cases true true = still_up (TakesDown control word) s tt
   by_cases true false = refl
   by_cases false true = refl
   by_cases false false = refl
 
-up_step : (e : Event) (size o p : ℕ) (host_of : ℕ → ℕ) (means : ℕ → ℕ → Bool) (held : ℕ → ℕ → ℕ → List ℕ) (h : ℕ) (s : Side) (q : List Message) → s.up ≡ up_words p q → HeadOf h o e q → (move s (effect_on h (act_of size o p host_of means held e))).up ≡ up_words p (queue_after (up_port h o) e q)
+up_step : (e : Event) (size o p : ℕ) (host_of : ℕ → ℕ) (means : ℕ → ℕ → Bool) (held : ℕ → ℕ → ℕ → List ℕ) (h : ℕ) (s : Side) (q : List Message) → s.up ≡ up_words p q → HeadOf h o e q → (side_after s (effect_on h (act_of size o p host_of means held e))).up ≡ up_words p (queue_after (up_port h o) e q)
 up_step (event.Sent (Up host object) m) size o p host_of means held h s q is head = sent_step host.0 object.0 m h o p s q is
 up_step (event.Taken (Up host object) m) size o p host_of means held h s q is head = taken_step host.0 object.0 m h o p s q is head
 up_step (event.Sent (Down host object control) m) size o p host_of means held h s q is head = silent_event size o p host_of means held h s host.0 (object.0 == o) (SentDown control (down_word p m)) tt ∙ is

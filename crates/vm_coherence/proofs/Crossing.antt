@@ -8,7 +8,7 @@ use Rattle.vm_model.specs.declared.event.Event.{Event}
 use Rattle.vm_model.specs.declared.event.Event.TheVariants as event
 use Rattle.vm_model.specs.Words.{Asking, Unlocking, Returning, Doing, Supplying, Locking, Opens, SendsUp, TakenUp, SentDown, TakesDown, Drops, Begins, Loads, Stores}
 use Rattle.vm_model.specs.PageLicences.{NobodyAwaited, OthersHold, Cause, Licensed}
-use Rattle.vm_model.specs.Coherence.{Done, StepsDone, Prompt, Served, Quiet}
+use Rattle.vm_model.specs.Coherence.{Done, StepsDone, Prompt, SomebodyIsAwaited, Quiet}
 use Rattle.vm_model.specs.PagePart.{world_part}
 
 abbrev run_0 : List Event
@@ -569,7 +569,7 @@ crossing_done = steps_39
 pub crossing_quiet : Quiet (world_part 16 crossing)
 crossing_quiet = record { no_up = λ h. grind (arith, nat_tests); no_down = λ h. grind (arith, nat_tests); all_ready = λ h. grind (arith, nat_tests); done = λ h. grind (arith, nat_tests) }
 
-pub crossing_served : Served (world_part 16 crossing)
+pub crossing_served : SomebodyIsAwaited (world_part 16 crossing)
 crossing_served some = absurd (some refl)
 
 pub crossing_prompt : Prompt (world_part 16 crossing)

@@ -7,8 +7,8 @@ use Rattle.vm_model.specs.declared.message.Message.{Message}
 use Rattle.vm_model.specs.declared.message.Message.TheVariants as message
 use Rattle.vm_model.specs.declared.event.Event.{Event}
 use Rattle.vm_model.specs.declared.event.Event.TheVariants as event
-use Rattle.vm_model.specs.Words.{UpWord, Asking, Unlocking, Returning, Doing, Ending, OtherUp, DownWord, Effect, Opens, SendsUp, TakenUp, SentDown, TakesDown, Puts, Drops, Begins, Loads, Stores, Fails, BeginsCopy, Copies, EndsCopy, StepBegins, Nothing, up_word, control_of, down_word, times_meant, sent_effect, act_if, act_of, to_others, effect_on}
-use Rattle.vm_model.specs.Side.{Side, rest, opened, sent_up, sent_down, move, side}
+use Rattle.vm_model.specs.Words.{UpWord, Asking, Unlocking, Returning, Doing, Ending, OtherUp, DownWord, ActEffect, Opens, SendsUp, TakenUp, SentDown, TakesDown, Puts, Drops, Begins, Loads, Stores, Fails, BeginsCopy, Copies, EndsCopy, StepBegins, Nothing, up_word, control_of, down_word, times_meant, sent_effect, act_if, act_of, to_others, effect_on}
+use Rattle.vm_model.specs.Side.{Side, rest, opened, sent_up, sent_down, side_after, side}
 use Rattle.vm_model.specs.Server.{first, line}
 use Rattle.vm_model.specs.TaskPlace.{task_host, means_page}
 use Rattle.vm_model.specs.PagePart.{page_part}
@@ -46,18 +46,18 @@ sent_live : (w : DownWord) (s : Side) (control : ℕ) → (sent_down s control w
 sent_live w s control = grind arith
 
 taken_down : Side → ℕ → DownWord → Side
-taken_down s control w = move s (TakesDown control w)
+taken_down s control w = side_after s (TakesDown control w)
 
-takes_mine : (w : DownWord) (s : Side) (control : ℕ) (ws : List DownWord) → s.live ≡ true → s.control ≡ control → s.down ≡ with_down w ws → (move s (TakesDown control w)).down ≡ ws
+takes_mine : (w : DownWord) (s : Side) (control : ℕ) (ws : List DownWord) → s.live ≡ true → s.control ≡ control → s.down ≡ with_down w ws → (side_after s (TakesDown control w)).down ≡ ws
 takes_mine w s control ws live mine is = grind (arith, nat_tests)
 
-takes_past : (w : DownWord) (s : Side) (control : ℕ) → s.control ≢ control → (move s (TakesDown control w)).down ≡ s.down
+takes_past : (w : DownWord) (s : Side) (control : ℕ) → s.control ≢ control → (side_after s (TakesDown control w)).down ≡ s.down
 takes_past w s control apart = grind (arith, nat_tests)
 
-takes_control : (w : DownWord) (s : Side) (control : ℕ) → (move s (TakesDown control w)).control ≡ s.control
+takes_control : (w : DownWord) (s : Side) (control : ℕ) → (side_after s (TakesDown control w)).control ≡ s.control
 takes_control w s control = grind (arith, nat_tests)
 
-takes_live : (w : DownWord) (s : Side) (control : ℕ) → (move s (TakesDown control w)).live ≡ s.live
+takes_live : (w : DownWord) (s : Side) (control : ℕ) → (side_after s (TakesDown control w)).live ≡ s.live
 takes_live w s control = grind (arith, nat_tests)
 
 took_down : (p : ℕ) (q : List Message) (m : Message) → first q ≡ Some m → down_words p q ≡ with_down (down_word p m) (down_words p (rest q))
@@ -75,7 +75,7 @@ after_sent p c last m s queue new d le at others =
       empty = λ k more. others k (λ is. absurd (omega arith)) ∙ d.empty k more;
     }
 
-after_taken : (p c last : ℕ) (m : Message) (s : Side) (queue new : ℕ → List Message) → Descends p s last queue → first (queue c) ≡ Some m → new c ≡ rest (queue c) → ((k : ℕ) → k ≢ c → new k ≡ queue k) → Descends p (move s (TakesDown c (down_word p m))) last new
+after_taken : (p c last : ℕ) (m : Message) (s : Side) (queue new : ℕ → List Message) → Descends p s last queue → first (queue c) ≡ Some m → new c ≡ rest (queue c) → ((k : ℕ) → k ≢ c → new k ≡ queue k) → Descends p (side_after s (TakesDown c (down_word p m))) last new
 after_taken p c last m s queue new d head at others =
     record {
       same = λ live. elim (ℕ_discrete s.control c) [
@@ -92,7 +92,7 @@ after_taken p c last m s queue new d head at others =
       some_head q m head none = grind arith
 
 -- what neither begins nor ends a control, nor is a message down
-abbrev pub IsSteady : Effect → Type 0
+abbrev pub IsSteady : ActEffect → Type 0
 IsSteady (Opens control ready) = ⊥
 IsSteady (SendsUp control word) = ⊥
 IsSteady (SentDown control word) = ⊥
@@ -103,19 +103,19 @@ kept_as : (p last : ℕ) (s t : Side) (queue : ℕ → List Message) → Descend
 kept_as p last s t queue d down live control =
     record { same = λ lives. down ∙ (d.same (sym live ∙ lives) ∙ ap (λ (k : ℕ). down_words p (queue k)) (sym control)); control = control ∙ d.control; empty = d.empty }
 
-steady_down : (e : Effect) (s : Side) → IsSteady e → (move s e).down ≡ s.down
+steady_down : (e : ActEffect) (s : Side) → IsSteady e → (side_after s e).down ≡ s.down
 steady_down e s steady = grind (arith, nat_tests)
 
-steady_live : (e : Effect) (s : Side) → IsSteady e → (move s e).live ≡ s.live
+steady_live : (e : ActEffect) (s : Side) → IsSteady e → (side_after s e).live ≡ s.live
 steady_live e s steady = grind (arith, nat_tests)
 
-steady_control : (e : Effect) (s : Side) → IsSteady e → (move s e).control ≡ s.control
+steady_control : (e : ActEffect) (s : Side) → IsSteady e → (side_after s e).control ≡ s.control
 steady_control e s steady = grind (arith, nat_tests)
 
-steady : (p last : ℕ) (e : Effect) (s : Side) (queue : ℕ → List Message) → IsSteady e → Descends p s last queue → Descends p (move s e) last queue
-steady p last e s queue still d = kept_as p last s (move s e) queue d (steady_down e s still) (steady_live e s still) (steady_control e s still)
+steady : (p last : ℕ) (e : ActEffect) (s : Side) (queue : ℕ → List Message) → IsSteady e → Descends p s last queue → Descends p (side_after s e) last queue
+steady p last e s queue still d = kept_as p last s (side_after s e) queue d (steady_down e s still) (steady_live e s still) (steady_control e s still)
 
-others_steady : (e : Effect) → IsSteady (to_others e)
+others_steady : (e : ActEffect) → IsSteady (to_others e)
 others_steady (Opens control ready) = tt
 others_steady (SendsUp control word) = tt
 others_steady (TakenUp word) = tt
@@ -133,13 +133,13 @@ others_steady (EndsCopy task) = tt
 others_steady StepBegins = tt
 others_steady Nothing = tt
 
-steady_if : (b : Bool) (e f : Effect) → IsSteady e → IsSteady f → IsSteady (if b then e else f)
+steady_if : (b : Bool) (e f : ActEffect) → IsSteady e → IsSteady f → IsSteady (if b then e else f)
 steady_if true e f one two = one
 steady_if false e f one two = two
 
-steady_act : (p last h : ℕ) (s : Side) (queue : ℕ → List Message) (host : ℕ) (b : Bool) (e : Effect) → IsSteady e → Descends p s last queue → Descends p (move s (effect_on h (act_if b host e))) last queue
+steady_act : (p last h : ℕ) (s : Side) (queue : ℕ → List Message) (host : ℕ) (b : Bool) (e : ActEffect) → IsSteady e → Descends p s last queue → Descends p (side_after s (effect_on h (act_if b host e))) last queue
 steady_act p last h s queue host b e still d = by_cases (host == h) b where
-  by_cases : (c b : Bool) → Descends p (move s (if c then (if b then e else Nothing) else to_others (if b then e else Nothing))) last queue
+  by_cases : (c b : Bool) → Descends p (side_after s (if c then (if b then e else Nothing) else to_others (if b then e else Nothing))) last queue
   by_cases true true = steady p last e s queue still d
   by_cases true false = d
   by_cases false true = steady p last (to_others e) s queue (others_steady e) d
@@ -158,20 +158,20 @@ begins_control : (p last control : ℕ) (s : Side) (queue : ℕ → List Message
 begins_control p last control s queue d more = record { same = λ live. ap (down_words p) (sym (d.empty control more)); control = refl; empty = λ k further. d.empty k (omega arith) }
 
 begins_act : (p last h o host object control : ℕ) (s : Side) (queue : ℕ → List Message) → Descends p s last queue → (host ≡ h → object ≡ o → last < control)
-    → Descends p (move s (effect_on h (act_if (object == o) host (Opens control false)))) (if host == h && object == o then control else last) queue
+    → Descends p (side_after s (effect_on h (act_if (object == o) host (Opens control false)))) (if host == h && object == o then control else last) queue
 begins_act p last h o host object control s queue d more = by_cases (host == h) (object == o) refl refl where
-  by_cases : (c b : Bool) → (host == h) ≡ c → (object == o) ≡ b → Descends p (move s (if c then (if b then Opens control false else Nothing) else to_others (if b then Opens control false else Nothing))) (if c && b then control else last) queue
+  by_cases : (c b : Bool) → (host == h) ≡ c → (object == o) ≡ b → Descends p (side_after s (if c then (if b then Opens control false else Nothing) else to_others (if b then Opens control false else Nothing))) (if c && b then control else last) queue
   by_cases true true mine its = begins_control p last control s queue d (more (grind (arith, nat_tests)) (grind (arith, nat_tests)))
   by_cases true false mine its = d
   by_cases false true mine its = d
   by_cases false false mine its = d
 
 sends_act : (p last h o host object : ℕ) (m : Message) (s : Side) (queue : ℕ → List Message) → Descends p s last queue → (host ≡ h → object ≡ o → (control : ℕ) → sent_effect p m ≡ Opens control false → last < control)
-    → Descends p (move s (effect_on h (act_if (object == o) host (sent_effect p m)))) (control_after h o (event.Sent (Up (record { 0 = host }) (record { 0 = object })) m) last) queue
+    → Descends p (side_after s (effect_on h (act_if (object == o) host (sent_effect p m)))) (control_after h o (event.Sent (Up (record { 0 = host }) (record { 0 = object })) m) last) queue
 sends_act p last h o host object (message.Init control size) s queue d more = begins_act p last h o host object control s queue d (λ mine its. more mine its control refl)
 sends_act p last h o host object (message.Create control size) s queue d more = begins_act p last h o host object control s queue d (λ mine its. more mine its control refl)
 sends_act p last h o host object m s queue d more = by_cases (host == h) (object == o) where
-  by_cases : (c b : Bool) → Descends p (move s (if c then (if b then SendsUp (control_of m) (up_word p m) else Nothing) else to_others (if b then SendsUp (control_of m) (up_word p m) else Nothing))) last queue
+  by_cases : (c b : Bool) → Descends p (side_after s (if c then (if b then SendsUp (control_of m) (up_word p m) else Nothing) else to_others (if b then SendsUp (control_of m) (up_word p m) else Nothing))) last queue
   by_cases true true = sends_other p last (up_word p m) s queue d
   by_cases true false = d
   by_cases false true = d
@@ -184,26 +184,26 @@ at_other : (c k : ℕ) (xs ys : List Message) → k ≢ c → (if c == k then xs
 at_other c k xs ys apart = grind (arith, nat_tests)
 
 sent_act : (p last h o host object c : ℕ) (m : Message) (s : Side) (queue : ℕ → List Message) → Descends p s last queue → (host ≡ h → object ≡ o → c ≤ last)
-    → Descends p (move s (effect_on h (act_if (object == o) host (SentDown c (down_word p m))))) last (λ k. if host == h && (object == o && c == k) then queue k ++ m ∷ [] else queue k)
+    → Descends p (side_after s (effect_on h (act_if (object == o) host (SentDown c (down_word p m))))) last (λ k. if host == h && (object == o && c == k) then queue k ++ m ∷ [] else queue k)
 sent_act p last h o host object c m s queue d le = by_cases (host == h) (object == o) refl refl where
-  by_cases : (a b : Bool) → (host == h) ≡ a → (object == o) ≡ b → Descends p (move s (if a then (if b then SentDown c (down_word p m) else Nothing) else to_others (if b then SentDown c (down_word p m) else Nothing))) last (λ k. if a && (b && c == k) then queue k ++ m ∷ [] else queue k)
+  by_cases : (a b : Bool) → (host == h) ≡ a → (object == o) ≡ b → Descends p (side_after s (if a then (if b then SentDown c (down_word p m) else Nothing) else to_others (if b then SentDown c (down_word p m) else Nothing))) last (λ k. if a && (b && c == k) then queue k ++ m ∷ [] else queue k)
   by_cases true true mine its = after_sent p c last m s queue (λ k. if c == k then queue k ++ m ∷ [] else queue k) d (le (grind (arith, nat_tests)) (grind (arith, nat_tests))) (at_own c (queue c ++ m ∷ []) (queue c)) (λ k apart. at_other c k (queue k ++ m ∷ []) (queue k) apart)
   by_cases true false mine its = d
   by_cases false true mine its = d
   by_cases false false mine its = d
 
 taken_act : (p last h o host object c : ℕ) (m : Message) (s : Side) (queue : ℕ → List Message) → Descends p s last queue → (host ≡ h → object ≡ o → first (queue c) ≡ Some m)
-    → Descends p (move s (effect_on h (record { host = host; effect = if object == o then TakesDown c (down_word p m) else StepBegins }))) last (λ k. if host == h && (object == o && c == k) then rest (queue k) else queue k)
+    → Descends p (side_after s (effect_on h (record { host = host; effect = if object == o then TakesDown c (down_word p m) else StepBegins }))) last (λ k. if host == h && (object == o && c == k) then rest (queue k) else queue k)
 taken_act p last h o host object c m s queue d head = by_cases (host == h) (object == o) refl refl where
-  by_cases : (a b : Bool) → (host == h) ≡ a → (object == o) ≡ b → Descends p (move s (if a then (if b then TakesDown c (down_word p m) else StepBegins) else to_others (if b then TakesDown c (down_word p m) else StepBegins))) last (λ k. if a && (b && c == k) then rest (queue k) else queue k)
+  by_cases : (a b : Bool) → (host == h) ≡ a → (object == o) ≡ b → Descends p (side_after s (if a then (if b then TakesDown c (down_word p m) else StepBegins) else to_others (if b then TakesDown c (down_word p m) else StepBegins))) last (λ k. if a && (b && c == k) then rest (queue k) else queue k)
   by_cases true true mine its = after_taken p c last m s queue (λ k. if c == k then rest (queue k) else queue k) d (head (grind (arith, nat_tests)) (grind (arith, nat_tests))) (at_own c (rest (queue c)) (queue c)) (λ k apart. at_other c k (rest (queue k)) (queue k) apart)
   by_cases true false mine its = steady p last StepBegins s queue tt d
   by_cases false true mine its = steady p last StepBegins s queue tt d
   by_cases false false mine its = steady p last StepBegins s queue tt d
 
-taken_up_act : (p last h o host object : ℕ) (m : Message) (s : Side) (queue : ℕ → List Message) → Descends p s last queue → Descends p (move s (effect_on h (record { host = host; effect = if object == o then TakenUp (up_word p m) else StepBegins }))) last queue
+taken_up_act : (p last h o host object : ℕ) (m : Message) (s : Side) (queue : ℕ → List Message) → Descends p s last queue → Descends p (side_after s (effect_on h (record { host = host; effect = if object == o then TakenUp (up_word p m) else StepBegins }))) last queue
 taken_up_act p last h o host object m s queue d = by_cases (host == h) (object == o) where
-  by_cases : (a b : Bool) → Descends p (move s (if a then (if b then TakenUp (up_word p m) else StepBegins) else to_others (if b then TakenUp (up_word p m) else StepBegins))) last queue
+  by_cases : (a b : Bool) → Descends p (side_after s (if a then (if b then TakenUp (up_word p m) else StepBegins) else to_others (if b then TakenUp (up_word p m) else StepBegins))) last queue
   by_cases true true = steady p last (TakenUp (up_word p m)) s queue tt d
   by_cases true false = steady p last StepBegins s queue tt d
   by_cases false true = steady p last StepBegins s queue tt d
@@ -220,7 +220,7 @@ in_order_at : (e : Event) (past : List Event) (p h o : ℕ) → DownFirst e past
 in_order_at e past p h o is = grind arith
 
 down_step : (e : Event) (size o p last : ℕ) (host_of : ℕ → ℕ) (means : ℕ → ℕ → Bool) (held : ℕ → ℕ → ℕ → List ℕ) (h : ℕ) (s : Side) (queue : ℕ → List Message) → Descends p s last queue → InOrderAt p h o last queue e
-    → Descends p (move s (effect_on h (act_of size o p host_of means held e))) (control_after h o e last) (λ k. queue_after (down_port h o k) e (queue k))
+    → Descends p (side_after s (effect_on h (act_of size o p host_of means held e))) (control_after h o e last) (λ k. queue_after (down_port h o k) e (queue k))
 down_step (event.Sent (Up host object) m) size o p last host_of means held h s queue d is = sends_act p last h o host.0 object.0 m s queue d is
 down_step (event.Taken (Up host object) m) size o p last host_of means held h s queue d is = taken_up_act p last h o host.0 object.0 m s queue d
 down_step (event.Sent (Down host object control) m) size o p last host_of means held h s queue d is = sent_act p last h o host.0 object.0 control m s queue d is

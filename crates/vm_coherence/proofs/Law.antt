@@ -4,11 +4,11 @@ use Rattle.std.specs.Prelude.{◌⊎◌, ◌==◌}
 use Rattle.std.proofs.lemmas.Bool.Decides.{nat_tests}
 use native.Mathlib.Decide.{ℕ_discrete}
 use Rattle.std.proofs.Common.{subst, sym, ◌∙◌}
-use Rattle.vm_model.specs.Words.{UpWord, Asking, Unlocking, Returning, Doing, Ending, OtherUp, DownWord, Supplying, Locking, Lacking, Failing, Readying, OtherDown, Effect, Opens, SendsUp, TakenUp, SentDown, TakesDown, Puts, Drops, Begins, Loads, Stores, Fails, BeginsCopy, Copies, EndsCopy, StepBegins, Nothing, Act, to_others, effect_on}
-use Rattle.vm_model.specs.Side.{Side, nobody, can_read, can_write, right_of, opened, sent_up, reaches, hears, move, side}
+use Rattle.vm_model.specs.Words.{UpWord, Asking, Unlocking, Returning, Doing, Ending, OtherUp, DownWord, Supplying, Locking, Lacking, Failing, Readying, OtherDown, ActEffect, Opens, SendsUp, TakenUp, SentDown, TakesDown, Puts, Drops, Begins, Loads, Stores, Fails, BeginsCopy, Copies, EndsCopy, StepBegins, Nothing, Act, to_others, effect_on}
+use Rattle.vm_model.specs.Side.{Side, nobody, can_read, can_write, right_of, opened, sent_up, reaches, hears, side_after, side}
 use Rattle.vm_model.specs.Waiters.{Waiter, waiters, readers}
 use Rattle.vm_model.specs.Server.{first, Wanting, joined, line, kept}
-use Rattle.vm_model.specs.PageLicences.{May, OthersHold, SupplyRow, UpgradeRow, RecallRow, Answers, Cause, Licensed}
+use Rattle.vm_model.specs.PageLicences.{May, OthersHold, SupplyRow, UpgradeRow, RecallRow, ReplyCause, Cause, Licensed}
 use Rattle.vm_model.specs.Coherence.{Throughout, OneWriter}
 use Rattle.vm_coherence.proofs.Queues.{odd, drain, drain_up}
 use Rattle.vm_coherence.proofs.Sound.{MayAnswer, Fair, Sound, keep_asking, keep_unlocking, keep_returning, keep_doing, keep_ending, keep_drops, keep_step, keep_opens, keep_ready, keep_stores, keep_heard_asking, keep_heard_unlocking, keep_heard_returning, keep_heard_doing, keep_heard_ending, keep_supply, keep_upgrade, keep_order, keep_supplied, keep_locked}
@@ -41,7 +41,7 @@ keep_taking ws rs s control (Locking count returns flush lock reply) true is ok 
     let mine : s.control ≡ control = grind (arith, nat_tests) in
     keep_locked s count returns lock flush reply ok live (may mine live)
 
-pub keep : (e : Effect) (ws : List Waiter) (rs : List ℕ) (s : Side) → Sound s → Fair ws rs s e → Sound (move s e)
+pub keep : (e : ActEffect) (ws : List Waiter) (rs : List ℕ) (s : Side) → Sound s → Fair ws rs s e → Sound (side_after s e)
 keep (Opens control ready) ws rs s ok may = let next : s.control + 1 ≡ control = sym may.1 in subst (λ (k : ℕ). Sound (opened s k ready)) next (keep_opens s ready ok may.0)
 keep (SendsUp control (Asking asker access)) ws rs s ok may = keep_asking ws rs s asker access ok may.0 may.2
 keep (SendsUp control (Unlocking access)) ws rs s ok may = keep_unlocking ws rs s access ok may.0 may.2
@@ -77,7 +77,7 @@ keep Nothing ws rs s ok may = ok
 
 -- what the law keeps over a list of acts
 
-pub others_rest : (e : Effect) (s : Side) → Sound s → Sound (move s (to_others e))
+pub others_rest : (e : ActEffect) (s : Side) → Sound s → Sound (side_after s (to_others e))
 others_rest (Opens control ready) s ok = ok
 others_rest (SendsUp control word) s ok = ok
 others_rest (TakenUp word) s ok = keep_step s ok
@@ -96,7 +96,7 @@ others_rest StepBegins s ok = keep_step s ok
 others_rest Nothing s ok = ok
 
 -- other hosts' acts leave the server's words of a host as they are
-others_pending : (e : Effect) (s : Side) → (move s (to_others e)).pending ≡ s.pending
+others_pending : (e : ActEffect) (s : Side) → (side_after s (to_others e)).pending ≡ s.pending
 others_pending (Opens control ready) s = refl
 others_pending (SendsUp control word) s = refl
 others_pending (TakenUp word) s = refl
@@ -161,7 +161,7 @@ holds_if h past (Some v) w is row =
 recall_lock : (h : ℕ) (flush : Bool) (lock holds : ℕ) (o : Option Wanting) → RecallRow h flush lock holds o → flush ≡ false → lock ≡ 2
 recall_lock h flush lock holds o row is = grind arith
 
-answer_cause : (size h control : ℕ) (word : DownWord) (past : List Act) → World past → Answers size h control word past → MayAnswer (side h past) word
+answer_cause : (size h control : ℕ) (word : DownWord) (past : List Act) → World past → ReplyCause size h control word past → MayAnswer (side h past) word
 answer_cause size h control (Supplying lock precious bytes) past w a = (a.2 h, pending_if h lock past (first (line past)) w refl a.4)
 answer_cause size h control (Locking count returns flush lock true) past w a = (a.2, a.3, recall_lock h flush lock (side h past).holds (first (line past)) a.5)
 answer_cause size h control (Locking count returns flush lock false) past w a = (a.2, a.3, a.4, a.5 h, holds_if h past (first (line past)) w refl a.7)
@@ -170,7 +170,7 @@ answer_cause size h control Failing past w a = a
 answer_cause size h control Readying past w a = tt
 answer_cause size h control OtherDown past w a = tt
 
-pub cause : (size h : ℕ) (e : Effect) (past : List Act) → World past → Cause size h e past → Fair (waiters h past) (readers h past) (side h past) e
+pub cause : (size h : ℕ) (e : ActEffect) (past : List Act) → World past → Cause size h e past → Fair (waiters h past) (readers h past) (side h past) e
 cause size h (SentDown control word) past w a = answer_cause size h control word past w a
 cause size h e past w a = a
 
@@ -182,11 +182,11 @@ own_effect a = grind (arith, nat_tests)
 pub other_effect : (h : ℕ) (a : Act) → a.host ≢ h → effect_on h a ≡ to_others a.effect
 other_effect h a apart = grind (arith, nat_tests)
 
-pub own_side : (a : Act) (past : List Act) → side a.host (a ∷ past) ≡ move (side a.host past) a.effect
-own_side a past = ap (move (side a.host past)) (own_effect a)
+pub own_side : (a : Act) (past : List Act) → side a.host (a ∷ past) ≡ side_after (side a.host past) a.effect
+own_side a past = ap (side_after (side a.host past)) (own_effect a)
 
-pub other_side : (h : ℕ) (a : Act) (past : List Act) → a.host ≢ h → side h (a ∷ past) ≡ move (side h past) (to_others a.effect)
-other_side h a past apart = ap (move (side h past)) (other_effect h a apart)
+pub other_side : (h : ℕ) (a : Act) (past : List Act) → a.host ≢ h → side h (a ∷ past) ≡ side_after (side h past) (to_others a.effect)
+other_side h a past apart = ap (side_after (side h past)) (other_effect h a apart)
 
 sound_after : (size : ℕ) (a : Act) (past : List Act) → World past → Cause size a.host a.effect past → (h : ℕ) → Sound (side h (a ∷ past))
 sound_after size a past w c h = elim (ℕ_discrete a.host h) [
@@ -204,8 +204,8 @@ gives_supply k lock old new past (Some v) is row = inr ((if v.access == 3 then 0
   room : (holds lock access : ℕ) → holds ≡ right_of lock → lock ≡ (if access == 3 then 0 else 2) → holds + (if access == 3 then 0 else 1) ≤ 2
   room holds lock access is row = grind (arith, nat_tests)
 
-gives : (size k : ℕ) (e : Effect) (s : Side) (past : List Act) → Cause size k e past → Gives k s (move s e) past
-gives size k (SentDown control (Supplying lock precious bytes)) s past c = gives_supply k lock s (move s (SentDown control (Supplying lock precious bytes))) past (first (line past)) refl c.4
+gives : (size k : ℕ) (e : ActEffect) (s : Side) (past : List Act) → Cause size k e past → Gives k s (side_after s e) past
+gives size k (SentDown control (Supplying lock precious bytes)) s past c = gives_supply k lock s (side_after s (SentDown control (Supplying lock precious bytes))) past (first (line past)) refl c.4
 gives size k (SentDown control (Locking count returns flush lock true)) s past c = inl (grind (arith, nat_tests, c.2))
 gives size k (SentDown control (Locking count returns flush lock false)) s past c = inr (0, grind (arith, nat_tests, c.2), c.6)
 gives size k (SentDown control word) s past c = inl (grind (arith, nat_tests))
@@ -260,13 +260,13 @@ alone_after size a past w c g h apart is = elim (ℕ_discrete a.host h) [
   ]
 ]
 
-joined_other : (h k : ℕ) (e : Effect) (s : Side) (ws : List Wanting) → h ≢ k → total (request h) (joined s k e ws) ≡ total (request h) ws
+joined_other : (h k : ℕ) (e : ActEffect) (s : Side) (ws : List Wanting) → h ≢ k → total (request h) (joined s k e ws) ≡ total (request h) ws
 joined_other h k e s ws apart = grind (arith, nat_tests, total_end, without_other)
 
-joined_own : (k : ℕ) (e : Effect) (s : Side) (ws : List Wanting) → total (request k) ws ≡ s.pending → total (request k) (joined s k e ws) ≡ (move s e).pending
+joined_own : (k : ℕ) (e : ActEffect) (s : Side) (ws : List Wanting) → total (request k) ws ≡ s.pending → total (request k) (joined s k e ws) ≡ (side_after s e).pending
 joined_own k e s ws is = grind (arith, nat_tests, total_end, without_own)
 
-pub joined_upgrade : (h k : ℕ) (e : Effect) (s : Side) (ws : List Wanting) → h ≢ k → total (upgrade h) (joined s k e ws) ≡ total (upgrade h) ws
+pub joined_upgrade : (h k : ℕ) (e : ActEffect) (s : Side) (ws : List Wanting) → h ≢ k → total (upgrade h) (joined s k e ws) ≡ total (upgrade h) ws
 joined_upgrade h k e s ws apart = grind (arith, nat_tests, total_end, without_upgrade)
 
 -- the line after an act, before it is trimmed

@@ -14,15 +14,15 @@ use Rattle.vm_model.specs.declared.event.Event.TheVariants as event
 use Rattle.vm_model.specs.Controls.{is_control, without_control, live_after, live_control}
 use Rattle.vm_model.specs.Founded.{IsFounded}
 use Rattle.vm_model.specs.Local as L
-use Rattle.vm_model.specs.Local.{Local, Elsewhere, is_on, local, moved, taken_effect, CanRead, CanWrite}
+use Rattle.vm_model.specs.Local.{Local, Elsewhere, is_on, local, local_after, taken_effect, CanRead, CanWrite}
 use Rattle.vm_model.specs.Moments.{EachEvent}
 use Rattle.vm_model.specs.PagePart.{page_part}
 use Rattle.vm_model.specs.Server.{current}
-use Rattle.vm_model.specs.Side.{Side, side, move, reaches, hears, locked, right_of, can_read, can_write}
+use Rattle.vm_model.specs.Side.{Side, side, side_after, reaches, hears, locked, right_of, can_read, can_write}
 use Rattle.vm_model.specs.TaskPlace.{task_host, means_page}
 use Rattle.vm_model.specs.Tasks.{host_of}
 use Rattle.vm_model.specs.PageLicences.{Cause, Licensed}
-use Rattle.vm_model.specs.Words.{Asking, Unlocking, Returning, Doing, Ending, OtherUp, Supplying, Locking, Lacking, Failing, Readying, OtherDown, Effect, Opens, SendsUp, TakenUp, SentDown, TakesDown, Puts, Drops, Begins, Loads, Stores, Fails, BeginsCopy, Copies, EndsCopy, StepBegins, Nothing, Act, in_range, times_meant, up_word, down_word, sent_effect, act_if, to_others, effect_on}
+use Rattle.vm_model.specs.Words.{Asking, Unlocking, Returning, Doing, Ending, OtherUp, Supplying, Locking, Lacking, Failing, Readying, OtherDown, ActEffect, Opens, SendsUp, TakenUp, SentDown, TakesDown, Puts, Drops, Begins, Loads, Stores, Fails, BeginsCopy, Copies, EndsCopy, StepBegins, Nothing, Act, in_range, times_meant, up_word, down_word, sent_effect, act_if, to_others, effect_on}
 use Rattle.vm_coherence.specs.Locals.{SideIsLocal}
 use Rattle.vm_coherence.proofs.Law.{writer}
 use Rattle.vm_coherence.proofs.Whole.{same_bytes}
@@ -54,7 +54,7 @@ alike live s t page a i =
     }
 
 -- what neither sends for the page nor puts, drops, stores or takes any of it
-abbrev pub IsIdle : Effect → Type 0
+abbrev pub IsIdle : ActEffect → Type 0
 IsIdle (Opens control ready) = ⊥
 IsIdle (SendsUp control word) = ⊥
 IsIdle (TakesDown control word) = ⊥
@@ -67,7 +67,7 @@ same : (s t : Side) → t.right ≡ s.right → t.lock ≡ s.lock → t.bytes �
 same s t right lock bytes dirty precious unlocking asked absent live control =
     record { right = right; lock = lock; bytes = bytes; dirty = dirty; precious = precious; unlocking = unlocking; asked = asked; absent = absent; control = ap (λ (b : Bool). if b then Some t.control else None) live ∙ ap (λ (n : ℕ). if s.live then Some n else None) control }
 
-idle : (e : Effect) (s : Side) → IsIdle e → Alike s (move s e)
+idle : (e : ActEffect) (s : Side) → IsIdle e → Alike s (side_after s e)
 idle (TakenUp (Asking asker access)) s is = same s _ refl refl refl refl refl refl refl refl refl refl
 idle (TakenUp (Unlocking access)) s is = same s _ refl refl refl refl refl refl refl refl refl refl
 idle (TakenUp (Returning dirty keep bytes)) s is = same s _ refl refl refl refl refl refl refl refl refl refl
@@ -95,7 +95,7 @@ idle (Puts bytes dirty) s is = absurd is
 idle Drops s is = absurd is
 idle (Stores task at size value) s is = absurd is
 
-others_idle : (e : Effect) → IsIdle (to_others e)
+others_idle : (e : ActEffect) → IsIdle (to_others e)
 others_idle (Opens control ready) = tt
 others_idle (SendsUp control word) = tt
 others_idle (TakenUp word) = tt
@@ -113,71 +113,71 @@ others_idle (EndsCopy task) = tt
 others_idle StepBegins = tt
 others_idle Nothing = tt
 
-others : (live : Option ℕ) (e : Effect) (s : Side) (page : Local) → SideIsLocal live s page → SideIsLocal live (move s (to_others e)) page
-others live e s page i = alike live s (move s (to_others e)) page (idle (to_others e) s (others_idle e)) i
+others : (live : Option ℕ) (e : ActEffect) (s : Side) (page : Local) → SideIsLocal live s page → SideIsLocal live (side_after s (to_others e)) page
+others live e s page i = alike live s (side_after s (to_others e)) page (idle (to_others e) s (others_idle e)) i
 
 -- each effect moves both alike
 
-puts : (size : ℕ) (live : Option ℕ) (s : Side) (page : Local) (bytes : List ℕ) (dirty : Bool) (e : L.Effect) → moved size e page ≡ L.came bytes 0 dirty false page → SideIsLocal live s page → SideIsLocal live (move s (Puts bytes dirty)) (moved size e page)
+puts : (size : ℕ) (live : Option ℕ) (s : Side) (page : Local) (bytes : List ℕ) (dirty : Bool) (e : L.LocalEffect) → local_after size e page ≡ L.local_with_page bytes 0 dirty false page → SideIsLocal live s page → SideIsLocal live (side_after s (Puts bytes dirty)) (local_after size e page)
 puts size live s page bytes dirty e is i =
-    subst (λ (p : Local). SideIsLocal live (move s (Puts bytes dirty)) p) (sym is)
+    subst (λ (p : Local). SideIsLocal live (side_after s (Puts bytes dirty)) p) (sym is)
     (record { right = refl; lock = λ here. refl; bytes = λ here. refl; dirty = λ here. refl; precious = λ here. refl; unlocking = λ here. refl; asked = i.asked; absent = i.absent; control = i.control })
 
 -- nothing is said of a page that isn't here
 never : {A : Type 0} → false ≡ true → A
 never e = absurd (let bad : false ≡ true = e in cc)
 
-drops : (size : ℕ) (live : Option ℕ) (s : Side) (page : Local) → SideIsLocal live s page → SideIsLocal live (move s Drops) (moved size L.Drops page)
+drops : (size : ℕ) (live : Option ℕ) (s : Side) (page : Local) → SideIsLocal live s page → SideIsLocal live (side_after s Drops) (local_after size L.Drops page)
 drops size live s page i =
     record { right = refl; lock = λ here. never here; bytes = λ here. never here; dirty = λ here. never here; precious = λ here. never here; unlocking = λ here. never here; asked = i.asked; absent = i.absent; control = i.control }
 
-stores : (size : ℕ) (live : Option ℕ) (s : Side) (page : Local) (task at n value : ℕ) → SideIsLocal live s page → SideIsLocal live (move s (Stores task at n value)) (moved size (L.Stores at (little_endian_bytes n value)) page)
+stores : (size : ℕ) (live : Option ℕ) (s : Side) (page : Local) (task at n value : ℕ) → SideIsLocal live s page → SideIsLocal live (side_after s (Stores task at n value)) (local_after size (L.Stores at (little_endian_bytes n value)) page)
 stores size live s page task at n value i =
     record { right = i.right; lock = i.lock; bytes = λ here. ap (with_bytes at (little_endian_bytes n value)) (i.bytes here); dirty = λ here. refl; precious = i.precious; unlocking = i.unlocking; asked = i.asked; absent = i.absent; control = i.control }
 
 -- the host sends
 
-opens : (size : ℕ) (live : Option ℕ) (s : Side) (page : Local) (control : ℕ) (ready : Bool) → SideIsLocal live s page → SideIsLocal (Some control) (move s (Opens control ready)) (moved size L.Begins page)
+opens : (size : ℕ) (live : Option ℕ) (s : Side) (page : Local) (control : ℕ) (ready : Bool) → SideIsLocal live s page → SideIsLocal (Some control) (side_after s (Opens control ready)) (local_after size L.Begins page)
 opens size live s page control ready i =
     record { right = i.right; lock = i.lock; bytes = i.bytes; dirty = i.dirty; precious = i.precious; unlocking = i.unlocking; asked = refl; absent = i.absent; control = refl }
 
-ends : (size : ℕ) (live : Option ℕ) (s : Side) (page : Local) (control told : ℕ) → SideIsLocal live s page → SideIsLocal None (move s (SendsUp control (Ending told))) (moved size L.Ends page)
+ends : (size : ℕ) (live : Option ℕ) (s : Side) (page : Local) (control told : ℕ) → SideIsLocal live s page → SideIsLocal None (side_after s (SendsUp control (Ending told))) (local_after size L.Ends page)
 ends size live s page control told i =
     record { right = i.right; lock = i.lock; bytes = i.bytes; dirty = i.dirty; precious = i.precious; unlocking = i.unlocking; asked = refl; absent = i.absent; control = refl }
 
-asks : (size : ℕ) (live : Option ℕ) (s : Side) (page : Local) (control asker access : ℕ) → SideIsLocal live s page → SideIsLocal live (move s (SendsUp control (Asking asker access))) (moved size L.Asks page)
+asks : (size : ℕ) (live : Option ℕ) (s : Side) (page : Local) (control asker access : ℕ) → SideIsLocal live s page → SideIsLocal live (side_after s (SendsUp control (Asking asker access))) (local_after size L.Asks page)
 asks size live s page control asker access i =
     record { right = i.right; lock = i.lock; bytes = i.bytes; dirty = i.dirty; precious = i.precious; unlocking = i.unlocking; asked = refl; absent = i.absent; control = i.control }
 
-unlocks : (size : ℕ) (live : Option ℕ) (s : Side) (page : Local) (control access : ℕ) → SideIsLocal live s page → SideIsLocal live (move s (SendsUp control (Unlocking access))) (moved size L.Unlocks page)
+unlocks : (size : ℕ) (live : Option ℕ) (s : Side) (page : Local) (control access : ℕ) → SideIsLocal live s page → SideIsLocal live (side_after s (SendsUp control (Unlocking access))) (local_after size L.Unlocks page)
 unlocks size live s page control access i =
     record { right = i.right; lock = i.lock; bytes = i.bytes; dirty = i.dirty; precious = i.precious; unlocking = λ here. sym here; asked = i.asked; absent = i.absent; control = i.control }
 
-returns : (size : ℕ) (live : Option ℕ) (s : Side) (page : Local) (control : ℕ) (dirty keep : Bool) (bytes : List ℕ) → SideIsLocal live s page → SideIsLocal live (move s (SendsUp control (Returning dirty keep bytes))) (moved size (L.Returns keep) page)
+returns : (size : ℕ) (live : Option ℕ) (s : Side) (page : Local) (control : ℕ) (dirty keep : Bool) (bytes : List ℕ) → SideIsLocal live s page → SideIsLocal live (side_after s (SendsUp control (Returning dirty keep bytes))) (local_after size (L.Returns keep) page)
 returns size live s page control dirty true bytes i =
     record { right = i.right; lock = i.lock; bytes = i.bytes; dirty = λ here. refl; precious = λ here. refl; unlocking = i.unlocking; asked = i.asked; absent = refl; control = i.control }
 returns size live s page control dirty false bytes i =
     record { right = refl; lock = λ here. never here; bytes = λ here. never here; dirty = λ here. never here; precious = λ here. never here; unlocking = λ here. never here; asked = i.asked; absent = refl; control = i.control }
 
-done : (size : ℕ) (live : Option ℕ) (s : Side) (page : Local) (control told count : ℕ) → SideIsLocal live s page → SideIsLocal live (move s (SendsUp control (Doing told count))) page
+done : (size : ℕ) (live : Option ℕ) (s : Side) (page : Local) (control told count : ℕ) → SideIsLocal live s page → SideIsLocal live (side_after s (SendsUp control (Doing told count))) page
 done size live s page control told count i =
     record { right = i.right; lock = i.lock; bytes = i.bytes; dirty = i.dirty; precious = i.precious; unlocking = i.unlocking; asked = i.asked; absent = i.absent; control = i.control }
 
 -- the live control takes
 
-supplied : (size : ℕ) (live : Option ℕ) (s : Side) (page : Local) (lock : ℕ) (precious : Bool) (bytes : List ℕ) (a b : Bool) → s.asked ≡ a → page.asked ≡ b → SideIsLocal live s page → SideIsLocal live (hears s (Supplying lock precious bytes)) (moved size (L.TakesPage lock precious bytes) page)
+supplied : (size : ℕ) (live : Option ℕ) (s : Side) (page : Local) (lock : ℕ) (precious : Bool) (bytes : List ℕ) (a b : Bool) → s.asked ≡ a → page.asked ≡ b → SideIsLocal live s page → SideIsLocal live (hears s (Supplying lock precious bytes)) (local_after size (L.TakesPage lock precious bytes) page)
 supplied size live s page lock precious bytes true true e f i = rw (e, f) (record { right = refl; lock = λ here. refl; bytes = λ here. refl; dirty = λ here. refl; precious = λ here. refl; unlocking = λ here. refl; asked = refl; absent = i.absent; control = i.control })
 supplied size live s page lock precious bytes false false e f i = rw (e, f) (record { right = i.right; lock = i.lock; bytes = i.bytes; dirty = i.dirty; precious = i.precious; unlocking = i.unlocking; asked = refl; absent = i.absent; control = i.control })
 supplied size live s page lock precious bytes true false e f i = never (sym f ∙ sym i.asked ∙ e)
 supplied size live s page lock precious bytes false true e f i = never (sym e ∙ i.asked ∙ f)
 
-lacks : (size : ℕ) (live : Option ℕ) (s : Side) (page : Local) (a b : Bool) → s.asked ≡ a → page.asked ≡ b → SideIsLocal live s page → SideIsLocal live (hears s Lacking) (moved size L.TakesNothing page)
+lacks : (size : ℕ) (live : Option ℕ) (s : Side) (page : Local) (a b : Bool) → s.asked ≡ a → page.asked ≡ b → SideIsLocal live s page → SideIsLocal live (hears s Lacking) (local_after size L.TakesNothing page)
 lacks size live s page true true e f i = rw (e, f) (record { right = i.right; lock = i.lock; bytes = i.bytes; dirty = i.dirty; precious = i.precious; unlocking = i.unlocking; asked = refl; absent = refl; control = i.control })
 lacks size live s page false false e f i = rw (e, f) (record { right = i.right; lock = i.lock; bytes = i.bytes; dirty = i.dirty; precious = i.precious; unlocking = i.unlocking; asked = refl; absent = i.absent; control = i.control })
 lacks size live s page true false e f i = never (sym f ∙ sym i.asked ∙ e)
 lacks size live s page false true e f i = never (sym e ∙ i.asked ∙ f)
 
-fails : (size : ℕ) (live : Option ℕ) (s : Side) (page : Local) → SideIsLocal live s page → SideIsLocal live (hears s Failing) (moved size L.TakesError page)
+fails : (size : ℕ) (live : Option ℕ) (s : Side) (page : Local) → SideIsLocal live s page → SideIsLocal live (hears s Failing) (local_after size L.TakesError page)
 fails size live s page i =
     record { right = i.right; lock = i.lock; bytes = i.bytes; dirty = i.dirty; precious = i.precious; unlocking = i.unlocking; asked = refl; absent = i.absent; control = i.control }
 
@@ -198,7 +198,7 @@ locked_none : (flush : Bool) (lock : ℕ) → locked 0 flush lock ≡ 0
 locked_none true lock = refl
 locked_none false lock = refl
 
-locks : (size : ℕ) (live : Option ℕ) (s : Side) (page : Local) (count returns : ℕ) (flush : Bool) (lock : ℕ) (reply b : Bool) → page.here ≡ b → SideIsLocal live s page → SideIsLocal live (hears s (Locking count returns flush lock reply)) (moved size (L.TakesLock lock flush) page)
+locks : (size : ℕ) (live : Option ℕ) (s : Side) (page : Local) (count returns : ℕ) (flush : Bool) (lock : ℕ) (reply b : Bool) → page.here ≡ b → SideIsLocal live s page → SideIsLocal live (hears s (Locking count returns flush lock reply)) (local_after size (L.TakesLock lock flush) page)
 locks size live s page count returns flush lock reply true e i =
     let right : s.right ≡ right_of page.lock = i.right ∙ ap (λ (b : Bool). if b then right_of page.lock else 0) e in
     subst (λ (p : Local). SideIsLocal live (hears s (Locking count returns flush lock reply)) p) (sym (ap (λ (b : Bool). if b then record page { lock = if flush || lock == 8 then page.lock else lock; unlocking = false } else page) e))
@@ -229,25 +229,25 @@ locks size live s page count returns flush lock reply false e i =
     })
 
 -- what the live control takes of a message
-takes : (size p : ℕ) (live : Option ℕ) (s : Side) (page : Local) (m : Message) → SideIsLocal live s page → SideIsLocal live (hears s (down_word p m)) (moved size (taken_effect p m) page)
+takes : (size p : ℕ) (live : Option ℕ) (s : Side) (page : Local) (m : Message) → SideIsLocal live s page → SideIsLocal live (hears s (down_word p m)) (local_after size (taken_effect p m) page)
 takes size p live s page (message.Supply at lock precious bytes) i = by_page (at.0 == p)
   where
-    by_page : (b : Bool) → SideIsLocal live (hears s (if b then Supplying lock precious bytes else OtherDown)) (moved size (if b then L.TakesPage lock precious bytes else Elsewhere) page)
+    by_page : (b : Bool) → SideIsLocal live (hears s (if b then Supplying lock precious bytes else OtherDown)) (local_after size (if b then L.TakesPage lock precious bytes else Elsewhere) page)
     by_page true = supplied size live s page lock precious bytes s.asked page.asked refl refl i
     by_page false = alike live s _ page (same s _ refl refl refl refl refl refl refl refl refl refl) i
 takes size p live s page (message.Lock at count returns flush lock reply) i = by_page (in_range p at.0 count)
   where
-    by_page : (b : Bool) → SideIsLocal live (hears s (if b then Locking count returns flush lock reply else OtherDown)) (moved size (if b then L.TakesLock lock flush else Elsewhere) page)
+    by_page : (b : Bool) → SideIsLocal live (hears s (if b then Locking count returns flush lock reply else OtherDown)) (local_after size (if b then L.TakesLock lock flush else Elsewhere) page)
     by_page true = locks size live s page count returns flush lock reply page.here refl i
     by_page false = alike live s _ page (same s _ refl refl refl refl refl refl refl refl refl refl) i
 takes size p live s page (message.Unavailable at) i = by_page (at.0 == p)
   where
-    by_page : (b : Bool) → SideIsLocal live (hears s (if b then Lacking else OtherDown)) (moved size (if b then L.TakesNothing else Elsewhere) page)
+    by_page : (b : Bool) → SideIsLocal live (hears s (if b then Lacking else OtherDown)) (local_after size (if b then L.TakesNothing else Elsewhere) page)
     by_page true = lacks size live s page s.asked page.asked refl refl i
     by_page false = alike live s _ page (same s _ refl refl refl refl refl refl refl refl refl refl) i
 takes size p live s page (message.Error at reason) i = by_page (at.0 == p)
   where
-    by_page : (b : Bool) → SideIsLocal live (hears s (if b then Failing else OtherDown)) (moved size (if b then L.TakesError else Elsewhere) page)
+    by_page : (b : Bool) → SideIsLocal live (hears s (if b then Failing else OtherDown)) (local_after size (if b then L.TakesError else Elsewhere) page)
     by_page true = fails size live s page i
     by_page false = alike live s _ page (same s _ refl refl refl refl refl refl refl refl refl refl) i
 takes size p live s page (message.Ready cache strategy) i = alike live s _ page (same s _ refl refl refl refl refl refl refl refl refl refl) i
@@ -255,28 +255,28 @@ takes size p live s page m i = alike live s _ page (same s _ refl refl refl refl
 
 -- an event of one host and the page
 
-acted_else : (size : ℕ) (live : Option ℕ) (s : Side) (page : Local) (c b : Bool) (e g : Effect) (f : L.Effect) → IsIdle g → (c ≡ true → b ≡ true → SideIsLocal live (move s e) (moved size f page)) → SideIsLocal live s page
-    → SideIsLocal live (move s (if c then (if b then e else g) else to_others (if b then e else g))) (moved size (if c && b then f else Elsewhere) page)
+acted_else : (size : ℕ) (live : Option ℕ) (s : Side) (page : Local) (c b : Bool) (e g : ActEffect) (f : L.LocalEffect) → IsIdle g → (c ≡ true → b ≡ true → SideIsLocal live (side_after s e) (local_after size f page)) → SideIsLocal live s page
+    → SideIsLocal live (side_after s (if c then (if b then e else g) else to_others (if b then e else g))) (local_after size (if c && b then f else Elsewhere) page)
 acted_else size live s page true true e g f rests at i = at refl refl
-acted_else size live s page true false e g f rests at i = alike live s (move s g) page (idle g s rests) i
+acted_else size live s page true false e g f rests at i = alike live s (side_after s g) page (idle g s rests) i
 acted_else size live s page false true e g f rests at i = others live e s page i
 acted_else size live s page false false e g f rests at i = others live g s page i
 
-acted : (size : ℕ) (live : Option ℕ) (s : Side) (page : Local) (c b : Bool) (e : Effect) (f : L.Effect) → (c ≡ true → b ≡ true → SideIsLocal live (move s e) (moved size f page)) → SideIsLocal live s page
-    → SideIsLocal live (move s (if c then (if b then e else Nothing) else to_others (if b then e else Nothing))) (moved size (if c && b then f else Elsewhere) page)
+acted : (size : ℕ) (live : Option ℕ) (s : Side) (page : Local) (c b : Bool) (e : ActEffect) (f : L.LocalEffect) → (c ≡ true → b ≡ true → SideIsLocal live (side_after s e) (local_after size f page)) → SideIsLocal live s page
+    → SideIsLocal live (side_after s (if c then (if b then e else Nothing) else to_others (if b then e else Nothing))) (local_after size (if c && b then f else Elsewhere) page)
 acted size live s page c b e f at i = acted_else size live s page c b e Nothing f tt at i
 
 -- the host is that of a task, told in two ways
-acted_by : (size : ℕ) (live : Option ℕ) (s : Side) (page : Local) (c d b : Bool) (e g : Effect) (f : L.Effect) → d ≡ c → IsIdle g → (c ≡ true → b ≡ true → SideIsLocal live (move s e) (moved size f page)) → SideIsLocal live s page
-    → SideIsLocal live (move s (if c then (if b then e else g) else to_others (if b then e else g))) (moved size (if d && b then f else Elsewhere) page)
+acted_by : (size : ℕ) (live : Option ℕ) (s : Side) (page : Local) (c d b : Bool) (e g : ActEffect) (f : L.LocalEffect) → d ≡ c → IsIdle g → (c ≡ true → b ≡ true → SideIsLocal live (side_after s e) (local_after size f page)) → SideIsLocal live s page
+    → SideIsLocal live (side_after s (if c then (if b then e else g) else to_others (if b then e else g))) (local_after size (if d && b then f else Elsewhere) page)
 acted_by size live s page c d b e g f is rests at i =
-    subst (λ (x : Bool). SideIsLocal live (move s (if c then (if b then e else g) else to_others (if b then e else g))) (moved size (if x && b then f else Elsewhere) page)) (sym is) (acted_else size live s page c b e g f rests at i)
+    subst (λ (x : Bool). SideIsLocal live (side_after s (if c then (if b then e else g) else to_others (if b then e else g))) (local_after size (if x && b then f else Elsewhere) page)) (sym is) (acted_else size live s page c b e g f rests at i)
 
-idle_act : (live : Option ℕ) (s : Side) (page : Local) (c : Bool) (e : Effect) → IsIdle e → SideIsLocal live s page → SideIsLocal live (move s (if c then e else to_others e)) page
-idle_act live s page true e is i = alike live s (move s e) page (idle e s is) i
+idle_act : (live : Option ℕ) (s : Side) (page : Local) (c : Bool) (e : ActEffect) → IsIdle e → SideIsLocal live s page → SideIsLocal live (side_after s (if c then e else to_others e)) page
+idle_act live s page true e is i = alike live s (side_after s e) page (idle e s is) i
 idle_act live s page false e is i = others live e s page i
 
-idle_if : (b : Bool) (e f : Effect) → IsIdle e → IsIdle f → IsIdle (if b then e else f)
+idle_if : (b : Bool) (e f : ActEffect) → IsIdle e → IsIdle f → IsIdle (if b then e else f)
 idle_if true e f one two = one
 idle_if false e f one two = two
 
@@ -304,22 +304,22 @@ host_lives task g (e ∷ past) lives = host_lives task g past lives
 on_host : (h task g : ℕ) (past : List Event) → host_of task past ≡ Some g → is_on h (host_of task past) ≡ (task_host task past == h)
 on_host h task g past lives = ap (is_on h) lives ∙ sym (ap (λ (n : ℕ). n == h) (host_lives task g past lives))
 
-raises : (size : ℕ) (live : Option ℕ) (s : Side) (page : Local) (b c : List ℕ) → b ≡ c → SideIsLocal live s page → SideIsLocal live (move s (Puts b true)) (moved size (L.Raises c) page)
+raises : (size : ℕ) (live : Option ℕ) (s : Side) (page : Local) (b c : List ℕ) → b ≡ c → SideIsLocal live s page → SideIsLocal live (side_after s (Puts b true)) (local_after size (L.Raises c) page)
 raises size live s page b c is i =
     record { right = refl; lock = λ here. refl; bytes = λ here. is; dirty = λ here. refl; precious = λ here. refl; unlocking = λ here. refl; asked = i.asked; absent = i.absent; control = i.control }
 
 -- what a host sends
 
 begins : (size : ℕ) (live : Option ℕ) (s : Side) (page : Local) (control : ℕ) (c b : Bool) → SideIsLocal live s page
-    → SideIsLocal (if c && b then Some control else live) (move s (if c then (if b then Opens control false else Nothing) else to_others (if b then Opens control false else Nothing))) (moved size (if c && b then L.Begins else Elsewhere) page)
+    → SideIsLocal (if c && b then Some control else live) (side_after s (if c then (if b then Opens control false else Nothing) else to_others (if b then Opens control false else Nothing))) (local_after size (if c && b then L.Begins else Elsewhere) page)
 begins size live s page control true true i = opens size live s page control false i
 begins size live s page control true false i = i
 begins size live s page control false true i = i
 begins size live s page control false false i = i
 
 terminates : (size : ℕ) (live : Option ℕ) (s : Side) (page : Local) (control : ℕ) (c b : Bool) → (c ≡ true → b ≡ true → live ≡ Some control) → SideIsLocal live s page
-    → SideIsLocal (if c && b then without_control control live else live) (move s (if c then (if b then SendsUp control (Ending control) else Nothing) else to_others (if b then SendsUp control (Ending control) else Nothing)))
-    (moved size (if c && b then (if is_control control live then L.Ends else Elsewhere) else Elsewhere) page)
+    → SideIsLocal (if c && b then without_control control live else live) (side_after s (if c then (if b then SendsUp control (Ending control) else Nothing) else to_others (if b then SendsUp control (Ending control) else Nothing)))
+    (local_after size (if c && b then (if is_control control live then L.Ends else Elsewhere) else Elsewhere) page)
 terminates size live s page control true true founded i =
     let is : live ≡ Some control = founded refl refl in
     let gone : without_control control live ≡ None = ap (without_control control) is ∙ ap (λ (b : Bool). if b then None else Some control) (itself control) in
@@ -329,20 +329,20 @@ terminates size live s page control true false founded i = i
 terminates size live s page control false true founded i = i
 terminates size live s page control false false founded i = i
 
-request : (size : ℕ) (live : Option ℕ) (s : Side) (page : Local) (control access : ℕ) (d k : Bool) → k ≡ true → SideIsLocal live s page → SideIsLocal live (move s (SendsUp control (if d then Asking control access else OtherUp))) (moved size (if d && k then L.Asks else Elsewhere) page)
+request : (size : ℕ) (live : Option ℕ) (s : Side) (page : Local) (control access : ℕ) (d k : Bool) → k ≡ true → SideIsLocal live s page → SideIsLocal live (side_after s (SendsUp control (if d then Asking control access else OtherUp))) (local_after size (if d && k then L.Asks else Elsewhere) page)
 request size live s page control access true true mine i = asks size live s page control control access i
 request size live s page control access true false mine i = never mine
 request size live s page control access false k mine i = i
 
-unlock : (size : ℕ) (live : Option ℕ) (s : Side) (page : Local) (control access : ℕ) (d : Bool) → SideIsLocal live s page → SideIsLocal live (move s (SendsUp control (if d then Unlocking access else OtherUp))) (moved size (if d then L.Unlocks else Elsewhere) page)
+unlock : (size : ℕ) (live : Option ℕ) (s : Side) (page : Local) (control access : ℕ) (d : Bool) → SideIsLocal live s page → SideIsLocal live (side_after s (SendsUp control (if d then Unlocking access else OtherUp))) (local_after size (if d then L.Unlocks else Elsewhere) page)
 unlock size live s page control access true i = unlocks size live s page control access i
 unlock size live s page control access false i = i
 
-back : (size : ℕ) (live : Option ℕ) (s : Side) (page : Local) (control : ℕ) (dirty keep : Bool) (bytes : List ℕ) (d : Bool) → SideIsLocal live s page → SideIsLocal live (move s (SendsUp control (if d then Returning dirty keep bytes else OtherUp))) (moved size (if d then L.Returns keep else Elsewhere) page)
+back : (size : ℕ) (live : Option ℕ) (s : Side) (page : Local) (control : ℕ) (dirty keep : Bool) (bytes : List ℕ) (d : Bool) → SideIsLocal live s page → SideIsLocal live (side_after s (SendsUp control (if d then Returning dirty keep bytes else OtherUp))) (local_after size (if d then L.Returns keep else Elsewhere) page)
 back size live s page control dirty keep bytes true i = returns size live s page control dirty keep bytes i
 back size live s page control dirty keep bytes false i = i
 
-completed : (size : ℕ) (live : Option ℕ) (s : Side) (page : Local) (control count : ℕ) (d : Bool) → SideIsLocal live s page → SideIsLocal live (move s (SendsUp control (if d then Doing control count else OtherUp))) page
+completed : (size : ℕ) (live : Option ℕ) (s : Side) (page : Local) (control count : ℕ) (d : Bool) → SideIsLocal live s page → SideIsLocal live (side_after s (SendsUp control (if d then Doing control count else OtherUp))) page
 completed size live s page control count true i = done size live s page control control count i
 completed size live s page control count false i = i
 
@@ -353,7 +353,7 @@ Granted (message.Terminate control) live = live ≡ Some control
 Granted m live = Unit {0}
 
 sent : (size h o p : ℕ) (live : Option ℕ) (s : Side) (page : Local) (host : HostId) (object : ObjectId) (m : Message) → ((host.0 == h) ≡ true → (object.0 == o) ≡ true → Granted m live) → SideIsLocal live s page
-    → SideIsLocal (live_after h o (event.Sent (Up host object) m) live) (move s (effect_on h (act_if (object.0 == o) host.0 (sent_effect p m)))) (moved size (if host.0 == h && object.0 == o then L.sent_effect p live m else Elsewhere) page)
+    → SideIsLocal (live_after h o (event.Sent (Up host object) m) live) (side_after s (effect_on h (act_if (object.0 == o) host.0 (sent_effect p m)))) (local_after size (if host.0 == h && object.0 == o then L.sent_effect p live m else Elsewhere) page)
 sent size h o p live s page host object (message.Init control bytes) founded i = begins size live s page control (host.0 == h) (object.0 == o) i
 sent size h o p live s page host object (message.Create control bytes) founded i = begins size live s page control (host.0 == h) (object.0 == o) i
 sent size h o p live s page host object (message.Terminate control) founded i = terminates size live s page control (host.0 == h) (object.0 == o) founded i
@@ -380,15 +380,15 @@ reaches_is live s control is = by_live s.live s.control ∙ ap (is_control contr
     by_live true n = refl
     by_live false n = refl
 
-took_if : (size p : ℕ) (live : Option ℕ) (s : Side) (page : Local) (m : Message) (a b : Bool) → a ≡ b → SideIsLocal live s page → SideIsLocal live (if a then hears s (down_word p m) else record s { step = 0 }) (moved size (if b then taken_effect p m else Elsewhere) page)
+took_if : (size p : ℕ) (live : Option ℕ) (s : Side) (page : Local) (m : Message) (a b : Bool) → a ≡ b → SideIsLocal live s page → SideIsLocal live (if a then hears s (down_word p m) else record s { step = 0 }) (local_after size (if b then taken_effect p m else Elsewhere) page)
 took_if size p live s page m true true is i = takes size p live s page m i
 took_if size p live s page m false false is i = alike live s _ page (same s _ refl refl refl refl refl refl refl refl refl refl) i
 took_if size p live s page m true false is i = never (sym is)
 took_if size p live s page m false true is i = never is
 
 took : (size p control : ℕ) (live : Option ℕ) (s : Side) (page : Local) (m : Message) (c b : Bool) → SideIsLocal live s page
-    → SideIsLocal live (move s (if c then (if b then TakesDown control (down_word p m) else StepBegins) else to_others (if b then TakesDown control (down_word p m) else StepBegins)))
-    (moved size (if c && (b && is_control control live) then taken_effect p m else Elsewhere) page)
+    → SideIsLocal live (side_after s (if c then (if b then TakesDown control (down_word p m) else StepBegins) else to_others (if b then TakesDown control (down_word p m) else StepBegins)))
+    (local_after size (if c && (b && is_control control live) then taken_effect p m else Elsewhere) page)
 took size p control live s page m true true i = took_if size p live s page m (reaches s control) (is_control control live) (reaches_is live s control i.control) i
 took size p control live s page m true false i = alike live s _ page (idle StepBegins s tt) i
 took size p control live s page m false true i = alike live s _ page (idle StepBegins s tt) i

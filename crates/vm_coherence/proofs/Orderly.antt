@@ -2,7 +2,7 @@
 use Rattle.std.proofs.Common.{◌≡◌, ℕ, ◌<◌, List, arith, Bool, true, false, Some}
 use Rattle.std.proofs.lemmas.Bool.Decides.{nat_tests}
 use Rattle.vm_model.specs.Words.{Asking, Unlocking, Returning, Doing, Ending, Supplying, Locking, Stores}
-use Rattle.vm_model.specs.Side.{Side, fresh, rest, opened, sent_up, taken_up, sent_down, hears, move}
+use Rattle.vm_model.specs.Side.{Side, fresh, rest, opened, sent_up, taken_up, sent_down, hears, side_after}
 use Rattle.vm_model.specs.Waiters.{Waiter}
 use Rattle.vm_model.specs.Server.{first}
 use Rattle.vm_model.specs.PageLicences.{MaySend}
@@ -48,7 +48,7 @@ order_opens s control ready ok o live = grind (arith, nat_tests)
 pub order_ready : (s : Side) → Orderly s → Orderly (record s { ready = true; step = 0 })
 order_ready s o = grind (arith, nat_tests)
 
-pub order_stores : (s : Side) (task at size value : ℕ) → Sound s → Orderly s → s.right ≡ 2 → Orderly (move s (Stores task at size value))
+pub order_stores : (s : Side) (task at size value : ℕ) → Sound s → Orderly s → s.right ≡ 2 → Orderly (side_after s (Stores task at size value))
 order_stores s task at size value ok o can = grind (arith, nat_tests, drain_up)
 
 -- what the server takes

@@ -2,8 +2,8 @@
 use Rattle.std.proofs.Common.{◌≡◌, ◌≢◌, ℕ, ◌<◌, ◌≤◌, ◌∙◌, subst, sym, List, [], ◌∷◌, arith, Bool, true, false, Option, Some, None, if◌then◌else◌, refl}
 use Rattle.std.proofs.lemmas.Bool.Decides.{nat_tests}
 use native.Mathlib.Decide.{ℕ_discrete}
-use Rattle.vm_model.specs.Words.{Asking, Unlocking, Returning, Doing, Ending, OtherUp, DownWord, Supplying, Locking, Lacking, Failing, Readying, OtherDown, Effect, Opens, SendsUp, TakenUp, SentDown, TakesDown, Puts, Drops, Stores, StepBegins, Act, to_others}
-use Rattle.vm_model.specs.Side.{Side, done, reaches, sent_down, hears, move, side}
+use Rattle.vm_model.specs.Words.{Asking, Unlocking, Returning, Doing, Ending, OtherUp, DownWord, Supplying, Locking, Lacking, Failing, Readying, OtherDown, ActEffect, Opens, SendsUp, TakenUp, SentDown, TakesDown, Puts, Drops, Stores, StepBegins, Act, to_others}
+use Rattle.vm_model.specs.Side.{Side, done, reaches, sent_down, hears, side_after, side}
 use Rattle.vm_model.specs.Waiters.{Waiter, waiters, readers}
 use Rattle.vm_model.specs.Server.{first, Wanting, line, NoUpgrade, NoRequest, kept}
 use Rattle.vm_model.specs.PageLicences.{May, UpgradeRow, RecallRow, Cause, Licensed}
@@ -18,7 +18,7 @@ use Rattle.vm_coherence.proofs.Single.{Single, single_asking, single_unlocking, 
 use Rattle.vm_coherence.proofs.Aligned.{Aligned, aligned_sent, aligned_taken, aligned_order, aligned_opens, done_is_mine, end_is_mine, aligned_start, aligned_hears}
 
 -- what is known of a message to the host beside the host's own reasons
-abbrev pub Told : Side → ℕ → Effect → Type 0
+abbrev pub Told : Side → ℕ → ActEffect → Type 0
 Told s n (SentDown control (Locking count returns flush lock true)) = (control ≡ s.heard) × (flush ≡ false → s.holds ≡ 2)
 Told s n (SentDown control (Locking count returns flush lock false)) = 0 < n
 Told s n e = Unit {0}
@@ -33,7 +33,7 @@ upgrade_some h ws (Some v) is row =
     let one : upgrade h v ≡ 1 = upgrades_one h v row.0 row.1 in
     omega arith
 
-told_if : (size h : ℕ) (e : Effect) (past : List Act) → Cause size h e past → Told (side h past) (upgrades h past) e
+told_if : (size h : ℕ) (e : ActEffect) (past : List Act) → Cause size h e past → Told (side h past) (upgrades h past) e
 told_if size h (SentDown control (Locking count returns flush lock true)) past c = (c.0, recall_holds h flush lock (side h past).holds (first (line past)) c.5)
 told_if size h (SentDown control (Locking count returns flush lock false)) past c = upgrade_some h (line past) (first (line past)) refl c.7
 told_if size h e past c = tt
@@ -60,7 +60,7 @@ single_takes ws rs w s n control true is ok k x may none =
     let mine : s.control ≡ control = grind (arith, nat_tests) in
     single_hears w s n ok k x live (may mine live) none
 
-single_own : (e : Effect) (ws : List Waiter) (rs : List ℕ) (s : Side) (n : ℕ) → Sound s → Carried s n → Single s n → Fair ws rs s e → (begins_step e ≡ true → s.step ≡ 0) → Told s n e → Single (move s e) (after s n e)
+single_own : (e : ActEffect) (ws : List Waiter) (rs : List ℕ) (s : Side) (n : ℕ) → Sound s → Carried s n → Single s n → Fair ws rs s e → (begins_step e ≡ true → s.step ≡ 0) → Told s n e → Single (side_after s e) (after s n e)
 single_own (Opens control ready) ws rs s n ok k x may none told = single_opens s n control ready ok k x may.0
 single_own (SendsUp control (Asking asker access)) ws rs s n ok k x may none told = single_asking ws rs s n control asker access ok k x may.2
 single_own (SendsUp control (Unlocking access)) ws rs s n ok k x may none told = single_unlocking ws rs s n control access ok k x may.2
@@ -91,7 +91,7 @@ single_own e ws rs s n ok k x may none told = single_same s n k x
 single_bare : (s : Side) (n : ℕ) → Single s n → s.step ≡ 0 → Single (record s { step = 0 }) n
 single_bare s n x none = grind (arith, nat_tests)
 
-single_others : (e : Effect) (s : Side) (n : ℕ) → Single s n → (begins_step e ≡ true → s.step ≡ 0) → Single (move s (to_others e)) n
+single_others : (e : ActEffect) (s : Side) (n : ℕ) → Single s n → (begins_step e ≡ true → s.step ≡ 0) → Single (side_after s (to_others e)) n
 single_others (TakenUp w) s n x none = single_bare s n x (none refl)
 single_others (TakesDown control w) s n x none = single_bare s n x (none refl)
 single_others StepBegins s n x none = single_bare s n x (none refl)
@@ -106,7 +106,7 @@ aligned_takes : (w : DownWord) (s : Side) (b : Bool) → Aligned s → Aligned (
 aligned_takes w s true x = aligned_hears s w x
 aligned_takes w s false x = aligned_same s (record s { step = 0 }) x refl refl refl refl refl
 
-aligned_own : (e : Effect) (ws : List Waiter) (rs : List ℕ) (s : Side) (n : ℕ) → Sound s → Carried s n → Aligned s → Fair ws rs s e → Told s n e → Aligned (move s e)
+aligned_own : (e : ActEffect) (ws : List Waiter) (rs : List ℕ) (s : Side) (n : ℕ) → Sound s → Carried s n → Aligned s → Fair ws rs s e → Told s n e → Aligned (side_after s e)
 aligned_own (Opens control ready) ws rs s n ok k x may told = aligned_opens s control ready x may.1
 aligned_own (SendsUp control w) ws rs s n ok k x may told = aligned_sent ws rs w control s ok x may
 aligned_own (TakenUp w) ws rs s n ok k x may told = aligned_taken w ws rs s n ok k x may
@@ -120,11 +120,11 @@ aligned_own (SentDown control OtherDown) ws rs s n ok k x may told = x
 aligned_own (TakesDown control w) ws rs s n ok k x may told = aligned_takes w s (reaches s control) x
 aligned_own (Puts bytes dirty) ws rs s n ok k x may told = absurd may
 aligned_own Drops ws rs s n ok k x may told = aligned_same s (record s { right = 0 }) x refl refl refl refl refl
-aligned_own (Stores task at size value) ws rs s n ok k x may told = aligned_same s (move s (Stores task at size value)) x refl refl refl refl refl
+aligned_own (Stores task at size value) ws rs s n ok k x may told = aligned_same s (side_after s (Stores task at size value)) x refl refl refl refl refl
 aligned_own StepBegins ws rs s n ok k x may told = aligned_same s (record s { step = 0 }) x refl refl refl refl refl
 aligned_own e ws rs s n ok k x may told = x
 
-aligned_others : (e : Effect) (s : Side) → Aligned s → Aligned (move s (to_others e))
+aligned_others : (e : ActEffect) (s : Side) → Aligned s → Aligned (side_after s (to_others e))
 aligned_others (TakenUp w) s x = aligned_same s (record s { step = 0 }) x refl refl refl refl refl
 aligned_others (TakesDown control w) s x = aligned_same s (record s { step = 0 }) x refl refl refl refl refl
 aligned_others StepBegins s x = aligned_same s (record s { step = 0 }) x refl refl refl refl refl

@@ -1,8 +1,8 @@
 -- A host that has saved all after an act had saved all before it.
 use Rattle.std.proofs.Common.{◌≡◌, ℕ, List, arith, Bool, true, false, Some, if◌then◌else◌}
 use Rattle.std.proofs.lemmas.Bool.Decides.{nat_tests}
-use Rattle.vm_model.specs.Words.{UpWord, Asking, Unlocking, Returning, Doing, Ending, OtherUp, DownWord, Supplying, Locking, Lacking, Failing, Readying, OtherDown, Effect, Opens, SendsUp, TakenUp, SentDown, TakesDown, Puts, Drops, Stores}
-use Rattle.vm_model.specs.Side.{Side, sent_up, taken_up, reaches, sent_down, hears, move}
+use Rattle.vm_model.specs.Words.{UpWord, Asking, Unlocking, Returning, Doing, Ending, OtherUp, DownWord, Supplying, Locking, Lacking, Failing, Readying, OtherDown, ActEffect, Opens, SendsUp, TakenUp, SentDown, TakesDown, Puts, Drops, Stores}
+use Rattle.vm_model.specs.Side.{Side, sent_up, taken_up, reaches, sent_down, hears, side_after}
 use Rattle.vm_model.specs.Waiters.{Waiter}
 use Rattle.vm_model.specs.Server.{first}
 use Rattle.vm_model.specs.PageLicences.{MaySend, May}
@@ -60,7 +60,7 @@ settled_send : (ws : List Waiter) (rs : List ℕ) (w : UpWord) (control : ℕ) (
 settled_send ws rs OtherUp control s may is = is
 settled_send ws rs w control s may is = settled_sent ws rs w s is may.2
 
-pub settled_own : (e : Effect) (ws : List Waiter) (rs : List ℕ) (s : Side) → Sound s → Orderly s → Fair ws rs s e → Silent e → Settled (move s e) → Settled s
+pub settled_own : (e : ActEffect) (ws : List Waiter) (rs : List ℕ) (s : Side) → Sound s → Orderly s → Fair ws rs s e → Silent e → Settled (side_after s e) → Settled s
 settled_own (Opens control ready) ws rs s ok o may silent is = is
 settled_own (SendsUp control w) ws rs s ok o may silent is = settled_send ws rs w control s may is
 settled_own (TakenUp (Asking asker access)) ws rs s ok o may silent is = settled_asking s asker access ok o may is

@@ -3,8 +3,8 @@ use Rattle.std.proofs.Common.{◌≡◌, ℕ, ◌+◌, ◌<◌, ◌≤◌, ◌�
 use Rattle.std.specs.Prelude.{nat_lt}
 use Rattle.std.proofs.lemmas.Bool.Decides.{nat_tests}
 use native.Mathlib.Decide.{ℕ_discrete}
-use Rattle.vm_model.specs.Words.{UpWord, Asking, Unlocking, Returning, Doing, Ending, DownWord, Supplying, Locking, Lacking, Failing, Readying, OtherDown, Effect, SentDown, Stores}
-use Rattle.vm_model.specs.Side.{Side, rest, opened, sent_up, taken_up, sent_down, hears, move}
+use Rattle.vm_model.specs.Words.{UpWord, Asking, Unlocking, Returning, Doing, Ending, DownWord, Supplying, Locking, Lacking, Failing, Readying, OtherDown, ActEffect, SentDown, Stores}
+use Rattle.vm_model.specs.Side.{Side, rest, opened, sent_up, taken_up, sent_down, hears, side_after}
 use Rattle.vm_model.specs.Waiters.{Waiter}
 use Rattle.vm_model.specs.Server.{first}
 use Rattle.vm_model.specs.PageLicences.{MaySend, May}
@@ -21,7 +21,7 @@ MayAnswer s Readying = Unit {0}
 MayAnswer s OtherDown = Unit {0}
 
 -- why an act of the host's own may happen, as far as the host itself tells
-abbrev pub Fair : List Waiter → List ℕ → Side → Effect → Type 0
+abbrev pub Fair : List Waiter → List ℕ → Side → ActEffect → Type 0
 Fair ws rs s (SentDown control word) = MayAnswer s word
 Fair ws rs s e = May ws rs s e
 
@@ -94,7 +94,7 @@ keep_opens s ready ok live = grind (arith, nat_tests, over_more (s.control) s.up
 pub keep_ready : (s : Side) → Sound s → Sound (record s { ready = true; step = 0 })
 keep_ready s ok = grind (arith, nat_tests)
 
-pub keep_stores : (s : Side) (task at size value : ℕ) → Sound s → Sound (move s (Stores task at size value))
+pub keep_stores : (s : Side) (task at size value : ℕ) → Sound s → Sound (side_after s (Stores task at size value))
 keep_stores s task at size value ok = grind (arith, nat_tests)
 
 -- what the server takes

@@ -2,12 +2,12 @@
 use Rattle.std.proofs.Common.{◌≡◌, ℕ, ◌+◌, ◌<◌, ◌≢◌, ◌∙◌, subst, sym, inl, inr, List, [], ◌∷◌, arith, Some, Bool, true, false, if◌then◌else◌, refl, ap}
 use Rattle.std.proofs.lemmas.Bool.Decides.{nat_tests}
 use native.Mathlib.Decide.{ℕ_discrete}
-use Rattle.vm_model.specs.Words.{UpWord, Asking, Unlocking, Returning, Doing, Ending, OtherUp, DownWord, Supplying, Locking, Lacking, Failing, Readying, OtherDown, Effect, Opens, SendsUp, TakenUp, SentDown, TakesDown, Puts, Drops, Stores, StepBegins, Act, to_others}
-use Rattle.vm_model.specs.Side.{Side, done, reaches, hears, move, side}
+use Rattle.vm_model.specs.Words.{UpWord, Asking, Unlocking, Returning, Doing, Ending, OtherUp, DownWord, Supplying, Locking, Lacking, Failing, Readying, OtherDown, ActEffect, Opens, SendsUp, TakenUp, SentDown, TakesDown, Puts, Drops, Stores, StepBegins, Act, to_others}
+use Rattle.vm_model.specs.Side.{Side, done, reaches, hears, side_after, side}
 use Rattle.vm_model.specs.Waiters.{Waiter, waiters, readers}
 use Rattle.vm_model.specs.Server.{first, Wanting, joined, stays, trimmed_line, line, kept}
 use Rattle.vm_model.specs.PageLicences.{May, Cause, Licensed}
-use Rattle.vm_model.specs.Coherence.{Done, begins_step, StepsDone, Prompt, Served, Quiet, Answered, NobodyWaits}
+use Rattle.vm_model.specs.Coherence.{Done, begins_step, StepsDone, Prompt, SomebodyIsAwaited, Quiet, NothingIsAsked, NobodyWaits}
 use Rattle.vm_coherence.proofs.Sound.{Fair, Sound}
 use Rattle.vm_coherence.proofs.Line.{request, upgrade, total, total_end, without_upgrade}
 use Rattle.vm_coherence.proofs.Law.{never, World, cause, own_side, other_side, joined_upgrade, world}
@@ -29,7 +29,7 @@ trimmed_own : (k holds : ℕ) (ws : List Wanting) → total (upgrade k) (trimmed
 trimmed_own k holds [] = grind (arith, nat_tests)
 trimmed_own k holds (w ∷ ws) = keeps_own k holds w (trimmed_line k holds ws) ws (trimmed_own k holds ws)
 
-joined_own : (k : ℕ) (e : Effect) (s : Side) (n : ℕ) (ws : List Wanting) → total (upgrade k) ws ≡ n → total (upgrade k) (joined s k e ws) ≡ counted_in s e n
+joined_own : (k : ℕ) (e : ActEffect) (s : Side) (n : ℕ) (ws : List Wanting) → total (upgrade k) ws ≡ n → total (upgrade k) (joined s k e ws) ≡ counted_in s e n
 joined_own k e s n ws is = grind (arith, nat_tests, total_end, without_upgrade)
 
 -- one host
@@ -52,7 +52,7 @@ hears_if ws rs w s n control true is ok k may none =
     let mine : s.control ≡ control = grind (arith, nat_tests) in
     hears_one w s n control ok k live mine (may mine live) none
 
-carried_sent : (ws : List Waiter) (rs : List ℕ) (w : UpWord) (control : ℕ) (s : Side) (n : ℕ) → Sound s → Carried s n → May ws rs s (SendsUp control w) → Carried (move s (SendsUp control w)) (after s n (SendsUp control w))
+carried_sent : (ws : List Waiter) (rs : List ℕ) (w : UpWord) (control : ℕ) (s : Side) (n : ℕ) → Sound s → Carried s n → May ws rs s (SendsUp control w) → Carried (side_after s (SendsUp control w)) (after s n (SendsUp control w))
 carried_sent ws rs (Asking asker access) control s n ok k may = carried_asking ws rs s n control asker access ok k may.0 may.2
 carried_sent ws rs (Unlocking access) control s n ok k may = carried_unlocking ws rs s n control access ok k may.2
 carried_sent ws rs (Returning dirty kept bytes) control s n ok k may = carried_returning ws rs s n control dirty kept bytes ok k may.2
@@ -61,13 +61,13 @@ carried_sent ws rs (Ending told) control s n ok k may = carried_ending ws rs s n
 carried_sent ws rs OtherUp control s n ok k may = carried_same s n k
 
 -- what is known of a message to the host beside the host's own reasons: its control, and that an awaited host holds
-abbrev pub Orders : Side → Effect → Type 0
+abbrev pub Orders : Side → ActEffect → Type 0
 Orders s (SentDown control (Supplying lock precious bytes)) = control ≡ s.heard
 Orders s (SentDown control (Locking count returns flush lock true)) = (control ≡ s.heard) × (0 < s.holds)
 Orders s (SentDown control (Locking count returns flush lock false)) = control ≡ s.heard
 Orders s e = Unit {0}
 
-carried_own : (e : Effect) (ws : List Waiter) (rs : List ℕ) (s : Side) (n : ℕ) → Sound s → Carried s n → Fair ws rs s e → (begins_step e ≡ true → s.step ≡ 0) → Orders s e → Carried (move s e) (after s n e)
+carried_own : (e : ActEffect) (ws : List Waiter) (rs : List ℕ) (s : Side) (n : ℕ) → Sound s → Carried s n → Fair ws rs s e → (begins_step e ≡ true → s.step ≡ 0) → Orders s e → Carried (side_after s e) (after s n e)
 carried_own (Opens control ready) ws rs s n ok k may none orders = carried_opens s n control ready ok k may.0 may.1
 carried_own (SendsUp control w) ws rs s n ok k may none orders = carried_sent ws rs w control s n ok k may
 carried_own (TakenUp (Asking asker access)) ws rs s n ok k may none orders = carried_heard_asking s n asker access ok k may (none refl)
@@ -93,13 +93,13 @@ carried_own e ws rs s n ok k may none orders = carried_same s n k
 carried_bare : (s : Side) (n : ℕ) → Carried s n → s.step ≡ 0 → Carried (record s { step = 0 }) n
 carried_bare s n k none = grind (arith, nat_tests)
 
-carried_others : (e : Effect) (s : Side) (n : ℕ) → Sound s → Carried s n → (begins_step e ≡ true → s.step ≡ 0) → Carried (move s (to_others e)) n
+carried_others : (e : ActEffect) (s : Side) (n : ℕ) → Sound s → Carried s n → (begins_step e ≡ true → s.step ≡ 0) → Carried (side_after s (to_others e)) n
 carried_others (TakenUp w) s n ok k none = carried_bare s n k (none refl)
 carried_others (TakesDown control w) s n ok k none = carried_bare s n k (none refl)
 carried_others StepBegins s n ok k none = carried_bare s n k (none refl)
 carried_others e s n ok k none = k
 
-orders_if : (size h : ℕ) (e : Effect) (past : List Act) → Cause size h e past → Orders (side h past) e
+orders_if : (size h : ℕ) (e : ActEffect) (past : List Act) → Cause size h e past → Orders (side h past) e
 orders_if size h (SentDown control (Supplying lock precious bytes)) past c = c.0
 orders_if size h (SentDown control (Locking count returns flush lock true)) past c = (c.0, c.4)
 orders_if size h (SentDown control (Locking count returns flush lock false)) past c = c.0
@@ -156,7 +156,7 @@ unlocked_pending : (s : Side) (n : ℕ) → Carried s n → s.up ≡ [] → s.do
 unlocked_pending s n k up down here unlocking = grind (arith, nat_tests)
 
 -- the server's line is empty
-no_line : (past : List Act) → Waits past → Served past → Quiet past → line past ≢ [] → ⊥
+no_line : (past : List Act) → Waits past → SomebodyIsAwaited past → Quiet past → line past ≢ [] → ⊥
 no_line past k served quiet some =
     let h : (g : ℕ) × (0 < (side g past).awaits) = served some in
     let none : (side h.0 past).awaits ≡ 0 = nothing_awaited (side h.0 past) (upgrades h.0 past) (k.each h.0) (quiet.no_up h.0) (quiet.no_down h.0) (quiet.done h.0) in
@@ -166,7 +166,7 @@ not_true : (b : Bool) → (b ≡ true → ⊥) → b ≡ false
 not_true true never = absurd (never refl)
 not_true false never = refl
 
-pub answered : (size : ℕ) (past : List Act) → Licensed size past → StepsDone past → Served past → Quiet past → Answered past
+pub answered : (size : ℕ) (past : List Act) → Licensed size past → StepsDone past → SomebodyIsAwaited past → Quiet past → NothingIsAsked past
 answered size past licensed done served quiet =
     record {
       none_asked = λ h. not_true (side h past).asked (λ asked. no_line past k served quiet (some_line (request h) (line past) (subst (λ (n : ℕ). 0 < n) (sym (w.counted h)) (asked_pending (side h past) (upgrades h past) (k.each h) (quiet.no_up h) (quiet.no_down h) asked))));
@@ -185,7 +185,7 @@ no_waiter : (ws : List Waiter) → (ws ≢ [] → ⊥) → ws ≡ []
 no_waiter [] never = refl
 no_waiter (w ∷ ws) never = absurd (never (λ is. absurd (cc)))
 
-pub nobody_waits : (past : List Act) → Prompt past → Quiet past → Answered past → NobodyWaits past
+pub nobody_waits : (past : List Act) → Prompt past → Quiet past → NothingIsAsked past → NobodyWaits past
 nobody_waits past prompt quiet answered h = no_waiter (waiters h past) (λ some. elim (prompt h some) [
   | inl asked ↦ both (side h past).asked asked (answered.none_asked h)
   | inr other ↦ elim other [
@@ -194,5 +194,5 @@ nobody_waits past prompt quiet answered h = no_waiter (waiters h past) (λ some.
   ]
 ])
 
-pub still : (size : ℕ) (past : List Act) → Licensed size past → StepsDone past → Served past → Prompt past → Quiet past → NobodyWaits past
+pub still : (size : ℕ) (past : List Act) → Licensed size past → StepsDone past → SomebodyIsAwaited past → Prompt past → Quiet past → NobodyWaits past
 still size past licensed done served prompt quiet = nobody_waits past prompt quiet (answered size past licensed done served quiet)

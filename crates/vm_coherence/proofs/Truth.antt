@@ -2,8 +2,8 @@
 use Rattle.std.proofs.Common.{◌≡◌, ℕ, ◌<◌, ◌≤◌, ◌∙◌, subst, List, [], ◌∷◌, ◌++◌, arith, Bool, true, false, Option, Some, None, if◌then◌else◌, refl, ap}
 use Rattle.std.proofs.lemmas.Bool.Decides.{nat_tests}
 use Rattle.vm_base.specs.Pages.{little_endian_bytes, with_bytes}
-use Rattle.vm_model.specs.Words.{UpWord, Asking, Unlocking, Returning, Doing, Ending, OtherUp, DownWord, Supplying, Locking, Lacking, Failing, Readying, OtherDown, Effect, Opens, SendsUp, TakenUp, SentDown, TakesDown, Puts, Drops, Begins, Loads, Stores, Fails, BeginsCopy, Copies, EndsCopy, StepBegins, Nothing, to_others}
-use Rattle.vm_model.specs.Side.{Side, fresh, sent_up, taken_up, reaches, put_down, sent_down, locked, supplied, hears, move}
+use Rattle.vm_model.specs.Words.{UpWord, Asking, Unlocking, Returning, Doing, Ending, OtherUp, DownWord, Supplying, Locking, Lacking, Failing, Readying, OtherDown, ActEffect, Opens, SendsUp, TakenUp, SentDown, TakesDown, Puts, Drops, Begins, Loads, Stores, Fails, BeginsCopy, Copies, EndsCopy, StepBegins, Nothing, to_others}
+use Rattle.vm_model.specs.Side.{Side, fresh, sent_up, taken_up, reaches, put_down, sent_down, locked, supplied, hears, side_after}
 use Rattle.vm_model.specs.Waiters.{Waiter, waiter_of}
 use Rattle.vm_model.specs.Server.{first, current_after}
 use Rattle.vm_model.specs.PageLicences.{MaySend, MayStore, May}
@@ -84,7 +84,7 @@ writer_returns s ok o writes = o.returns_write (let up : s.right ≤ drain s.dow
 writer_supplies : (s : Side) → Sound s → s.right ≡ 2 → sum_down supplies s.down ≡ 0
 writer_supplies s ok writes = grind (arith, nat_tests)
 
-carry_stores : (page : List ℕ) (s : Side) (task at size value : ℕ) → Sound s → Orderly s → s.right ≡ 2 → Carries page s → Carries (with_bytes at (little_endian_bytes size value) page) (move s (Stores task at size value))
+carry_stores : (page : List ℕ) (s : Side) (task at size value : ℕ) → Sound s → Orderly s → s.right ≡ 2 → Carries page s → Carries (with_bytes at (little_endian_bytes size value) page) (side_after s (Stores task at size value))
 carry_stores page s task at size value ok o can c =
     record {
       here = λ some. ap (with_bytes at (little_endian_bytes size value)) (c.here some);
@@ -93,7 +93,7 @@ carry_stores page s task at size value ok o can c =
     }
 
 -- what is said downwards is what the page is
-abbrev pub SaysTruth : List ℕ → Effect → Type 0
+abbrev pub SaysTruth : List ℕ → ActEffect → Type 0
 SaysTruth page (SentDown control w) = SaysDown page w
 SaysTruth page e = Unit {0}
 
@@ -106,7 +106,7 @@ pub can_store : (o : Option Waiter) (s : Side) (at size value : ℕ) → MayStor
 can_store None s at size value may = absurd may
 can_store (Some w) s at size value may = writes s may.1
 
-pub carry : (e : Effect) (ws : List Waiter) (rs : List ℕ) (page : List ℕ) (s : Side) → Sound s → Orderly s → Fair ws rs s e → SaysTruth page e → Carries page s → Carries (current_after e page) (move s e)
+pub carry : (e : ActEffect) (ws : List Waiter) (rs : List ℕ) (page : List ℕ) (s : Side) → Sound s → Orderly s → Fair ws rs s e → SaysTruth page e → Carries page s → Carries (current_after e page) (side_after s e)
 carry (Opens control ready) ws rs page s ok o may says c = record { here = c.here; coming = tt; going = c.going }
 carry (SendsUp control w) ws rs page s ok o may says c = carry_send ws rs w control page s may c
 carry (TakenUp w) ws rs page s ok o may says c = carry_taken w page s c
@@ -136,11 +136,11 @@ carry_bare page s ok o none =
     }
 
 -- the effect is a store
-abbrev pub IsStore : Effect → Type 0
+abbrev pub IsStore : ActEffect → Type 0
 IsStore (Stores task at size value) = Unit {0}
 IsStore e = ⊥
 
-pub carry_others : (e : Effect) (page : List ℕ) (s : Side) → Sound s → Orderly s → (IsStore e → s.holds ≡ 0) → Carries page s → Carries (current_after e page) (move s (to_others e))
+pub carry_others : (e : ActEffect) (page : List ℕ) (s : Side) → Sound s → Orderly s → (IsStore e → s.holds ≡ 0) → Carries page s → Carries (current_after e page) (side_after s (to_others e))
 carry_others (TakenUp w) page s ok o bare c = carry_step page s c
 carry_others (TakesDown control w) page s ok o bare c = carry_step page s c
 carry_others (Stores task at size value) page s ok o bare c = carry_bare (with_bytes at (little_endian_bytes size value) page) s ok o (bare tt)
@@ -153,12 +153,12 @@ abbrev pub Settled : Side → Type 0
 Settled s = s.holds ≡ 2 → (fresh s ≡ false) × (sum_up saves s.up ≡ 0)
 
 -- the act changes neither the page nor the server's bytes
-abbrev pub Silent : Effect → Type 0
+abbrev pub Silent : ActEffect → Type 0
 Silent (Stores task at size value) = ⊥
 Silent (TakenUp (Returning dirty keep bytes)) = ⊥
 Silent e = Unit {0}
 
-pub settled_others : (e : Effect) (s : Side) → Settled (move s (to_others e)) → Settled s
+pub settled_others : (e : ActEffect) (s : Side) → Settled (side_after s (to_others e)) → Settled s
 settled_others (TakenUp w) s is = is
 settled_others (TakesDown control w) s is = is
 settled_others StepBegins s is = is

@@ -4,11 +4,11 @@ use Rattle.std.specs.Prelude.{replicate, slice_range}
 use Rattle.std.proofs.lemmas.Bool.Decides.{nat_tests}
 use native.Mathlib.Decide.{ℕ_discrete}
 use Rattle.vm_base.specs.Pages.{little_endian}
-use Rattle.vm_model.specs.Words.{UpWord, Asking, Unlocking, Returning, Doing, Ending, OtherUp, DownWord, Supplying, Locking, Lacking, Failing, Readying, OtherDown, Effect, Opens, SendsUp, TakenUp, SentDown, TakesDown, Puts, Drops, Begins, Loads, Stores, Fails, BeginsCopy, Copies, EndsCopy, StepBegins, Nothing, Act, to_others}
-use Rattle.vm_model.specs.Side.{Side, nobody, can_read, reaches, hears, move, side}
+use Rattle.vm_model.specs.Words.{UpWord, Asking, Unlocking, Returning, Doing, Ending, OtherUp, DownWord, Supplying, Locking, Lacking, Failing, Readying, OtherDown, ActEffect, Opens, SendsUp, TakenUp, SentDown, TakesDown, Puts, Drops, Begins, Loads, Stores, Fails, BeginsCopy, Copies, EndsCopy, StepBegins, Nothing, Act, to_others}
+use Rattle.vm_model.specs.Side.{Side, nobody, can_read, reaches, hears, side_after, side}
 use Rattle.vm_model.specs.Waiters.{Waiter, waiters, readers, waiter_of}
 use Rattle.vm_model.specs.Server.{first, Wanting, line, current_after, current, kept_after, kept}
-use Rattle.vm_model.specs.PageLicences.{MayLoad, May, SupplyRow, Answers, Cause, Licensed}
+use Rattle.vm_model.specs.PageLicences.{MayLoad, May, SupplyRow, ReplyCause, Cause, Licensed}
 use Rattle.vm_model.specs.Coherence.{Throughout, SaysUp, CarryUp, Carries, SameBytes, Reads, LoadReads, EachLoadReads, PageLegal}
 use Rattle.vm_coherence.proofs.Queues.{drain_up}
 use Rattle.vm_coherence.proofs.Sound.{Fair, Sound}
@@ -34,7 +34,7 @@ order_taking ws rs s control word true is ok o may =
     let mine : s.control ≡ control = grind (arith, nat_tests) in
     order_hears word s ok o (may mine live)
 
-order : (e : Effect) (ws : List Waiter) (rs : List ℕ) (s : Side) → Sound s → Orderly s → Fair ws rs s e → Orderly (move s e)
+order : (e : ActEffect) (ws : List Waiter) (rs : List ℕ) (s : Side) → Sound s → Orderly s → Fair ws rs s e → Orderly (side_after s e)
 order (Opens control ready) ws rs s ok o may = order_opens s control ready ok o may.0
 order (SendsUp control (Asking asker access)) ws rs s ok o may = order_asking ws rs s asker access ok o may.2
 order (SendsUp control (Unlocking access)) ws rs s ok o may = order_unlocking s access ok o
@@ -68,7 +68,7 @@ order (EndsCopy task) ws rs s ok o may = o
 order StepBegins ws rs s ok o may = order_step s o
 order Nothing ws rs s ok o may = o
 
-order_others : (e : Effect) (s : Side) → Orderly s → Orderly (move s (to_others e))
+order_others : (e : ActEffect) (s : Side) → Orderly s → Orderly (side_after s (to_others e))
 order_others (TakenUp w) s o = order_step s o
 order_others (TakesDown control w) s o = order_step s o
 order_others StepBegins s o = order_step s o
@@ -80,7 +80,7 @@ pub record Bytes (size : ℕ) (past : List Act) : Type 0 where
   pub saved : ((h : ℕ) → Settled (side h past)) → kept size past ≡ current size past
 
 -- what holds of the host of an act, and of every other host, holds of all
-pub at_each : (P : Side → Type 0) (a : Act) (past : List Act) → P (move (side a.host past) a.effect) → ((h : ℕ) → a.host ≢ h → P (move (side h past) (to_others a.effect))) → (h : ℕ) → P (side h (a ∷ past))
+pub at_each : (P : Side → Type 0) (a : Act) (past : List Act) → P (side_after (side a.host past) a.effect) → ((h : ℕ) → a.host ≢ h → P (side_after (side h past) (to_others a.effect))) → (h : ℕ) → P (side h (a ∷ past))
 at_each P a past own others h = elim (ℕ_discrete a.host h) [
   | yes e ↦ subst (λ (k : ℕ). P (side k (a ∷ past))) e (subst P (sym (own_side a past)) own)
   | no e ↦ subst P (sym (other_side h a past e)) (others h e)
@@ -100,15 +100,15 @@ nobody_writes h lock past (Some v) w is row g holds = elim (ℕ_discrete g h) [
   less holds access two le = grind (arith, nat_tests)
 
 -- a supply has the page's bytes
-supply_says : (size h control lock : ℕ) (precious : Bool) (bytes : List ℕ) (past : List Act) → World past → Bytes size past → Answers size h control (Supplying lock precious bytes) past → bytes ≡ current size past
+supply_says : (size h control lock : ℕ) (precious : Bool) (bytes : List ℕ) (past : List Act) → World past → Bytes size past → ReplyCause size h control (Supplying lock precious bytes) past → bytes ≡ current size past
 supply_says size h control lock precious bytes past w b a = a.3 ∙ b.saved (λ g holds. absurd (nobody_writes h lock past (first (line past)) w refl a.4 g holds))
 
-says : (size h : ℕ) (e : Effect) (past : List Act) → World past → Bytes size past → Cause size h e past → SaysTruth (current size past) e
+says : (size h : ℕ) (e : ActEffect) (past : List Act) → World past → Bytes size past → Cause size h e past → SaysTruth (current size past) e
 says size h (SentDown control (Supplying lock precious bytes)) past w b c = supply_says size h control lock precious bytes past w b c
 says size h (SentDown control word) past w b c = tt
 says size h e past w b c = tt
 
-writes_if : (e : Effect) (ws : List Waiter) (rs : List ℕ) (s : Side) → IsStore e → Fair ws rs s e → s.right ≡ 2
+writes_if : (e : ActEffect) (ws : List Waiter) (rs : List ℕ) (s : Side) → IsStore e → Fair ws rs s e → s.right ≡ 2
 writes_if (Stores task at size value) ws rs s is may = can_store (waiter_of task ws) s at size value may
 writes_if e ws rs s is may = absurd is
 
@@ -123,11 +123,11 @@ first_up_says : (page : List ℕ) (q : List UpWord) (w : UpWord) → first q ≡
 first_up_says page [] w is c = absurd (cc)
 first_up_says page (v ∷ q) w is c = let e : v ≡ w = cc in subst (λ (u : UpWord). SaysUp page u) e c.0
 
-fresh_store : (s : Side) (task at size value : ℕ) → Sound s → s.right ≡ 2 → Settled (move s (Stores task at size value)) → ⊥
+fresh_store : (s : Side) (task at size value : ℕ) → Sound s → s.right ≡ 2 → Settled (side_after s (Stores task at size value)) → ⊥
 fresh_store s task at size value ok can is = grind (arith, nat_tests, drain_up)
 
 -- the act is silent, or it is of these two kinds
-saved_by : (e : Effect) (ws : List Waiter) (rs : List ℕ) (s : Side) (page store : List ℕ) → Sound s → Orderly s → Fair ws rs s e → CarryUp page s.up → Settled (move s e) → (Silent e → store ≡ page) → kept_after e store ≡ current_after e page
+saved_by : (e : ActEffect) (ws : List Waiter) (rs : List ℕ) (s : Side) (page store : List ℕ) → Sound s → Orderly s → Fair ws rs s e → CarryUp page s.up → Settled (side_after s e) → (Silent e → store ≡ page) → kept_after e store ≡ current_after e page
 saved_by (TakenUp (Returning dirty keep bytes)) ws rs s page store ok o may c is silent = first_up_says page s.up (Returning dirty keep bytes) may c
 saved_by (TakenUp w) ws rs s page store ok o may c is silent = silent tt
 saved_by (Stores task at size value) ws rs s page store ok o may c is silent = absurd (fresh_store s task at size value ok (can_store (waiter_of task ws) s at size value may) is)
@@ -136,7 +136,7 @@ saved_by e ws rs s page store ok o may c is silent = silent tt
 saved_after : (size : ℕ) (a : Act) (past : List Act) → World past → Bytes size past → Cause size a.host a.effect past → ((h : ℕ) → Settled (side h (a ∷ past))) → kept size (a ∷ past) ≡ current size (a ∷ past)
 saved_after size a past w b c is =
     let may : Fair (waiters a.host past) (readers a.host past) (side a.host past) a.effect = cause size a.host a.effect past w c in
-    let own : Settled (move (side a.host past) a.effect) = subst (λ (s : Side). Settled s) (own_side a past) (is a.host) in
+    let own : Settled (side_after (side a.host past) a.effect) = subst (λ (s : Side). Settled s) (own_side a past) (is a.host) in
     saved_by a.effect (waiters a.host past) (readers a.host past) (side a.host past) (current size past) (kept size past) (w.each a.host) (b.orders a.host) may (b.carries a.host).going own
     (λ silent. b.saved (λ h. elim (ℕ_discrete a.host h) [
       | yes e ↦ subst (λ (k : ℕ). Settled (side k past)) e (settled_own a.effect (waiters a.host past) (readers a.host past) (side a.host past) (w.each a.host) (b.orders a.host) may silent own)
@@ -169,7 +169,7 @@ load_reads (Some v) s value page c may =
       some_right : (s : Side) → can_read s ≡ true → 0 < s.right
       some_right s can = grind (arith, nat_tests)
 
-cause_reads : (size h : ℕ) (e : Effect) (past : List Act) → Carries (current size past) (side h past) → Cause size h e past → LoadReads size h e past
+cause_reads : (size h : ℕ) (e : ActEffect) (past : List Act) → Carries (current size past) (side h past) → Cause size h e past → LoadReads size h e past
 cause_reads size h (Loads task value) past c cause = load_reads (waiter_of task (waiters h past)) (side h past) value (current size past) c cause
 cause_reads size h e past c cause = tt
 

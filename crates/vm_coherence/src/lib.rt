@@ -28,7 +28,7 @@ ghost use Rattle.vm_coherence.specs.Idle.{flushed, idle_request};
 ghost use Rattle.vm_coherence.specs.Locals.{SideIsLocal};
 ghost use Rattle.vm_coherence.specs.Remapping.{remapping};
 ghost use Rattle.vm_coherence.specs.SlowCopy.{copying, reclaimed, read_again};
-ghost use Rattle.vm_model.specs.Coherence.{Throughout, OneWriter, SameBytes, EachLoadReads, PageLegal, StepsDone, Served, Prompt, Quiet, Answered, NobodyWaits};
+ghost use Rattle.vm_model.specs.Coherence.{Throughout, OneWriter, SameBytes, EachLoadReads, PageLegal, StepsDone, SomebodyIsAwaited, Prompt, Quiet, NothingIsAsked, NobodyWaits};
 
 /// The law of one shared page, for any page size. It holds of the page's part of a history and of
 /// the page world alike, and for whatever host, also one that never appears.
@@ -43,8 +43,8 @@ pub fn coherence_law()
     ensures same_bytes { (size : ℕ) (acts : List Act) → Licensed size acts → Throughout (SameBytes size) acts }
     ensures loads { (size : ℕ) (acts : List Act) → Licensed size acts → EachLoadReads size acts }
     ensures legal { (size : ℕ) (acts : List Act) → Licensed size acts → PageLegal size acts }
-    ensures answered { (size : ℕ) (acts : List Act) → Licensed size acts → StepsDone acts → Served acts → Quiet acts → Answered acts }
-    ensures nobody_waits { (size : ℕ) (acts : List Act) → Licensed size acts → StepsDone acts → Served acts → Prompt acts → Quiet acts → NobodyWaits acts }
+    ensures answered { (size : ℕ) (acts : List Act) → Licensed size acts → StepsDone acts → SomebodyIsAwaited acts → Quiet acts → NothingIsAsked acts }
+    ensures nobody_waits { (size : ℕ) (acts : List Act) → Licensed size acts → StepsDone acts → SomebodyIsAwaited acts → Prompt acts → Quiet acts → NobodyWaits acts }
 {}
 
 /// A worked run of the page world, of 16-byte pages: two hosts read a page and then both store. The
@@ -55,7 +55,7 @@ pub fn coherence_law()
 pub fn crossing_run()
     ensures licensed { Licensed 16 (world_part 16 crossing) }
     ensures done { StepsDone (world_part 16 crossing) }
-    ensures served { Served (world_part 16 crossing) }
+    ensures served { SomebodyIsAwaited (world_part 16 crossing) }
     ensures prompt { Prompt (world_part 16 crossing) }
     ensures quiet { Quiet (world_part 16 crossing) }
 {}

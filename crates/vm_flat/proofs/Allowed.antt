@@ -1,6 +1,6 @@
 -- What a place itself must say for an effect, and what it has to show.
 use Rattle.std.specs.Prelude.{ℕ, ◌&&◌, ◌≡◌, List, true, false, if◌then◌else◌, Option, Some, None}
-use Rattle.vm_flat.specs.Words.{Requesting, Returning, DownWord, Supplying, Unavailing, Erring, Effect, Creates, Requests, Returns, TakesRequest, TakesReturn, Answers, Takes, Zeroes, Raises, Stores, Drops, Ends, StepEnds, Nothing}
+use Rattle.vm_flat.specs.Words.{Requesting, Returning, DownWord, Supplying, Unavailing, Erring, SpotEffect, Creates, Requests, Returns, TakesRequest, TakesReturn, Answers, Takes, Zeroes, Raises, Stores, Drops, Ends, StepEnds, Nothing}
 use Rattle.vm_model.specs.Server.{first}
 use Rattle.vm_flat.specs.Spot.{Spot}
 
@@ -17,7 +17,7 @@ MayAnswer z s (Supplying bytes) = (s.step ≡ true) × (s.kept ≡ Some bytes)
 MayAnswer z s Unavailing = (s.step ≡ true) × (s.kept ≡ (if s.file then Some z else None))
 MayAnswer z s Erring = s.step ≡ true
 
-abbrev pub May : List ℕ → Spot → Effect → Type 0
+abbrev pub May : List ℕ → Spot → SpotEffect → Type 0
 May z s Creates = s.control ≡ 0
 May z s (Requests lives) = (s.control ≡ 1) × (s.here ≡ false) × (s.asked ≡ false) × (s.absent ≡ false) × (lives ≡ true)
 May z s (Returns keep bytes) = (s.control ≡ 1) × (s.here ≡ true) × (s.dirty ≡ true) × (bytes ≡ s.bytes)

@@ -4,7 +4,7 @@ use Rattle.std.proofs.lemmas.Bool.Decides.{nat_tests}
 use Rattle.std.specs.Prelude.{◌==◌, ◌&&◌}
 use native.Mathlib.Decide.{ℕ_discrete}
 use Rattle.vm_flat.specs.Words.{DownWord, Answers, Nothing}
-use Rattle.vm_flat.specs.Spot.{move}
+use Rattle.vm_flat.specs.Spot.{spot_after}
 use Rattle.vm_flat.proofs.Allowed.{May}
 use Rattle.vm_flat.proofs.Deeds.{is_file, covered, Ground, Deed, Answered, said, row, objects, link, spot, flat}
 use Rattle.vm_flat.proofs.Causes.{Cause, Ours, OwnRegion, Foreign}
@@ -67,10 +67,10 @@ after_told z k q word past w may c =
     under_same : (o p : ℕ) → (link z o past).backed ≡ true → under_view z o p (Answered true true k q word ∷ past) ≡ under_view z o p past
     under_same o p backed = view_else (link z o past).under ((link z o past).shift + p) (λ e f. c.bare o backed e)
 
-    own : (o p : ℕ) → covered z o ≡ true → o ≡ k → p ≡ q → Good z.zeros (ReachAt z o p past) (objects z past ≤ o) (Barren z o p (Answered true true k q word ∷ past)) (said z.zeros word (view z o p past)) (link z o past).backed (under_view z o p (Answered true true k q word ∷ past)) (move z.zeros (spot z o p past) (Answers true word))
+    own : (o p : ℕ) → covered z o ≡ true → o ≡ k → p ≡ q → Good z.zeros (ReachAt z o p past) (objects z past ≤ o) (Barren z o p (Answered true true k q word ∷ past)) (said z.zeros word (view z o p past)) (link z o past).backed (under_view z o p (Answered true true k q word ∷ past)) (spot_after z.zeros (spot z o p past) (Answers true word))
     own o p ours e f =
         let may_here : May z.zeros (spot z o p past) (Answers true word) = subst (λ (h : ℕ). May z.zeros (spot z h p past) (Answers true word)) (sym e) (subst (λ (h : ℕ). May z.zeros (spot z k h past) (Answers true word)) (sym f) may) in
-        good_again z.zeros (ReachAt z o p past) (ReachAt z o p past) (objects z past ≤ o) (objects z past ≤ o) (Barren z o p past) (Barren z o p (Answered true true k q word ∷ past)) (said z.zeros word (view z o p past)) (said z.zeros word (view z o p past)) (link z o past).backed (under_view z o p past) (under_view z o p (Answered true true k q word ∷ past)) (move z.zeros (spot z o p past) (Answers true word))
+        good_again z.zeros (ReachAt z o p past) (ReachAt z o p past) (objects z past ≤ o) (objects z past ≤ o) (Barren z o p past) (Barren z o p (Answered true true k q word ∷ past)) (said z.zeros word (view z o p past)) (said z.zeros word (view z o p past)) (link z o past).backed (under_view z o p past) (under_view z o p (Answered true true k q word ∷ past)) (spot_after z.zeros (spot z o p past) (Answers true word))
         (good_tells z.zeros (ReachAt z o p past) (objects z past ≤ o) (Barren z o p past) (view z o p past) (link z o past).backed (under_view z o p past) (spot z o p past) word (w.places o p ours) may_here)
         (λ x. x) (λ x. x) (λ x. refl) (λ reach none backed. under_same o p backed) (λ reach barren. absurd (clash (is_file z o) (barren 0 o p (refl, refl)).1 (ap (is_file z) e ∙ c.file)))
 
@@ -81,7 +81,7 @@ after_told z k q word past w may c =
 
     places_if : (o p : ℕ) → covered z o ≡ true → (b : Bool) → (k == o && q == p) ≡ b
         → Good z.zeros (ReachAt z o p past) (objects z past ≤ o) (Barren z o p (Answered true true k q word ∷ past)) (if b then said z.zeros word (view z o p past) else view z o p past) (link z o past).backed (under_view z o p (Answered true true k q word ∷ past))
-        (move z.zeros (spot z o p past) (if b then Answers true word else Nothing))
+        (spot_after z.zeros (spot z o p past) (if b then Answers true word else Nothing))
     places_if o p ours true is = own o p ours (grind (arith, nat_tests)) (grind (arith, nat_tests))
     places_if o p ours false is = other o p ours (λ e f. absurd (grind (arith, nat_tests)))
 
@@ -104,7 +104,7 @@ after_away z own k q word past w f =
 
     places : (o p : ℕ) → covered z o ≡ true → GoodAt z (Answered own true k q word ∷ past) o p (spot z o p (Answered own true k q word ∷ past))
     places o p ours =
-        subst (λ e. GoodAt z (Answered own true k q word ∷ past) o p (move z.zeros (spot z o p past) e)) (sym (no_if own o p k q (Answers true word) Nothing (not_ours z own k k past f o ours)))
+        subst (λ e. GoodAt z (Answered own true k q word ∷ past) o p (spot_after z.zeros (spot z o p past) e)) (sym (no_if own o p k q (Answers true word) Nothing (not_ours z own k k past f o ours)))
         (good_again z.zeros (ReachAt z o p past) (ReachAt z o p past) (objects z past ≤ o) (objects z past ≤ o) (Barren z o p past) (Barren z o p (Answered own true k q word ∷ past)) (view z o p past) (view z o p (Answered own true k q word ∷ past)) (link z o past).backed (under_view z o p past) (under_view z o p (Answered own true k q word ∷ past)) (spot z o p past)
         (w.places o p ours) (λ x. x) (λ x. x) (λ x. view_is o p ours) (λ reach none backed. view_is (link z o past).under ((link z o past).shift + p) (w.shape.covers_under o ours backed))
         (λ reach barren n l lp path. (view_is l lp (path_covered z n o p l lp past w.shape ours path) ∙ (barren n l lp path).0, (barren n l lp path).1)))

@@ -35,7 +35,7 @@ use Rattle.vm_flat.specs.Places.{spot}
 use Rattle.vm_legal.specs.Walks.{page_on}
 use Rattle.vm_flat.proofs.Sustained.{control}
 use Rattle.vm_legal.specs.Walks.{IsTop}
-use Rattle.vm_legal.specs.Flat.{Change, change_by, change_in, change_of, made_over, flat_page}
+use Rattle.vm_legal.specs.Flat.{StoreChange, change_by, change_in, change_of, made_over, flat_page}
 use Rattle.vm_legal.specs.Licences as L
 use Rattle.vm_flat.proofs.Sustained as S
 use Rattle.vm_legal.specs.Accesses.{Waits}
@@ -177,7 +177,7 @@ unused_where header outside host r i o p past h top isnt = by (in_use header out
 stored_cause : (header : Header) (outside : Outside) (host : ℕ) (task object page at size value : ℕ) (past : List Event) → Holds header outside past → L.Stores header task object page at size value past
     → Cause (ground header outside) (D.Stored (lives_on host task past) (region_in (change_of header.size task past)) (page_in (change_of header.size task past)) object page at (little_endian_bytes size value)) (deeds header outside host past)
 stored_cause header outside host task object page at size value past h c =
-    subst (λ (o : Option Change). Cause (ground header outside) (D.Stored (lives_on host task past) (region_in o) (page_in o) object page at (little_endian_bytes size value)) (deeds header outside host past)) (sym (change_is header task c.address size value past c.waits))
+    subst (λ (o : Option StoreChange). Cause (ground header outside) (D.Stored (lives_on host task past) (region_in o) (page_in o) object page at (little_endian_bytes size value)) (deeds header outside host past)) (sym (change_is header task c.address size value past c.waits))
     (by_host (lives_on host task past) refl)
   where
     by_host : (b : Bool) → lives_on host task past ≡ b → Cause (ground header outside) (D.Stored b c.waits.at.entry.region.0 (page_at header.size c.address c.waits.at.entry) object page at (little_endian_bytes size value)) (deeds header outside host past)

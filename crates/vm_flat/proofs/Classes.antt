@@ -13,7 +13,7 @@ use Rattle.vm_legal.specs.Outside.{is_file_kept, zeros, is_said, start_page}
 use Rattle.vm_legal.specs.Living.{lives_on}
 use Rattle.vm_legal.specs.Used.{is_kept, made_here}
 use Rattle.vm_model.specs.Controls.{is_control, last_control, live_control}
-use Rattle.vm_legal.specs.Flat.{Change, change_of, made_over}
+use Rattle.vm_legal.specs.Flat.{StoreChange, change_of, made_over}
 use Rattle.vm_flat.specs.Words.{DownWord, Supplying, Unavailing, Erring}
 use Rattle.vm_legal.specs.Outside.{Outside}
 use Rattle.vm_flat.proofs.Deeds.{Ground, Deed, Line, Region, Cow, Kept, Shadowed, Zeroed, Raised, Stored, Dropped, Created, Asked, Copied, Returned, TookRequest, TookReturn, Answered, Took, Terminated, Elsewhere}
@@ -46,11 +46,11 @@ taken_down_deed own object (message.Unavailable page) = Took own object page.0 U
 taken_down_deed own object (message.Error page reason) = Took own object page.0 Erring
 taken_down_deed own object other = Line
 
-abbrev pub region_in : Option Change → ℕ
+abbrev pub region_in : Option StoreChange → ℕ
 region_in None = 0
 region_in (Some change) = change.region
 
-abbrev pub page_in : Option Change → ℕ
+abbrev pub page_in : Option StoreChange → ℕ
 page_in None = 0
 page_in (Some change) = change.page
 

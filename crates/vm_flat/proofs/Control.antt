@@ -1,19 +1,19 @@
 -- All places of an object have its control.
 use Rattle.std.proofs.Common.{◌≡◌, ℕ, List, [], ◌∷◌, Bool, true, false, refl, if◌then◌else◌, ◌∙◌, ap}
 use Rattle.std.specs.Prelude.{◌==◌, ◌&&◌}
-use Rattle.vm_flat.specs.Words.{Effect, Creates, Requests, Returns, TakesRequest, TakesReturn, Answers, Takes, Zeroes, Raises, Stores, Drops, Ends, StepEnds, Nothing}
-use Rattle.vm_flat.specs.Spot.{move}
+use Rattle.vm_flat.specs.Words.{SpotEffect, Creates, Requests, Returns, TakesRequest, TakesReturn, Answers, Takes, Zeroes, Raises, Stores, Drops, Ends, StepEnds, Nothing}
+use Rattle.vm_flat.specs.Spot.{spot_after}
 use Rattle.vm_flat.proofs.Deeds.{Ground, is_file, Deed, Line, Region, Cow, Kept, Shadowed, Zeroed, Raised, Stored, Dropped, Created, Asked, Copied, Returned, TookRequest, TookReturn, Answered, Took, Terminated, Elsewhere, spot, control}
 use Rattle.vm_flat.proofs.Good.{takes_control}
 use Rattle.vm_flat.proofs.World.{each_place}
 use Rattle.vm_flat.proofs.File.{file_is}
 
-same : (z : Ground) (o p : ℕ) (own : Bool) (k q : ℕ) (mine other : Effect) (past : List Deed) → (move z.zeros (spot z k q past) mine).control ≡ control z k past → ((o p : ℕ) → (move z.zeros (spot z o p past) other).control ≡ control z o past)
-    → (move z.zeros (spot z o p past) (if own && (k == o && q == p) then mine else other)).control ≡ control z o past
-same z o p own k q mine other past at rest = each_place (λ o p e. (move z.zeros (spot z o p past) e).control ≡ control z o past) k q own mine other (λ is. at) rest o p
+same : (z : Ground) (o p : ℕ) (own : Bool) (k q : ℕ) (mine other : SpotEffect) (past : List Deed) → (spot_after z.zeros (spot z k q past) mine).control ≡ control z k past → ((o p : ℕ) → (spot_after z.zeros (spot z o p past) other).control ≡ control z o past)
+    → (spot_after z.zeros (spot z o p past) (if own && (k == o && q == p) then mine else other)).control ≡ control z o past
+same z o p own k q mine other past at rest = each_place (λ o p e. (spot_after z.zeros (spot z o p past) e).control ≡ control z o past) k q own mine other (λ is. at) rest o p
 
-object_is : (z : Ground) (o p n : ℕ) (mine : Effect) (past : List Deed) (b : Bool) → (spot z o p past).control ≡ control z o past → (move z.zeros (spot z o p past) mine).control ≡ n
-    → (move z.zeros (spot z o p past) (if b then mine else Nothing)).control ≡ (if b then n else control z o past)
+object_is : (z : Ground) (o p n : ℕ) (mine : SpotEffect) (past : List Deed) (b : Bool) → (spot z o p past).control ≡ control z o past → (spot_after z.zeros (spot z o p past) mine).control ≡ n
+    → (spot_after z.zeros (spot z o p past) (if b then mine else Nothing)).control ≡ (if b then n else control z o past)
 object_is z o p n mine past true was is = is
 object_is z o p n mine past false was is = was
 

@@ -2,8 +2,8 @@
 -- objects, places, and the flat map. Lists have the newest first.
 use Rattle.std.specs.Prelude.{not, nat_lt, ℕ, suc, ◌+◌, ◌==◌, List, [], ◌∷◌, Bool, true, false, if◌then◌else◌, ◌&&◌, ◌||◌}
 use Rattle.vm_base.specs.Pages.{with_bytes}
-use Rattle.vm_flat.specs.Words.{DownWord, Supplying, Unavailing, Erring, Effect, Creates, Requests, Returns, TakesRequest, TakesReturn, Answers, Takes, Zeroes, Raises, Stores, Drops, Ends, StepEnds, Nothing}
-use Rattle.vm_flat.specs.Spot.{Spot, first_spot, move}
+use Rattle.vm_flat.specs.Words.{DownWord, Supplying, Unavailing, Erring, SpotEffect, Creates, Requests, Returns, TakesRequest, TakesReturn, Answers, Takes, Zeroes, Raises, Stores, Drops, Ends, StepEnds, Nothing}
+use Rattle.vm_flat.specs.Spot.{Spot, first_spot, spot_after}
 
 -- What does not change: the page of zeros; how many objects are declared, and which of them are
 -- files; the bytes of the files' pages at the start, and the pages of the declared objects.
@@ -142,10 +142,10 @@ pages z o (e ∷ past) = pages z o past
 
 -- places
 
-abbrev pub at_place : ℕ → ℕ → Bool → ℕ → ℕ → Effect → Effect → Effect
+abbrev pub at_place : ℕ → ℕ → Bool → ℕ → ℕ → SpotEffect → SpotEffect → SpotEffect
 at_place o p own object page mine other = if own && (object == o && page == p) then mine else other
 
-abbrev pub effect : ℕ → ℕ → Deed → (ℕ → ℕ → Spot) → Effect
+abbrev pub effect : ℕ → ℕ → Deed → (ℕ → ℕ → Spot) → SpotEffect
 effect o p Line spots = StepEnds
 effect o p (Zeroed own object page) spots = at_place o p own object page Zeroes Nothing
 effect o p (Raised own lower lower_page upper upper_page) spots = at_place o p own upper upper_page (Raises (spots lower lower_page).bytes) Nothing
@@ -164,7 +164,7 @@ effect o p e spots = Nothing
 
 abbrev pub spot : Ground → ℕ → ℕ → List Deed → Spot
 spot z o p [] = first_spot (is_file z o) (z.start o p)
-spot z o p (e ∷ past) = move z.zeros (spot z o p past) (effect o p e (λ k q. spot z k q past))
+spot z o p (e ∷ past) = spot_after z.zeros (spot z o p past) (effect o p e (λ k q. spot z k q past))
 
 -- an object's control: 0 none, 1 live, 2 ended for ever
 abbrev pub control : Ground → ℕ → List Deed → ℕ

@@ -24,7 +24,7 @@ use Rattle.vm_legal.specs.Used.{made_here, is_kept}
 use Rattle.vm_flat.proofs.Uses.{in_use}
 use Rattle.vm_flat.proofs.Sustained.{Enters}
 use Rattle.vm_flat.proofs.Regions.{if_no}
-use Rattle.vm_model.specs.Rows.{AllRows, rows_map, rows_rewritten, rows_entered, rows_known, Parts, Inside, inside_part, page_below}
+use Rattle.vm_model.specs.Rows.{AllRows, rows_map, rows_rewritten, rows_entered, rows_known, HoldsOfParts, Inside, inside_part, page_below}
 use Rattle.vm_flat.proofs.Held.{kept}
 
 pub record Owned (size : ℕ) (private : ℕ → Bool) (used : ℕ → ℕ → Bool) (pages : ℕ → ℕ) (next : ℕ) (host : ℕ) (row : Entry) : Type 0 where
@@ -67,7 +67,7 @@ lives_else task h g past lives apart = let e : is_on h (host_of task past) ≡ (
 
 -- parts of entries, and entries with another protection or inheritance
 
-pub owned_parts : (header : Header) (outside : Outside) (past : List Event) (host : ℕ) → Parts header.size (OwnedAt header outside past host)
+pub owned_parts : (header : Header) (outside : Outside) (past : List Event) (host : ℕ) → HoldsOfParts header.size (OwnedAt header outside past host)
 owned_parts header outside past host row start end is low less high =
     record { made = is.made; inside = inside_part header.size (region_of header row.region.0 past).pages row start end is.inside low less high; used_here = is.used_here; alone = is.alone }
 

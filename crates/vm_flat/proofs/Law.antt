@@ -23,7 +23,7 @@ use Rattle.vm_flat.proofs.Uses.{in_use}
 use Rattle.vm_model.specs.Controls.{is_control, last_control, live_control}
 use Rattle.vm_legal.specs.Walks.{page_on}
 use Rattle.vm_flat.proofs.Sustained.{control}
-use Rattle.vm_legal.specs.Flat.{Change, change_of, changed, made_over, is_number, answered, flat_page}
+use Rattle.vm_legal.specs.Flat.{StoreChange, change_of, bytes_after_store, made_over, is_number, bytes_after_answer, flat_page}
 use Rattle.vm_legal.specs.Licences as L
 use Rattle.vm_flat.proofs.Sustained as S
 use Rattle.vm_flat.proofs.Sustained.{Sustained, AllSustained}
@@ -48,7 +48,7 @@ two true x y u v e f = e
 two false x y u v e f = f
 
 said_same : (header : Header) (outside : Outside) (host r i : ℕ) (own says : Bool) (object : ℕ) (m : Message) (past : List Event) → Flats header outside past
-    → D.flat (ground header outside) r i (down_deed own says object m ∷ deeds header outside host past) ≡ answered header says r i object m (flat_page header outside r i past)
+    → D.flat (ground header outside) r i (down_deed own says object m ∷ deeds header outside host past) ≡ bytes_after_answer header says r i object m (flat_page header outside r i past)
 said_same header outside host r i own says object (message.Supply page lock precious bytes) past flats = two (says && (r == object && i == page.0)) _ _ _ _ refl (flats host r i)
 said_same header outside host r i own says object (message.Unavailable page) past flats = two (says && (r == object && i == page.0)) _ _ _ _ refl (flats host r i)
 said_same header outside host r i own says object (message.Error page reason) past flats = two (says && (r == object && i == page.0)) _ _ _ _ (flats host r i) (flats host r i) ∙ either (says && (r == object && i == page.0)) (flat_page header outside r i past)
@@ -60,9 +60,9 @@ said_same header outside host r i own says object m past flats = flats host r i
 
 flat_stored : (header : Header) (outside : Outside) (host r i : ℕ) (own : Bool) (task object page at size value : ℕ) (past : List Event) → Flats header outside past → L.Stores header task object page at size value past
     → D.flat (ground header outside) r i (D.Stored own (region_in (change_of header.size task past)) (page_in (change_of header.size task past)) object page at (little_endian_bytes size value) ∷ deeds header outside host past)
-    ≡ changed r i (change_of header.size task past) (flat_page header outside r i past)
+    ≡ bytes_after_store r i (change_of header.size task past) (flat_page header outside r i past)
 flat_stored header outside host r i own task object page at size value past flats c =
-    subst (λ (o : Option Change). D.flat (ground header outside) r i (D.Stored own (region_in o) (page_in o) object page at (little_endian_bytes size value) ∷ deeds header outside host past) ≡ changed r i o (flat_page header outside r i past))
+    subst (λ (o : Option StoreChange). D.flat (ground header outside) r i (D.Stored own (region_in o) (page_in o) object page at (little_endian_bytes size value) ∷ deeds header outside host past) ≡ bytes_after_store r i o (flat_page header outside r i past))
     (sym (change_is header task c.address size value past c.waits))
     (two (r == c.waits.at.entry.region.0 && i == page_at header.size c.address c.waits.at.entry) _ _ _ _
     (ap (λ x. with_bytes x (little_endian_bytes size value) (D.flat (ground header outside) r i (deeds header outside host past))) c.place ∙ ap (λ x. with_bytes (c.address % header.size) (little_endian_bytes size value) x) (flats host r i))

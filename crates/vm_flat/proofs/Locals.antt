@@ -16,15 +16,15 @@ use Rattle.vm_model.specs.declared.script.Header.{Header}
 use Rattle.vm_model.specs.Controls.{is_control, without_control, control_after, last_control, live_after, live_control}
 use Rattle.vm_model.specs.Founded.{IsFounded}
 use Rattle.vm_model.specs.Local as L
-use Rattle.vm_model.specs.Local.{Local, Elsewhere, is_known_absent, local, moved, taken_effect}
+use Rattle.vm_model.specs.Local.{Local, Elsewhere, is_known_absent, local, local_after, taken_effect}
 use Rattle.vm_model.specs.Moments.{EachEvent}
 use Rattle.vm_model.specs.Words.{in_range}
 use Rattle.vm_model.specs.Named.{declared, named}
 use Rattle.vm_legal.specs.Licences.{Caused, HasCause, MaySendUp}
 use Rattle.vm_legal.specs.Outside.{Outside, is_file, is_file_kept, is_private, is_said, zeros}
 use Rattle.vm_legal.specs.Living.{lives_on}
-use Rattle.vm_flat.specs.Words.{DownWord, Supplying, Unavailing, Erring, Effect, Creates, Requests, Returns, TakesRequest, TakesReturn, Answers, Takes, Zeroes, Raises, Stores, Drops, Ends, StepEnds, Nothing}
-use Rattle.vm_flat.specs.Spot.{Spot, move}
+use Rattle.vm_flat.specs.Words.{DownWord, Supplying, Unavailing, Erring, SpotEffect, Creates, Requests, Returns, TakesRequest, TakesReturn, Answers, Takes, Zeroes, Raises, Stores, Drops, Ends, StepEnds, Nothing}
+use Rattle.vm_flat.specs.Spot.{Spot, spot_after}
 use Rattle.vm_flat.specs.Locals.{SpotIsLocal}
 use Rattle.vm_flat.proofs.Regions.{eq_yes, eq_no}
 use Rattle.vm_flat.specs.Places.{sent_up, taken_up, sent_down, taken_down, spot}
@@ -51,17 +51,17 @@ number_is a b is = grind (arith, nat_tests)
 
 -- each effect moves both alike
 
-creates : (z : List ℕ) (size : ℕ) (file : Bool) (last control : ℕ) (live : Option ℕ) (s : Spot) (page : Local) → SpotIsLocal file last live s page → SpotIsLocal file control (Some control) (move z s Creates) (moved size L.Begins page)
+creates : (z : List ℕ) (size : ℕ) (file : Bool) (last control : ℕ) (live : Option ℕ) (s : Spot) (page : Local) → SpotIsLocal file last live s page → SpotIsLocal file control (Some control) (spot_after z s Creates) (local_after size L.Begins page)
 creates z size file last control live s page i = record { here = i.here; bytes = i.bytes; dirty = i.dirty; asked = refl; absent = i.absent; file = i.file; control = refl }
 
-ends : (z : List ℕ) (size : ℕ) (file : Bool) (last : ℕ) (live : Option ℕ) (s : Spot) (page : Local) → SpotIsLocal file last live s page → SpotIsLocal file last None (move z s Ends) (moved size L.Ends page)
+ends : (z : List ℕ) (size : ℕ) (file : Bool) (last : ℕ) (live : Option ℕ) (s : Spot) (page : Local) → SpotIsLocal file last live s page → SpotIsLocal file last None (spot_after z s Ends) (local_after size L.Ends page)
 ends z size file last live s page i = record { here = i.here; bytes = i.bytes; dirty = i.dirty; asked = refl; absent = i.absent; file = i.file; control = dead s.file }
   where
     dead : (b : Bool) → (if (if b then 0 else 2) == 1 then Some last else None) ≡ None
     dead true = refl
     dead false = refl
 
-requests : (z : List ℕ) (size : ℕ) (file : Bool) (last : ℕ) (live : Option ℕ) (s : Spot) (page : Local) (lives : Bool) → SpotIsLocal file last live s page → SpotIsLocal file last live (move z s (Requests lives)) (moved size (if lives then L.Asks else Elsewhere) page)
+requests : (z : List ℕ) (size : ℕ) (file : Bool) (last : ℕ) (live : Option ℕ) (s : Spot) (page : Local) (lives : Bool) → SpotIsLocal file last live s page → SpotIsLocal file last live (spot_after z s (Requests lives)) (local_after size (if lives then L.Asks else Elsewhere) page)
 requests z size file last live s page true i = record { here = i.here; bytes = i.bytes; dirty = i.dirty; asked = refl; absent = i.absent; file = i.file; control = i.control }
 requests z size file last live s page false i = record { here = i.here; bytes = i.bytes; dirty = i.dirty; asked = i.asked; absent = i.absent; file = i.file; control = i.control }
 
@@ -69,33 +69,33 @@ and_false : (b : Bool) → (b && false) ≡ false
 and_false true = refl
 and_false false = refl
 
-returns : (z : List ℕ) (size : ℕ) (file : Bool) (last : ℕ) (live : Option ℕ) (s : Spot) (page : Local) (keep : Bool) (bytes : List ℕ) → SpotIsLocal file last live s page → SpotIsLocal file last live (move z s (Returns keep bytes)) (moved size (L.Returns keep) page)
+returns : (z : List ℕ) (size : ℕ) (file : Bool) (last : ℕ) (live : Option ℕ) (s : Spot) (page : Local) (keep : Bool) (bytes : List ℕ) → SpotIsLocal file last live s page → SpotIsLocal file last live (spot_after z s (Returns keep bytes)) (local_after size (L.Returns keep) page)
 returns z size file last live s page true bytes i = record { here = i.here; bytes = i.bytes; dirty = refl; asked = i.asked; absent = sym (and_false (not file)); file = i.file; control = i.control }
 returns z size file last live s page false bytes i = record { here = refl; bytes = refl; dirty = refl; asked = i.asked; absent = sym (and_false (not file)); file = i.file; control = i.control }
 
-zeroes : (z : List ℕ) (size : ℕ) (file : Bool) (last : ℕ) (live : Option ℕ) (s : Spot) (page : Local) → z ≡ replicate size 0 → SpotIsLocal file last live s page → SpotIsLocal file last live (move z s Zeroes) (moved size L.Zeroes page)
+zeroes : (z : List ℕ) (size : ℕ) (file : Bool) (last : ℕ) (live : Option ℕ) (s : Spot) (page : Local) → z ≡ replicate size 0 → SpotIsLocal file last live s page → SpotIsLocal file last live (spot_after z s Zeroes) (local_after size L.Zeroes page)
 zeroes z size file last live s page is i = record { here = refl; bytes = is; dirty = refl; asked = i.asked; absent = i.absent; file = i.file; control = i.control }
 
-raises : (z : List ℕ) (size : ℕ) (file : Bool) (last : ℕ) (live : Option ℕ) (s : Spot) (page : Local) (b c : List ℕ) → b ≡ c → SpotIsLocal file last live s page → SpotIsLocal file last live (move z s (Raises b)) (moved size (L.Raises c) page)
+raises : (z : List ℕ) (size : ℕ) (file : Bool) (last : ℕ) (live : Option ℕ) (s : Spot) (page : Local) (b c : List ℕ) → b ≡ c → SpotIsLocal file last live s page → SpotIsLocal file last live (spot_after z s (Raises b)) (local_after size (L.Raises c) page)
 raises z size file last live s page b c is i = record { here = refl; bytes = is; dirty = refl; asked = i.asked; absent = i.absent; file = i.file; control = i.control }
 
-stores : (z : List ℕ) (size : ℕ) (file : Bool) (last : ℕ) (live : Option ℕ) (s : Spot) (page : Local) (at : ℕ) (bytes : List ℕ) → SpotIsLocal file last live s page → SpotIsLocal file last live (move z s (Stores at bytes)) (moved size (L.Stores at bytes) page)
+stores : (z : List ℕ) (size : ℕ) (file : Bool) (last : ℕ) (live : Option ℕ) (s : Spot) (page : Local) (at : ℕ) (bytes : List ℕ) → SpotIsLocal file last live s page → SpotIsLocal file last live (spot_after z s (Stores at bytes)) (local_after size (L.Stores at bytes) page)
 stores z size file last live s page at bytes i = record { here = i.here; bytes = ap (with_bytes at bytes) i.bytes; dirty = refl; asked = i.asked; absent = i.absent; file = i.file; control = i.control }
 
-drops : (z : List ℕ) (size : ℕ) (file : Bool) (last : ℕ) (live : Option ℕ) (s : Spot) (page : Local) → SpotIsLocal file last live s page → SpotIsLocal file last live (move z s Drops) (moved size L.Drops page)
+drops : (z : List ℕ) (size : ℕ) (file : Bool) (last : ℕ) (live : Option ℕ) (s : Spot) (page : Local) → SpotIsLocal file last live s page → SpotIsLocal file last live (spot_after z s Drops) (local_after size L.Drops page)
 drops z size file last live s page i = record { here = refl; bytes = refl; dirty = refl; asked = i.asked; absent = i.absent; file = i.file; control = i.control }
 
 -- what the control takes, whether it lives or not
 
 supplied : (z : List ℕ) (size : ℕ) (file : Bool) (last : ℕ) (live : Option ℕ) (s : Spot) (page : Local) (lock : ℕ) (precious : Bool) (bytes : List ℕ) (b c a : Bool) → (s.control == 1) ≡ b → s.asked ≡ c → page.asked ≡ a → SpotIsLocal file last live s page
-    → SpotIsLocal file last live (move z s (Takes (Supplying bytes))) (if b then moved size (L.TakesPage lock precious bytes) page else page)
+    → SpotIsLocal file last live (spot_after z s (Takes (Supplying bytes))) (if b then local_after size (L.TakesPage lock precious bytes) page else page)
 supplied z size file last live s page lock precious bytes true true true is e f i = rw (is, e, f) (record { here = refl; bytes = refl; dirty = refl; asked = refl; absent = i.absent; file = i.file; control = i.control })
 supplied z size file last live s page lock precious bytes true false false is e f i = rw (is, e, f) (record { here = i.here; bytes = i.bytes; dirty = i.dirty; asked = refl; absent = i.absent; file = i.file; control = i.control })
 supplied z size file last live s page lock precious bytes false c a is e f i = rw is (record { here = i.here; bytes = i.bytes; dirty = i.dirty; asked = i.asked; absent = i.absent; file = i.file; control = i.control })
 supplied z size file last live s page lock precious bytes true true false is e f i = never (sym f ∙ sym i.asked ∙ e)
 supplied z size file last live s page lock precious bytes true false true is e f i = never (sym e ∙ i.asked ∙ f)
 
-lacks : (z : List ℕ) (size : ℕ) (file : Bool) (last : ℕ) (live : Option ℕ) (s : Spot) (page : Local) (b c a : Bool) → (s.control == 1) ≡ b → s.asked ≡ c → page.asked ≡ a → SpotIsLocal file last live s page → SpotIsLocal file last live (move z s (Takes Unavailing)) (if b then moved size L.TakesNothing page else page)
+lacks : (z : List ℕ) (size : ℕ) (file : Bool) (last : ℕ) (live : Option ℕ) (s : Spot) (page : Local) (b c a : Bool) → (s.control == 1) ≡ b → s.asked ≡ c → page.asked ≡ a → SpotIsLocal file last live s page → SpotIsLocal file last live (spot_after z s (Takes Unavailing)) (if b then local_after size L.TakesNothing page else page)
 lacks z size file last live s page true true true is e f i = rw (is, e, f) (record { here = i.here; bytes = i.bytes; dirty = i.dirty; asked = refl; absent = told s.file file i.file i.absent; file = i.file; control = i.control })
   where
     told : (t f : Bool) → t ≡ f → s.absent ≡ (not f && page.absent) → (if not t then true else s.absent) ≡ (not f && true)
@@ -108,7 +108,7 @@ lacks z size file last live s page false c a is e f i = rw is (record { here = i
 lacks z size file last live s page true true false is e f i = never (sym f ∙ sym i.asked ∙ e)
 lacks z size file last live s page true false true is e f i = never (sym e ∙ i.asked ∙ f)
 
-errs : (z : List ℕ) (size : ℕ) (file : Bool) (last : ℕ) (live : Option ℕ) (s : Spot) (page : Local) (b c a : Bool) → (s.control == 1) ≡ b → s.asked ≡ c → page.asked ≡ a → SpotIsLocal file last live s page → SpotIsLocal file last live (move z s (Takes Erring)) (if b then moved size L.TakesError page else page)
+errs : (z : List ℕ) (size : ℕ) (file : Bool) (last : ℕ) (live : Option ℕ) (s : Spot) (page : Local) (b c a : Bool) → (s.control == 1) ≡ b → s.asked ≡ c → page.asked ≡ a → SpotIsLocal file last live s page → SpotIsLocal file last live (spot_after z s (Takes Erring)) (if b then local_after size L.TakesError page else page)
 errs z size file last live s page true true a is e f i = rw (is, e) (record { here = i.here; bytes = i.bytes; dirty = i.dirty; asked = refl; absent = i.absent; file = i.file; control = i.control })
 errs z size file last live s page true false a is e f i = rw (is, e) (record { here = i.here; bytes = i.bytes; dirty = i.dirty; asked = refl; absent = i.absent; file = i.file; control = i.control })
 errs z size file last live s page false c a is e f i = rw is (record { here = i.here; bytes = i.bytes; dirty = i.dirty; asked = i.asked; absent = i.absent; file = i.file; control = i.control })
@@ -127,25 +127,25 @@ pub record IsIdle (s t : Spot) : Type 0 where
 idle : (file : Bool) (last : ℕ) (live : Option ℕ) (s t : Spot) (page : Local) → IsIdle s t → SpotIsLocal file last live s page → SpotIsLocal file last live t page
 idle file last live s t page e i = same file last live s t page e.here e.bytes e.dirty e.asked e.absent e.file e.control i
 
-idle_if : (z : List ℕ) (s : Spot) (b : Bool) (e f : Effect) → IsIdle s (move z s e) → IsIdle s (move z s f) → IsIdle s (move z s (if b then e else f))
+idle_if : (z : List ℕ) (s : Spot) (b : Bool) (e f : SpotEffect) → IsIdle s (spot_after z s e) → IsIdle s (spot_after z s f) → IsIdle s (spot_after z s (if b then e else f))
 idle_if z s true e f one two = one
 idle_if z s false e f one two = two
 
-step_idle : (z : List ℕ) (s : Spot) → IsIdle s (move z s StepEnds)
+step_idle : (z : List ℕ) (s : Spot) → IsIdle s (spot_after z s StepEnds)
 step_idle z s = record { here = refl; bytes = refl; dirty = refl; asked = refl; absent = refl; file = refl; control = refl }
 
-nothing_idle : (z : List ℕ) (s : Spot) → IsIdle s (move z s Nothing)
+nothing_idle : (z : List ℕ) (s : Spot) → IsIdle s (spot_after z s Nothing)
 nothing_idle z s = record { here = refl; bytes = refl; dirty = refl; asked = refl; absent = refl; file = refl; control = refl }
 
-taken_up_idle : (z : List ℕ) (s : Spot) (o p : ℕ) (own : Bool) (object : ℕ) (m : Message) → IsIdle s (move z s (taken_up o p own object m))
+taken_up_idle : (z : List ℕ) (s : Spot) (o p : ℕ) (own : Bool) (object : ℕ) (m : Message) → IsIdle s (spot_after z s (taken_up o p own object m))
 taken_up_idle z s o p own object (message.Request control page access) = idle_if z s (own && (object == o && page.0 == p)) TakesRequest StepEnds (record { here = refl; bytes = refl; dirty = refl; asked = refl; absent = refl; file = refl; control = refl }) (step_idle z s)
 taken_up_idle z s o p own object (message.Return control page dirty keep bytes) = idle_if z s (own && (object == o && page.0 == p)) (TakesReturn bytes) StepEnds (record { here = refl; bytes = refl; dirty = refl; asked = refl; absent = refl; file = refl; control = refl }) (step_idle z s)
 taken_up_idle z s o p own object m = step_idle z s
 
-answers_idle : (z : List ℕ) (s : Spot) (tells : Bool) (word : DownWord) → IsIdle s (move z s (Answers tells word))
+answers_idle : (z : List ℕ) (s : Spot) (tells : Bool) (word : DownWord) → IsIdle s (spot_after z s (Answers tells word))
 answers_idle z s tells word = record { here = refl; bytes = refl; dirty = refl; asked = refl; absent = refl; file = refl; control = refl }
 
-sent_down_idle : (z : List ℕ) (s : Spot) (o p : ℕ) (own tells : Bool) (object : ℕ) (m : Message) → IsIdle s (move z s (sent_down o p own tells object m))
+sent_down_idle : (z : List ℕ) (s : Spot) (o p : ℕ) (own tells : Bool) (object : ℕ) (m : Message) → IsIdle s (spot_after z s (sent_down o p own tells object m))
 sent_down_idle z s o p own tells object (message.Supply page lock precious bytes) = idle_if z s (own && (object == o && page.0 == p)) (Answers tells (Supplying bytes)) Nothing (answers_idle z s tells (Supplying bytes)) (nothing_idle z s)
 sent_down_idle z s o p own tells object (message.Unavailable page) = idle_if z s (own && (object == o && page.0 == p)) (Answers tells Unavailing) Nothing (answers_idle z s tells Unavailing) (nothing_idle z s)
 sent_down_idle z s o p own tells object (message.Error page reason) = idle_if z s (own && (object == o && page.0 == p)) (Answers tells Erring) Nothing (answers_idle z s tells Erring) (nothing_idle z s)
@@ -153,10 +153,10 @@ sent_down_idle z s o p own tells object m = nothing_idle z s
 
 -- locks and unlocks are no matter of the place
 
-unlocks : (size : ℕ) (file : Bool) (last : ℕ) (live : Option ℕ) (s : Spot) (page : Local) → SpotIsLocal file last live s page → SpotIsLocal file last live s (moved size L.Unlocks page)
+unlocks : (size : ℕ) (file : Bool) (last : ℕ) (live : Option ℕ) (s : Spot) (page : Local) → SpotIsLocal file last live s page → SpotIsLocal file last live s (local_after size L.Unlocks page)
 unlocks size file last live s page i = record { here = i.here; bytes = i.bytes; dirty = i.dirty; asked = i.asked; absent = i.absent; file = i.file; control = i.control }
 
-locks : (size : ℕ) (file : Bool) (last : ℕ) (live : Option ℕ) (s : Spot) (page : Local) (lock : ℕ) (flush : Bool) → SpotIsLocal file last live s page → SpotIsLocal file last live s (moved size (L.TakesLock lock flush) page)
+locks : (size : ℕ) (file : Bool) (last : ℕ) (live : Option ℕ) (s : Spot) (page : Local) (lock : ℕ) (flush : Bool) → SpotIsLocal file last live s page → SpotIsLocal file last live s (local_after size (L.TakesLock lock flush) page)
 locks size file last live s page lock flush i = by_here page.here
   where
     by_here : (b : Bool) → SpotIsLocal file last live s (if b then record page { lock = if flush || lock == 8 then page.lock else lock; unlocking = false } else page)
@@ -165,26 +165,26 @@ locks size file last live s page lock flush i = by_here page.here
 
 -- one event
 
-placed : (z : List ℕ) (size : ℕ) (file : Bool) (last : ℕ) (live : Option ℕ) (s : Spot) (page : Local) (own b : Bool) (e : Effect) (f : L.Effect) → (own ≡ true → SpotIsLocal file last live (move z s e) (moved size f page)) → SpotIsLocal file last live s page
-    → SpotIsLocal file last live (move z s (if own && b then e else Nothing)) (moved size (if own && b then f else Elsewhere) page)
+placed : (z : List ℕ) (size : ℕ) (file : Bool) (last : ℕ) (live : Option ℕ) (s : Spot) (page : Local) (own b : Bool) (e : SpotEffect) (f : L.LocalEffect) → (own ≡ true → SpotIsLocal file last live (spot_after z s e) (local_after size f page)) → SpotIsLocal file last live s page
+    → SpotIsLocal file last live (spot_after z s (if own && b then e else Nothing)) (local_after size (if own && b then f else Elsewhere) page)
 placed z size file last live s page true true e f at i = at refl
 placed z size file last live s page true false e f at i = i
 placed z size file last live s page false b e f at i = i
 
 -- a message is about an object, then about a page of it
-sorted : (z : List ℕ) (size : ℕ) (file : Bool) (last : ℕ) (live : Option ℕ) (s : Spot) (page : Local) (own c d : Bool) (e : Effect) (f : L.Effect) → SpotIsLocal file last live (move z s e) (moved size f page) → SpotIsLocal file last live s page
-    → SpotIsLocal file last live (move z s (if own && (c && d) then e else Nothing)) (moved size (if own && c then (if d then f else Elsewhere) else Elsewhere) page)
+sorted : (z : List ℕ) (size : ℕ) (file : Bool) (last : ℕ) (live : Option ℕ) (s : Spot) (page : Local) (own c d : Bool) (e : SpotEffect) (f : L.LocalEffect) → SpotIsLocal file last live (spot_after z s e) (local_after size f page) → SpotIsLocal file last live s page
+    → SpotIsLocal file last live (spot_after z s (if own && (c && d) then e else Nothing)) (local_after size (if own && c then (if d then f else Elsewhere) else Elsewhere) page)
 sorted z size file last live s page true true true e f at i = at
 sorted z size file last live s page true true false e f at i = i
 sorted z size file last live s page true false d e f at i = i
 sorted z size file last live s page false c d e f at i = i
 
-elsewhere : (size : ℕ) (file : Bool) (last : ℕ) (live : Option ℕ) (s : Spot) (page : Local) (b : Bool) (f : L.Effect) → SpotIsLocal file last live s (moved size f page) → SpotIsLocal file last live s page → SpotIsLocal file last live s (moved size (if b then f else Elsewhere) page)
+elsewhere : (size : ℕ) (file : Bool) (last : ℕ) (live : Option ℕ) (s : Spot) (page : Local) (b : Bool) (f : L.LocalEffect) → SpotIsLocal file last live s (local_after size f page) → SpotIsLocal file last live s page → SpotIsLocal file last live s (local_after size (if b then f else Elsewhere) page)
 elsewhere size file last live s page true f at i = at
 elsewhere size file last live s page false f at i = i
 
 begins : (z : List ℕ) (size : ℕ) (file : Bool) (last : ℕ) (live : Option ℕ) (s : Spot) (page : Local) (control : ℕ) (b : Bool) → SpotIsLocal file last live s page
-    → SpotIsLocal file (if b then control else last) (if b then Some control else live) (move z s (if b then Creates else Nothing)) (moved size (if b then L.Begins else Elsewhere) page)
+    → SpotIsLocal file (if b then control else last) (if b then Some control else live) (spot_after z s (if b then Creates else Nothing)) (local_after size (if b then L.Begins else Elsewhere) page)
 begins z size file last live s page control true i = creates z size file last control live s page i
 begins z size file last live s page control false i = i
 
@@ -197,27 +197,27 @@ without_isnt control None isnt = refl
 without_isnt control (Some k) isnt = ap (λ (b : Bool). if b then None else Some k) isnt
 
 ends_if : (z : List ℕ) (size : ℕ) (file : Bool) (last : ℕ) (live : Option ℕ) (s : Spot) (page : Local) (control : ℕ) (k : Bool) → is_control control live ≡ k → SpotIsLocal file last live s page
-    → SpotIsLocal file last (without_control control live) (move z s (if k && true then Ends else Nothing)) (moved size (if is_control control live then L.Ends else Elsewhere) page)
+    → SpotIsLocal file last (without_control control live) (spot_after z s (if k && true then Ends else Nothing)) (local_after size (if is_control control live then L.Ends else Elsewhere) page)
 ends_if z size file last live s page control true is i = rw (without_is control live is, is) (ends z size file last live s page i)
 ends_if z size file last live s page control false is i = rw (without_isnt control live is, is) i
 
 terminates : (z : List ℕ) (size : ℕ) (file : Bool) (last : ℕ) (live : Option ℕ) (s : Spot) (page : Local) (control : ℕ) (own c k : Bool) → (c ≡ true → is_control control live ≡ k) → SpotIsLocal file last live s page
-    → SpotIsLocal file last (if own && c then without_control control live else live) (move z s (if (own && k) && c then Ends else Nothing)) (moved size (if own && c then (if is_control control live then L.Ends else Elsewhere) else Elsewhere) page)
+    → SpotIsLocal file last (if own && c then without_control control live else live) (spot_after z s (if (own && k) && c then Ends else Nothing)) (local_after size (if own && c then (if is_control control live then L.Ends else Elsewhere) else Elsewhere) page)
 terminates z size file last live s page control true true k is i = ends_if z size file last live s page control k (is refl) i
 terminates z size file last live s page control true false true is i = i
 terminates z size file last live s page control true false false is i = i
 terminates z size file last live s page control false c k is i = i
 
 request : (z : List ℕ) (size : ℕ) (file : Bool) (last : ℕ) (live : Option ℕ) (s : Spot) (page : Local) (own c d k k' : Bool) → (c ≡ true → k' ≡ k) → SpotIsLocal file last live s page
-    → SpotIsLocal file last live (move z s (if own && (c && d) then Requests k else Nothing)) (moved size (if own && c then (if d && k' then L.Asks else Elsewhere) else Elsewhere) page)
+    → SpotIsLocal file last live (spot_after z s (if own && (c && d) then Requests k else Nothing)) (local_after size (if own && c then (if d && k' then L.Asks else Elsewhere) else Elsewhere) page)
 request z size file last live s page true true true k k' is i = rw (is refl) (requests z size file last live s page k i)
 request z size file last live s page true true false k k' is i = i
 request z size file last live s page true false d k k' is i = i
 request z size file last live s page false c d k k' is i = i
 
 sent : (z : List ℕ) (size host o p : ℕ) (file : Bool) (last : ℕ) (s : Spot) (page : Local) (at : HostId) (object : ObjectId) (m : Message) (past : List Event) → SpotIsLocal file last (live_control host o past) s page
-    → SpotIsLocal file (control_after host o (event.Sent (Up at object) m) last) (live_after host o (event.Sent (Up at object) m) (live_control host o past)) (move z s (sent_up o p (at.0 == host) (live_control host object.0 past) object.0 m))
-    (moved size (if at.0 == host && object.0 == o then L.sent_effect p (live_control host o past) m else Elsewhere) page)
+    → SpotIsLocal file (control_after host o (event.Sent (Up at object) m) last) (live_after host o (event.Sent (Up at object) m) (live_control host o past)) (spot_after z s (sent_up o p (at.0 == host) (live_control host object.0 past) object.0 m))
+    (local_after size (if at.0 == host && object.0 == o then L.sent_effect p (live_control host o past) m else Elsewhere) page)
 sent z size host o p file last s page at object (message.Init number bytes) past i = begins z size file last (live_control host o past) s page number (at.0 == host && object.0 == o) i
 sent z size host o p file last s page at object (message.Create number bytes) past i = begins z size file last (live_control host o past) s page number (at.0 == host && object.0 == o) i
 sent z size host o p file last s page at object (message.Terminate number) past i =
@@ -232,8 +232,8 @@ sent z size host o p file last s page at object m past i = elsewhere size file l
 
 -- what the newest control takes
 
-heard : (z : List ℕ) (size : ℕ) (file : Bool) (last : ℕ) (live : Option ℕ) (s : Spot) (page : Local) (own n c d k b : Bool) (w : DownWord) (f : L.Effect) → (c ≡ true → k ≡ (b && n)) → SpotIsLocal file last live (move z s (Takes w)) (if b then moved size f page else page) → SpotIsLocal file last live s page
-    → SpotIsLocal file last live (move z s (if (own && n) && (c && d) then Takes w else StepEnds)) (moved size (if own && (c && k) then (if d then f else Elsewhere) else Elsewhere) page)
+heard : (z : List ℕ) (size : ℕ) (file : Bool) (last : ℕ) (live : Option ℕ) (s : Spot) (page : Local) (own n c d k b : Bool) (w : DownWord) (f : L.LocalEffect) → (c ≡ true → k ≡ (b && n)) → SpotIsLocal file last live (spot_after z s (Takes w)) (if b then local_after size f page else page) → SpotIsLocal file last live s page
+    → SpotIsLocal file last live (spot_after z s (if (own && n) && (c && d) then Takes w else StepEnds)) (local_after size (if own && (c && k) then (if d then f else Elsewhere) else Elsewhere) page)
 heard z size file last live s page false n c d k b w f is at i = idle file last live s _ page (step_idle z s) i
 heard z size file last live s page true false false d k b w f is at i = idle file last live s _ page (step_idle z s) i
 heard z size file last live s page true false true d false b w f is at i = idle file last live s _ page (step_idle z s) i
@@ -258,13 +258,13 @@ is_live last live s number is = ap (is_control number) (sym is) ∙ by_live (s.c
     by_live false = refl
 
 took : (z : List ℕ) (size host o p : ℕ) (file : Bool) (live : Option ℕ) (s : Spot) (page : Local) (at : HostId) (object : ObjectId) (number : ℕ) (m : Message) (past : List Event) → SpotIsLocal file (last_control host o past) live s page
-    → SpotIsLocal file (last_control host o past) live (move z s (taken_down o p (at.0 == host && number == last_control host object.0 past) object.0 m)) (moved size (if at.0 == host && (object.0 == o && is_control number live) then taken_effect p m else Elsewhere) page)
+    → SpotIsLocal file (last_control host o past) live (spot_after z s (taken_down o p (at.0 == host && number == last_control host object.0 past) object.0 m)) (local_after size (if at.0 == host && (object.0 == o && is_control number live) then taken_effect p m else Elsewhere) page)
 took z size host o p file live s page at object number m past i = by_message m
   where
     lives : (object.0 == o) ≡ true → is_control number live ≡ (s.control == 1 && number == last_control host object.0 past)
     lives is = is_live (last_control host o past) live s number i.control ∙ ap (λ (k : ℕ). s.control == 1 && number == last_control host k past) (sym (number_is object.0 o is))
 
-    by_message : (m : Message) → SpotIsLocal file (last_control host o past) live (move z s (taken_down o p (at.0 == host && number == last_control host object.0 past) object.0 m)) (moved size (if at.0 == host && (object.0 == o && is_control number live) then taken_effect p m else Elsewhere) page)
+    by_message : (m : Message) → SpotIsLocal file (last_control host o past) live (spot_after z s (taken_down o p (at.0 == host && number == last_control host object.0 past) object.0 m)) (local_after size (if at.0 == host && (object.0 == o && is_control number live) then taken_effect p m else Elsewhere) page)
     by_message (message.Supply index lock precious bytes) =
         heard z size file (last_control host o past) live s page (at.0 == host) (number == last_control host object.0 past) (object.0 == o) (index.0 == p) (is_control number live) (s.control == 1) (Supplying bytes) (L.TakesPage lock precious bytes) lives
         (supplied z size file (last_control host o past) live s page lock precious bytes (s.control == 1) s.asked page.asked refl refl refl i) i

@@ -14,10 +14,10 @@ use Rattle.vm_legal.specs.Licences.{pager_has, up}
 use Rattle.vm_legal.specs.Living.{lives_on}
 use Rattle.vm_legal.specs.Outside.{Outside, is_file, is_said, start_page, zeros}
 use Rattle.vm_legal.specs.Pagers.{last_return, newer, returned_in}
-use Rattle.vm_legal.specs.Steps.{Letter, answers, is_answer, since, taken}
+use Rattle.vm_legal.specs.Steps.{Letter, answers, is_answer, since, taken_letter}
 use Rattle.vm_flat.specs.Places.{sent_up, taken_up, sent_down, taken_down, spot}
-use Rattle.vm_flat.specs.Spot.{Spot, move}
-use Rattle.vm_flat.specs.Words.{DownWord, Supplying, Unavailing, Erring, Effect, Creates, TakesRequest, TakesReturn, Answers, Takes, Zeroes, Raises, Stores, Drops, Ends, StepEnds, Nothing}
+use Rattle.vm_flat.specs.Spot.{Spot, spot_after}
+use Rattle.vm_flat.specs.Words.{DownWord, Supplying, Unavailing, Erring, SpotEffect, Creates, TakesRequest, TakesReturn, Answers, Takes, Zeroes, Raises, Stores, Drops, Ends, StepEnds, Nothing}
 use Rattle.vm_flat.proofs.Lives.{itself}
 use Rattle.vm_flat.proofs.Sustained.{request_taken}
 
@@ -28,11 +28,11 @@ both_no false b is = (refl, is)
 -- what the pager has
 
 -- what the place keeps stays
-kept_if : (z : List ℕ) (s : Spot) (b : Bool) (e f : Effect) → (b ≡ true → (move z s e).kept ≡ s.kept) → (move z s f).kept ≡ s.kept → (move z s (if b then e else f)).kept ≡ s.kept
+kept_if : (z : List ℕ) (s : Spot) (b : Bool) (e f : SpotEffect) → (b ≡ true → (spot_after z s e).kept ≡ s.kept) → (spot_after z s f).kept ≡ s.kept → (spot_after z s (if b then e else f)).kept ≡ s.kept
 kept_if z s true e f one two = one refl
 kept_if z s false e f one two = two
 
-sent_up_kept : (z : List ℕ) (s : Spot) (o p : ℕ) (own : Bool) (live : Option ℕ) (object : ℕ) (m : Message) → (move z s (sent_up o p own live object m)).kept ≡ s.kept
+sent_up_kept : (z : List ℕ) (s : Spot) (o p : ℕ) (own : Bool) (live : Option ℕ) (object : ℕ) (m : Message) → (spot_after z s (sent_up o p own live object m)).kept ≡ s.kept
 sent_up_kept z s o p own live object (message.Init control size) = kept_if z s (own && object == o) Creates Nothing (λ b. refl) refl
 sent_up_kept z s o p own live object (message.Create control size) = kept_if z s (own && object == o) Creates Nothing (λ b. refl) refl
 sent_up_kept z s o p own live object (message.Request control page access) = kept_if z s (own && (object == o && page.0 == p)) _ Nothing (λ b. refl) refl
@@ -48,21 +48,21 @@ first : (a b : Bool) → (a && b) ≡ true → a ≡ true
 first true b is = refl
 first false b is = is
 
-answered_kept : (z : List ℕ) (s : Spot) (own tells here there : Bool) (word : DownWord) → (here ≡ true → tells ≡ false) → (move z s (if own && (here && there) then Answers tells word else Nothing)).kept ≡ s.kept
+answered_kept : (z : List ℕ) (s : Spot) (own tells here there : Bool) (word : DownWord) → (here ≡ true → tells ≡ false) → (spot_after z s (if own && (here && there) then Answers tells word else Nothing)).kept ≡ s.kept
 answered_kept z s own tells here there word silent =
     kept_if z s (own && (here && there)) (Answers tells word) Nothing (λ b. quiet tells (silent (first here there (second own (here && there) b)))) refl
   where
-    quiet : (t : Bool) → t ≡ false → (move z s (Answers t word)).kept ≡ s.kept
+    quiet : (t : Bool) → t ≡ false → (spot_after z s (Answers t word)).kept ≡ s.kept
     quiet false is = refl
     quiet true is = absurd (let bad : true ≡ false = is in cc)
 
-sent_down_kept : (z : List ℕ) (s : Spot) (o p : ℕ) (own tells : Bool) (object : ℕ) (m : Message) → ((object == o) ≡ true → tells ≡ false) → (move z s (sent_down o p own tells object m)).kept ≡ s.kept
+sent_down_kept : (z : List ℕ) (s : Spot) (o p : ℕ) (own tells : Bool) (object : ℕ) (m : Message) → ((object == o) ≡ true → tells ≡ false) → (spot_after z s (sent_down o p own tells object m)).kept ≡ s.kept
 sent_down_kept z s o p own tells object (message.Supply page lock precious bytes) silent = answered_kept z s own tells (object == o) (page.0 == p) (Supplying bytes) silent
 sent_down_kept z s o p own tells object (message.Unavailable page) silent = answered_kept z s own tells (object == o) (page.0 == p) Unavailing silent
 sent_down_kept z s o p own tells object (message.Error page reason) silent = answered_kept z s own tells (object == o) (page.0 == p) Erring silent
 sent_down_kept z s o p own tells object other silent = refl
 
-taken_down_kept : (z : List ℕ) (s : Spot) (o p : ℕ) (own : Bool) (object : ℕ) (m : Message) → (move z s (taken_down o p own object m)).kept ≡ s.kept
+taken_down_kept : (z : List ℕ) (s : Spot) (o p : ℕ) (own : Bool) (object : ℕ) (m : Message) → (spot_after z s (taken_down o p own object m)).kept ≡ s.kept
 taken_down_kept z s o p own object (message.Supply page lock precious bytes) = kept_if z s (own && (object == o && page.0 == p)) (Takes (Supplying bytes)) StepEnds (λ b. refl) refl
 taken_down_kept z s o p own object (message.Unavailable page) = kept_if z s (own && (object == o && page.0 == p)) (Takes Unavailing) StepEnds (λ b. refl) refl
 taken_down_kept z s o p own object (message.Error page reason) = kept_if z s (own && (object == o && page.0 == p)) (Takes Erring) StepEnds (λ b. refl) refl
@@ -74,11 +74,11 @@ either true new old none = ap (λ (x : Option (List ℕ)). newer x old) none
 either false new old none = refl
 
 taken_up_kept : (z : List ℕ) (s : Spot) (o p : ℕ) (own : Bool) (object : ℕ) (m : Message) (was first : Option (List ℕ)) → s.kept ≡ newer was first
-    → (move z s (taken_up o p own object m)).kept ≡ newer (if own && object == o then newer (returned_in p m) was else was) first
+    → (spot_after z s (taken_up o p own object m)).kept ≡ newer (if own && object == o then newer (returned_in p m) was else was) first
 taken_up_kept z s o p own object (message.Request control page access) was first is = kept_if z s (own && (object == o && page.0 == p)) TakesRequest StepEnds (λ b. refl) refl ∙ is ∙ ap (λ (x : Option (List ℕ)). newer x first) (sym (either (own && object == o) None was refl))
 taken_up_kept z s o p own object (message.Return control page dirty keep bytes) was first is = returned own (object == o) (page.0 == p)
   where
-    returned : (a b c : Bool) → (move z s (if a && (b && c) then TakesReturn bytes else StepEnds)).kept ≡ newer (if a && b then newer (if c then Some bytes else None) was else was) first
+    returned : (a b c : Bool) → (spot_after z s (if a && (b && c) then TakesReturn bytes else StepEnds)).kept ≡ newer (if a && b then newer (if c then Some bytes else None) was else was) first
     returned true true true = refl
     returned true true false = is
     returned true false c = is
@@ -113,11 +113,11 @@ kept_is header outside host o p (e ∷ past) silent = kept_is header outside hos
 
 -- the request that the step took
 
-step_if : (z : List ℕ) (s : Spot) (b : Bool) (e f : Effect) → (b ≡ true → (move z s e).step ≡ s.step) → (move z s f).step ≡ s.step → (move z s (if b then e else f)).step ≡ s.step
+step_if : (z : List ℕ) (s : Spot) (b : Bool) (e f : SpotEffect) → (b ≡ true → (spot_after z s e).step ≡ s.step) → (spot_after z s f).step ≡ s.step → (spot_after z s (if b then e else f)).step ≡ s.step
 step_if z s true e f one two = one refl
 step_if z s false e f one two = two
 
-sent_up_step : (z : List ℕ) (s : Spot) (o p : ℕ) (own : Bool) (live : Option ℕ) (object : ℕ) (m : Message) → (move z s (sent_up o p own live object m)).step ≡ s.step
+sent_up_step : (z : List ℕ) (s : Spot) (o p : ℕ) (own : Bool) (live : Option ℕ) (object : ℕ) (m : Message) → (spot_after z s (sent_up o p own live object m)).step ≡ s.step
 sent_up_step z s o p own live object (message.Init control size) = step_if z s (own && object == o) Creates Nothing (λ b. refl) refl
 sent_up_step z s o p own live object (message.Create control size) = step_if z s (own && object == o) Creates Nothing (λ b. refl) refl
 sent_up_step z s o p own live object (message.Request control page access) = step_if z s (own && (object == o && page.0 == p)) _ Nothing (λ b. refl) refl
@@ -125,12 +125,12 @@ sent_up_step z s o p own live object (message.Return control page dirty keep byt
 sent_up_step z s o p own live object (message.Terminate control) = step_if z s _ Ends Nothing (λ b. refl) refl
 sent_up_step z s o p own live object other = refl
 
-unanswered : (z : List ℕ) (s : Spot) (own here tells : Bool) (word : DownWord) → here ≡ false → (move z s (if own && here then Answers tells word else Nothing)).step ≡ s.step
+unanswered : (z : List ℕ) (s : Spot) (own here tells : Bool) (word : DownWord) → here ≡ false → (spot_after z s (if own && here then Answers tells word else Nothing)).step ≡ s.step
 unanswered z s true false tells word is = refl
 unanswered z s false here tells word is = refl
 unanswered z s true true tells word is = absurd (let bad : true ≡ false = is in cc)
 
-sent_down_step : (z : List ℕ) (s : Spot) (o p : ℕ) (own tells : Bool) (object : ℕ) (m : Message) → (object == o && is_answer p m) ≡ false → (move z s (sent_down o p own tells object m)).step ≡ s.step
+sent_down_step : (z : List ℕ) (s : Spot) (o p : ℕ) (own tells : Bool) (object : ℕ) (m : Message) → (object == o && is_answer p m) ≡ false → (spot_after z s (sent_down o p own tells object m)).step ≡ s.step
 sent_down_step z s o p own tells object (message.Supply page lock precious bytes) other = unanswered z s own (object == o && page.0 == p) tells (Supplying bytes) other
 sent_down_step z s o p own tells object (message.Unavailable page) other = unanswered z s own (object == o && page.0 == p) tells Unavailing other
 sent_down_step z s o p own tells object (message.Error page reason) other = unanswered z s own (object == o && page.0 == p) tells Erring other
@@ -153,7 +153,7 @@ not_taken one is = absurd (cc)
 begins : (header : Header) (outside : Outside) (host o p control access : ℕ) (past : List Event) → (spot header outside host o p (event.Taken (up host o) (message.Request control (record { 0 = p }) access) ∷ past)).step ≡ true
 begins header outside host o p control access past = rw (itself host, itself o, itself p) refl
 
-pub step_is : (header : Header) (outside : Outside) (host o control p access : ℕ) (past : List Event) → taken past ≡ Some (asking host o control p access) → since (answers o p) past ≡ false → (spot header outside host o p past).step ≡ true
+pub step_is : (header : Header) (outside : Outside) (host o control p access : ℕ) (past : List Event) → taken_letter past ≡ Some (asking host o control p access) → since (answers o p) past ≡ false → (spot header outside host o p past).step ≡ true
 step_is header outside host o control p access [] is none = not_taken _ is
 step_is header outside host o control p access (event.Line line ∷ past) is none = not_taken _ is
 step_is header outside host o control p access (event.Taken channel m ∷ past) is none =
@@ -170,7 +170,7 @@ step_is header outside host o control p access (event.Sent (Down at object numbe
     sent_down_step (zeros header) (spot header outside host o p past) o p (at.0 == host && number == last_control host object.0 past) (is_said header outside object.0) object.0 m no.0 ∙ step_is header outside host o control p access past is no.1
 step_is header outside host o control p access (e ∷ past) is none = step_is header outside host o control p access past is none
 
-pub request_is : (host o control p access : ℕ) (past : List Event) → taken past ≡ Some (asking host o control p access) → request_taken past ≡ Some (record { host = host; object = o; control_of = control; page = p })
+pub request_is : (host o control p access : ℕ) (past : List Event) → taken_letter past ≡ Some (asking host o control p access) → request_taken past ≡ Some (record { host = host; object = o; control_of = control; page = p })
 request_is host o control p access [] is = not_taken _ is
 request_is host o control p access (event.Line line ∷ past) is = not_taken _ is
 request_is host o control p access (event.Taken channel m ∷ past) is =

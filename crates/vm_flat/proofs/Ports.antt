@@ -16,10 +16,10 @@ use Rattle.vm_model.specs.declared.script.Header.{Header}
 use Rattle.vm_legal.specs.Outside.{Outside, is_private, is_said, zeros}
 use Rattle.vm_legal.specs.Living.{lives_on}
 use Rattle.vm_model.specs.Channels.{queue, up_port, down_port}
-use Rattle.vm_flat.specs.Words.{UpWord, Requesting, Returning, DownWord, Supplying, Unavailing, Erring, Effect, Creates, Requests, Returns, Answers, Zeroes, Raises, Stores, Drops, Ends, Nothing}
+use Rattle.vm_flat.specs.Words.{UpWord, Requesting, Returning, DownWord, Supplying, Unavailing, Erring, SpotEffect, Creates, Requests, Returns, Answers, Zeroes, Raises, Stores, Drops, Ends, Nothing}
 use Rattle.vm_model.specs.Side.{rest}
 use Rattle.vm_model.specs.Server.{first}
-use Rattle.vm_flat.specs.Spot.{Spot, move}
+use Rattle.vm_flat.specs.Spot.{Spot, spot_after}
 use Rattle.vm_model.specs.Controls.{is_control, last_control, live_control}
 use Rattle.vm_flat.specs.Places.{at_place, sent_up, sent_down, spot}
 use Rattle.vm_flat.proofs.Sustained.{control}
@@ -183,14 +183,14 @@ none_request r e = cc
 some_request : (r s : Request) → ◌≡◌ {A = Option Request} (Some r) (Some s) → r ≡ s
 some_request r s e = cc
 
-step_if : (z : List ℕ) (s : Spot) (b : Bool) (E F : Effect) → ((move z s E).step ≡ true → s.step ≡ true) → ((move z s F).step ≡ true → s.step ≡ true) → (move z s (if b then E else F)).step ≡ true → s.step ≡ true
+step_if : (z : List ℕ) (s : Spot) (b : Bool) (E F : SpotEffect) → ((spot_after z s E).step ≡ true → s.step ≡ true) → ((spot_after z s F).step ≡ true → s.step ≡ true) → (spot_after z s (if b then E else F)).step ≡ true → s.step ≡ true
 step_if z s true E F e f is = e is
 step_if z s false E F e f is = f is
 
-step_place : (z : List ℕ) (s : Spot) (o p : ℕ) (own : Bool) (object page : ℕ) (E F : Effect) → ((move z s E).step ≡ true → s.step ≡ true) → ((move z s F).step ≡ true → s.step ≡ true) → (move z s (at_place o p own object page E F)).step ≡ true → s.step ≡ true
+step_place : (z : List ℕ) (s : Spot) (o p : ℕ) (own : Bool) (object page : ℕ) (E F : SpotEffect) → ((spot_after z s E).step ≡ true → s.step ≡ true) → ((spot_after z s F).step ≡ true → s.step ≡ true) → (spot_after z s (at_place o p own object page E F)).step ≡ true → s.step ≡ true
 step_place z s o p own object page E F e f is = step_if z s (own && (object == o && page == p)) E F e f is
 
-step_sent_up : (z : List ℕ) (s : Spot) (o p : ℕ) (own : Bool) (live : Option ℕ) (object : ℕ) (m : Message) → (move z s (sent_up o p own live object m)).step ≡ true → s.step ≡ true
+step_sent_up : (z : List ℕ) (s : Spot) (o p : ℕ) (own : Bool) (live : Option ℕ) (object : ℕ) (m : Message) → (spot_after z s (sent_up o p own live object m)).step ≡ true → s.step ≡ true
 step_sent_up z s o p own live object (message.Request control page access) is = step_place z s o p own object page.0 (Requests (is_control control live)) Nothing (λ e. e) (λ e. e) is
 step_sent_up z s o p own live object (message.Return control page dirty keep bytes) is = step_place z s o p own object page.0 (Returns keep bytes) Nothing (λ e. e) (λ e. e) is
 step_sent_up z s o p own live object (message.Init control size) is = step_if z s (own && object == o) Creates Nothing (λ e. e) (λ e. e) is
@@ -201,7 +201,7 @@ step_sent_up z s o p own live object m is = is
 false_true : false ≡ true → ⊥
 false_true e = cc
 
-step_sent_down : (z : List ℕ) (s : Spot) (o p : ℕ) (own tells : Bool) (object : ℕ) (m : Message) → (move z s (sent_down o p own tells object m)).step ≡ true → s.step ≡ true
+step_sent_down : (z : List ℕ) (s : Spot) (o p : ℕ) (own tells : Bool) (object : ℕ) (m : Message) → (spot_after z s (sent_down o p own tells object m)).step ≡ true → s.step ≡ true
 step_sent_down z s o p own tells object (message.Supply page lock precious bytes) is = step_place z s o p own object page.0 (Answers tells (Supplying bytes)) Nothing (λ e. absurd (false_true e)) (λ e. e) is
 step_sent_down z s o p own tells object (message.Unavailable page) is = step_place z s o p own object page.0 (Answers tells Unavailing) Nothing (λ e. absurd (false_true e)) (λ e. e) is
 step_sent_down z s o p own tells object (message.Error page reason) is = step_place z s o p own object page.0 (Answers tells Erring) Nothing (λ e. absurd (false_true e)) (λ e. e) is

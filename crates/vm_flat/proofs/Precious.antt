@@ -12,7 +12,7 @@ use Rattle.vm_model.specs.declared.message.Message.TheVariants as message
 use Rattle.vm_model.specs.declared.script.Header.{Header}
 use Rattle.vm_model.specs.Channels.{down_port, queue}
 use Rattle.vm_model.specs.Controls.{is_control, live_control}
-use Rattle.vm_model.specs.Local.{Effect, Local, Place, Zeroes, Raises, Stores, Drops, Returns, Asks, Unlocks, TakesPage, TakesNothing, TakesError, TakesLock, Begins, Ends, Elsewhere, effect, is_on, is_place, local, moved, sent_effect, taken_effect}
+use Rattle.vm_model.specs.Local.{LocalEffect, Local, Place, Zeroes, Raises, Stores, Drops, Returns, Asks, Unlocks, TakesPage, TakesNothing, TakesError, TakesLock, Begins, Ends, Elsewhere, effect, is_on, is_place, local, local_after, sent_effect, taken_effect}
 use Rattle.vm_model.specs.Moments.{EachEvent}
 use Rattle.vm_model.specs.Server.{first}
 use Rattle.vm_model.specs.Side.{rest}
@@ -24,15 +24,15 @@ use Rattle.vm_legal.specs.Outside.{Outside}
 use Rattle.vm_legal.specs.Walks.{page_on}
 
 -- nothing precious comes
-abbrev IsPlain : Effect → Type 0
+abbrev IsPlain : LocalEffect → Type 0
 IsPlain (TakesPage lock precious bytes) = precious ≡ false
 IsPlain other = Unit {0}
 
-plain_if : (b : Bool) (e : Effect) → IsPlain e → IsPlain (if b then e else Elsewhere)
+plain_if : (b : Bool) (e : LocalEffect) → IsPlain e → IsPlain (if b then e else Elsewhere)
 plain_if true e is = is
 plain_if false e is = tt
 
-plain_moved : (size : ℕ) (e : Effect) (was : Local) → IsPlain e → was.precious ≡ false → (moved size e was).precious ≡ false
+plain_moved : (size : ℕ) (e : LocalEffect) (was : Local) → IsPlain e → was.precious ≡ false → (local_after size e was).precious ≡ false
 plain_moved size Zeroes was is plain = refl
 plain_moved size (Raises bytes) was is plain = refl
 plain_moved size (Stores at bytes) was is plain = plain
@@ -114,7 +114,7 @@ down_plain page (message.Error at reason) is = plain_if (at.0 == page) TakesErro
 down_plain page (message.Lock at count returns flush lock reply) is = plain_if (in_range page at.0 count) (TakesLock lock flush) tt
 down_plain page other is = tt
 
-guarded : (b : Bool) (e : Effect) → (b ≡ true → IsPlain e) → IsPlain (if b then e else Elsewhere)
+guarded : (b : Bool) (e : LocalEffect) → (b ≡ true → IsPlain e) → IsPlain (if b then e else Elsewhere)
 guarded true e is = is refl
 guarded false e is = tt
 

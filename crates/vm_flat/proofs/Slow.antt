@@ -4,7 +4,7 @@ use Rattle.std.proofs.lemmas.Bool.Decides.{nat_tests}
 use Rattle.std.specs.Prelude.{◌⊎◌, ◌==◌, ◌&&◌}
 use native.Mathlib.Decide.{ℕ_discrete}
 use Rattle.vm_flat.specs.Words.{Raises, Nothing}
-use Rattle.vm_flat.specs.Spot.{Spot, move}
+use Rattle.vm_flat.specs.Spot.{Spot, spot_after}
 use Rattle.vm_flat.proofs.Allowed.{content}
 use Rattle.vm_flat.proofs.Deeds.{is_file, covered, Ground, Deed, Copied, row, objects, link, spot, flat}
 use Rattle.vm_flat.proofs.Causes.{Reach, Cause, CopiesThere, Foreign}
@@ -90,11 +90,11 @@ after_own z x y l lp r i k q past w c =
     born : (o : ℕ) → o ≡ k → objects z past ≤ o → ⊥
     born o e unborn = omega (arith, tops_below w.shape r c.tops.used, c.tops.object, e, unborn)
 
-    own : (o p : ℕ) → covered z o ≡ true → o ≡ k → p ≡ q → Good z.zeros (ReachAt z o p past) (objects z past ≤ o) (Barren z o p (Copied true x y l lp r i k q ∷ past)) (flat z x y past) (link z o past).backed (under_view z o p (Copied true x y l lp r i k q ∷ past)) (move z.zeros (spot z o p past) (Raises page))
+    own : (o p : ℕ) → covered z o ≡ true → o ≡ k → p ≡ q → Good z.zeros (ReachAt z o p past) (objects z past ≤ o) (Barren z o p (Copied true x y l lp r i k q ∷ past)) (flat z x y past) (link z o past).backed (under_view z o p (Copied true x y l lp r i k q ∷ past)) (spot_after z.zeros (spot z o p past) (Raises page))
     own o p ours e f =
         let there : (s : Spot) → s ≡ spot z k q past → (s.here ≡ false) × (s.asked ≡ false) × (s.file ≡ false) = λ s is. subst (λ (t : Spot). (t.here ≡ false) × (t.asked ≡ false) × (t.file ≡ false)) (sym is) (c.away, c.unasked, c.plain) in
         let at : ((spot z o p past).here ≡ false) × ((spot z o p past).asked ≡ false) × ((spot z o p past).file ≡ false) = there (spot z o p past) (ap (λ h. spot z h p past) e ∙ ap (λ h. spot z k h past) f) in
-        subst (λ (v : List ℕ). Good z.zeros (ReachAt z o p past) (objects z past ≤ o) (Barren z o p (Copied true x y l lp r i k q ∷ past)) v (link z o past).backed (under_view z o p (Copied true x y l lp r i k q ∷ past)) (move z.zeros (spot z o p past) (Raises page)))
+        subst (λ (v : List ℕ). Good z.zeros (ReachAt z o p past) (objects z past ≤ o) (Barren z o p (Copied true x y l lp r i k q ∷ past)) v (link z o past).backed (under_view z o p (Copied true x y l lp r i k q ∷ past)) (spot_after z.zeros (spot z o p past) (Raises page)))
         (sym c.same)
         (good_puts z.zeros (ReachAt z o p past) (objects z past ≤ o) (Barren z o p past) (Barren z o p (Copied true x y l lp r i k q ∷ past)) (view z o p past) (link z o past).backed (under_view z o p past) (under_view z o p (Copied true x y l lp r i k q ∷ past)) (spot z o p past) page (w.places o p ours) at (born o e))
 
@@ -105,7 +105,7 @@ after_own z x y l lp r i k q past w c =
 
     places_if : (o p : ℕ) → covered z o ≡ true → (b : Bool) → (k == o && q == p) ≡ b
         → Good z.zeros (ReachAt z o p past) (objects z past ≤ o) (Barren z o p (Copied true x y l lp r i k q ∷ past)) (if b then flat z x y past else view z o p past) (link z o past).backed (under_view z o p (Copied true x y l lp r i k q ∷ past))
-        (move z.zeros (spot z o p past) (if b then Raises (spot z l lp past).bytes else Nothing))
+        (spot_after z.zeros (spot z o p past) (if b then Raises (spot z l lp past).bytes else Nothing))
     places_if o p ours true is = own o p ours (grind (arith, nat_tests)) (grind (arith, nat_tests))
     places_if o p ours false is = other o p ours (λ e f. absurd (grind (arith, nat_tests)))
 
@@ -128,7 +128,7 @@ after_foreign z own x y l lp r i k q past w f =
 
     places : (o p : ℕ) → covered z o ≡ true → GoodAt z (Copied own x y l lp r i k q ∷ past) o p (spot z o p (Copied own x y l lp r i k q ∷ past))
     places o p ours =
-        subst (λ e. GoodAt z (Copied own x y l lp r i k q ∷ past) o p (move z.zeros (spot z o p past) e)) (sym (no_if own o p k q (Raises (spot z l lp past).bytes) Nothing (not_ours z own r k past f o ours)))
+        subst (λ e. GoodAt z (Copied own x y l lp r i k q ∷ past) o p (spot_after z.zeros (spot z o p past) e)) (sym (no_if own o p k q (Raises (spot z l lp past).bytes) Nothing (not_ours z own r k past f o ours)))
         (good_again z.zeros (ReachAt z o p past) (ReachAt z o p past) (objects z past ≤ o) (objects z past ≤ o) (Barren z o p past) (Barren z o p (Copied own x y l lp r i k q ∷ past)) (view z o p past) (view z o p (Copied own x y l lp r i k q ∷ past)) (link z o past).backed (under_view z o p past) (under_view z o p (Copied own x y l lp r i k q ∷ past)) (spot z o p past)
         (w.places o p ours) (λ x. x) (λ x. x) (λ x. view_is o p ours) (λ reach none backed. view_is (link z o past).under ((link z o past).shift + p) (w.shape.covers_under o ours backed))
         (λ reach barren n m mp path. (view_is m mp (path_covered z n o p m mp past w.shape ours path) ∙ (barren n m mp path).0, (barren n m mp path).1)))

@@ -2,9 +2,9 @@
 use Rattle.std.proofs.Common.{◌≡◌, ℕ, ◌+◌, ◌≤◌, List, [], ◌∷◌, ◌++◌, arith, Bool, true, false, Option, Some, None, refl, ap, sym, length, if◌then◌else◌, ◌≢◌}
 use Rattle.std.proofs.lemmas.Bool.Decides.{nat_tests}
 use Rattle.std.specs.Prelude.{◌⊎◌}
-use Rattle.vm_flat.specs.Words.{DownWord, Supplying, Unavailing, Erring, Effect, Creates, Requests, Returns, TakesRequest, TakesReturn, Answers, Takes, Zeroes, Raises, Stores, Drops, Ends, StepEnds, Nothing}
+use Rattle.vm_flat.specs.Words.{DownWord, Supplying, Unavailing, Erring, SpotEffect, Creates, Requests, Returns, TakesRequest, TakesReturn, Answers, Takes, Zeroes, Raises, Stores, Drops, Ends, StepEnds, Nothing}
 use Rattle.vm_model.specs.Side.{rest}
-use Rattle.vm_flat.specs.Spot.{Spot, first_spot, move}
+use Rattle.vm_flat.specs.Spot.{Spot, first_spot, spot_after}
 use Rattle.vm_flat.proofs.Allowed.{Passed, MayAnswer, May, content}
 use Rattle.vm_flat.proofs.Queues.{requests, returns, behind, latest, requests_ask, requests_return, returns_ask, behind_ask, behind_return, latest_ask, latest_return, latest_none, Says, Carry, carry_end, carry_rest, carry_none, carry_first, length_end}
 
@@ -41,13 +41,13 @@ pub record Sound (z : List ℕ) (s : Spot) : Type 0 where
   -- a clean page is the last return, or zeros
   pub clean : s.here ≡ true → s.dirty ≡ false → s.bytes ≡ or_zero z s.returned
 
-pub keep_creates : (z : List ℕ) (s : Spot) → Sound z s → May z s Creates → Sound z (move z s Creates)
+pub keep_creates : (z : List ℕ) (s : Spot) → Sound z s → May z s Creates → Sound z (spot_after z s Creates)
 keep_creates z s ok may = grind (arith, nat_tests)
 
-pub keep_requests : (z : List ℕ) (s : Spot) (lives : Bool) → Sound z s → May z s (Requests lives) → Sound z (move z s (Requests lives))
+pub keep_requests : (z : List ℕ) (s : Spot) (lives : Bool) → Sound z s → May z s (Requests lives) → Sound z (spot_after z s (Requests lives))
 keep_requests z s lives ok may = grind (arith, nat_tests, requests_ask, returns_ask, behind_ask, latest_ask)
 
-pub keep_returns : (z : List ℕ) (s : Spot) (keep : Bool) (bytes : List ℕ) → Sound z s → May z s (Returns keep bytes) → Sound z (move z s (Returns keep bytes))
+pub keep_returns : (z : List ℕ) (s : Spot) (keep : Bool) (bytes : List ℕ) → Sound z s → May z s (Returns keep bytes) → Sound z (spot_after z s (Returns keep bytes))
 keep_returns z s keep bytes ok may =
     let quiet : s.asked ≡ false = grind (arith) in
     let up : requests s.up ≡ 0 = grind (arith) in
@@ -55,10 +55,10 @@ keep_returns z s keep bytes ok may =
     let carried : Carry (nothing z s) (Some bytes) s.down = carry_none (nothing z s) (Some bytes) s.down down in
     grind (arith, nat_tests, requests_return, behind_return s.up bytes up, latest_return)
 
-pub keep_takes_request : (z : List ℕ) (s : Spot) → Sound z s → May z s TakesRequest → Sound z (move z s TakesRequest)
+pub keep_takes_request : (z : List ℕ) (s : Spot) → Sound z s → May z s TakesRequest → Sound z (spot_after z s TakesRequest)
 keep_takes_request z s ok may = grind (arith, nat_tests)
 
-pub keep_takes_return : (z : List ℕ) (s : Spot) (bytes : List ℕ) → Sound z s → May z s (TakesReturn bytes) → Sound z (move z s (TakesReturn bytes))
+pub keep_takes_return : (z : List ℕ) (s : Spot) (bytes : List ℕ) → Sound z s → May z s (TakesReturn bytes) → Sound z (spot_after z s (TakesReturn bytes))
 keep_takes_return z s bytes ok may = grind (arith, nat_tests)
 
 says : (z : List ℕ) (s : Spot) (w : DownWord) → Sound z s → MayAnswer z s w → Says (nothing z s) s.returned w
@@ -71,13 +71,13 @@ steps z s (Supplying bytes) may = may.0
 steps z s Unavailing may = may.0
 steps z s Erring may = may
 
-pub keep_answers : (z : List ℕ) (s : Spot) (w : DownWord) → Sound z s → May z s (Answers false w) → Sound z (move z s (Answers false w))
+pub keep_answers : (z : List ℕ) (s : Spot) (w : DownWord) → Sound z s → May z s (Answers false w) → Sound z (spot_after z s (Answers false w))
 keep_answers z s w ok may =
     let on : s.step ≡ true = steps z s w may in
     let carried : Carry (nothing z s) s.returned (s.down ++ w ∷ []) = carry_end (nothing z s) s.returned s.down w ok.coming (says z s w ok may) in
     grind (arith, nat_tests, length_end)
 
-pub keep_tells : (z : List ℕ) (s : Spot) (w : DownWord) → Sound z s → May z s (Answers true w) → Sound z (move z s (Answers true w))
+pub keep_tells : (z : List ℕ) (s : Spot) (w : DownWord) → Sound z s → May z s (Answers true w) → Sound z (spot_after z s (Answers true w))
 keep_tells z s (Supplying bytes) ok may =
     let down : length s.down ≡ 0 = grind (arith) in
     let up : returns s.up ≡ 0 = grind (arith) in
@@ -93,7 +93,7 @@ keep_tells z s Erring ok may =
     let carried : Carry (nothing z s) s.returned (s.down ++ Erring ∷ []) = carry_end (nothing z s) s.returned s.down Erring ok.coming tt in
     grind (arith, nat_tests, length_end)
 
-pub keep_takes : (z : List ℕ) (s : Spot) (w : DownWord) → Sound z s → May z s (Takes w) → Sound z (move z s (Takes w))
+pub keep_takes : (z : List ℕ) (s : Spot) (w : DownWord) → Sound z s → May z s (Takes w) → Sound z (spot_after z s (Takes w))
 keep_takes z s (Supplying bytes) ok may =
     let said : s.returned ≡ Some bytes = carry_first (nothing z s) s.returned s.down (Supplying bytes) may ok.coming in
     let carried : Carry (nothing z s) s.returned (rest s.down) = carry_rest (nothing z s) s.returned s.down ok.coming in
@@ -110,22 +110,22 @@ keep_takes z s Erring ok may =
 pub passed_returned : (z : List ℕ) (s : Spot) → Sound z s → Passed s → s.control ≢ 2 → s.returned ≡ None
 passed_returned z s ok passed lives = grind arith
 
-pub keep_zeroes : (z : List ℕ) (s : Spot) → Sound z s → May z s Zeroes → or_zero z s.returned ≡ z → Sound z (move z s Zeroes)
+pub keep_zeroes : (z : List ℕ) (s : Spot) → Sound z s → May z s Zeroes → or_zero z s.returned ≡ z → Sound z (spot_after z s Zeroes)
 keep_zeroes z s ok may none = grind (arith, nat_tests)
 
-pub keep_raises : (z : List ℕ) (s : Spot) (bytes : List ℕ) → Sound z s → May z s (Raises bytes) → Sound z (move z s (Raises bytes))
+pub keep_raises : (z : List ℕ) (s : Spot) (bytes : List ℕ) → Sound z s → May z s (Raises bytes) → Sound z (spot_after z s (Raises bytes))
 keep_raises z s bytes ok may = grind (arith, nat_tests)
 
-pub keep_stores : (z : List ℕ) (s : Spot) (at : ℕ) (bytes : List ℕ) → Sound z s → May z s (Stores at bytes) → Sound z (move z s (Stores at bytes))
+pub keep_stores : (z : List ℕ) (s : Spot) (at : ℕ) (bytes : List ℕ) → Sound z s → May z s (Stores at bytes) → Sound z (spot_after z s (Stores at bytes))
 keep_stores z s at bytes ok may = grind (arith, nat_tests)
 
-pub keep_drops : (z : List ℕ) (s : Spot) → Sound z s → May z s Drops → Sound z (move z s Drops)
+pub keep_drops : (z : List ℕ) (s : Spot) → Sound z s → May z s Drops → Sound z (spot_after z s Drops)
 keep_drops z s ok may = grind (arith, nat_tests)
 
-pub keep_ends : (z : List ℕ) (s : Spot) → Sound z s → May z s Ends → Sound z (move z s Ends)
+pub keep_ends : (z : List ℕ) (s : Spot) → Sound z s → May z s Ends → Sound z (spot_after z s Ends)
 keep_ends z s ok may = grind (arith, nat_tests)
 
-pub keep_step : (z : List ℕ) (s : Spot) → Sound z s → Sound z (move z s StepEnds)
+pub keep_step : (z : List ℕ) (s : Spot) → Sound z s → Sound z (spot_after z s StepEnds)
 keep_step z s ok = grind (arith, nat_tests)
 
 pub sound_start : (z : List ℕ) (file : Bool) (bytes : List ℕ) → Sound z (first_spot file bytes)
@@ -137,21 +137,21 @@ supplied_returned z s bytes ok may = carry_first (nothing z s) s.returned s.down
 -- the content
 
 -- effects that leave the content as it is
-abbrev pub Saves : Spot → Effect → Type 0
+abbrev pub Saves : Spot → SpotEffect → Type 0
 Saves s (Raises bytes) = ⊥
 Saves s (Stores at bytes) = ⊥
 Saves s (Answers true word) = ⊥
 Saves s Drops = s.dirty ≡ false
 Saves s e = Unit {0}
 
-takes_saves : (z : List ℕ) (s : Spot) (w : DownWord) → Sound z s → May z s (Takes w) → content (move z s (Takes w)) ≡ content s
+takes_saves : (z : List ℕ) (s : Spot) (w : DownWord) → Sound z s → May z s (Takes w) → content (spot_after z s (Takes w)) ≡ content s
 takes_saves z s (Supplying bytes) ok may =
     let said : s.returned ≡ Some bytes = carry_first (nothing z s) s.returned s.down (Supplying bytes) may ok.coming in
     grind (arith, nat_tests)
 takes_saves z s Unavailing ok may = refl
 takes_saves z s Erring ok may = refl
 
-pub content_saved : (z : List ℕ) (s : Spot) (e : Effect) → Sound z s → May z s e → Saves s e → content (move z s e) ≡ content s
+pub content_saved : (z : List ℕ) (s : Spot) (e : SpotEffect) → Sound z s → May z s e → Saves s e → content (spot_after z s e) ≡ content s
 content_saved z s Creates ok may saves = refl
 content_saved z s (Requests lives) ok may saves = refl
 content_saved z s (Returns keep bytes) ok may saves = grind arith

@@ -5,7 +5,7 @@ use Rattle.std.specs.Prelude.{◌⊎◌, ◌==◌, ◌&&◌}
 use native.Mathlib.Decide.{ℕ_discrete}
 use Rattle.vm_base.specs.Pages.{with_bytes}
 use Rattle.vm_flat.specs.Words.{Stores, Nothing}
-use Rattle.vm_flat.specs.Spot.{move}
+use Rattle.vm_flat.specs.Spot.{spot_after}
 use Rattle.vm_flat.proofs.Allowed.{content}
 use Rattle.vm_flat.proofs.Deeds.{is_file, covered, Ground, Deed, Stored, row, objects, link, spot, flat}
 use Rattle.vm_flat.proofs.Causes.{Path, Reach, Tops, Cause, StoresThere, Foreign}
@@ -121,7 +121,7 @@ after_own z r i k q at bytes past w c =
       places = λ o p ours. places_if o p ours (k == o && q == p) refl;
     }
   where
-    own : (o p : ℕ) → covered z o ≡ true → o ≡ k → p ≡ q → Good z.zeros (ReachAt z o p past) (objects z past ≤ o) (Barren z o p (Stored true r i k q at bytes ∷ past)) (with_bytes at bytes (view z o p past)) (link z o past).backed (under_view z o p (Stored true r i k q at bytes ∷ past)) (move z.zeros (spot z o p past) (Stores at bytes))
+    own : (o p : ℕ) → covered z o ≡ true → o ≡ k → p ≡ q → Good z.zeros (ReachAt z o p past) (objects z past ≤ o) (Barren z o p (Stored true r i k q at bytes ∷ past)) (with_bytes at bytes (view z o p past)) (link z o past).backed (under_view z o p (Stored true r i k q at bytes ∷ past)) (spot_after z.zeros (spot z o p past) (Stores at bytes))
     own o p ours e f =
         let here : (spot z o p past).here ≡ true = subst (λ (h : ℕ). (spot z h p past).here ≡ true) (sym e) (subst (λ (h : ℕ). (spot z k h past).here ≡ true) (sym f) c.here) in
         good_stores z.zeros (ReachAt z o p past) (objects z past ≤ o) (Barren z o p past) (Barren z o p (Stored true r i k q at bytes ∷ past)) (view z o p past) (link z o past).backed (under_view z o p past) (under_view z o p (Stored true r i k q at bytes ∷ past)) (spot z o p past) at bytes (w.places o p ours) here (barren_top z o p past)
@@ -133,7 +133,7 @@ after_own z r i k q at bytes past w c =
 
     places_if : (o p : ℕ) → covered z o ≡ true → (b : Bool) → (k == o && q == p) ≡ b
         → Good z.zeros (ReachAt z o p past) (objects z past ≤ o) (Barren z o p (Stored true r i k q at bytes ∷ past)) (if b then with_bytes at bytes (view z o p past) else view z o p past) (link z o past).backed (under_view z o p (Stored true r i k q at bytes ∷ past))
-        (move z.zeros (spot z o p past) (if b then Stores at bytes else Nothing))
+        (spot_after z.zeros (spot z o p past) (if b then Stores at bytes else Nothing))
     places_if o p ours true is = own o p ours (grind (arith, nat_tests)) (grind (arith, nat_tests))
     places_if o p ours false is = other o p ours (λ e f. absurd (grind (arith, nat_tests)))
 
@@ -172,7 +172,7 @@ after_foreign z own r i k q at bytes past w f =
 
     places : (o p : ℕ) → covered z o ≡ true → GoodAt z (Stored own r i k q at bytes ∷ past) o p (spot z o p (Stored own r i k q at bytes ∷ past))
     places o p ours =
-        subst (λ e. GoodAt z (Stored own r i k q at bytes ∷ past) o p (move z.zeros (spot z o p past) e)) (sym (no_if own o p k q (Stores at bytes) Nothing (not_ours z own r k past f o ours)))
+        subst (λ e. GoodAt z (Stored own r i k q at bytes ∷ past) o p (spot_after z.zeros (spot z o p past) e)) (sym (no_if own o p k q (Stores at bytes) Nothing (not_ours z own r k past f o ours)))
         (good_again z.zeros (ReachAt z o p past) (ReachAt z o p past) (objects z past ≤ o) (objects z past ≤ o) (Barren z o p past) (Barren z o p (Stored own r i k q at bytes ∷ past)) (view z o p past) (view z o p (Stored own r i k q at bytes ∷ past)) (link z o past).backed (under_view z o p past) (under_view z o p (Stored own r i k q at bytes ∷ past)) (spot z o p past)
         (w.places o p ours) (λ x. x) (λ x. x) (λ x. view_is o p ours) (λ reach none backed. view_is (link z o past).under ((link z o past).shift + p) (w.shape.covers_under o ours backed))
         (λ reach barren n l lp path. (view_is l lp (path_covered z n o p l lp past w.shape ours path) ∙ (barren n l lp path).0, (barren n l lp path).1)))

@@ -12,8 +12,8 @@ use Rattle.vm_legal.specs.Living.{lives_on}
 use Rattle.vm_model.specs.Regions.{next_region, next_object, Region, region_of, Backing, backing_of}
 use Rattle.vm_legal.specs.Used.{made_here}
 use Rattle.vm_flat.proofs.Uses.{in_use}
-use Rattle.vm_flat.specs.Words.{Effect, Raises, Nothing}
-use Rattle.vm_flat.specs.Spot.{Spot, move}
+use Rattle.vm_flat.specs.Words.{SpotEffect, Raises, Nothing}
+use Rattle.vm_flat.specs.Spot.{Spot, spot_after}
 use Rattle.vm_model.specs.Controls.{is_control, last_control, live_control}
 use Rattle.vm_flat.specs.Places.{sent_up, taken_up, sent_down, taken_down, effect_of, at_place, spot}
 use Rattle.vm_flat.proofs.Sustained.{control}
@@ -137,8 +137,8 @@ taken_down_effect o p own object (message.Unavailable page) spots = refl
 taken_down_effect o p own object (message.Error page reason) spots = refl
 taken_down_effect o p own object other spots = refl
 
-moves : (header : Header) (s t : Spot) (e f : Effect) → s ≡ t → e ≡ f → move (zeros header) s e ≡ move (zeros header) t f
-moves header s t e f same like = ap (λ x. move (zeros header) x e) same ∙ ap (λ x. move (zeros header) t x) like
+moves : (header : Header) (s t : Spot) (e f : SpotEffect) → s ≡ t → e ≡ f → spot_after (zeros header) s e ≡ spot_after (zeros header) t f
+moves header s t e f same like = ap (λ x. spot_after (zeros header) x e) same ∙ ap (λ x. spot_after (zeros header) t x) like
 
 pub spot_is : (header : Header) (outside : Outside) (host o p : ℕ) (past : List Event) → D.spot (ground header outside) o p (deeds header outside host past) ≡ spot header outside host o p past
 spot_is header outside host o p [] = refl
@@ -152,7 +152,7 @@ spot_is header outside host o p (event.Sent (Down at object number) m ∷ past) 
 spot_is header outside host o p (event.Taken (Up at object) m ∷ past) = moves header _ _ _ _ (spot_is header outside host o p past) (taken_up_effect o p (at.0 == host) object.0 m (λ k q. D.spot (ground header outside) k q (deeds header outside host past)))
 spot_is header outside host o p (event.Taken (Down at object number) m ∷ past) =
     moves header _ _ _ _ (spot_is header outside host o p past) (taken_down_effect o p (at.0 == host && number == last_control host object.0 past) object.0 m (λ k q. D.spot (ground header outside) k q (deeds header outside host past)))
-spot_is header outside host o p (e ∷ past) = ap (λ s. move (zeros header) s (effect_of (λ k. is_said header outside k) host o p e past (λ k q. spot header outside host k q past))) (spot_is header outside host o p past)
+spot_is header outside host o p (e ∷ past) = ap (λ s. spot_after (zeros header) s (effect_of (λ k. is_said header outside k) host o p e past (λ k q. spot header outside host k q past))) (spot_is header outside host o p past)
 
 pub control_tie : (header : Header) (outside : Outside) (host o : ℕ) (past : List Event) → D.control (ground header outside) o (deeds header outside host past) ≡ control header host o past
 control_tie header outside host o [] = refl

@@ -1,8 +1,8 @@
 -- Deeds that leave regions and objects as they are, and change what one place has.
 use Rattle.std.proofs.Common.{false, ◌<◌, ◌≡◌, ℕ, suc, ◌≤◌, List, ◌∷◌, arith, Bool, true, ◌∙◌, inl, inr}
 use Rattle.std.specs.Prelude.{◌⊎◌}
-use Rattle.vm_flat.specs.Words.{DownWord, Effect, Creates, Requests, Returns, TakesRequest, TakesReturn, Takes, Zeroes, Raises, Drops, Ends, StepEnds, Nothing}
-use Rattle.vm_flat.specs.Spot.{move}
+use Rattle.vm_flat.specs.Words.{DownWord, SpotEffect, Creates, Requests, Returns, TakesRequest, TakesReturn, Takes, Zeroes, Raises, Drops, Ends, StepEnds, Nothing}
+use Rattle.vm_flat.specs.Spot.{spot_after}
 use Rattle.vm_flat.proofs.Deeds.{pages, Ground, covered, Deed, Line, Zeroed, Raised, Dropped, Created, Asked, Returned, TookRequest, TookReturn, Took, Terminated, Elsewhere, objects, link, spot}
 use Rattle.vm_flat.proofs.Causes.{Reach, Tops, Cause, Ours, Bottoms, Finds}
 use Rattle.vm_flat.proofs.Good.{good_step, good_creates, good_requests, good_returns, good_takes_request, good_takes_return, good_takes, good_zeroes, good_fills, good_raises, good_drops, good_ends}
@@ -11,8 +11,8 @@ use Rattle.vm_flat.proofs.File.{file_is}
 use Rattle.vm_flat.proofs.World.{ReachAt, World, GoodAt, view, tops_below, under_view, Barren, reach_top, sinks_passed, sunk_below, found, each_place, each_object}
 
 -- the places after an effect
-abbrev pub After : Ground → List Deed → ℕ → ℕ → Effect → Type 0
-After z past o p e = covered z o ≡ true → GoodAt z past o p (move z.zeros (spot z o p past) e)
+abbrev pub After : Ground → List Deed → ℕ → ℕ → SpotEffect → Type 0
+After z past o p e = covered z o ≡ true → GoodAt z past o p (spot_after z.zeros (spot z o p past) e)
 
 pub rest_nothing : (z : Ground) (past : List Deed) → World z past → (o p : ℕ) → After z past o p Nothing
 rest_nothing z past w o p = w.places o p

@@ -54,7 +54,7 @@ private_tells header outside o ours silent = by_file (is_file header o) refl
 
 -- messages
 
-answers : (header : Header) (outside : Outside) (host o control p : ℕ) (past : List Event) → L.Answers host o control p past → S.Answers header outside host o control p past
+answers : (header : Header) (outside : Outside) (host o control p : ℕ) (past : List Event) → L.OwesAnswer host o control p past → S.Answers header outside host o control p past
 answers header outside host o control p past c =
     record { taken = request_is host o control p c.access past c.taken; unanswered = step_is header outside host o control p c.access past c.taken c.unanswered }
 
@@ -89,7 +89,7 @@ up header outside doing host o other past caused ours c = tt
 
 -- pages
 
-leaves : (header : Header) (outside : Outside) (doing : Command) (host o p : ℕ) (past : List Event) (page : Local) → L.Leaves header doing host o p page past → S.Leaves header outside host o p page.dirty past
+leaves : (header : Header) (outside : Outside) (doing : Command) (host o p : ℕ) (past : List Event) (page : Local) → L.DropCause header doing host o p page past → S.Leaves header outside host o p page.dirty past
 leaves header outside doing host o p past page (L.Reclaimed clean plain why) = S.Clean clean
 leaves header outside doing host o p past page (L.Unreached above gone least) = S.Unreached above (λ reach. gone (reached header outside host o past reach))
 leaves header outside doing host o p past page (L.Flushed returns locked spared) = S.Flushed returns page.precious locked spared

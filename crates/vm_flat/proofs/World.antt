@@ -3,7 +3,7 @@ use Rattle.std.proofs.Common.{◌≡◌, ℕ, zero, suc, ◌+◌, ◌<◌, ◌�
 use Rattle.std.proofs.lemmas.Bool.Decides.{nat_tests}
 use Rattle.std.specs.Prelude.{◌==◌, ◌&&◌}
 use Rattle.vm_base.specs.Pages.{with_bytes}
-use Rattle.vm_flat.specs.Words.{Effect}
+use Rattle.vm_flat.specs.Words.{SpotEffect}
 use Rattle.vm_flat.specs.Spot.{Spot}
 use Rattle.vm_flat.proofs.Allowed.{Passed, content}
 use Rattle.vm_flat.proofs.Deeds.{pages, is_file, covered, Ground, Deed, Region, Shadowed, Copied, Stored, Answered, said, Row, row, regions, objects, Link, link, at_place, spot, flat}
@@ -159,7 +159,7 @@ load z r i n o p l lp past w tops walks here =
     sym (top ∙ found z n o p l lp past w (reach_top z r i o p past w.shape tops) walks here)
 
 -- a place is the deed's own or another
-place_if : (P : ℕ → ℕ → Effect → Type 0) (o p object page : ℕ) (own : Bool) (mine other : Effect) (b : Bool) → (own && (object == o && page == p)) ≡ b → (own ≡ true → P object page mine) → ((k q : ℕ) → P k q other) → P o p (if b then mine else other)
+place_if : (P : ℕ → ℕ → SpotEffect → Type 0) (o p object page : ℕ) (own : Bool) (mine other : SpotEffect) (b : Bool) → (own && (object == o && page == p)) ≡ b → (own ≡ true → P object page mine) → ((k q : ℕ) → P k q other) → P o p (if b then mine else other)
 place_if P o p object page own mine other true is at rest =
     let t : own ≡ true = grind arith in
     let e : o ≡ object = grind (arith, nat_tests) in
@@ -167,15 +167,15 @@ place_if P o p object page own mine other true is at rest =
     subst (λ (k : ℕ). P k p mine) (sym e) (subst (λ (q : ℕ). P object q mine) (sym f) (at t))
 place_if P o p object page own mine other false is at rest = rest o p
 
-pub each_place : (P : ℕ → ℕ → Effect → Type 0) (object page : ℕ) (own : Bool) (mine other : Effect) → (own ≡ true → P object page mine) → ((k q : ℕ) → P k q other) → (o p : ℕ) → P o p (at_place o p own object page mine other)
+pub each_place : (P : ℕ → ℕ → SpotEffect → Type 0) (object page : ℕ) (own : Bool) (mine other : SpotEffect) → (own ≡ true → P object page mine) → ((k q : ℕ) → P k q other) → (o p : ℕ) → P o p (at_place o p own object page mine other)
 each_place P object page own mine other at rest o p = place_if P o p object page own mine other (own && (object == o && page == p)) refl at rest
 
-object_if : (P : ℕ → ℕ → Effect → Type 0) (o p object : ℕ) (own : Bool) (mine other : Effect) (b : Bool) → (own && object == o) ≡ b → (own ≡ true → (q : ℕ) → P object q mine) → ((k q : ℕ) → P k q other) → P o p (if b then mine else other)
+object_if : (P : ℕ → ℕ → SpotEffect → Type 0) (o p object : ℕ) (own : Bool) (mine other : SpotEffect) (b : Bool) → (own && object == o) ≡ b → (own ≡ true → (q : ℕ) → P object q mine) → ((k q : ℕ) → P k q other) → P o p (if b then mine else other)
 object_if P o p object own mine other true is at rest =
     let t : own ≡ true = grind arith in
     let e : o ≡ object = grind (arith, nat_tests) in
     subst (λ (k : ℕ). P k p mine) (sym e) (at t p)
 object_if P o p object own mine other false is at rest = rest o p
 
-pub each_object : (P : ℕ → ℕ → Effect → Type 0) (object : ℕ) (own : Bool) (mine other : Effect) → (own ≡ true → (q : ℕ) → P object q mine) → ((k q : ℕ) → P k q other) → (o p : ℕ) → P o p (if own && object == o then mine else other)
+pub each_object : (P : ℕ → ℕ → SpotEffect → Type 0) (object : ℕ) (own : Bool) (mine other : SpotEffect) → (own ≡ true → (q : ℕ) → P object q mine) → ((k q : ℕ) → P k q other) → (o p : ℕ) → P o p (if own && object == o then mine else other)
 each_object P object own mine other at rest o p = object_if P o p object own mine other (own && object == o) refl at rest

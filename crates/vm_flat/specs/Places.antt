@@ -11,15 +11,15 @@ use Rattle.vm_model.specs.declared.script.Header.{Header}
 use Rattle.vm_model.specs.Controls.{is_control, last_control, live_control}
 use Rattle.vm_legal.specs.Outside.{Outside, is_file, is_said, start_page, zeros}
 use Rattle.vm_legal.specs.Living.{lives_on}
-use Rattle.vm_flat.specs.Words.{Supplying, Unavailing, Erring, Effect, Creates, Requests, Returns, TakesRequest, TakesReturn, Answers, Takes, Zeroes, Raises, Stores, Drops, Ends, StepEnds, Nothing}
-use Rattle.vm_flat.specs.Spot.{Spot, first_spot, move}
+use Rattle.vm_flat.specs.Words.{Supplying, Unavailing, Erring, SpotEffect, Creates, Requests, Returns, TakesRequest, TakesReturn, Answers, Takes, Zeroes, Raises, Stores, Drops, Ends, StepEnds, Nothing}
+use Rattle.vm_flat.specs.Spot.{Spot, first_spot, spot_after}
 
 -- the effect of what is about page `page` of `object`, on page p of o; on all others that of `other`
-abbrev pub at_place : ℕ → ℕ → Bool → ℕ → ℕ → Effect → Effect → Effect
+abbrev pub at_place : ℕ → ℕ → Bool → ℕ → ℕ → SpotEffect → SpotEffect → SpotEffect
 at_place o p own object page mine other = if own && (object == o && page == p) then mine else other
 
 -- the host's live control of the object comes in
-abbrev pub sent_up : ℕ → ℕ → Bool → Option ℕ → ℕ → Message → Effect
+abbrev pub sent_up : ℕ → ℕ → Bool → Option ℕ → ℕ → Message → SpotEffect
 sent_up o p own live object (message.Init control size) = if own && object == o then Creates else Nothing
 sent_up o p own live object (message.Create control size) = if own && object == o then Creates else Nothing
 sent_up o p own live object (message.Request control page access) = at_place o p own object page.0 (Requests (is_control control live)) Nothing
@@ -27,18 +27,18 @@ sent_up o p own live object (message.Return control page dirty keep bytes) = at_
 sent_up o p own live object (message.Terminate control) = if (own && is_control control live) && object == o then Ends else Nothing
 sent_up o p own live object other = Nothing
 
-abbrev pub taken_up : ℕ → ℕ → Bool → ℕ → Message → Effect
+abbrev pub taken_up : ℕ → ℕ → Bool → ℕ → Message → SpotEffect
 taken_up o p own object (message.Request control page access) = at_place o p own object page.0 TakesRequest StepEnds
 taken_up o p own object (message.Return control page dirty keep bytes) = at_place o p own object page.0 (TakesReturn bytes) StepEnds
 taken_up o p own object other = StepEnds
 
-abbrev pub sent_down : ℕ → ℕ → Bool → Bool → ℕ → Message → Effect
+abbrev pub sent_down : ℕ → ℕ → Bool → Bool → ℕ → Message → SpotEffect
 sent_down o p own tells object (message.Supply page lock precious bytes) = at_place o p own object page.0 (Answers tells (Supplying bytes)) Nothing
 sent_down o p own tells object (message.Unavailable page) = at_place o p own object page.0 (Answers tells Unavailing) Nothing
 sent_down o p own tells object (message.Error page reason) = at_place o p own object page.0 (Answers tells Erring) Nothing
 sent_down o p own tells object other = Nothing
 
-abbrev pub taken_down : ℕ → ℕ → Bool → ℕ → Message → Effect
+abbrev pub taken_down : ℕ → ℕ → Bool → ℕ → Message → SpotEffect
 taken_down o p own object (message.Supply page lock precious bytes) = at_place o p own object page.0 (Takes (Supplying bytes)) StepEnds
 taken_down o p own object (message.Unavailable page) = at_place o p own object page.0 (Takes Unavailing) StepEnds
 taken_down o p own object (message.Error page reason) = at_place o p own object page.0 (Takes Erring) StepEnds
@@ -46,7 +46,7 @@ taken_down o p own object other = StepEnds
 
 -- What an event is to page p of object o on the host. What the host has of the other places comes in as a function.
 -- So does, of which objects the answers say what their files have. Of the answers those to the host's newest control count.
-abbrev pub effect_of : (ℕ → Bool) → ℕ → ℕ → ℕ → Event → List Event → (ℕ → ℕ → Spot) → Effect
+abbrev pub effect_of : (ℕ → Bool) → ℕ → ℕ → ℕ → Event → List Event → (ℕ → ℕ → Spot) → SpotEffect
 effect_of says host o p (event.Line line) past spots = StepEnds
 effect_of says host o p (event.Zeroed at object page) past spots = at_place o p (at.0 == host) object.0 page.0 Zeroes Nothing
 effect_of says host o p (event.Raised at lower lower_page upper upper_page) past spots = at_place o p (at.0 == host) upper.0 upper_page.0 (Raises (spots lower.0 lower_page.0).bytes) Nothing
@@ -61,4 +61,4 @@ effect_of says host o p e past spots = Nothing
 
 abbrev pub spot : Header → Outside → ℕ → ℕ → ℕ → List Event → Spot
 spot header outside host o p [] = first_spot (is_file header o) (start_page header outside o p)
-spot header outside host o p (e ∷ past) = move (zeros header) (spot header outside host o p past) (effect_of (λ k. is_said header outside k) host o p e past (λ k q. spot header outside host k q past))
+spot header outside host o p (e ∷ past) = spot_after (zeros header) (spot header outside host o p past) (effect_of (λ k. is_said header outside k) host o p e past (λ k q. spot header outside host k q past))

@@ -2,7 +2,7 @@
 use Rattle.std.specs.Prelude.{not, ℕ, ◌==◌, List, [], ◌∷◌, ◌++◌, Bool, true, false, if◌then◌else◌, ◌&&◌, Option, Some, None}
 use Rattle.vm_base.specs.Pages.{with_bytes}
 use Rattle.vm_model.specs.Side.{rest}
-use Rattle.vm_flat.specs.Words.{UpWord, Requesting, Returning, DownWord, Supplying, Unavailing, Erring, Effect, Creates, Requests, Returns, TakesRequest, TakesReturn, Answers, Takes, Zeroes, Raises, Stores, Drops, Ends, StepEnds, Nothing}
+use Rattle.vm_flat.specs.Words.{UpWord, Requesting, Returning, DownWord, Supplying, Unavailing, Erring, SpotEffect, Creates, Requests, Returns, TakesRequest, TakesReturn, Answers, Takes, Zeroes, Raises, Stores, Drops, Ends, StepEnds, Nothing}
 
 pub record Spot : Type 0 where
   -- what is on the way about the page, oldest first
@@ -44,17 +44,17 @@ first_spot file bytes =
     }
 
 -- what an answer says that the pager has
-abbrev pub told : List ℕ → DownWord → Option (List ℕ) → Option (List ℕ)
-told z (Supplying bytes) was = Some bytes
-told z Unavailing was = Some z
-told z Erring was = was
+abbrev pub answer_content : List ℕ → DownWord → Option (List ℕ) → Option (List ℕ)
+answer_content z (Supplying bytes) was = Some bytes
+answer_content z Unavailing was = Some z
+answer_content z Erring was = was
 
 -- an answer counts where the live control asked
 abbrev pub hears : Spot → Bool
 hears s = s.control == 1 && s.asked
 
-abbrev pub taken : Spot → DownWord → Bool → Spot
-taken s (Supplying bytes) b =
+abbrev pub spot_after_taking : Spot → DownWord → Bool → Spot
+spot_after_taking s (Supplying bytes) b =
     record s {
       down = rest s.down;
       here = if b then true else s.here;
@@ -64,28 +64,28 @@ taken s (Supplying bytes) b =
       step = false;
       void = false;
     }
-taken s Unavailing b = record s { down = rest s.down; absent = if b && not s.file then true else s.absent; asked = if b then false else s.asked; step = false; void = b && s.file }
-taken s Erring b = record s { down = rest s.down; asked = if b then false else s.asked; step = false; void = false }
+spot_after_taking s Unavailing b = record s { down = rest s.down; absent = if b && not s.file then true else s.absent; asked = if b then false else s.asked; step = false; void = b && s.file }
+spot_after_taking s Erring b = record s { down = rest s.down; asked = if b then false else s.asked; step = false; void = false }
 
-abbrev pub move : List ℕ → Spot → Effect → Spot
-move z s Creates = record s { control = 1; asked = false }
-move z s (Requests lives) = record s { up = s.up ++ Requesting ∷ []; asked = if lives then true else s.asked }
-move z s (Returns keep bytes) = record s { up = s.up ++ Returning bytes ∷ []; here = keep && s.here; bytes = if keep then s.bytes else []; dirty = false; absent = false; returned = Some bytes }
-move z s TakesRequest = record s { up = rest s.up; step = true; void = false }
-move z s (TakesReturn bytes) = record s { up = rest s.up; kept = Some bytes; step = false; void = false }
-move z s (Answers tells word) =
+abbrev pub spot_after : List ℕ → Spot → SpotEffect → Spot
+spot_after z s Creates = record s { control = 1; asked = false }
+spot_after z s (Requests lives) = record s { up = s.up ++ Requesting ∷ []; asked = if lives then true else s.asked }
+spot_after z s (Returns keep bytes) = record s { up = s.up ++ Returning bytes ∷ []; here = keep && s.here; bytes = if keep then s.bytes else []; dirty = false; absent = false; returned = Some bytes }
+spot_after z s TakesRequest = record s { up = rest s.up; step = true; void = false }
+spot_after z s (TakesReturn bytes) = record s { up = rest s.up; kept = Some bytes; step = false; void = false }
+spot_after z s (Answers tells word) =
     record s {
       down = s.down ++ word ∷ [];
       step = false;
-      returned = if tells then told z word s.returned else s.returned;
-      kept = if tells then told z word s.kept else s.kept;
+      returned = if tells then answer_content z word s.returned else s.returned;
+      kept = if tells then answer_content z word s.kept else s.kept;
       void = if tells then false else s.void;
     }
-move z s (Takes word) = taken s word (hears s)
-move z s Zeroes = record s { here = true; bytes = z; dirty = false; void = false }
-move z s (Raises bytes) = record s { here = true; bytes = bytes; dirty = true }
-move z s (Stores at bytes) = record s { bytes = with_bytes at bytes s.bytes; dirty = true }
-move z s Drops = record s { here = false; bytes = []; dirty = false }
-move z s Ends = record s { control = if s.file then 0 else 2; asked = false }
-move z s StepEnds = record s { step = false; void = false }
-move z s Nothing = s
+spot_after z s (Takes word) = spot_after_taking s word (hears s)
+spot_after z s Zeroes = record s { here = true; bytes = z; dirty = false; void = false }
+spot_after z s (Raises bytes) = record s { here = true; bytes = bytes; dirty = true }
+spot_after z s (Stores at bytes) = record s { bytes = with_bytes at bytes s.bytes; dirty = true }
+spot_after z s Drops = record s { here = false; bytes = []; dirty = false }
+spot_after z s Ends = record s { control = if s.file then 0 else 2; asked = false }
+spot_after z s StepEnds = record s { step = false; void = false }
+spot_after z s Nothing = s

@@ -13,20 +13,20 @@ pub data DownWord : Type 0 where
   Erring : DownWord
 
 -- what an event does to one place
-pub data Effect : Type 0 where
-  Creates : Effect
+pub data SpotEffect : Type 0 where
+  Creates : SpotEffect
   -- it counts where its control lives
-  Requests : (lives : Bool) → Effect
-  Returns : (keep : Bool) → (bytes : List ℕ) → Effect
-  TakesRequest : Effect
-  TakesReturn : (bytes : List ℕ) → Effect
+  Requests : (lives : Bool) → SpotEffect
+  Returns : (keep : Bool) → (bytes : List ℕ) → SpotEffect
+  TakesRequest : SpotEffect
+  TakesReturn : (bytes : List ℕ) → SpotEffect
   -- where the pager's files are not told, its answer says what the file has
-  Answers : (tells : Bool) → (word : DownWord) → Effect
-  Takes : (word : DownWord) → Effect
-  Zeroes : Effect
-  Raises : (bytes : List ℕ) → Effect
-  Stores : (at : ℕ) → (bytes : List ℕ) → Effect
-  Drops : Effect
-  Ends : Effect
-  StepEnds : Effect
-  Nothing : Effect
+  Answers : (tells : Bool) → (word : DownWord) → SpotEffect
+  Takes : (word : DownWord) → SpotEffect
+  Zeroes : SpotEffect
+  Raises : (bytes : List ℕ) → SpotEffect
+  Stores : (at : ℕ) → (bytes : List ℕ) → SpotEffect
+  Drops : SpotEffect
+  Ends : SpotEffect
+  StepEnds : SpotEffect
+  Nothing : SpotEffect

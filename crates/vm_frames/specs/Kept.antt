@@ -12,7 +12,7 @@ abbrev pub AreSpare : List Bool → List FrameNo → Type 0
 AreSpare claims [] = Unit {0}
 AreSpare claims (f ∷ fs) = (get_or claims f.0 true ≡ false) × (is_listed f.0 fs ≡ false) × AreSpare claims fs
 
-pub record AreKept (all : List (List ℕ)) (marks : List Bool) (rest : List FrameNo) (most out : ℕ) : Type 0 where
+pub record AreFrames (all : List (List ℕ)) (marks : List Bool) (rest : List FrameNo) (most out : ℕ) : Type 0 where
   pub pages : length all ≡ length marks
   pub spare : AreSpare marks rest
   pub counted : length rest + count_claims marks ≡ length marks

@@ -26,13 +26,13 @@ pub struct Frames {
 impl Model for Frames {
     ghost use Rattle.std.specs.Prelude.{vec_capacity, reverse};
     ghost use Rattle.vm_frames.specs.Frames.{FrameTable};
-    ghost use Rattle.vm_frames.specs.Kept.{AreKept};
+    ghost use Rattle.vm_frames.specs.Kept.{AreFrames};
 
     ghost Value = { FrameTable };
 
     ghost view = { λ s. record { pages = s.pages.items; claims = s.claims.items; wired = s.wired } };
 
-    ghost invariant = { λ s. AreKept s.pages.items s.claims.items (reverse s.spare.items) (vec_capacity s.spare) s.wired };
+    ghost invariant = { λ s. AreFrames s.pages.items s.claims.items (reverse s.spare.items) (vec_capacity s.spare) s.wired };
 }
 
 impl Frames {

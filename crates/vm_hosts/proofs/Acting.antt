@@ -21,7 +21,7 @@ use Rattle.vm_abroad.specs.Sound.{IsAbroad}
 use Rattle.vm_abroad.specs.Whose.{IsNew, IsOfHost}
 use Rattle.vm_abroad.proofs.Whose.{abroad_of_own, own_of_home}
 use Rattle.vm_shadow.specs.declared.ids.Ids.{Ids}
-use Rattle.vm_kernel.specs.Begun.{CreatesHere, IsMine, IsSaid, KernelSays}
+use Rattle.vm_kernel.specs.Begun.{CreatesHere, IsMine, KernelSays, SomeKernelSays}
 use Rattle.vm_kernel.specs.Matches.{Rests}
 use Rattle.vm_kernel.specs.Serving.{HasQueue}
 use Rattle.vm_kernel.specs.declared.parts.Parts.{Parts}
@@ -94,7 +94,7 @@ moments_all : (P : ℕ → List Event → Type 0) (events past : List Event) →
 moments_all P [] past all = tt
 moments_all P (e ∷ events) past all = (λ g. (all g).0, moments_all P events past (λ g. (all g).1))
 
-said_all : (header : Header) (h : ℕ) (events past : List Event) → h < length header.frames.items → EachOf (KernelSays h header.size) events → EachIn (IsMine header h) events past → EachIn (IsSaid header) events past
+said_all : (header : Header) (h : ℕ) (events past : List Event) → h < length header.frames.items → EachOf (KernelSays h header.size) events → EachIn (IsMine header h) events past → EachIn (SomeKernelSays header) events past
 said_all header h [] past known said mine = tt
 said_all header h (e ∷ events) past known said mine = (record { host = h; known = known; says = said.0; creates = mine.0.creates }, said_all header h events past known said.1 mine.1)
 

@@ -21,7 +21,7 @@ use Rattle.vm_kernel.specs.Begun.{IsLaundered, Passed}
 use Rattle.vm_kernel.specs.Matches.{Rests, host_id}
 use Rattle.vm_kernel.specs.declared.parts.Parts.{Parts}
 use Rattle.vm_hosts.specs.Hosts.{AllRest, HostTable}
-use Rattle.vm_hosts.specs.Steps.{Answers}
+use Rattle.vm_hosts.specs.Steps.{PagerStep}
 use Rattle.vm_hosts.proofs.Acting.{acting_rests, acts_one}
 use Rattle.vm_hosts.proofs.Nobodys.{all_nobodys}
 use Rattle.vm_hosts.proofs.Tables.{put, same_number}
@@ -61,13 +61,13 @@ laundered_by h object (message.Return control page dirty keep bytes) front gives
 laundered_by h object other front gives is = absurd (let bad : false ≡ true = gives in cc)
 
 module _ (header : Header) (outside : Outside) (doing : Command) (host : HostId) (past front : List Event) where
-  pub laundered_front : (washed : Bool) (h : ℕ) → washed ≡ true → h ≡ host.0 → Answers header outside doing host washed past front → IsLaundered h (first_of front)
+  pub laundered_front : (washed : Bool) (h : ℕ) → washed ≡ true → h ≡ host.0 → PagerStep header outside doing host washed past front → IsLaundered h (first_of front)
   laundered_front washed h wash same answers =
       laundered_by h answers.object answers.m (first_of front) (answers.gives ∙ wash)
       (ap first_of answers.is ∙ (first_is answers.told (event.Taken (Up host answers.object) answers.m) ∙ ap (λ z. event.Taken (Up (host_id z) answers.object) answers.m ∷ []) (sym same)))
 
   -- a return was out, so the kernel holds its frame
-  pub held_out : (washed : Bool) (k : Parts) (ids : Ids) → washed ≡ true → Answers header outside doing host washed past front → Rests header host.0 k ids past → k.laundry.held ≢ []
+  pub held_out : (washed : Bool) (k : Parts) (ids : Ids) → washed ≡ true → PagerStep header outside doing host washed past front → Rests header host.0 k ids past → k.laundry.held ≢ []
   held_out washed k ids wash answers rests none =
       let count = rests.matches.laundry.count in
       let some = answers.out wash in
@@ -75,7 +75,7 @@ module _ (header : Header) (outside : Outside) (doing : Command) (host : HostId)
       omega (arith, count, some, empty)
 
   -- where a frame comes free its kernel has taken that note, and what the pager said is nobody's
-  pub behind_washed : (washed : Bool) (hosts : HostTable) (h : ℕ) (k : Parts) (ids : Ids) (events : List Event) → washed ≡ true → h ≡ host.0 → Answers header outside doing host washed past front → AllRest header hosts past
+  pub behind_washed : (washed : Bool) (hosts : HostTable) (h : ℕ) (k : Parts) (ids : Ids) (events : List Event) → washed ≡ true → h ≡ host.0 → PagerStep header outside doing host washed past front → AllRest header hosts past
       → Passed header h outside doing (first_of front ++ past) k ids events → events ≡ [] → AllRest header (put hosts host.0 k ids) (front ++ past)
   behind_washed washed hosts h k ids events wash same answers all passed none =
       let taken = event.Taken (Up host answers.object) answers.m in
@@ -91,7 +91,7 @@ module _ (header : Header) (outside : Outside) (doing : Command) (host : HostId)
       subst (AllRest header (put hosts host.0 k ids)) (sym (ap (λ z. z ++ past) answers.is ∙ append_assoc answers.told (taken ∷ []) past)) told
 
   -- else all of it is nobody's
-  pub behind_kept : (washed : Bool) (hosts : HostTable) → washed ≡ false → Answers header outside doing host washed past front → AllRest header hosts past → AllRest header hosts (front ++ past)
+  pub behind_kept : (washed : Bool) (hosts : HostTable) → washed ≡ false → PagerStep header outside doing host washed past front → AllRest header hosts past → AllRest header hosts (front ++ past)
   behind_kept washed hosts kept answers all =
       let taken = event.Taken (Up host answers.object) answers.m in
       all_nobodys header outside doing hosts front past all

@@ -8,22 +8,22 @@ use Rattle.vm_legal.specs.Frames.{Suffice}
 use Rattle.vm_legal.specs.Outside.{Outside}
 use Rattle.vm_legal.specs.Prompt.{PromptAt}
 use Rattle.vm_shadow.specs.declared.ids.Ids.{Ids}
-use Rattle.vm_kernel.specs.Begun.{Goes, Served}
+use Rattle.vm_kernel.specs.Begun.{LegalEvents, Served}
 use Rattle.vm_kernel.specs.Matches.{Rests}
 use Rattle.vm_kernel.specs.Serving.{HasQueue}
 use Rattle.vm_kernel.specs.declared.parts.Parts.{Parts}
 use Rattle.vm_hosts.specs.Hosts.{AllRest, HostTable}
-use Rattle.vm_hosts.specs.Steps.{Follows, Went}
+use Rattle.vm_hosts.specs.Steps.{EventsFollow, Went}
 use Rattle.vm_hosts.proofs.Acting.{Acts, SeenTo, acting_rests, acting_seen, acting_stretch, makes_all}
 use Rattle.vm_hosts.proofs.Stretches.{follows_both, follows_none}
 use Rattle.vm_hosts.proofs.Tables.{all_suffice, kernel_of, put}
 
 -- what a kernel's call goes on by is its host's
-pub acts_goes : (header : Header) (h : ℕ) (outside : Outside) (doing : Command) (past old new : List Event) → h < length header.frames.items → (goes : Goes header h outside doing past old new) → Acts header h outside doing (old ++ past) goes.more
+pub acts_goes : (header : Header) (h : ℕ) (outside : Outside) (doing : Command) (past old new : List Event) → h < length header.frames.items → (goes : LegalEvents header h outside doing past old new) → Acts header h outside doing (old ++ past) goes.more
 acts_goes header h outside doing past old new known goes = record { known = known; licensed = goes.licensed; mine = goes.mine; makes = makes_all (length header.frames.items) h header.size goes.more known goes.said }
 
-pub follows_goes : (header : Header) (h : ℕ) (outside : Outside) (doing : Command) (past old new : List Event) → h < length header.frames.items → ((g : ℕ) → g ≢ h → Suffice header g (old ++ past)) → (goes : Goes header h outside doing past old new)
-    → Follows header outside doing (old ++ past) goes.more
+pub follows_goes : (header : Header) (h : ℕ) (outside : Outside) (doing : Command) (past old new : List Event) → h < length header.frames.items → ((g : ℕ) → g ≢ h → Suffice header g (old ++ past)) → (goes : LegalEvents header h outside doing past old new)
+    → EventsFollow header outside doing (old ++ past) goes.more
 follows_goes header h outside doing past old new known suffice goes = record {
   follows = goes.follows;
   stretch = acting_stretch header h outside doing (old ++ past) goes.more (acts_goes header h outside doing past old new known goes) suffice goes.own_bytes goes.frames goes.inner goes.said;
@@ -35,7 +35,7 @@ pub record Serving (header : Header) (outside : Outside) (doing : Command) (past
   pub seen : SeenTo header n hosts (new ++ past)
   pub more : List Event
   pub is : new ≡ more ++ old
-  pub follows : Follows header outside doing (old ++ past) more
+  pub follows : EventsFollow header outside doing (old ++ past) more
 
 pub serving_start : (header : Header) (outside : Outside) (doing : Command) (past old : List Event) (hosts : HostTable) → AllRest header hosts (old ++ past) → Serving header outside doing past old 0 hosts old
 serving_start header outside doing past old hosts all =
@@ -61,7 +61,7 @@ serving_next header outside doing past old mid new n hosts k ids within was serv
       is = goes.is ∙ (ap (λ z. goes.more ++ z) was.is ∙ sym (append_assoc goes.more was.more old));
       follows =
           follows_both header outside doing (old ++ past) was.more goes.more was.follows
-          (subst (λ (z : List Event). Follows header outside doing z goes.more) before
+          (subst (λ (z : List Event). EventsFollow header outside doing z goes.more) before
           (follows_goes header n outside doing past mid new known (λ g apart. all_suffice header hosts (mid ++ past) was.rests g) goes));
     }
 

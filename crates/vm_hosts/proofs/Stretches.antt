@@ -9,8 +9,8 @@ use Rattle.vm_legal.specs.Follows.{IsConsequence}
 use Rattle.vm_legal.specs.Frames.{FramesSuffice}
 use Rattle.vm_legal.specs.Outside.{Outside}
 use Rattle.vm_legal.proofs.Stretched.{each_both, inner_both, licensed_both, moments_both, of_both}
-use Rattle.vm_kernel.specs.Begun.{IsSaid}
-use Rattle.vm_hosts.specs.Steps.{Follows, Heads, Stretch}
+use Rattle.vm_kernel.specs.Begun.{SomeKernelSays}
+use Rattle.vm_hosts.specs.Steps.{EventsFollow, Heads, Stretch}
 
 pub stretch_none : (header : Header) (outside : Outside) (doing : Command) (past : List Event) → Stretch header outside doing past []
 stretch_none header outside doing past = record { licensed = tt; own_bytes = tt; frames = tt; inner = tt; said = tt }
@@ -21,18 +21,18 @@ stretch_both header outside doing past front later one two = record {
   own_bytes = each_both (OwnBytes header) later front past two.own_bytes one.own_bytes;
   frames = moments_both (FramesSuffice header) later front past two.frames one.frames;
   inner = inner_both later front two.inner one.inner;
-  said = each_both (IsSaid header) later front past two.said one.said;
+  said = each_both (SomeKernelSays header) later front past two.said one.said;
 }
 
-pub follows_none : (header : Header) (outside : Outside) (doing : Command) (past : List Event) → Follows header outside doing past []
+pub follows_none : (header : Header) (outside : Outside) (doing : Command) (past : List Event) → EventsFollow header outside doing past []
 follows_none header outside doing past = record { follows = tt; stretch = stretch_none header outside doing past }
 
-pub follows_both : (header : Header) (outside : Outside) (doing : Command) (past front later : List Event) → Follows header outside doing past front → Follows header outside doing (front ++ past) later → Follows header outside doing past (later ++ front)
+pub follows_both : (header : Header) (outside : Outside) (doing : Command) (past front later : List Event) → EventsFollow header outside doing past front → EventsFollow header outside doing (front ++ past) later → EventsFollow header outside doing past (later ++ front)
 follows_both header outside doing past front later one two =
     record { follows = of_both IsConsequence later front two.follows one.follows; stretch = stretch_both header outside doing past front later one.stretch two.stretch }
 
 -- behind the head of a command
-pub heads_more : (header : Header) (outside : Outside) (doing : Command) (past events later : List Event) → Heads header outside doing past events → Follows header outside doing (events ++ past) later → Heads header outside doing past (later ++ events)
+pub heads_more : (header : Header) (outside : Outside) (doing : Command) (past events later : List Event) → Heads header outside doing past events → EventsFollow header outside doing (events ++ past) later → Heads header outside doing past (later ++ events)
 heads_more header outside doing past events later heads follows = record {
   first = heads.first;
   more = later ++ heads.more;

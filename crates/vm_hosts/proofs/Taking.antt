@@ -10,19 +10,19 @@ use Rattle.vm_model.specs.declared.message.Message.{Message}
 use Rattle.vm_model.specs.declared.script.Header.{Header}
 use Rattle.vm_legal.specs.Frames.{Suffice, frames_free}
 use Rattle.vm_legal.specs.Licences.{Licensed}
-use Rattle.vm_legal.specs.Debts.{StopsAt}
+use Rattle.vm_legal.specs.Debts.{WaitsAt}
 use Rattle.vm_legal.specs.Outside.{Outside}
 use Rattle.vm_legal.specs.Steps.{before_step, fails_access, fails_task}
 use Rattle.vm_legal.specs.Stretches.{AllInner, MomentsIn}
 use Rattle.vm_legal.proofs.Inside.{before_more, error_more, since_more}
 use Rattle.vm_shadow.specs.declared.ids.Ids.{Ids}
-use Rattle.vm_kernel.specs.Begun.{Goes, Passed}
+use Rattle.vm_kernel.specs.Begun.{LegalEvents, Passed}
 use Rattle.vm_kernel.specs.Matches.{Rests}
 use Rattle.vm_kernel.specs.Taking.{EndsAll, IsErrorPaid}
 use Rattle.vm_kernel.specs.declared.parts.Parts.{Parts}
 use Rattle.vm_hosts.specs.Hosts.{AllRest, HostTable}
 use Rattle.vm_hosts.specs.Steps as steps
-use Rattle.vm_hosts.specs.Steps.{Follows, Went}
+use Rattle.vm_hosts.specs.Steps.{EventsFollow, Went}
 use Rattle.vm_kernel.proofs.Abroad.{frames_abroad}
 use Rattle.vm_hosts.proofs.Acting.{Acts, acting_rests, acts_both, acts_one, others}
 use Rattle.vm_hosts.proofs.Serving.{acts_goes, follows_goes}
@@ -30,7 +30,7 @@ use Rattle.vm_hosts.proofs.Stretches.{follows_both}
 use Rattle.vm_hosts.proofs.Tables.{all_suffice, put, same_number}
 
 -- the events of a kernel alone, behind nothing
-goes_alone : (header : Header) (h : ℕ) (outside : Outside) (doing : Command) (past events : List Event) → (goes : Goes header h outside doing past [] events) → events ≡ goes.more
+goes_alone : (header : Header) (h : ℕ) (outside : Outside) (doing : Command) (past events : List Event) → (goes : LegalEvents header h outside doing past [] events) → events ≡ goes.more
 goes_alone header h outside doing past events goes = goes.is ∙ append-nil goes.more
 
 module _ (header : Header) (outside : Outside) (doing : Command) (past front events : List Event) (hosts : HostTable) (host : HostId) (object : ObjectId) (control : ℕ) (m : Message) (k : Parts) (ids : Ids) (known : host.0 < length header.frames.items) (all : AllRest header hosts past)
@@ -57,13 +57,13 @@ module _ (header : Header) (outside : Outside) (doing : Command) (past front eve
       let one : MomentsIn (Suffice header g) (event.Taken (Down host object control) m ∷ []) past = subst (λ (z : List Event). MomentsIn (Suffice header g) z past) is before in
       subst (λ (z : List Event). Suffice header g (z ++ past)) (sym is) one.0
 
-  pub taken_follows : Follows header outside doing (front ++ past) events
-  taken_follows = subst (Follows header outside doing (front ++ past)) (sym alone) (follows_goes header host.0 outside doing (front ++ past) [] events known suffice passed.goes)
+  pub taken_follows : EventsFollow header outside doing (front ++ past) events
+  taken_follows = subst (EventsFollow header outside doing (front ++ past)) (sym alone) (follows_goes header host.0 outside doing (front ++ past) [] events known suffice passed.goes)
 
 -- the rest of the step serves the queues
-pub passed_on : (header : Header) (outside : Outside) (doing : Command) (past events : List Event) (hosts : HostTable) (new : List Event) → Follows header outside doing past events → Went header outside doing past events hosts new → steps.Passed header outside doing past hosts new
+pub passed_on : (header : Header) (outside : Outside) (doing : Command) (past events : List Event) (hosts : HostTable) (new : List Event) → EventsFollow header outside doing past events → Went header outside doing past events hosts new → steps.HostsPart header outside doing past hosts new
 passed_on header outside doing past events hosts new follows went =
-    record { ended = went.ended; follows = subst (Follows header outside doing past) (sym went.is) (follows_both header outside doing past events went.more follows went.follows) }
+    record { ended = went.ended; follows = subst (EventsFollow header outside doing past) (sym went.is) (follows_both header outside doing past events went.more follows went.follows) }
 
 -- what an error owes stays paid
 
@@ -74,7 +74,7 @@ ends_more : (header : Header) (more past : List Event) → AllInner more → End
 ends_more header more past inner ends = λ host object page is task stops frees.
     since_more (fails_task task object page) more past inner
     (ends host object page (sym (error_more header.size more past inner) ∙ is) task
-    (subst (λ (z : List Event). StopsAt header host task object page z) before stops)
+    (subst (λ (z : List Event). WaitsAt header host task object page z) before stops)
     (subst (λ (z : List Event). frames_free header host z ≡ 0 → ⊥) before frees))
   where
     before : before_step (more ++ past) ≡ before_step past

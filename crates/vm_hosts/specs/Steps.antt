@@ -18,7 +18,7 @@ use Rattle.vm_legal.specs.Outside.{Outside}
 use Rattle.vm_legal.specs.Prompt.{Prompt}
 use Rattle.vm_legal.specs.Stretches.{AllInner, EachIn, EachOf, MomentsIn}
 use Rattle.vm_kernel.specs.Abroad.{IsNobodys}
-use Rattle.vm_kernel.specs.Begun.{IsSaid, acts_on}
+use Rattle.vm_kernel.specs.Begun.{SomeKernelSays, acts_on}
 use Rattle.vm_hosts.specs.Hosts.{AllQueued, AllRest, HostTable}
 
 -- what is told to calls: the script's header, what is told of the outside, the command of the step, and the history in front of the call
@@ -34,10 +34,10 @@ pub record Stretch (header : Header) (outside : Outside) (doing : Command) (past
   pub own_bytes : EachIn (OwnBytes header) events past
   pub frames : MomentsIn (FramesSuffice header) events past
   pub inner : AllInner events
-  pub said : EachIn (IsSaid header) events past
+  pub said : EachIn (SomeKernelSays header) events past
 
 -- they follow from what stands in front of them
-pub record Follows (header : Header) (outside : Outside) (doing : Command) (past events : List Event) : Type 0 where
+pub record EventsFollow (header : Header) (outside : Outside) (doing : Command) (past events : List Event) : Type 0 where
   pub follows : EachOf IsConsequence events
   pub stretch : Stretch header outside doing past events
 
@@ -51,26 +51,26 @@ pub record Heads (header : Header) (outside : Outside) (doing : Command) (past e
   pub stretch : Stretch header outside doing past events
 
 -- all hosts have served their frame queues: a step has ended
-pub record Ended (header : Header) (hosts : HostTable) (past : List Event) : Type 0 where
+pub record StepHasEnded (header : Header) (hosts : HostTable) (past : List Event) : Type 0 where
   pub rests : AllRest header hosts past
   pub queues : AllQueued header hosts past
   pub prompt : Prompt header past
 
 -- a command's step was run
 pub record Began (header : Header) (outside : Outside) (doing : Command) (past : List Event) (hosts : HostTable) (events : List Event) : Type 0 where
-  pub ended : Ended header hosts (events ++ past)
+  pub ended : StepHasEnded header hosts (events ++ past)
   pub heads : Heads header outside doing past events
   pub done : IsDone header doing events past
   pub paid : IsPaid header (events ++ past)
 
 -- the hosts' part of a step was run that began with a taking, or with a command that is no host's
-pub record Passed (header : Header) (outside : Outside) (doing : Command) (past : List Event) (hosts : HostTable) (events : List Event) : Type 0 where
-  pub ended : Ended header hosts (events ++ past)
-  pub follows : Follows header outside doing past events
+pub record HostsPart (header : Header) (outside : Outside) (doing : Command) (past : List Event) (hosts : HostTable) (events : List Event) : Type 0 where
+  pub ended : StepHasEnded header hosts (events ++ past)
+  pub follows : EventsFollow header outside doing past events
 
 -- A pager of the host took a message, and said what it did of it; where the message returns a page that the host didn't keep, a return
 -- was out.
-pub record Answers (header : Header) (outside : Outside) (doing : Command) (host : HostId) (washed : Bool) (past front : List Event) : Type 0 where
+pub record PagerStep (header : Header) (outside : Outside) (doing : Command) (host : HostId) (washed : Bool) (past front : List Event) : Type 0 where
   pub known : host.0 < length header.frames.items
   pub object : ObjectId
   pub m : Message
@@ -96,7 +96,7 @@ pub record ActsOn (header : Header) (h : ℕ) (doing : Command) (past : List Eve
 
 -- all hosts have served their queues behind what a step did
 pub record Went (header : Header) (outside : Outside) (doing : Command) (past old : List Event) (hosts : HostTable) (new : List Event) : Type 0 where
-  pub ended : Ended header hosts (new ++ past)
+  pub ended : StepHasEnded header hosts (new ++ past)
   pub more : List Event
   pub is : new ≡ more ++ old
-  pub follows : Follows header outside doing (old ++ past) more
+  pub follows : EventsFollow header outside doing (old ++ past) more

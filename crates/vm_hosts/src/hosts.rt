@@ -14,7 +14,7 @@ ghost use Rattle.vm_kernel.specs.Matches.{IsPlain};
 ghost use Rattle.vm_kernel.specs.Taking.{EndsAll, IsErrorPaid, IsTempAnswer};
 ghost use Rattle.vm_kernel.specs.Refusing.{takes_name};
 ghost use Rattle.vm_hosts.specs.Hosts.{AllQueued, AllRest, AreNew};
-ghost use Rattle.vm_hosts.specs.Steps.{ActsOn, Answers, Began, Going, Passed, Step, Went};
+ghost use Rattle.vm_hosts.specs.Steps.{ActsOn, Began, Going, HostsPart, PagerStep, Step, Went};
 
 use std::alloc::Global;
 use std::marker::Model;
@@ -97,7 +97,7 @@ impl Hosts {
         requires host { host.0 < length given.header.frames.items }
         requires answer { IsTempAnswer given.header.size message.now }
         requires licensed { Licensed given.header given.outside given.command (event.Taken (channels.Down host object control) message.now) given.past }
-        ensures passed { IfOk result (λ events. Passed given.header given.outside given.command (event.Taken (channels.Down host object control) message.now ∷ given.past) self.new events.items) }
+        ensures passed { IfOk result (λ events. HostsPart given.header given.outside given.command (event.Taken (channels.Down host object control) message.now ∷ given.past) self.new events.items) }
         ensures failed { IfOk result (λ events. IsErrorPaid given.header (events.items ++ event.Taken (channels.Down host object control) message.now ∷ given.past)) }
         ensures ended { IfOk result (λ events. EndsAll given.header (events.items ++ event.Taken (channels.Down host object control) message.now ∷ given.past)) }
     {
@@ -110,8 +110,8 @@ impl Hosts {
     pub fn follow(&mut self, host: HostId, washed: bool) -> Result<Events, NoMemory>
         ghost given: { Going }
         requires rests { AllRest given.header self.old given.past }
-        requires answers { Answers given.header given.outside given.command host washed given.past given.front }
-        ensures passed { IfOk result (λ events. Passed given.header given.outside given.command (given.front ++ given.past) self.new events.items) }
+        requires answers { PagerStep given.header given.outside given.command host washed given.past given.front }
+        ensures passed { IfOk result (λ events. HostsPart given.header given.outside given.command (given.front ++ given.past) self.new events.items) }
     {
         let mut log = self.behind(host, washed)?;
         self.serve(&mut log)?;
@@ -122,7 +122,7 @@ impl Hosts {
     pub fn pass(&mut self) -> Result<Events, NoMemory>
         ghost given: { Step }
         requires rests { AllRest given.header self.old given.past }
-        ensures passed { IfOk result (λ events. Passed given.header given.outside given.command given.past self.new events.items) }
+        ensures passed { IfOk result (λ events. HostsPart given.header given.outside given.command given.past self.new events.items) }
     {
         let mut log = Events::new(self.alloc);
         self.serve(&mut log)?;
@@ -144,7 +144,7 @@ impl Hosts {
         requires front { given.front ≡ event.Taken (channels.Down host object control) message.now ∷ [] }
         requires answer { IsTempAnswer given.header.size message.now }
         requires licensed { Licensed given.header given.outside given.command (event.Taken (channels.Down host object control) message.now) given.past }
-        ensures passed { IfOk result (λ events. Passed given.header given.outside given.command (given.front ++ given.past) self.new events.items) }
+        ensures passed { IfOk result (λ events. HostsPart given.header given.outside given.command (given.front ++ given.past) self.new events.items) }
         ensures failed { IfOk result (λ events. IsErrorPaid given.header (events.items ++ (given.front ++ given.past))) }
         ensures ended { IfOk result (λ events. EndsAll given.header (events.items ++ (given.front ++ given.past))) }
     {
@@ -157,7 +157,7 @@ impl Hosts {
     fn behind(&mut self, host: HostId, washed: bool) -> Result<Events, NoMemory>
         ghost given: { Going }
         requires rests { AllRest given.header self.old given.past }
-        requires answers { Answers given.header given.outside given.command host washed given.past given.front }
+        requires answers { PagerStep given.header given.outside given.command host washed given.past given.front }
         ensures rests { OnOk result (AllRest given.header self.new (given.front ++ given.past)) }
         ensures nothing { IfOk result (λ events. events.items ≡ []) }
     {

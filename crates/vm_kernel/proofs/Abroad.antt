@@ -25,7 +25,7 @@ use Rattle.vm_legal.specs.Stretches.{EachIn, EachOf, MomentsIn}
 use Rattle.vm_legal.specs.Used.{in_use}
 use Rattle.vm_legal.specs.Walks.{Below}
 use Rattle.vm_abroad.specs.Home.{home_of}
-use Rattle.vm_abroad.specs.Same.{SameFacts, Stays}
+use Rattle.vm_abroad.specs.Same.{SameFacts, SameForHost}
 use Rattle.vm_abroad.specs.Sound.{IsAbroad, IsAmong, IsHeldOn, IsRegionOf, Knows, Sound}
 use Rattle.vm_abroad.specs.Whose.{IsOfHost, IsShut}
 use Rattle.vm_abroad.proofs.Facts.{stays, use_same}
@@ -254,7 +254,7 @@ apart_of header h k ids past rests task r away ours = rests.matches.uses.apart t
 -- behind events that are nothing to its host
 
 module _ (header : Header) (outside : Outside) (h : ℕ) (k : Parts) (ids : Ids) (events past : List Event) (sound : Sound header past) (rests : Rests header h k ids past) (abroad : EachIn (IsAbroad header outside h) events past) where
-  stay : Stays header h past (events ++ past)
+  stay : SameForHost header h past (events ++ past)
   stay = stays header outside h events past sound (knows_of header h k ids past rests) abroad
 
   pub rests_abroad : (next : Ids) → IsCommon header next (events ++ past) → Rests header h k next (events ++ past)

@@ -28,7 +28,7 @@ use Rattle.vm_waits.specs.Waits.{WaitTable}
 use Rattle.vm_waits.specs.declared.waiting.Want.{Want}
 use Rattle.vm_waits.specs.declared.waiting.Want.TheVariants as want
 use Rattle.vm_kernel.specs.Changes.{Brought, IsHere, Wrote}
-use Rattle.vm_kernel.specs.Faulting.{Touched}
+use Rattle.vm_kernel.specs.Faulting.{MarksReferenced}
 use Rattle.vm_kernel.specs.Matches.{HasPages, IsPlain, Matches, host_id}
 use Rattle.vm_kernel.specs.Places.{place_of}
 use Rattle.vm_kernel.specs.declared.parts.Parts.{Parts}
@@ -38,7 +38,7 @@ use Rattle.vm_kernel.proofs.Pages.{bytes_now, frames_changed, laundry_changed, p
 use Rattle.vm_parts.proofs.Rows.{row_put, some_is}
 use Rattle.vm_parts.specs.Changes.{clean_row, unlocked}
 use Rattle.vm_objects.specs.Objects.{absent_at}
-use Rattle.vm_model.specs.Local.{Stores, Zeroes, moved}
+use Rattle.vm_model.specs.Local.{Stores, Zeroes, local_after}
 use Rattle.vm_kernel.proofs.Standing.{Shows}
 use Rattle.vm_kernel.proofs.Walking.{comes_top}
 use Rattle.vm_kernel.proofs.Own.{lives_in, own_host}
@@ -197,7 +197,7 @@ matches_stored header h k mid ids lost past task at n value key frame m lives st
     let here : row.here ≡ true = ap (λ z. z.here) (some_is row stands.row (sym w.page.found ∙ stands.found)) ∙ stands.here in
     let written = bytes_now key row.frame _ _ _ _ _ k.memory mid.memory w.page ∙ ap (λ (z : FrameNo). with_bytes at put (page_in k.memory.frames z.0)) (sym w.is) in
     let pages2 = pages_moved header.size (Stores at put) key row.frame _ _ _ _ _ k.memory mid.memory k.memory.objects k.chains (λ o2 p2. local header.size h (place_of o2 p2) past) m.fits.parts m.pages w.page (λ some. m.pages.live o p row w.page.found)
-    (ap (moved header.size (Stores at put)) (shown_here k.memory.frames row lacked here) ∙ (ap (λ z. shown_as row2 true true z lacked) (sym written) ∙ sym (shown_here mid.memory.frames row2 lacked here))) (λ o2 p2 apart. refl) in
+    (ap (local_after header.size (Stores at put)) (shown_here k.memory.frames row lacked here) ∙ (ap (λ z. shown_as row2 true true z lacked) (sym written) ∙ sym (shown_here mid.memory.frames row2 lacked here))) (λ o2 p2 apart. refl) in
     let pages3 : HasPages mid.memory.frames mid.memory.resident k.memory.objects k.chains (λ o2 p2. local header.size h (place_of o2 p2) (event.Stored task key.object key.page at n value ∷ past)) = rw (lives, own_host h) pages2 in
     record {
       plain = m.plain;
@@ -218,7 +218,7 @@ matches_stored header h k mid ids lost past task at n value key frame m lives st
     }
 
 -- the lists of pages have another order
-pub matches_touched : (frame : FrameNo) (header : Header) (h : ℕ) (k new : Parts) (ids : Ids) (lost : List Entry) (past : List Event) → Matches header h k ids lost past → Touched frame k new → Matches header h new ids lost past
+pub matches_touched : (frame : FrameNo) (header : Header) (h : ℕ) (k new : Parts) (ids : Ids) (lost : List Entry) (past : List Event) → Matches header h k ids lost past → MarksReferenced frame k new → Matches header h new ids lost past
 matches_touched frame header h k new ids lost past m touched = subst (λ (z : Parts). Matches header h z ids lost past) (sym touched.is) with_queues
   where
     with_queues : Matches header h (record k { memory = record k.memory { queues = new.memory.queues } }) ids lost past

@@ -11,7 +11,7 @@ use Rattle.vm_model.specs.declared.message.Message.{Message}
 use Rattle.vm_model.specs.declared.message.Message.TheVariants as message
 use Rattle.vm_model.specs.declared.script.Header.{Header}
 use Rattle.vm_model.specs.Controls.{is_control, live_control}
-use Rattle.vm_model.specs.Local.{Effect, Elsewhere, Local, TakesError, TakesNothing, TakesPage, away, local, moved, taken_effect}
+use Rattle.vm_model.specs.Local.{Elsewhere, Local, LocalEffect, TakesError, TakesNothing, TakesPage, away, local, local_after, taken_effect}
 use Rattle.vm_legal.specs.Accesses.{is_ready}
 use Rattle.vm_legal.specs.Frames.{frames_held}
 use Rattle.vm_legal.specs.Steps.{error_taken}
@@ -20,7 +20,7 @@ use Rattle.vm_objects.specs.Objects.{ObjectTable, PutsAbsent, absent_at}
 use Rattle.vm_resident.specs.declared.page_row.PageRow.{PageRow}
 use Rattle.vm_kernel.specs.Fits.{IsPlainRow}
 use Rattle.vm_kernel.specs.Matches.{host_id}
-use Rattle.vm_kernel.specs.Places.{lock_number, place_of, shown}
+use Rattle.vm_kernel.specs.Places.{local_of_row, lock_number, place_of}
 use Rattle.vm_kernel.proofs.Pages.{itself}
 use Rattle.vm_kernel.proofs.Own.{own_host}
 
@@ -62,7 +62,7 @@ same_live h o o2 control past same = ap (λ z. is_control control (live_control 
 dead_pages : (header : Header) (h : ℕ) (object : ObjectId) (control : ℕ) (m : Message) (past : List Event) → lives h object control past ≡ false
     → (o p : ℕ) → local header.size h (place_of o p) (hears h object control m ∷ past) ≡ local header.size h (place_of o p) past
 dead_pages header h object control m past dead o p =
-    rw (own_host h) (ap (λ b. moved header.size (if b then taken_effect p m else Elsewhere) (local header.size h (place_of o p) past))
+    rw (own_host h) (ap (λ b. local_after header.size (if b then taken_effect p m else Elsewhere) (local header.size h (place_of o p) past))
     (nowhere object.0 o (lives h object control past) (is_control control (live_control h o past)) dead (same_live h object.0 o control past)))
 
 dead_held : (header : Header) (h : ℕ) (object : ObjectId) (control : ℕ) (m : Message) (past : List Event) → lives h object control past ≡ false
@@ -92,8 +92,8 @@ nothing_dead header h object control m past dead =
 
 -- the message is about a page that isn't asked
 
-still : (size : ℕ) (effect : Effect) (o o2 p p2 : ℕ) (live : Bool) (was : Local) → (o ≡ o2 → p ≡ p2 → moved size effect was ≡ was)
-    → moved size (if o == o2 && live then (if p == p2 then effect else Elsewhere) else Elsewhere) was ≡ was
+still : (size : ℕ) (effect : LocalEffect) (o o2 p p2 : ℕ) (live : Bool) (was : Local) → (o ≡ o2 → p ≡ p2 → local_after size effect was ≡ was)
+    → local_after size (if o == o2 && live then (if p == p2 then effect else Elsewhere) else Elsewhere) was ≡ was
 still size effect o o2 p p2 live was same = elim (eqb_tells o o2) [
   | inl is ↦ elim (eqb_tells p p2) [
     | inl also ↦ rw (is.0, also.0) (either live (same is.1 also.1))
@@ -102,21 +102,21 @@ still size effect o o2 p p2 live was same = elim (eqb_tells o o2) [
   | inr apart ↦ rw apart.0 refl
 ]
   where
-    either : (b : Bool) → moved size effect was ≡ was → moved size (if b then effect else Elsewhere) was ≡ was
+    either : (b : Bool) → local_after size effect was ≡ was → local_after size (if b then effect else Elsewhere) was ≡ was
     either true is = is
     either false is = refl
 
-    same_both : (b : Bool) → moved size (if b then Elsewhere else Elsewhere) was ≡ was
+    same_both : (b : Bool) → local_after size (if b then Elsewhere else Elsewhere) was ≡ was
     same_both true = refl
     same_both false = refl
 
-page_stays : (size lock : ℕ) (precious : Bool) (bytes : List ℕ) (was : Local) → was.asked ≡ false → moved size (TakesPage lock precious bytes) was ≡ was
+page_stays : (size lock : ℕ) (precious : Bool) (bytes : List ℕ) (was : Local) → was.asked ≡ false → local_after size (TakesPage lock precious bytes) was ≡ was
 page_stays size lock precious bytes was none = rw none refl
 
-nothing_stays : (size : ℕ) (was : Local) → was.asked ≡ false → moved size TakesNothing was ≡ was
+nothing_stays : (size : ℕ) (was : Local) → was.asked ≡ false → local_after size TakesNothing was ≡ was
 nothing_stays size was none = rw none refl
 
-error_stays : (size : ℕ) (was : Local) → was.asked ≡ false → moved size TakesError was ≡ was
+error_stays : (size : ℕ) (was : Local) → was.asked ≡ false → local_after size TakesError was ≡ was
 error_stays size was none = ap (λ z. record was { asked = z }) (sym none)
 
 -- of a page
@@ -163,7 +163,7 @@ unfailed header h object control page reason past none =
     }
 
 -- what changes nothing either way
-pub same_effect : (size : ℕ) (b : Bool) (was : Local) → moved size (if b then Elsewhere else Elsewhere) was ≡ was
+pub same_effect : (size : ℕ) (b : Bool) (was : Local) → local_after size (if b then Elsewhere else Elsewhere) was ≡ was
 same_effect size true was = refl
 same_effect size false was = refl
 
@@ -185,7 +185,7 @@ ready_again header h object control cache strategy past ready =
     either false was is = refl
 
 -- what is shown of a page that is asked
-pub asked_shows : (fs : FrameTable) (was : PageRow) (lacked : Bool) → IsPlainRow was → was.here ≡ false → shown fs (Some was) lacked ≡ record away { asked = true; absent = lacked }
+pub asked_shows : (fs : FrameTable) (was : PageRow) (lacked : Bool) → IsPlainRow was → was.here ≡ false → local_of_row fs (Some was) lacked ≡ record away { asked = true; absent = lacked }
 asked_shows fs was lacked plain away_now =
     ap (λ z. record { here = z; bytes = if z then page_in fs was.frame.0 else []; lock = lock_number was.lock; dirty = if z then was.dirty else false; precious = was.precious; asked = not z; unlocking = was.unlock_sent; absent = lacked }) away_now
     ∙ (ap (λ z. record away { lock = lock_number z; precious = was.precious; asked = true; unlocking = was.unlock_sent; absent = lacked }) plain.lock
@@ -195,8 +195,8 @@ asked_shows fs was lacked plain away_now =
 -- a page is asked no more, and its pager is known to have none, or not
 
 -- what is known of a page behind that
-pub record IsLeft (size : ℕ) (effect : Effect) (os os2 : ObjectTable) (o p : ℕ) : Type 0 where
-  pub here : moved size effect (record away { asked = true; absent = absent_at os o p }) ≡ record away { absent = absent_at os2 o p }
+pub record IsLeft (size : ℕ) (effect : LocalEffect) (os os2 : ObjectTable) (o p : ℕ) : Type 0 where
+  pub here : local_after size effect (record away { asked = true; absent = absent_at os o p }) ≡ record away { absent = absent_at os2 o p }
   pub others : (o2 p2 : ℕ) → (o == o2 && p == p2) ≡ false → absent_at os2 o2 p2 ≡ absent_at os o2 p2
 
 pub left_lacked : (size : ℕ) (os os2 : ObjectTable) (o p : ℕ) → PutsAbsent o p true os os2 → IsLeft size TakesNothing os os2 o p

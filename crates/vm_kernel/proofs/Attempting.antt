@@ -29,9 +29,9 @@ use Rattle.vm_waits.specs.declared.waiting.On.TheVariants as on
 use Rattle.vm_waits.specs.declared.waiting.Waiting.{Waiting}
 use Rattle.vm_waits.specs.declared.waiting.Want.{Want}
 use Rattle.vm_waits.specs.declared.waiting.Want.TheVariants as want
-use Rattle.vm_kernel.specs.Begun.{Goes}
+use Rattle.vm_kernel.specs.Begun.{LegalEvents}
 use Rattle.vm_kernel.specs.Changes.{Brought, IsHere, SamePlan, Wrote, zeroed}
-use Rattle.vm_kernel.specs.Faulting.{AfterZeros, AtOnce, Ended, Faulted, Faults, Hits, IsAvailable, IsUnavailable, Requested, Stays, Touched, WantsOne}
+use Rattle.vm_kernel.specs.Faulting.{AfterZeros, AtOnce, Ended, Faulted, Faults, Hits, IsAvailable, IsUnavailable, MarksReferenced, NothingChanges, RequestsPage, WantsOne}
 use Rattle.vm_kernel.specs.Matches.{AllUsed, HasOrder, HasWaits, Matches, Works, host_id}
 use Rattle.vm_kernel.specs.Serving.{Queues}
 use Rattle.vm_kernel.specs.Pagers.{is_ready_state, ready_in}
@@ -52,7 +52,7 @@ use Rattle.vm_kernel.proofs.Own.{named_host}
 -- an access has ended, but its row is still there: what the history says, and what the kernel has
 pub record Finishes (header : Header) (h : ℕ) (outside : Outside) (doing : Command) (past : List Event) (k new : Parts) (ids : Ids) (task : TaskId) (what : Want) (key : PageKey) (events after : List Event) : Type 0 where
   pub matches : Matches header h new ids [] (after ++ past)
-  pub goes : Goes header h outside doing past events after
+  pub goes : LegalEvents header h outside doing past events after
   pub ends : (u : ℕ) → waiting u (after ++ past) ≡ (if task.0 == u then None else waiting u (events ++ past))
   pub waits : HasWaits new woken.Nobody (events ++ past)
   pub order : HasOrder new (after ++ past)
@@ -100,7 +100,7 @@ lies_planned k new key plan lies = record { row = lies.row; region = rw plan.cha
 -- a load ends
 finish_load : (header : Header) (h : ℕ) (outside : Outside) (doing : Command) (past : List Event) (k new : Parts) (ids : Ids) (task : TaskId) (address n value : ℕ) (key : PageKey) (frame : FrameNo) (events : List Event)
     → Tries header h (events ++ past) k ids task (want.Load address n) key → IsHere key frame k
-    → value ≡ little_endian (slice_range (page_in k.memory.frames frame.0) (address % header.size) (address % header.size + n)) → Touched frame k new
+    → value ≡ little_endian (slice_range (page_in k.memory.frames frame.0) (address % header.size) (address % header.size + n)) → MarksReferenced frame k new
     → Finishes header h outside doing past k new ids task (want.Load address n) key events (event.Loaded task key.object key.page value ∷ events)
 finish_load header h outside doing past k new ids task address n value key frame events t here number touched =
     let moment = events ++ past in
@@ -124,7 +124,7 @@ finish_load header h outside doing past k new ids task address n value key frame
 -- a store ends
 finish_store : (header : Header) (h : ℕ) (outside : Outside) (doing : Command) (past : List Event) (k mid new : Parts) (ids : Ids) (task : TaskId) (address n value : ℕ) (key : PageKey) (frame : FrameNo) (events : List Event)
     → Tries header h (events ++ past) k ids task (want.Store address n value) key → IsHere key frame k
-    → Wrote key frame (with_bytes (address % header.size) (little_endian_bytes n value) (page_in k.memory.frames frame.0)) k mid → Touched frame mid new
+    → Wrote key frame (with_bytes (address % header.size) (little_endian_bytes n value) (page_in k.memory.frames frame.0)) k mid → MarksReferenced frame mid new
     → Finishes header h outside doing past k new ids task (want.Store address n value) key events (event.Stored task key.object key.page (address % header.size) n value ∷ events)
 finish_store header h outside doing past k mid new ids task address n value key frame events t here wrote touched =
     let moment = events ++ past in
@@ -264,7 +264,7 @@ works_joined header h past k ids w key waits2 works is at asked put =
 -- its page is asked for
 
 -- the request, as the history has it
-asked_is : (header : Header) (h : ℕ) (past : List Event) (k new : Parts) (ids : Ids) (key : PageKey) (access : ℕ) (events after : List Event) → Matches header h k ids [] (events ++ past) → (a : Requested key access k new events after)
+asked_is : (header : Header) (h : ℕ) (past : List Event) (k new : Parts) (ids : Ids) (key : PageKey) (access : ℕ) (events after : List Event) → Matches header h k ids [] (events ++ past) → (a : RequestsPage key access k new events after)
     → after ≡ requesting h key a.control access ∷ events
 asked_is header h past k new ids key access events after m a = a.told ∙ ap (λ z. event.Sent (Up z key.object) (message.Request a.control key.page access) ∷ events) (named_host k.host h m.host)
 
@@ -274,7 +274,7 @@ record Asking (header : Header) (h : ℕ) (outside : Outside) (doing : Command) 
   pub follows : Follows header h outside doing (requesting h key control access) past
 
 asking_of : (header : Header) (h : ℕ) (outside : Outside) (doing : Command) (past : List Event) (k new : Parts) (ids : Ids) (task : TaskId) (what : Want) (key : PageKey) (events after : List Event) → Tries header h (events ++ past) k ids task what key
-    → (a : Requested key (access_number (access_in what) 0) k new events after) → Asking header h outside doing (events ++ past) new ids key a.control (access_number (access_in what) 0)
+    → (a : RequestsPage key (access_number (access_in what) 0) k new events after) → Asking header h outside doing (events ++ past) new ids key a.control (access_number (access_in what) 0)
 asking_of header h outside doing past k new ids task what key events after t a =
     let moment = events ++ past in
     let number = access_number (access_in what) 0 in
@@ -286,13 +286,13 @@ asking_of header h outside doing past k new ids task what key events after t a =
     }
 
 goes_asked : (header : Header) (h : ℕ) (outside : Outside) (doing : Command) (past : List Event) (k new : Parts) (ids : Ids) (task : TaskId) (what : Want) (key : PageKey) (events after : List Event) → Tries header h (events ++ past) k ids task what key
-    → Requested key (access_number (access_in what) 0) k new events after → Goes header h outside doing past events after
+    → RequestsPage key (access_number (access_in what) 0) k new events after → LegalEvents header h outside doing past events after
 goes_asked header h outside doing past k new ids task what key events after t a =
-    subst (λ (z : List Event). Goes header h outside doing past events z) (sym (asked_is header h past k new ids key (access_number (access_in what) 0) events after t.matches a))
+    subst (λ (z : List Event). LegalEvents header h outside doing past events z) (sym (asked_is header h past k new ids key (access_number (access_in what) 0) events after t.matches a))
     (goes_one header h outside doing past events (requesting h key a.control (access_number (access_in what) 0)) t.matches.settled (asking_of header h outside doing past k new ids task what key events after t a).follows)
 
 works_asked : (header : Header) (h : ℕ) (outside : Outside) (doing : Command) (past : List Event) (k new : Parts) (ids : Ids) (w : Waiting) (key : PageKey) (waits2 : WaitTable) (events after : List Event)
-    → Works header h k ids woken.Nobody (events ++ past) → entry k.waits.rows w.task.0 ≡ Some w → IsAt k.maps k.chains w.task.0 w.want key → Requested key (access_number (access_in w.want) 0) k new events after
+    → Works header h k ids woken.Nobody (events ++ past) → entry k.waits.rows w.task.0 ≡ Some w → IsAt k.maps k.chains w.task.0 w.want key → RequestsPage key (access_number (access_in w.want) 0) k new events after
     → PutsInOrder w.task.0 (Some (with_on w (on.Page key))) new.waits.rows waits2.rows → Works header h (record new { waits = waits2 }) ids woken.Nobody (after ++ past)
 works_asked header h outside doing past k new ids w key waits2 events after works is at a put =
     let moment = events ++ past in
@@ -337,7 +337,7 @@ wants_of header h past k ids task what key may t wants =
         Elsewhere key.object.0 key.page.0 comes misses.away misses.unasked may.may_have may.ready
 
 -- nothing has changed but what an access waits for
-stays_works : (header : Header) (h : ℕ) (past : List Event) (k new : Parts) (ids : Ids) (task : ℕ) (x : Option Waiting) (waits2 : WaitTable) (events after : List Event) → Stays k new events after
+stays_works : (header : Header) (h : ℕ) (past : List Event) (k new : Parts) (ids : Ids) (task : ℕ) (x : Option Waiting) (waits2 : WaitTable) (events after : List Event) → NothingChanges k new events after
     → (PutsInOrder task x k.waits.rows waits2.rows → Works header h (record k { waits = waits2 }) ids woken.Nobody (events ++ past)) → PutsInOrder task x new.waits.rows waits2.rows
     → Works header h (record new { waits = waits2 }) ids woken.Nobody (after ++ past)
 stays_works header h past k new ids task x waits2 events after stays works put =
@@ -345,14 +345,14 @@ stays_works header h past k new ids task x waits2 events after stays works put =
     (subst (λ (z : Parts). Works header h (record z { waits = waits2 }) ids woken.Nobody (events ++ past)) (sym stays.same)
     (works (subst (λ (z : Parts). PutsInOrder task x z.waits.rows waits2.rows) stays.same put)))
 
-stays_goes : (header : Header) (h : ℕ) (outside : Outside) (doing : Command) (past : List Event) (k new : Parts) (events after : List Event) → Stays k new events after → Goes header h outside doing past events after
-stays_goes header h outside doing past k new events after stays = subst (λ (z : List Event). Goes header h outside doing past events z) (sym stays.told) (goes_none header h outside doing past events)
+stays_goes : (header : Header) (h : ℕ) (outside : Outside) (doing : Command) (past : List Event) (k new : Parts) (events after : List Event) → NothingChanges k new events after → LegalEvents header h outside doing past events after
+stays_goes header h outside doing past k new events after stays = subst (λ (z : List Event). LegalEvents header h outside doing past events z) (sym stays.told) (goes_none header h outside doing past events)
 
 -- what a fault's answer says
 
 -- what it told follows from what stood there
 pub fault_goes : (header : Header) (h : ℕ) (outside : Outside) (doing : Command) (past : List Event) (k new : Parts) (ids : Ids) (w : Waiting) (may : Bool) (answer : FaultStep) (events after : List Event) → Works header h k ids woken.Nobody (events ++ past)
-    → entry k.waits.rows w.task.0 ≡ Some w → Faulted w.task w.want may answer k new events after → Goes header h outside doing past events after
+    → entry k.waits.rows w.task.0 ≡ Some w → Faulted w.task w.want may answer k new events after → LegalEvents header h outside doing past events after
 fault_goes header h outside doing past k new ids w may step.Done events after works is f = (finishes header h outside doing past k new ids w.task w.want f.key events after (tries_of header h (events ++ past) k ids w f.key works is f.at) f.faults).goes
 fault_goes header h outside doing past k new ids w may (step.Ask key) events after works is f = goes_asked header h outside doing past k new ids w.task w.want f.key events after (tries_of header h (events ++ past) k ids w f.key works is f.at) f.faults.1
 fault_goes header h outside doing past k new ids w may (step.WaitReady object) events after works is f = stays_goes header h outside doing past k new events after f.faults.2

@@ -31,7 +31,7 @@ use Rattle.vm_waits.specs.declared.waiting.Waiting.{Waiting}
 use Rattle.vm_waits.specs.declared.waiting.Want.{Want}
 use Rattle.vm_waits.specs.declared.waiting.Want.TheVariants as want
 use Rattle.vm_waits.proofs.Entries.{none_again, puts_cases, puts_elsewhere}
-use Rattle.vm_kernel.specs.Begun.{Goes, Grows, IsLined, Ran, Starts, acts_on}
+use Rattle.vm_kernel.specs.Begun.{Grows, IsLined, LegalEvents, Ran, Starts, acts_on}
 use Rattle.vm_kernel.specs.Changes.{IsAllowed}
 use Rattle.vm_kernel.specs.Matches.{Matches, Rests, Works}
 use Rattle.vm_kernel.specs.Serving.{IsNext, RunsFirst}
@@ -264,7 +264,7 @@ begun_done header task (want.Store address size value) past events ends = ends
 
 -- the access was run, and all that were to be
 pub begun_ran : (header : Header) (h : ℕ) (outside : Outside) (doing : Command) (task : TaskId) (what : Want) (past : List Event) (k new : Parts) (ids : Ids) (before log after : List Event) (rows : List Waiting) → doing ≡ asks task what
-    → Starts header h doing past k ids before → log ≡ begun task what ∷ before → IsNext task.0 rows → Rests header h new ids (after ++ past) → Goes header h outside doing past log after → RunsFirst header rows past log after
+    → Starts header h doing past k ids before → log ≡ begun task what ∷ before → IsNext task.0 rows → Rests header h new ids (after ++ past) → LegalEvents header h outside doing past log after → RunsFirst header rows past log after
     → Ran header h outside doing past new ids after
 begun_ran header h outside doing task what past k new ids before log after rows is starts told next rests goes runs =
     let first : Grows header h outside (asks task what) past (begun task what ∷ []) = begun_grows header h outside k ids past task what starts.rests.matches (subst (λ (z : Command). refusal header past z ≡ None) is starts.accepted) (subst (λ (z : Command). acts_on h z past ≡ true) is starts.acts) in

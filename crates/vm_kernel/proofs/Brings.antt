@@ -8,7 +8,7 @@ use Rattle.vm_model.specs.declared.event.Event.{Event}
 use Rattle.vm_model.specs.declared.event.Event.TheVariants as event
 use Rattle.vm_model.specs.declared.message.Channel.TheVariants.{Up}
 use Rattle.vm_model.specs.declared.message.Message.TheVariants as message
-use Rattle.vm_parts.specs.Changes.{Asks, Brings, Changes, Discards, Writes}
+use Rattle.vm_parts.specs.Changes.{AsksPage, Brings, Changes, Discards, Writes}
 use Rattle.vm_parts.specs.Fits.{Fit}
 use Rattle.vm_parts.specs.declared.parts.HostParts.{HostParts}
 use Rattle.vm_parts.proofs.Changing.{holds}
@@ -16,8 +16,8 @@ use Rattle.vm_parts.proofs.Rows.{row_cases}
 use Rattle.vm_queues.specs.Queues.{Queues}
 use Rattle.vm_resident.specs.declared.page_row.PageRow.{PageRow}
 use Rattle.vm_kernel.specs.Changes.{Brought, IsHere, Lost, SamePlan, Wrote}
-use Rattle.vm_kernel.specs.Faulting.{IsAvailable, Requested}
-use Rattle.vm_kernel.specs.Fits.{ArePlain, Fits, IsPlainRow}
+use Rattle.vm_kernel.specs.Faulting.{IsAvailable, RequestsPage}
+use Rattle.vm_kernel.specs.Fits.{ArePlain, IsPlainRow, PartsFit}
 use Rattle.vm_kernel.specs.declared.parts.Parts.{Parts}
 
 -- rows are plain still, once a page has a plain one, or none
@@ -27,8 +27,8 @@ plain_changed key frame was now held bytes lists old new plain c is o p row foun
   | inr other ↦ plain o p row (sym other.is ∙ found)
 ]
 
-pub fits_changed : (key : PageKey) (frame : FrameNo) (was now : Option PageRow) (held : Bool) (bytes : List ℕ) (lists : Queues) (k : Parts) (memory : HostParts) → Fits k → Fit memory → memory.buffers ≡ k.memory.buffers
-    → Changes key frame was now held bytes lists k.memory memory → IfSome now IsPlainRow → Fits (record k { memory = memory })
+pub fits_changed : (key : PageKey) (frame : FrameNo) (was now : Option PageRow) (held : Bool) (bytes : List ℕ) (lists : Queues) (k : Parts) (memory : HostParts) → PartsFit k → Fit memory → memory.buffers ≡ k.memory.buffers
+    → Changes key frame was now held bytes lists k.memory memory → IfSome now IsPlainRow → PartsFit (record k { memory = memory })
 fits_changed key frame was now held bytes lists k memory fits fit buffers c is =
     record { parts = fit; plain = plain_changed key frame was now held bytes lists k.memory memory fits.plain c is; buffers = ap (λ z. z.size) buffers ∙ fits.buffers }
 
@@ -36,9 +36,9 @@ fits_changed key frame was now held bytes lists k memory fits fit buffers c is =
 pub same_plan : (k : Parts) (memory : HostParts) → memory.objects ≡ k.memory.objects → memory.buffers ≡ k.memory.buffers → SamePlan k (record k { memory = memory })
 same_plan k memory objects buffers = record { host = refl; size = refl; maps = refl; chains = refl; objects = objects; buffers = buffers; laundry = refl; waits = refl }
 
-pub asked : (k : Parts) (memory : HostParts) (key : PageKey) (frame : FrameNo) (control access : ℕ) (before after : List Event) → Fits k → IsAvailable key control k
-    → Fit memory → Asks key frame k.memory memory → memory.objects ≡ k.memory.objects → memory.buffers ≡ k.memory.buffers → after ≡ event.Sent (Up k.host key.object) (message.Request control key.page access) ∷ before
-    → Requested key access k (record k { memory = memory }) before after
+pub asked : (k : Parts) (memory : HostParts) (key : PageKey) (frame : FrameNo) (control access : ℕ) (before after : List Event) → PartsFit k → IsAvailable key control k
+    → Fit memory → AsksPage key frame k.memory memory → memory.objects ≡ k.memory.objects → memory.buffers ≡ k.memory.buffers → after ≡ event.Sent (Up k.host key.object) (message.Request control key.page access) ∷ before
+    → RequestsPage key access k (record k { memory = memory }) before after
 asked k memory key frame control access before after fits available fit page objects buffers told =
     record {
       control = control;
@@ -50,7 +50,7 @@ asked k memory key frame control access before after fits available fit page obj
       told = told;
     }
 
-pub brought : (k : Parts) (memory : HostParts) (key : PageKey) (frame : FrameNo) → Fits k → Fit memory → Brings key frame k.memory memory → memory.objects ≡ k.memory.objects → memory.buffers ≡ k.memory.buffers → Brought key frame k (record k { memory = memory })
+pub brought : (k : Parts) (memory : HostParts) (key : PageKey) (frame : FrameNo) → PartsFit k → Fit memory → Brings key frame k.memory memory → memory.objects ≡ k.memory.objects → memory.buffers ≡ k.memory.buffers → Brought key frame k (record k { memory = memory })
 brought k memory key frame fits fit page objects buffers =
     record {
       plan = same_plan k memory objects buffers;
@@ -58,7 +58,7 @@ brought k memory key frame fits fit page objects buffers =
       page = page;
     }
 
-pub lost : (k : Parts) (memory : HostParts) (key : PageKey) (row : PageRow) (before after : List Event) → Fits k → row.here ≡ true → Fit memory → Discards key row k.memory memory → memory.objects ≡ k.memory.objects → memory.buffers ≡ k.memory.buffers
+pub lost : (k : Parts) (memory : HostParts) (key : PageKey) (row : PageRow) (before after : List Event) → PartsFit k → row.here ≡ true → Fit memory → Discards key row k.memory memory → memory.objects ≡ k.memory.objects → memory.buffers ≡ k.memory.buffers
     → after ≡ event.Dropped k.host key.object key.page ∷ before → Lost key k (record k { memory = memory }) before after
 lost k memory key row before after fits here fit page objects buffers told =
     record {
@@ -70,7 +70,7 @@ lost k memory key row before after fits here fit page objects buffers told =
       told = told;
     }
 
-pub wrote : (k : Parts) (memory : HostParts) (key : PageKey) (frame : FrameNo) (bytes : List ℕ) → Fits k → (at : IsHere key frame k) → Fit memory → Writes key at.row bytes k.memory memory → memory.objects ≡ k.memory.objects → memory.buffers ≡ k.memory.buffers
+pub wrote : (k : Parts) (memory : HostParts) (key : PageKey) (frame : FrameNo) (bytes : List ℕ) → PartsFit k → (at : IsHere key frame k) → Fit memory → Writes key at.row bytes k.memory memory → memory.objects ≡ k.memory.objects → memory.buffers ≡ k.memory.buffers
     → Wrote key frame bytes k (record k { memory = memory })
 wrote k memory key frame bytes fits at fit page objects buffers =
     let plain = fits.plain key.object.0 key.page.0 at.row at.found in
@@ -87,7 +87,7 @@ pub record Holds (key : PageKey) (frame : FrameNo) (k : Parts) : Type 0 where
   pub claimed : is_claimed k.memory.frames frame.0 ≡ true
   pub sized : length (page_in k.memory.frames frame.0) ≡ k.size
 
-pub holds_of : (k : Parts) (key : PageKey) (frame : FrameNo) → Fits k → IsHere key frame k → Holds key frame k
+pub holds_of : (k : Parts) (key : PageKey) (frame : FrameNo) → PartsFit k → IsHere key frame k → Holds key frame k
 holds_of k key frame fits at =
     let has = holds k.memory key.object.0 key.page.0 at.row fits.parts at.found in
     record {

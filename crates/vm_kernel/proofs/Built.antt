@@ -11,7 +11,7 @@ use Rattle.vm_model.specs.declared.event.Event.{Event}
 use Rattle.vm_model.specs.declared.script.Header.{Header}
 use Rattle.vm_shadow.specs.declared.ids.Ids.{Ids}
 use Rattle.vm_kernel.specs.Begun.{Starts, acts_on}
-use Rattle.vm_kernel.specs.Built.{is_built}
+use Rattle.vm_kernel.specs.Built.{changes_entries, is_built}
 use Rattle.vm_kernel.specs.Matches.{host_id}
 use Rattle.vm_kernel.specs.declared.parts.Parts.{Parts}
 use Rattle.vm_kernel.proofs.Own.{host_same}
@@ -45,6 +45,14 @@ none_unknown (command.Pageout host count) built unknown = unknown.pageout host c
 none_unknown (command.Wire host count) built unknown = unknown.wire host count refl
 none_unknown (command.Unwire host count) built unknown = unknown.unwire host count refl
 none_unknown other built unknown = let bad : false ≡ true = built in cc
+
+pub none_else : (c : Command) → changes_entries c ≡ true → ((task : TaskId) (address bytes : ℕ) → c ≢ command.Allocate task address bytes) → ((task : TaskId) (address bytes : ℕ) → c ≢ command.Deallocate task address bytes)
+    → ((task : TaskId) (address bytes : ℕ) (prot : Prot) → c ≢ command.Protect task address bytes prot) → ((task : TaskId) (address bytes : ℕ) (inherit : Inherit) → c ≢ command.Inherit task address bytes inherit) → ⊥
+none_else (command.Allocate task address bytes) changes allocate deallocate protect inherit = allocate task address bytes refl
+none_else (command.Deallocate task address bytes) changes allocate deallocate protect inherit = deallocate task address bytes refl
+none_else (command.Protect task address bytes prot) changes allocate deallocate protect inherit = protect task address bytes prot refl
+none_else (command.Inherit task address bytes kind) changes allocate deallocate protect inherit = inherit task address bytes kind refl
+none_else other changes allocate deallocate protect inherit = let bad : false ≡ true = changes in cc
 
 pub pageout_of : (header : Header) (h : ℕ) (doing : Command) (past : List Event) (k : Parts) (ids : Ids) (events : List Event) (host : HostId) (count : ℕ) → Starts header h doing past k ids events → doing ≡ command.Pageout host count → doing ≡ command.Pageout (host_id h) count
 pageout_of header h doing past k ids events host count s is =

@@ -5,7 +5,7 @@ use Rattle.vm_base.specs.declared.entry.Entry.{Entry}
 use Rattle.vm_base.specs.declared.ids.Inherit.{Inherit}
 use Rattle.vm_base.specs.declared.ids.Prot.{Prot}
 use Rattle.vm_base.specs.Entries.{cut, inherited, most_entries, parts_in, protected, removed, rewritten}
-use Rattle.vm_model.specs.Rows.{AllRows, Parts, inside_part, rows_cut, rows_flat, rows_known, rows_map, rows_rewritten}
+use Rattle.vm_model.specs.Rows.{AllRows, HoldsOfParts, inside_part, rows_cut, rows_flat, rows_known, rows_map, rows_rewritten}
 use Rattle.vm_model.specs.Tasks.{has_entry}
 use Rattle.vm_maps.specs.declared.change.MapChange.{MapChange}
 use Rattle.vm_maps.specs.Maps.{ChangesOnly, Mapped, entries_in, parts_for, rows_in}
@@ -29,7 +29,7 @@ pub record Cuts (size : ℕ) (chains : ChainTable) (rows made lost : List Entry)
 abbrev pub IsOwn : ℕ → ChainTable → List Entry → Entry → Type 0
 IsOwn size chains rows row = IsInside size chains row × (has_entry row.region.0 rows ≡ true)
 
-pub own_parts : (size : ℕ) (chains : ChainTable) (rows : List Entry) → Parts size (IsOwn size chains rows)
+pub own_parts : (size : ℕ) (chains : ChainTable) (rows : List Entry) → HoldsOfParts size (IsOwn size chains rows)
 own_parts size chains rows row start end is low less high = (
   record {
     region = is.0.region;

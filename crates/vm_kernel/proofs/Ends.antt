@@ -22,11 +22,11 @@ use Rattle.vm_shadow.specs.Chains.{ChainTable, region_at}
 use Rattle.vm_shadow.specs.declared.ids.Ids.{Ids}
 use Rattle.vm_shadow.specs.declared.region_row.RegionRow.{RegionRow}
 use Rattle.vm_supply.specs.declared.woken.Woken.TheVariants as woken
-use Rattle.vm_kernel.specs.Begun.{Runs}
+use Rattle.vm_kernel.specs.Begun.{IsInStep}
 use Rattle.vm_kernel.specs.Changes.{Lost}
 use Rattle.vm_kernel.specs.Counts.{count_on}
 use Rattle.vm_kernel.specs.Matches.{AllReached, AllUsed, HasEntries, HasFrames, HasLaundry, HasPages, Matches, host_id}
-use Rattle.vm_kernel.specs.Places.{entries_in_row, has_region, place_of, region_entries, shown}
+use Rattle.vm_kernel.specs.Places.{entries_in_row, has_region, local_of_row, place_of, region_entries}
 use Rattle.vm_kernel.specs.Sweeping.{Ends, PutsEntries, Sweeps}
 use Rattle.vm_kernel.specs.Waiters.{HasWaiters}
 use Rattle.vm_kernel.specs.declared.parts.Parts.{Parts}
@@ -105,10 +105,10 @@ ends_lost header h outside doing past k k2 ids rest region key events after e sa
     unused_now = m.uses.used o ∙ ap (nat_lt 0) (none_left header.size k.maps k.chains rest o m.entries there unused).0
 
     here : (local header.size h (place_of o p) (events ++ past)).here ≡ true
-    here = ap (λ z. z.here) (m.pages.shown o p ∙ ap (λ z. shown k.memory.frames z (absent_at k.memory.objects o p)) lost.page.found) ∙ lost.here
+    here = ap (λ z. z.here) (m.pages.shown o p ∙ ap (λ z. local_of_row k.memory.frames z (absent_at k.memory.objects o p)) lost.page.found) ∙ lost.here
 
     least : (q : ℕ) → q < p → (local header.size h (place_of o q) (events ++ past)).here ≡ false
-    least q low = ap (λ z. z.here) (m.pages.shown o q ∙ ap (λ z. shown k.memory.frames z (absent_at k.memory.objects o q)) (first q low))
+    least q low = ap (λ z. z.here) (m.pages.shown o q ∙ ap (λ z. local_of_row k.memory.frames z (absent_at k.memory.objects o q)) (first q low))
 
     cause : Caused header outside doing (event.Dropped (host_id h) key.object key.page) (events ++ past)
     cause = record { here = here; why = Unreached (let none = ap length m.plain.objects in omega arith) (unreached header h o (events ++ past) m.regions.tops m.regions.unbacked unused_now) least }
@@ -165,8 +165,8 @@ counts_less size maps cs cs2 entry rest is has =
           ];
     }
 
-runs_less : (header : Header) (h : ℕ) (outside : Outside) (doing : Command) (past : List Event) (k : Parts) (ids : Ids) (entry : Entry) (rest : List Entry) (events : List Event) (chains : ChainTable) → Runs header h outside doing past k ids (entry ∷ rest) events
-    → PutsEntries entry.region.0 (region_entries k.chains entry.region.0 - 1) k.chains chains → Runs header h outside doing past (record k { chains = chains }) ids rest events
+runs_less : (header : Header) (h : ℕ) (outside : Outside) (doing : Command) (past : List Event) (k : Parts) (ids : Ids) (entry : Entry) (rest : List Entry) (events : List Event) (chains : ChainTable) → IsInStep header h outside doing past k ids (entry ∷ rest) events
+    → PutsEntries entry.region.0 (region_entries k.chains entry.region.0 - 1) k.chains chains → IsInStep header h outside doing past (record k { chains = chains }) ids rest events
 runs_less header h outside doing past k ids entry rest events chains s put =
     let m = s.matches in
     let moment = events ++ past in

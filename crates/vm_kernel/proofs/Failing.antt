@@ -26,7 +26,7 @@ use Rattle.vm_waits.specs.declared.waiting.On.{On}
 use Rattle.vm_waits.specs.declared.waiting.On.TheVariants as on
 use Rattle.vm_waits.specs.declared.waiting.Waiting.{Waiting}
 use Rattle.vm_waits.proofs.Entries.{puts_cases}
-use Rattle.vm_kernel.specs.Begun.{Goes}
+use Rattle.vm_kernel.specs.Begun.{LegalEvents}
 use Rattle.vm_kernel.specs.Matches.{HasUse, Works, holds, Matches}
 use Rattle.vm_kernel.specs.Taking.{EndsEach, EndsNobody, FailsNow, HasEnded, HasFailed, IsAnswered, IsErrorPaid}
 use Rattle.vm_kernel.specs.Waiters.{Asker, BeganInOrder, access_in, address_in, waiting_in}
@@ -163,7 +163,7 @@ pub record Failing (header : Header) (h : ℕ) (outside : Outside) (doing : Comm
   pub fails : FailsNow header h (who.Fails key) (events ++ past)
   pub answered : IsAnswered (who.Fails key) k.memory.resident
   pub before : EndsBefore key k.waits.rows (events ++ past)
-  pub goes : Goes header h outside doing past old events
+  pub goes : LegalEvents header h outside doing past old events
 
 -- one is ended
 pub failed_one : (header : Header) (h : ℕ) (outside : Outside) (doing : Command) (past old events : List Event) (key : PageKey) (k : Parts) (ids : Ids) (w : Waiting) (waits : WaitTable)
@@ -270,11 +270,11 @@ ends_all key first rows past was none t w found waits = elim (was t w found wait
 paid_more : (header : Header) (more past : List Event) → AllInner more → IsErrorPaid header past → IsErrorPaid header (more ++ past)
 paid_more header more past inner paid = λ host object page is. since_more (fails_access object page) more past inner (paid host object page (sym (error_more header.size more past inner) ∙ is))
 
-pub paid_goes : (header : Header) (h : ℕ) (outside : Outside) (doing : Command) (past old new : List Event) → Goes header h outside doing past old new → IsErrorPaid header (old ++ past) → IsErrorPaid header (new ++ past)
+pub paid_goes : (header : Header) (h : ℕ) (outside : Outside) (doing : Command) (past old new : List Event) → LegalEvents header h outside doing past old new → IsErrorPaid header (old ++ past) → IsErrorPaid header (new ++ past)
 paid_goes header h outside doing past old new goes paid =
     subst (λ (z : List Event). IsErrorPaid header z) (sym (append_assoc goes.more old past) ∙ ap (λ z. z ++ past) (sym goes.is)) (paid_more header goes.more (old ++ past) goes.inner paid)
 
-pub paid_failed : (header : Header) (h : ℕ) (outside : Outside) (doing : Command) (woke : Woken) (past new : List Event) → FailsNow header h woke past → Goes header h outside doing past [] new → HasFailed woke (new ++ past) → IsErrorPaid header (new ++ past)
+pub paid_failed : (header : Header) (h : ℕ) (outside : Outside) (doing : Command) (woke : Woken) (past new : List Event) → FailsNow header h woke past → LegalEvents header h outside doing past [] new → HasFailed woke (new ++ past) → IsErrorPaid header (new ++ past)
 paid_failed header h outside doing who.Nobody past new fails goes failed = paid_goes header h outside doing past [] new goes (λ host object page is. absurd (let bad : None ≡ Some (record { host = host; object = object; page = page }) = sym fails ∙ is in cc))
 paid_failed header h outside doing (who.ReadyOf object) past new fails goes failed = paid_goes header h outside doing past [] new goes (λ host object page is. absurd (let bad : None ≡ Some (record { host = host; object = object; page = page }) = sym fails ∙ is in cc))
 paid_failed header h outside doing (who.Page key) past new fails goes failed = paid_goes header h outside doing past [] new goes (λ host object page is. absurd (let bad : None ≡ Some (record { host = host; object = object; page = page }) = sym fails ∙ is in cc))
@@ -292,14 +292,14 @@ paid_failed header h outside doing (who.Fails key) past new fails goes failed = 
 each_more : (header : Header) (rows : List Waiting) (more past : List Event) → AllInner more → EndsEach header rows past → EndsEach header rows (more ++ past)
 each_more header rows more past inner each = λ host object page t w is found waits. since_more (fails_task t object page) more past inner (each host object page t w (sym (error_more header.size more past inner) ∙ is) found waits)
 
-pub each_goes : (header : Header) (h : ℕ) (outside : Outside) (doing : Command) (rows : List Waiting) (past old new : List Event) → Goes header h outside doing past old new → EndsEach header rows (old ++ past) → EndsEach header rows (new ++ past)
+pub each_goes : (header : Header) (h : ℕ) (outside : Outside) (doing : Command) (rows : List Waiting) (past old new : List Event) → LegalEvents header h outside doing past old new → EndsEach header rows (old ++ past) → EndsEach header rows (new ++ past)
 each_goes header h outside doing rows past old new goes each =
     subst (λ (z : List Event). EndsEach header rows z) (sym (append_assoc goes.more old past) ∙ ap (λ z. z ++ past) (sym goes.is)) (each_more header rows goes.more (old ++ past) goes.inner each)
 
 no_error : (header : Header) (rows : List Waiting) (past : List Event) → error_taken header.size past ≡ None → EndsEach header rows past
 no_error header rows past none = λ host object page t w is found waits. absurd (let bad : None ≡ Some (record { host = host; object = object; page = page }) = sym none ∙ is in cc)
 
-pub each_failed : (header : Header) (h : ℕ) (outside : Outside) (doing : Command) (woke : Woken) (rows : List Waiting) (past new : List Event) → FailsNow header h woke past → Goes header h outside doing past [] new → HasEnded woke rows (new ++ past) → EndsEach header rows (new ++ past)
+pub each_failed : (header : Header) (h : ℕ) (outside : Outside) (doing : Command) (woke : Woken) (rows : List Waiting) (past new : List Event) → FailsNow header h woke past → LegalEvents header h outside doing past [] new → HasEnded woke rows (new ++ past) → EndsEach header rows (new ++ past)
 each_failed header h outside doing who.Nobody rows past new fails goes ended = each_goes header h outside doing rows past [] new goes (no_error header rows past fails)
 each_failed header h outside doing (who.ReadyOf object) rows past new fails goes ended = each_goes header h outside doing rows past [] new goes (no_error header rows past fails)
 each_failed header h outside doing (who.Page key) rows past new fails goes ended = each_goes header h outside doing rows past [] new goes (no_error header rows past fails)

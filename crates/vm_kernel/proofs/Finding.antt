@@ -27,10 +27,10 @@ use Rattle.vm_waits.specs.Waits.{again, entry, is_again}
 use Rattle.vm_waits.specs.declared.waiting.Waiting.{Waiting}
 use Rattle.vm_waits.specs.declared.waiting.Want.{Want}
 use Rattle.vm_waits.specs.declared.waiting.Want.TheVariants as want
-use Rattle.vm_kernel.specs.Begun.{Goes}
+use Rattle.vm_kernel.specs.Begun.{LegalEvents}
 use Rattle.vm_kernel.specs.Faulting.{AfterZeros, AtOnce, Ended, Faulted, Faults, Hits}
 use Rattle.vm_kernel.specs.Matches.{Works}
-use Rattle.vm_kernel.specs.Places.{shown}
+use Rattle.vm_kernel.specs.Places.{local_of_row}
 use Rattle.vm_kernel.specs.Serving.{IsNext}
 use Rattle.vm_kernel.specs.Waiters.{address_in}
 use Rattle.vm_kernel.specs.declared.parts.Parts.{Parts}
@@ -88,7 +88,7 @@ finds_here header h past task what key to (ToWrite address bytes value object pa
 
 -- the kernel has the page
 
-here_row : (frames : FrameTable) (x : Option PageRow) (lacked : Bool) → (shown frames x lacked).here ≡ true → (row : PageRow) × (x ≡ Some row) × (row.here ≡ true)
+here_row : (frames : FrameTable) (x : Option PageRow) (lacked : Bool) → (local_of_row frames x lacked).here ≡ true → (row : PageRow) × (x ≡ Some row) × (row.here ≡ true)
 here_row frames None lacked is = absurd (let bad : false ≡ true = is in cc)
 here_row frames (Some row) lacked is = (row, refl, is)
 
@@ -128,7 +128,7 @@ ends_next header h past k new ids w may answer events after works is f finds =
 pub next_more : (task : ℕ) (before events more : List Event) → EndsNext task before events → EndsNext task before (more ++ events)
 next_more task before events more e = record { later = more ++ e.later; end = e.end; is = ap (λ (z : List Event). more ++ z) e.is ∙ sym (append_assoc more e.later (e.end ∷ before)); ends = e.ends }
 
-pub next_goes : (header : Header) (h : ℕ) (outside : Outside) (doing : Command) (past : List Event) (task : ℕ) (before events after : List Event) → Goes header h outside doing past events after → EndsNext task before events → EndsNext task before after
+pub next_goes : (header : Header) (h : ℕ) (outside : Outside) (doing : Command) (past : List Event) (task : ℕ) (before events after : List Event) → LegalEvents header h outside doing past events after → EndsNext task before events → EndsNext task before after
 next_goes header h outside doing past task before events after goes e = subst (λ (z : List Event). EndsNext task before z) (sym goes.is) (next_more task before events goes.more e)
 
 -- those that were to be run again are run: the first one, which alone is to be, or nothing was done yet
@@ -136,7 +136,7 @@ abbrev pub FirstOf : ℕ → List Waiting → List Waiting → List Event → Li
 FirstOf task first rows before events = EndsNext task before events ⊎ ((rows ≡ first) × (events ≡ before))
 
 pub first_more : (header : Header) (h : ℕ) (outside : Outside) (doing : Command) (past : List Event) (task : ℕ) (first rows rows2 : List Waiting) (w : Waiting) (before events after : List Event) → FirstOf task first rows before events → IsNext task first
-    → FindsPage header task (before ++ past) → entry rows w.task.0 ≡ Some w → is_again w.on ≡ true → Goes header h outside doing past events after → (FindsPage header w.task.0 (events ++ past) → EndsNext w.task.0 events after)
+    → FindsPage header task (before ++ past) → entry rows w.task.0 ≡ Some w → is_again w.on ≡ true → LegalEvents header h outside doing past events after → (FindsPage header w.task.0 (events ++ past) → EndsNext w.task.0 events after)
     → FirstOf task first rows2 before after
 first_more header h outside doing past task first rows rows2 w before events after (inl ended) next finds found on_again goes ends = inl (next_goes header h outside doing past task before events after goes ended)
 first_more header h outside doing past task first rows rows2 w before events after (inr none) next finds found on_again goes ends =

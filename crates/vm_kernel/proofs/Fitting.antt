@@ -2,11 +2,11 @@
 use Rattle.vm_base.specs.declared.ids.FrameNo.{FrameNo}
 use Rattle.std.proofs.Common.{sym, subst}
 use Rattle.vm_parts.proofs.Fitting.{fit_touched}
-use Rattle.vm_kernel.specs.Faulting.{Touched}
-use Rattle.vm_kernel.specs.Fits.{Fits}
+use Rattle.vm_kernel.specs.Faulting.{MarksReferenced}
+use Rattle.vm_kernel.specs.Fits.{PartsFit}
 use Rattle.vm_kernel.specs.declared.parts.Parts.{Parts}
 
-pub fits_touched : (frame : FrameNo) (old new : Parts) → Fits old → Touched frame old new → Fits new
+pub fits_touched : (frame : FrameNo) (old new : Parts) → PartsFit old → MarksReferenced frame old new → PartsFit new
 fits_touched frame old new fits touches =
-    subst Fits (sym touches.is)
+    subst PartsFit (sym touches.is)
     (record { parts = fit_touched old.memory new.memory.queues fits.parts touches.keeps touches.frames; plain = fits.plain; buffers = fits.buffers })

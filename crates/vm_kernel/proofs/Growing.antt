@@ -13,11 +13,11 @@ use Rattle.vm_legal.specs.Follows.{IsConsequence}
 use Rattle.vm_legal.specs.Frames.{Suffice, frames_free, frames_held, frames_used, frames_wired}
 use Rattle.vm_legal.specs.Licences.{AllLicensed, Caused, Licensed, ReturnsOn, created}
 use Rattle.vm_legal.specs.Outside.{Outside}
-use Rattle.vm_legal.specs.Steps.{absence_taken, error_taken, taken}
+use Rattle.vm_legal.specs.Steps.{absence_taken, error_taken, taken_letter}
 use Rattle.vm_frames.specs.Frames.{FrameTable, free}
 use Rattle.vm_legal.specs.Stretches.{AllInner, EachIn, IsInner, MomentsIn}
-use Rattle.vm_abroad.specs.Whose.{IsOwn}
-use Rattle.vm_kernel.specs.Begun.{CreatesHere, Goes, Grows, IsLined, IsMine, KernelSays}
+use Rattle.vm_abroad.specs.Whose.{IsOnlyOfHost}
+use Rattle.vm_kernel.specs.Begun.{CreatesHere, Grows, IsLined, IsMine, KernelSays, LegalEvents}
 use Rattle.vm_kernel.specs.Matches.{HasFrames, IsSettled}
 use Rattle.vm_kernel.proofs.Mine.{mine_of}
 use Rattle.vm_legal.proofs.Inside.{absence_more, error_more, taken_more}
@@ -42,7 +42,7 @@ pub record Follows (header : Header) (h : ℕ) (outside : Outside) (doing : Comm
   pub frames : Suffice header h (e ∷ past)
   pub inner : IsInner e
   pub said : KernelSays h header.size e
-  pub own : IsOwn header h e past
+  pub own : IsOnlyOfHost header h e past
   pub creates : CreatesHere h e past
 
 pub grows_more : (header : Header) (h : ℕ) (outside : Outside) (doing : Command) (past events : List Event) (e : Event) → Grows header h outside doing past events → IsSettled (events ++ past) → Follows header h outside doing e (events ++ past)
@@ -63,12 +63,12 @@ grows_more header h outside doing past events e grows settled all =
     }
 
 -- nothing was added
-pub goes_none : (header : Header) (h : ℕ) (outside : Outside) (doing : Command) (past old : List Event) → Goes header h outside doing past old old
+pub goes_none : (header : Header) (h : ℕ) (outside : Outside) (doing : Command) (past old : List Event) → LegalEvents header h outside doing past old old
 goes_none header h outside doing past old = record { more = []; is = refl; follows = tt; licensed = tt; own_bytes = tt; frames = tt; inner = tt; said = tt; mine = tt }
 
 -- one event more
-pub goes_more : (header : Header) (h : ℕ) (outside : Outside) (doing : Command) (past old events : List Event) (e : Event) → Goes header h outside doing past old events → IsSettled (events ++ past) → Follows header h outside doing e (events ++ past)
-    → Goes header h outside doing past old (e ∷ events)
+pub goes_more : (header : Header) (h : ℕ) (outside : Outside) (doing : Command) (past old events : List Event) (e : Event) → LegalEvents header h outside doing past old events → IsSettled (events ++ past) → Follows header h outside doing e (events ++ past)
+    → LegalEvents header h outside doing past old (e ∷ events)
 goes_more header h outside doing past old events e goes settled all =
     let same : events ++ past ≡ goes.more ++ (old ++ past) = ap (λ z. z ++ past) goes.is ∙ append_assoc goes.more old past in
     record {
@@ -84,11 +84,11 @@ goes_more header h outside doing past old events e goes settled all =
     }
 
 -- one event
-pub goes_one : (header : Header) (h : ℕ) (outside : Outside) (doing : Command) (past old : List Event) (e : Event) → IsSettled (old ++ past) → Follows header h outside doing e (old ++ past) → Goes header h outside doing past old (e ∷ old)
+pub goes_one : (header : Header) (h : ℕ) (outside : Outside) (doing : Command) (past old : List Event) (e : Event) → IsSettled (old ++ past) → Follows header h outside doing e (old ++ past) → LegalEvents header h outside doing past old (e ∷ old)
 goes_one header h outside doing past old e settled all = goes_more header h outside doing past old old e (goes_none header h outside doing past old) settled all
 
 -- one stretch behind another
-pub goes_both : (header : Header) (h : ℕ) (outside : Outside) (doing : Command) (past old mid new : List Event) → Goes header h outside doing past old mid → Goes header h outside doing past mid new → Goes header h outside doing past old new
+pub goes_both : (header : Header) (h : ℕ) (outside : Outside) (doing : Command) (past old mid new : List Event) → LegalEvents header h outside doing past old mid → LegalEvents header h outside doing past mid new → LegalEvents header h outside doing past old new
 goes_both header h outside doing past old mid new one two =
     let same : mid ++ past ≡ one.more ++ (old ++ past) = ap (λ z. z ++ past) one.is ∙ append_assoc one.more old past in
     record {
@@ -104,7 +104,7 @@ goes_both header h outside doing past old mid new one two =
     }
 
 -- what a command's step does goes on
-pub grows_goes : (header : Header) (h : ℕ) (outside : Outside) (doing : Command) (past old new : List Event) → Grows header h outside doing past old → Goes header h outside doing past old new → Grows header h outside doing past new
+pub grows_goes : (header : Header) (h : ℕ) (outside : Outside) (doing : Command) (past old new : List Event) → Grows header h outside doing past old → LegalEvents header h outside doing past old new → Grows header h outside doing past new
 grows_goes header h outside doing past old new grows goes =
     subst (λ (z : List Event). Grows header h outside doing past z) (sym goes.is)
     (record {
@@ -123,13 +123,13 @@ grows_goes header h outside doing past old new grows goes =
 
 -- a command's step took no message
 pub record IsPlainStep (size : ℕ) (past : List Event) : Type 0 where
-  pub taken : taken past ≡ None
+  pub taken : taken_letter past ≡ None
   pub error : error_taken size past ≡ None
   pub absence : absence_taken size past ≡ None
 
 pub plain_step : (size : ℕ) (past events : List Event) → IsLined past → AllInner events → IsPlainStep size (events ++ past)
 plain_step size past events lined inner = record {
-  taken = taken_more events past inner ∙ ap taken lined.is;
+  taken = taken_more events past inner ∙ ap taken_letter lined.is;
   error = error_more size events past inner ∙ ap (error_taken size) lined.is;
   absence = absence_more size events past inner ∙ ap (absence_taken size) lined.is;
 }

@@ -13,7 +13,7 @@ use Rattle.vm_legal.specs.Outside.{Outside}
 use Rattle.vm_legal.specs.Refusal.{where_true}
 use Rattle.vm_legal.specs.Stretches.{AllInner, EachIn, EachOf, IsInner, MomentsIn}
 use Rattle.vm_shadow.specs.declared.ids.Ids.{Ids}
-use Rattle.vm_abroad.specs.Whose.{IsOwn}
+use Rattle.vm_abroad.specs.Whose.{IsOnlyOfHost}
 use Rattle.vm_kernel.specs.Begun.{CreatesHere, Grows, IsMine, KernelSays, Ran}
 use Rattle.vm_kernel.specs.Matches.{IsSettled, Rests}
 use Rattle.vm_kernel.specs.declared.parts.Parts.{Parts}
@@ -58,7 +58,7 @@ pub record IsOne (header : Header) (h : ℕ) (outside : Outside) (doing : Comman
   pub frames : Suffice header h (e ∷ past)
   pub inner : IsInner e
   pub said : KernelSays h header.size e
-  pub own : IsOwn header h e past
+  pub own : IsOnlyOfHost header h e past
   pub creates : CreatesHere h e past
 
 pub heads_one : (header : Header) (h : ℕ) (outside : Outside) (doing : Command) (past : List Event) (e : Event) → IsOne header h outside doing past e → Heads header h outside doing past (e ∷ [])

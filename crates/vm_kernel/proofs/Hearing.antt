@@ -12,7 +12,7 @@ use Rattle.vm_model.specs.declared.message.Message.{Message}
 use Rattle.vm_model.specs.declared.message.Message.TheVariants as message
 use Rattle.vm_model.specs.declared.script.Header.{Header}
 use Rattle.vm_model.specs.Controls.{is_control, last_control, live_control}
-use Rattle.vm_model.specs.Local.{Effect, Elsewhere, Local, TakesError, TakesNothing, TakesPage, local, moved}
+use Rattle.vm_model.specs.Local.{Elsewhere, Local, LocalEffect, TakesError, TakesNothing, TakesPage, local, local_after}
 use Rattle.vm_model.specs.Regions.{Backing, Region, backing_of, next_object, next_region, region_of}
 use Rattle.vm_model.specs.Waiting.{Access, waiting}
 use Rattle.vm_legal.specs.Accesses.{is_ready}
@@ -30,7 +30,7 @@ use Rattle.vm_resident.specs.declared.page_row.PageRow.{PageRow}
 use Rattle.vm_shadow.specs.Chains.{ChainTable}
 use Rattle.vm_shadow.specs.declared.ids.Ids.{Ids}
 use Rattle.vm_shadow.specs.declared.region_row.RegionRow.{RegionRow}
-use Rattle.vm_supply.specs.Answers.{Answered, Discarded, IsAnswer, Failed, Fails, Lacked, Lacks, Outcome, Readied, Readies, Supplied, Supplies, key_of, live_outcome, outcome_of, ready_outcome, unavailable_outcome, lock_of}
+use Rattle.vm_supply.specs.Answers.{AnswerEffects, Discarded, IsAnswer, Failed, Fails, Lacked, Lacks, Outcome, Readied, Readies, Supplied, Supplies, key_of, live_outcome, outcome_of, ready_outcome, unavailable_outcome, lock_of}
 use Rattle.vm_supply.specs.declared.woken.Woken.{Woken}
 use Rattle.vm_supply.specs.declared.woken.Woken.TheVariants as woken
 use Rattle.vm_waits.specs.declared.waiting.On.{On}
@@ -40,7 +40,7 @@ use Rattle.vm_waits.specs.declared.waiting.Want.{Want}
 use Rattle.vm_kernel.specs.Fits.{ArePlain}
 use Rattle.vm_kernel.specs.Matches.{AllReached, HasControls, HasFrames, HasLaundry, HasPages, HasRegions, IsUnder, Rests, Works}
 use Rattle.vm_kernel.specs.Pagers.{has_pager, is_ready_state, last_in, live_in, ready_in}
-use Rattle.vm_kernel.specs.Places.{has_region, place_of, shown}
+use Rattle.vm_kernel.specs.Places.{has_region, local_of_row, place_of}
 use Rattle.vm_kernel.specs.Taking.{FailsNow, HasAsker, IsAnswered, IsTempAnswer}
 use Rattle.vm_kernel.specs.Waiters.{HasWaiters, IsAsked, IsTold, Reason, is_woken}
 use Rattle.vm_kernel.specs.declared.parts.Parts.{Parts}
@@ -50,7 +50,7 @@ use Rattle.vm_kernel.proofs.Pages.{bytes_now, effect_on, frames_changed, laundry
 use Rattle.vm_queues.specs.Queues.{added}
 use Rattle.vm_model.specs.Local.{away}
 use Rattle.vm_parts.specs.declared.parts.HostParts.{HostParts}
-use Rattle.vm_parts.specs.Changes.{Cancels, Changes, Fills, asked_row, clean_row, unlocked}
+use Rattle.vm_parts.specs.Changes.{Cancels, Changes, FillsPage, asked_row, clean_row, unlocked}
 use Rattle.vm_parts.proofs.Rows.{asked_is, one_case, row_cases, some_is}
 use Rattle.vm_kernel.proofs.Regions.{region_row}
 use Rattle.vm_kernel.proofs.Own.{own_host}
@@ -289,7 +289,7 @@ reached_ready cs os os2 o known reached found live put o2 row is lives_on = elim
 ]
 
 pages_marked : (fs : FrameTable) (rs : ResidentTable) (os os2 : ObjectTable) (cs : ChainTable) (local_at : ℕ → ℕ → Local) → HasPages fs rs os cs local_at → SameMarks os os2 → HasPages fs rs os2 cs local_at
-pages_marked fs rs os os2 cs local_at has same = record { shown = λ o p. has.shown o p ∙ ap (λ z. shown fs (row_at rs o p) z) (sym (same.at o p)); live = has.live }
+pages_marked fs rs os os2 cs local_at has same = record { shown = λ o p. has.shown o p ∙ ap (λ z. local_of_row fs (row_at rs o p) z) (sym (same.at o p)); live = has.live }
 
 told_ready : (os os2 : ObjectTable) (o : ℕ) (known : ObjectRow) (object : ObjectId) → PutsObject o (Some (record known { state = state.Ready })) os os2 → (object.0 == o) ≡ false → IsTold os object.0 → IsTold os2 object.0
 told_ready os os2 o known object put apart told =
@@ -338,7 +338,7 @@ changed_ready header h k ids events after past object control cache strategy who
 
 asks_now : (h : ℕ) (size : ℕ) (k : Parts) (past : List Event) (o p : ℕ) (was : PageRow) → HasPages k.memory.frames k.memory.resident k.memory.objects k.chains (λ o2 p2. local size h (place_of o2 p2) past)
     → row_at k.memory.resident o p ≡ Some was → was.here ≡ false → (local size h (place_of o p) past).asked ≡ true
-asks_now h size k past o p was has found away_now = ap (λ z. z.asked) (has.shown o p) ∙ (ap (λ z. (shown k.memory.frames z (absent_at k.memory.objects o p)).asked) found ∙ ap not away_now)
+asks_now h size k past o p was has found away_now = ap (λ z. z.asked) (has.shown o p) ∙ (ap (λ z. (local_of_row k.memory.frames z (absent_at k.memory.objects o p)).asked) found ∙ ap not away_now)
 
 -- the page is another
 
@@ -408,15 +408,15 @@ changed_supplied header h k ids events after past object control page lock preci
     let now : PageRow = clean_row row.frame unlocked false in
     let lacked = absent_at k.memory.objects object.0 page.0 in
     let comes : Changes key row.frame (Some row) (Some now) true bytes (added row.frame.0 k.memory.queues) k.memory new =
-    subst (λ (z : Bool). Fills key row unlocked z bytes k.memory new) cheap (subst (λ (z : ℕ). Fills key row (lock_of z) precious bytes k.memory new) none supplies.page) in
+    subst (λ (z : Bool). FillsPage key row unlocked z bytes k.memory new) cheap (subst (λ (z : ℕ). FillsPage key row (lock_of z) precious bytes k.memory new) none supplies.page) in
     let here : (r : PageRow) → Some now ≡ Some r → r.here ≡ true = λ r is. ap (λ z. z.here) (sym (some_is now r is)) in
     let waits = waits_page header h k ids past object.0 page.0 (Some now) (woken.Page key) new rests (λ o2 p2. refl) comes.row here same in
-    let shows = ap (moved header.size (TakesPage 0 false bytes)) (asked_shows k.memory.frames row lacked (was.fits.plain object.0 page.0 row asked.0) asked.1)
+    let shows = ap (local_after header.size (TakesPage 0 false bytes)) (asked_shows k.memory.frames row lacked (was.fits.plain object.0 page.0 row asked.0) asked.1)
     ∙ ap (λ z. record away { here = true; bytes = z; absent = lacked }) (sym (bytes_now key row.frame _ _ _ _ _ k.memory new comes)) in
     let pages = pages_moved header.size (TakesPage 0 false bytes) key row.frame _ _ _ _ _ k.memory new k.memory.objects k.chains (λ o p. local header.size h (place_of o p) past) was.fits.parts was.pages comes
     (λ some. was.pages.live object.0 page.0 row asked.0) shows (λ o p apart. refl) in
     let moves : (o p : ℕ) → local header.size h (place_of o p) (hears h object control (message.Supply page lock precious bytes) ∷ past) ≡ effect_on header.size key (TakesPage 0 false bytes) (λ o2 p2. local header.size h (place_of o2 p2) past) o p =
-    λ o p. rw (own_host h) (ap (λ z. moved header.size z (local header.size h (place_of o p) past))
+    λ o p. rw (own_host h) (ap (λ z. local_after header.size z (local header.size h (place_of o p) past))
     (on_page object.0 o (lives h object control past) (is_control control (live_control h o past)) (page.0 == p) (TakesPage lock precious bytes) Elsewhere lives_now (λ e. ap (λ z. is_control control (live_control h z past)) (sym e))))
     ∙ (ap (λ z. effect_on header.size key (TakesPage z precious bytes) (λ o2 p2. local header.size h (place_of o2 p2) past) o p) none
     ∙ ap (λ z. effect_on header.size key (TakesPage 0 z bytes) (λ o2 p2. local header.size h (place_of o2 p2) past) o p) cheap) in
@@ -440,16 +440,16 @@ changed_supplied header h k ids events after past object control page lock preci
 -- it is asked no more
 
 -- what the message is to the history
-record EndsPage (header : Header) (h : ℕ) (k : Parts) (who : Woken) (object : ObjectId) (control : ℕ) (page : PageNo) (m : Message) (effect : Effect) (past : List Event) : Type 0 where
+record EndsPage (header : Header) (h : ℕ) (k : Parts) (who : Woken) (object : ObjectId) (control : ℕ) (page : PageNo) (m : Message) (effect : LocalEffect) (past : List Event) : Type 0 where
   moves : (o p : ℕ) → local header.size h (place_of o p) (hears h object control m ∷ past)
-      ≡ moved header.size (if object.0 == o && is_control control (live_control h o past) then (if page.0 == p then effect else Elsewhere) else Elsewhere) (local header.size h (place_of o p) past)
+      ≡ local_after header.size (if object.0 == o && is_control control (live_control h o past) then (if page.0 == p then effect else Elsewhere) else Elsewhere) (local header.size h (place_of o p) past)
   held : frames_held header.size h (hears h object control m ∷ past) ≡ frames_held header.size h past - 1
   ready : (o : ℕ) → is_ready h o (hears h object control m ∷ past) ≡ is_ready h o past
   fails : FailsNow header h who (hears h object control m ∷ past)
   test : (o p : ℕ) → is_woken who (on.Page (page_key o p)) ≡ (o == object.0 && p == page.0)
   asker : HasAsker who k.waits.rows
 
-changed_ended : (header : Header) (h : ℕ) (k : Parts) (ids : Ids) (past : List Event) (object : ObjectId) (control : ℕ) (page : PageNo) (m : Message) (effect : Effect) (who : Woken) (row : PageRow) (new : HostParts)
+changed_ended : (header : Header) (h : ℕ) (k : Parts) (ids : Ids) (past : List Event) (object : ObjectId) (control : ℕ) (page : PageNo) (m : Message) (effect : LocalEffect) (who : Woken) (row : PageRow) (new : HostParts)
     → Rests header h k ids past → asked_row (row_at k.memory.resident object.0 page.0) ≡ Some row → Cancels (key_of object page) row k.memory new → lives h object control past ≡ true → SameObjects k.memory.objects new.objects → IsLeft header.size effect k.memory.objects new.objects object.0 page.0
     → EndsPage header h k who object control page m effect past → Changed header h k ids who new past (hears h object control m)
 changed_ended header h k ids past object control page m effect who row new rests is_asked ends lives_now same left is =
@@ -458,14 +458,14 @@ changed_ended header h k ids past object control page m effect who row new rests
     let asked = asked_is (row_at k.memory.resident object.0 page.0) row is_asked in
     let waits = waits_page header h k ids past object.0 page.0 None who new rests is.test ends.row (λ r bad. absurd (let no : None ≡ Some r = bad in cc)) same in
     let pages = pages_moved header.size effect key row.frame _ _ _ _ _ k.memory new new.objects k.chains (λ o p. local header.size h (place_of o p) past) was.fits.parts was.pages ends (λ some. absurd (let bad : false ≡ true = some in cc))
-    (ap (moved header.size effect) (asked_shows k.memory.frames row (absent_at k.memory.objects object.0 page.0) (was.fits.plain object.0 page.0 row asked.0) asked.1) ∙ left.here) left.others in
+    (ap (local_after header.size effect) (asked_shows k.memory.frames row (absent_at k.memory.objects object.0 page.0) (was.fits.plain object.0 page.0 row asked.0) asked.1) ∙ left.here) left.others in
     record {
       plain = plain_changed key row.frame _ _ _ _ _ k.memory new was.fits.plain ends tt;
       regions = regions_of k.chains k.memory.objects new.objects ids (λ r. region_of header r past) (λ o. backing_of header o past) (next_region header past) (next_object header past) was.regions same;
       pages = pages_eq new.frames new.resident new.objects k.chains (effect_on header.size key effect (λ o p. local header.size h (place_of o p) past))
           (λ o p. local header.size h (place_of o p) (hears h object control m ∷ past)) pages
           (λ o p. is.moves o p
-          ∙ ap (λ z. moved header.size z (local header.size h (place_of o p) past))
+          ∙ ap (λ z. local_after header.size z (local header.size h (place_of o p) past))
           (on_page object.0 o (lives h object control past) (is_control control (live_control h o past)) (page.0 == p) effect Elsewhere lives_now (λ e. ap (λ z. is_control control (live_control h z past)) (sym e))));
       controls = controls_of k.memory.objects new.objects (λ o. last_control h o past) (λ o. live_control h o past) (λ o. is_ready h o past) (λ o. is_ready h o (hears h object control m ∷ past)) was.controls same (λ o live number. is.ready o);
       laundry = laundry_changed key row.frame _ _ _ _ _ k.memory new k.laundry (returns_out h past) was.laundry ends;
@@ -533,7 +533,7 @@ and_left true b both = refl
 and_left false b both = both
 
 -- a page that isn't asked
-unasked_shows : (fs : FrameTable) (x : Option PageRow) (lacked : Bool) → asked_row x ≡ None → (shown fs x lacked).asked ≡ false
+unasked_shows : (fs : FrameTable) (x : Option PageRow) (lacked : Bool) → asked_row x ≡ None → (local_of_row fs x lacked).asked ≡ false
 unasked_shows fs None lacked none = refl
 unasked_shows fs (Some row) lacked none = by_here row.here none
   where
@@ -547,12 +547,12 @@ pub record Heard (header : Header) (h : ℕ) (k : Parts) (ids : Ids) (who : Woke
   pub nothing : after ≡ events
 
 hears_it : (header : Header) (h : ℕ) (k : Parts) (ids : Ids) (host : HostId) (events after past : List Event) (object : ObjectId) (control : ℕ) (m : Message) (who : Woken) (new : HostParts)
-    → Rests header h k ids past → IsTempAnswer k.size m → Answered host object (outcome_of (object_at k.memory.objects object.0) control (row_at k.memory.resident object.0) m) who k.memory new events after
+    → Rests header h k ids past → IsTempAnswer k.size m → AnswerEffects host object (outcome_of (object_at k.memory.objects object.0) control (row_at k.memory.resident object.0) m) who k.memory new events after
     → Heard header h k ids who new events after past (hears h object control m)
 hears_it header h k ids host events after past object control m who new rests temp answered = by_known (object_at k.memory.objects object.0) refl answered
   where
     Answers : Outcome → Type 0
-    Answers outcome = Answered host object outcome who k.memory new events after
+    Answers outcome = AnswerEffects host object outcome who k.memory new events after
 
     discards : (said : Message) → IsNothing header h object control said past → Answers Discarded → Heard header h k ids who new events after past (hears h object control said)
     discards said nothing done =
@@ -631,7 +631,7 @@ pub record Hears (header : Header) (h : ℕ) (k : Parts) (ids : Ids) (who : Woke
 
 pub hears_done : (header : Header) (h : ℕ) (k : Parts) (ids : Ids) (host : HostId) (events after past front : List Event) (object : ObjectId) (control : ℕ) (m : Message) (who : Woken) (new : HostParts)
     → Rests header h k ids past → front ≡ hears h object control m ∷ [] → IsTempAnswer k.size m → Fit new → new.buffers ≡ k.memory.buffers
-    → Answered host object (outcome_of (object_at k.memory.objects object.0) control (row_at k.memory.resident object.0) m) who k.memory new events after → Hears header h (heard k new) ids who (front ++ past) × (after ≡ events)
+    → AnswerEffects host object (outcome_of (object_at k.memory.objects object.0) control (row_at k.memory.resident object.0) m) who k.memory new events after → Hears header h (heard k new) ids who (front ++ past) × (after ≡ events)
 hears_done header h k ids host events after past front object control m who new rests is temp fit same answered =
     let done = hears_it header h k ids host events after past object control m who new rests temp answered in (
       subst (λ (z : List Event). Hears header h (heard k new) ids who (z ++ past)) (sym is)

@@ -13,7 +13,7 @@ use Rattle.vm_frames.specs.Frames.{page_in}
 use Rattle.vm_maps.specs.Judge.{place_at}
 use Rattle.vm_maps.specs.Maps.{rows_in}
 use Rattle.vm_maps.specs.declared.place.Place.{Place}
-use Rattle.vm_queues.specs.Queues.{KeepsPages, Queues, touched}
+use Rattle.vm_queues.specs.Queues.{KeepsPages, Queues, with_reference}
 use Rattle.vm_resident.specs.Resident.{row_at}
 use Rattle.vm_resident.specs.declared.page_row.PageRow.{PageRow}
 use Rattle.vm_shadow.specs.Chains.{region_at}
@@ -21,8 +21,8 @@ use Rattle.vm_shadow.specs.declared.region_row.RegionRow.{RegionRow}
 use Rattle.vm_waits.specs.declared.waiting.Want.{Want}
 use Rattle.vm_waits.specs.declared.waiting.Want.TheVariants as want
 use Rattle.vm_kernel.specs.Changes.{IsHere, Wrote}
-use Rattle.vm_kernel.specs.Faulting.{AtOnce, CanFault, Faulted, Hits, Touched}
-use Rattle.vm_kernel.specs.Fits.{Fits}
+use Rattle.vm_kernel.specs.Faulting.{AtOnce, CanFault, Faulted, Hits, MarksReferenced}
+use Rattle.vm_kernel.specs.Fits.{PartsFit}
 use Rattle.vm_kernel.specs.Waiters.{IsAt, address_in, want_size}
 use Rattle.vm_kernel.specs.declared.parts.Parts.{Parts}
 use Rattle.vm_kernel.specs.declared.steps.FaultStep.TheVariants as step
@@ -33,19 +33,19 @@ use Rattle.vm_parts.specs.declared.parts.HostParts.{HostParts}
 use Rattle.vm_parts.proofs.Rows.{of_found}
 
 -- what lies within a page lies within a frame
-pub inside_page : (k : Parts) (key : PageKey) (frame : FrameNo) (at : ℕ) (what some : Want) → Fits k → IsHere key frame k → at + want_size what ≤ k.size → what ≡ some → at + want_size some ≤ length (page_in k.memory.frames frame.0)
+pub inside_page : (k : Parts) (key : PageKey) (frame : FrameNo) (at : ℕ) (what some : Want) → PartsFit k → IsHere key frame k → at + want_size what ≤ k.size → what ≡ some → at + want_size some ≤ length (page_in k.memory.frames frame.0)
 inside_page k key frame at what some fits here inside is =
     subst (λ (z : Want). at + want_size z ≤ length (page_in k.memory.frames frame.0)) is (subst (λ (z : ℕ). at + want_size what ≤ z) (sym (holds_of k key frame fits here).sized) inside)
 
 -- what lies within a page lies within a buffer
-pub inside_buffer : (k : Parts) (at : ℕ) (what some : Want) → Fits k → at + want_size what ≤ k.size → what ≡ some → at + want_size some ≤ k.memory.buffers.size
+pub inside_buffer : (k : Parts) (at : ℕ) (what some : Want) → PartsFit k → at + want_size what ≤ k.size → what ≡ some → at + want_size some ≤ k.memory.buffers.size
 inside_buffer k at what some fits inside is = subst (λ (z : Want). at + want_size z ≤ k.memory.buffers.size) is (subst (λ (z : ℕ). at + want_size what ≤ z) (sym fits.buffers) inside)
 
 pub is_here : (k : Parts) (key : PageKey) (frame : FrameNo) → IsHere key frame k → IsSomeAnd (row_at k.memory.resident key.object.0 key.page.0) (λ row. row.here ≡ true)
 is_here k key frame at = subst (λ (z : Option PageRow). IsSomeAnd z (λ row. row.here ≡ true)) (sym at.found) at.here
 
 -- a number was put into a page that is here
-pub wrote_number : (k : Parts) (memory : HostParts) (key : PageKey) (frame : FrameNo) (at size value : ℕ) → Fits k → IsHere key frame k → Fit memory
+pub wrote_number : (k : Parts) (memory : HostParts) (key : PageKey) (frame : FrameNo) (at size value : ℕ) → PartsFit k → IsHere key frame k → Fit memory
     → IfSome (row_at k.memory.resident key.object.0 key.page.0) (λ row. Writes key row (with_bytes at (little_endian_bytes size value) (page_in k.memory.frames row.frame.0)) k.memory memory) → memory.objects ≡ k.memory.objects → memory.buffers ≡ k.memory.buffers
     → Wrote key frame (with_bytes at (little_endian_bytes size value) (page_in k.memory.frames frame.0)) k (record k { memory = memory })
 wrote_number k memory key frame at size value fits here fit writes objects buffers =
@@ -53,24 +53,24 @@ wrote_number k memory key frame at size value fits here fit writes objects buffe
     wrote k memory key frame (with_bytes at (little_endian_bytes size value) (page_in k.memory.frames frame.0)) fits here fit
     (subst (λ (z : FrameNo). Writes key here.row (with_bytes at (little_endian_bytes size value) (page_in k.memory.frames z.0)) k.memory memory) here.is its) objects buffers
 
-touched_of : (k : Parts) (f : FrameNo) (qs : Queues) → KeepsPages k.memory.queues qs → qs ≡ touched f.0 k.memory.queues → Touched f k (record k { memory = record k.memory { queues = qs } })
+touched_of : (k : Parts) (f : FrameNo) (qs : Queues) → KeepsPages k.memory.queues qs → qs ≡ with_reference f.0 k.memory.queues → MarksReferenced f k (record k { memory = record k.memory { queues = qs } })
 touched_of k f qs keeps is = record { is = refl; marks = is; keeps = keeps; frames = ap (λ z. z.frames) is }
 
 pub hits_load : (task : TaskId) (what : Want) (address size : ℕ) (key : PageKey) (frame : FrameNo) (at : ℕ) (old mid : Parts) (qs : Queues) (e : Event) (before after : List Event)
     → what ≡ want.Load address size → mid ≡ old → e ≡ event.Loaded task key.object key.page (little_endian (slice_range (page_in old.memory.frames frame.0) at (at + size)))
-    → KeepsPages mid.memory.queues qs → qs ≡ touched frame.0 mid.memory.queues → after ≡ e ∷ before
+    → KeepsPages mid.memory.queues qs → qs ≡ with_reference frame.0 mid.memory.queues → after ≡ e ∷ before
     → Hits task what key frame at old (record mid { memory = record mid.memory { queues = qs } }) before after
 hits_load task what address size key frame at old mid qs e before after is same loaded keeps touches told =
     subst (λ (z : Want). Hits task z key frame at old (record mid { memory = record mid.memory { queues = qs } }) before after) (sym is)
-    (little_endian (slice_range (page_in old.memory.frames frame.0) at (at + size)), refl, subst (λ (z : Parts). Touched frame z (record mid { memory = record mid.memory { queues = qs } })) same (touched_of mid frame qs keeps touches), told ∙ ap (λ z. z ∷ before) loaded)
+    (little_endian (slice_range (page_in old.memory.frames frame.0) at (at + size)), refl, subst (λ (z : Parts). MarksReferenced frame z (record mid { memory = record mid.memory { queues = qs } })) same (touched_of mid frame qs keeps touches), told ∙ ap (λ z. z ∷ before) loaded)
 
 pub hits_store : (task : TaskId) (what : Want) (address size value : ℕ) (key : PageKey) (frame : FrameNo) (at : ℕ) (old mid mid2 : Parts) (qs : Queues) (e : Event) (before after : List Event)
     → what ≡ want.Store address size value → mid2 ≡ mid → Wrote key frame (with_bytes at (little_endian_bytes size value) (page_in old.memory.frames frame.0)) old mid → e ≡ event.Stored task key.object key.page at size value
-    → KeepsPages mid2.memory.queues qs → qs ≡ touched frame.0 mid2.memory.queues → after ≡ e ∷ before
+    → KeepsPages mid2.memory.queues qs → qs ≡ with_reference frame.0 mid2.memory.queues → after ≡ e ∷ before
     → Hits task what key frame at old (record mid2 { memory = record mid2.memory { queues = qs } }) before after
 hits_store task what address size value key frame at old mid mid2 qs e before after is same wrote stored keeps touches told =
     subst (λ (z : Want). Hits task z key frame at old (record mid2 { memory = record mid2.memory { queues = qs } }) before after) (sym is)
-    (mid, wrote, subst (λ (z : Parts). Touched frame z (record mid2 { memory = record mid2.memory { queues = qs } })) same (touched_of mid2 frame qs keeps touches), told ∙ ap (λ z. z ∷ before) stored)
+    (mid, wrote, subst (λ (z : Parts). MarksReferenced frame z (record mid2 { memory = record mid2.memory { queues = qs } })) same (touched_of mid2 frame qs keeps touches), told ∙ ap (λ z. z ∷ before) stored)
 
 -- the page of a place
 abbrev pub key_at : RegionRow → Place → PageKey

@@ -5,7 +5,7 @@ use Rattle.vm_frames.specs.Frames.{FrameTable, page_in}
 use Rattle.vm_model.specs.Local.{Local}
 use Rattle.vm_resident.specs.declared.page_row.PageRow.{PageRow}
 use Rattle.vm_kernel.specs.Fits.{IsPlainRow}
-use Rattle.vm_kernel.specs.Places.{lock_number, shown}
+use Rattle.vm_kernel.specs.Places.{local_of_row, lock_number}
 
 -- what the history has of a page that is here, and of which nothing is prohibited
 pub record IsSeen (seen : Local) (row : PageRow) (bytes : List ℕ) : Type 0 where
@@ -15,7 +15,7 @@ pub record IsSeen (seen : Local) (row : PageRow) (bytes : List ℕ) : Type 0 whe
   pub dirty : seen.dirty ≡ row.dirty
   pub precious : seen.precious ≡ false
 
-pub seen_here : (fs : FrameTable) (row : PageRow) (lacked : Bool) (seen : Local) → seen ≡ shown fs (Some row) lacked → row.here ≡ true → IsPlainRow row → IsSeen seen row (page_in fs row.frame.0)
+pub seen_here : (fs : FrameTable) (row : PageRow) (lacked : Bool) (seen : Local) → seen ≡ local_of_row fs (Some row) lacked → row.here ≡ true → IsPlainRow row → IsSeen seen row (page_in fs row.frame.0)
 seen_here fs row lacked seen is here plain =
     record {
       here = ap (λ z. z.here) is ∙ here;

@@ -7,7 +7,7 @@ use Rattle.vm_model.specs.declared.script.Header.{Header}
 use Rattle.vm_model.specs.Local.{is_on}
 use Rattle.vm_model.specs.Tasks.{host_of}
 use Rattle.vm_legal.specs.Living.{lives_on}
-use Rattle.vm_abroad.specs.Whose.{IsOwn, IsShut}
+use Rattle.vm_abroad.specs.Whose.{IsOnlyOfHost, IsShut}
 use Rattle.vm_abroad.proofs.Sounds.{one_home}
 use Rattle.vm_kernel.specs.Begun.{CreatesHere, IsMine}
 use Rattle.vm_kernel.proofs.Own.{own_host}
@@ -33,5 +33,5 @@ own_new h task past free g is = own_named h g (either (h == g) (host_of task pas
     either false (Some other) none is = absurd (let bad : true ≡ false = none in cc)
 
 -- where no region waits for its entry, none needs to stand next
-pub mine_of : (header : Header) (h : ℕ) (e : Event) (past : List Event) → IsShut past → IsOwn header h e past → CreatesHere h e past → IsMine header h e past
+pub mine_of : (header : Header) (h : ℕ) (e : Event) (past : List Event) → IsShut past → IsOnlyOfHost header h e past → CreatesHere h e past → IsMine header h e past
 mine_of header h e past shut own creates = record { enters = λ region is. absurd (let bad : false ≡ true = sym (shut region) ∙ is in cc); own = own; creates = creates }

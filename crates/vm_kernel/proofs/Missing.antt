@@ -13,7 +13,7 @@ use Rattle.vm_objects.specs.declared.row.PagerState.TheVariants as state
 use Rattle.vm_resident.specs.Resident.{ResidentTable, row_at}
 use Rattle.vm_waits.specs.declared.waiting.Want.{Want}
 use Rattle.vm_kernel.specs.Changes.{Brought, zeroed}
-use Rattle.vm_kernel.specs.Faulting.{AfterZeros, Ended, Hits, IsAvailable, IsUnavailable, Stays, WantsOne, Requested}
+use Rattle.vm_kernel.specs.Faulting.{AfterZeros, Ended, Hits, IsAvailable, IsUnavailable, NothingChanges, WantsOne, RequestsPage}
 use Rattle.vm_kernel.specs.Waiters.{address_in}
 use Rattle.vm_kernel.specs.declared.parts.Parts.{Parts}
 use Rattle.vm_parts.proofs.Changing.{changes_roomier}
@@ -48,7 +48,7 @@ either k key known found told = elim (state_cases known.state told) [
     go false is ready = inr (known.control, record { row = known; found = found; ready = ready; number = refl; may_have = is })
 
 pub wants_one : (k : Parts) (key : PageKey) (may_claim : Bool) (known : ObjectRow) (log : List Event) → row_at k.memory.resident key.object.0 key.page.0 ≡ None → object_at k.memory.objects key.object.0 ≡ Some known → (known.state ≡ state.Sent → ⊥)
-    → (may_claim ≡ true → free k.memory.frames ≡ 0) → WantsOne key may_claim k × Stays k k log log
+    → (may_claim ≡ true → free k.memory.frames ≡ 0) → WantsOne key may_claim k × NothingChanges k k log log
 wants_one k key may_claim known log absent found told none = (record { absent = absent; why = either k key known found told; none = none }, record { same = refl; told = refl })
 
 -- a page comes, or is asked, the same where more rows have room
@@ -62,7 +62,7 @@ brought_roomier k mid rs key frame rows b =
     }
 
 pub requested_roomier : (k new : Parts) (rs : ResidentTable) (key : PageKey) (access : ℕ) (before after : List Event) → rs.rows ≡ k.memory.resident.rows
-    → Requested key access (record k { memory = record k.memory { resident = rs } }) new before after → Requested key access k new before after
+    → RequestsPage key access (record k { memory = record k.memory { resident = rs } }) new before after → RequestsPage key access k new before after
 requested_roomier k new rs key access before after rows r =
     record {
       control = r.control;

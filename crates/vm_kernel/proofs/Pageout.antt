@@ -4,7 +4,7 @@ use Rattle.std.specs.Prelude.{◌⊎◌}
 use Rattle.vm_legal.specs.Follows.{IsDone, head}
 use Rattle.vm_legal.specs.Outside.{Outside}
 use Rattle.vm_legal.specs.Reclaims.{IsReclaim, ReclaimsOnly}
-use Rattle.vm_legal.specs.Steps.{gone}
+use Rattle.vm_legal.specs.Steps.{departures}
 use Rattle.vm_legal.specs.Stretches.{EachOf}
 use Rattle.vm_model.specs.declared.command.Command.{Command}
 use Rattle.vm_model.specs.declared.command.Command.TheVariants as command
@@ -14,9 +14,9 @@ use Rattle.vm_model.specs.declared.script.Header.{Header}
 use Rattle.vm_pageout.specs.declared.answer.Reclaim.{Reclaim}
 use Rattle.vm_pageout.specs.declared.answer.Reclaim.TheVariants as reclaim
 use Rattle.vm_shadow.specs.declared.ids.Ids.{Ids}
-use Rattle.vm_kernel.specs.Begun.{Goes, Grows, Ran, Starts}
+use Rattle.vm_kernel.specs.Begun.{Grows, LegalEvents, Ran, Starts}
 use Rattle.vm_kernel.specs.Matches.{Rests, host_id}
-use Rattle.vm_kernel.specs.Serving.{Reclaimed}
+use Rattle.vm_kernel.specs.Serving.{FreesOrReturns}
 use Rattle.vm_kernel.specs.Taking.{EachGone}
 use Rattle.vm_kernel.specs.declared.parts.Parts.{Parts}
 use Rattle.vm_kernel.proofs.Growing.{grows_goes}
@@ -30,7 +30,7 @@ pub record Reclaiming (header : Header) (h : ℕ) (outside : Outside) (doing : C
   pub grows : Grows header h outside doing past events
   pub reclaims : EachOf (IsReclaim h) events
   pub only : ReclaimsOnly h (events ++ past)
-  pub went : gone h (events ++ past) ≡ done
+  pub went : departures h (events ++ past) ≡ done
 
 pub reclaiming_start : (header : Header) (h : ℕ) (outside : Outside) (doing : Command) (count : ℕ) (past : List Event) (k : Parts) (ids : Ids) (events : List Event) → doing ≡ command.Pageout (host_id h) count → Starts header h doing past k ids events
     → Reclaiming header h outside doing count 0 past k ids events
@@ -42,7 +42,7 @@ reclaiming_start header h outside doing count past k ids events is s =
       grows = record { first = []; more = []; head = ap (head header past) is; is = refl; follows = tt; licensed = tt; own_bytes = tt; frames = tt; inner = tt; said = tt; mine = tt };
       reclaims = tt;
       only = subst (ReclaimsOnly h) (sym s.begins.is) tt;
-      went = ap (gone h) s.begins.is;
+      went = ap (departures h) s.begins.is;
     })
 
 -- reclaims on top of reclaims
@@ -57,7 +57,7 @@ reclaims_more h (e ∷ more) events past each only = reclaim_more h e ((more ++ 
 
 -- one more has gone
 pub reclaiming_more : (header : Header) (h : ℕ) (outside : Outside) (doing : Command) (count done : ℕ) (past : List Event) (k k2 : Parts) (ids : Ids) (answer : Reclaim) (events after : List Event) → Reclaiming header h outside doing count done past k ids events
-    → Rests header h k2 ids (after ++ past) → Goes header h outside doing past events after → EachGone h events after → Reclaimed h answer k k2 (events ++ past) (after ++ past) → (answer ≡ reclaim.Freed) ⊎ (answer ≡ reclaim.Returned)
+    → Rests header h k2 ids (after ++ past) → LegalEvents header h outside doing past events after → EachGone h events after → FreesOrReturns h answer k k2 (events ++ past) (after ++ past) → (answer ≡ reclaim.Freed) ⊎ (answer ≡ reclaim.Returned)
     → Reclaiming header h outside doing count (done + 1) past k2 ids after
 reclaiming_more header h outside doing count done past k k2 ids answer events after r rests goes each reclaimed which =
     record {
@@ -69,13 +69,13 @@ reclaiming_more header h outside doing count done past k k2 ids answer events af
       went = more which ∙ ap (λ z. z + 1) r.went;
     }
   where
-    more : (answer ≡ reclaim.Freed) ⊎ (answer ≡ reclaim.Returned) → gone h (after ++ past) ≡ gone h (events ++ past) + 1
+    more : (answer ≡ reclaim.Freed) ⊎ (answer ≡ reclaim.Returned) → departures h (after ++ past) ≡ departures h (events ++ past) + 1
     more (inl freed) = (reclaimed.freed freed).1
     more (inr returned) = (reclaimed.returned returned).1
 
 -- no page is here any more
 pub ran_out : (header : Header) (h : ℕ) (outside : Outside) (doing : Command) (count done : ℕ) (past : List Event) (k k2 : Parts) (ids : Ids) (answer : Reclaim) (events after : List Event) → Reclaiming header h outside doing count done past k ids events
-    → Rests header h k2 ids (after ++ past) → Goes header h outside doing past events after → EachGone h events after → Reclaimed h answer k k2 (events ++ past) (after ++ past) → answer ≡ reclaim.Nothing
+    → Rests header h k2 ids (after ++ past) → LegalEvents header h outside doing past events after → EachGone h events after → FreesOrReturns h answer k k2 (events ++ past) (after ++ past) → answer ≡ reclaim.Nothing
     → Ran header h outside doing past k2 ids after
 ran_out header h outside doing count done past k k2 ids answer events after r rests goes each reclaimed nothing =
     record {

@@ -4,7 +4,7 @@ use Rattle.std.proofs.lemmas.Bool.Decides.{eqb_tells}
 use Rattle.std.specs.Prelude.{if◌then◌else◌, is_some, not}
 use Rattle.vm_base.specs.declared.ids.FrameNo.{FrameNo}
 use Rattle.vm_base.specs.declared.ids.PageKey.{PageKey}
-use Rattle.vm_model.specs.Local.{Local, moved, Asks, Effect, Elsewhere}
+use Rattle.vm_model.specs.Local.{Local, local_after, Asks, LocalEffect, Elsewhere}
 use Rattle.vm_frames.specs.Frames.{FrameTable, claimed, frame_count, is_claimed, page_in}
 use Rattle.vm_objects.specs.Objects.{ObjectTable, absent_at}
 use Rattle.vm_pageout.specs.Laundry.{LaundryList}
@@ -18,7 +18,7 @@ use Rattle.vm_resident.specs.Resident.{owner_of, row_at}
 use Rattle.vm_resident.specs.declared.page_row.PageRow.{PageRow}
 use Rattle.vm_shadow.specs.Chains.{ChainTable}
 use Rattle.vm_kernel.specs.Matches.{HasFrames, HasLaundry, HasPages, IsWashed}
-use Rattle.vm_kernel.specs.Places.{has_region, lock_number, shown}
+use Rattle.vm_kernel.specs.Places.{has_region, local_of_row, lock_number}
 
 pub itself : (n : ℕ) → (n == n) ≡ true
 itself n = elim (eqb_tells n n) [ inl same ↦ same.0 | inr apart ↦ absurd (apart.1 refl) ]
@@ -38,12 +38,12 @@ shown_as row here there bytes lacked =
     }
 
 -- a page shows the same where its frame has the same bytes
-pub shown_same : (fs fs2 : FrameTable) (x : Option PageRow) (lacked : Bool) → ((r : PageRow) → x ≡ Some r → page_in fs2 r.frame.0 ≡ page_in fs r.frame.0) → shown fs x lacked ≡ shown fs2 x lacked
+pub shown_same : (fs fs2 : FrameTable) (x : Option PageRow) (lacked : Bool) → ((r : PageRow) → x ≡ Some r → page_in fs2 r.frame.0 ≡ page_in fs r.frame.0) → local_of_row fs x lacked ≡ local_of_row fs2 x lacked
 shown_same fs fs2 None lacked same = refl
 shown_same fs fs2 (Some r) lacked same = ap (λ z. shown_as r r.here r.here z lacked) (sym (same r refl))
 
 -- a page that is here shows its bytes
-pub shown_here : (fs : FrameTable) (row : PageRow) (lacked : Bool) → row.here ≡ true → shown fs (Some row) lacked ≡ shown_as row true true (page_in fs row.frame.0) lacked
+pub shown_here : (fs : FrameTable) (row : PageRow) (lacked : Bool) → row.here ≡ true → local_of_row fs (Some row) lacked ≡ shown_as row true true (page_in fs row.frame.0) lacked
 shown_here fs row lacked here = ap (λ z. shown_as row z z (page_in fs row.frame.0) lacked) here
 
 -- the bytes of the frame that has changed
@@ -53,20 +53,20 @@ bytes_now key frame was now held bytes lists old new c = elim (one_case frame.0 
 -- one page shows what it shows now, and each other what it did
 pub pages_changed : (key : PageKey) (frame : FrameNo) (was now : Option PageRow) (held : Bool) (bytes : List ℕ) (lists : Queues) (old new : HostParts) (os : ObjectTable) (cs : ChainTable) (local_at local_now : ℕ → ℕ → Local)
     → Fit old → HasPages old.frames old.resident old.objects cs local_at → Changes key frame was now held bytes lists old new → (is_some now ≡ true → has_region cs key.object.0 ≡ true)
-    → (local_at key.object.0 key.page.0 ≡ shown old.frames was (absent_at old.objects key.object.0 key.page.0) → local_now key.object.0 key.page.0 ≡ shown new.frames now (absent_at os key.object.0 key.page.0))
+    → (local_at key.object.0 key.page.0 ≡ local_of_row old.frames was (absent_at old.objects key.object.0 key.page.0) → local_now key.object.0 key.page.0 ≡ local_of_row new.frames now (absent_at os key.object.0 key.page.0))
     → ((o p : ℕ) → (key.object.0 == o && key.page.0 == p) ≡ false → (local_now o p ≡ local_at o p) × (absent_at os o p ≡ absent_at old.objects o p))
     → HasPages new.frames new.resident os cs local_now
 pages_changed key frame was now held bytes lists old new os cs local_at local_now fit has c region here others =
     record {
       shown = λ o p. elim (row_cases key.object.0 key.page.0 now old.resident new.resident c.row o p) [
         | inl put ↦
-            subst (λ (z : ℕ). local_now o z ≡ shown new.frames (row_at new.resident o z) (absent_at os o z)) put.page
-            (subst (λ (z : ℕ). local_now z key.page.0 ≡ shown new.frames (row_at new.resident z key.page.0) (absent_at os z key.page.0)) put.object at_key)
+            subst (λ (z : ℕ). local_now o z ≡ local_of_row new.frames (row_at new.resident o z) (absent_at os o z)) put.page
+            (subst (λ (z : ℕ). local_now z key.page.0 ≡ local_of_row new.frames (row_at new.resident z key.page.0) (absent_at os z key.page.0)) put.object at_key)
         | inr that ↦
             let same = others o p that.test in
             same.0 ∙ (has.shown o p
             ∙ (shown_same old.frames new.frames (row_at old.resident o p) (absent_at old.objects o p) (λ r is. elsewhere o p r that.apart is)
-            ∙ (ap (shown new.frames (row_at old.resident o p)) (sym same.1) ∙ sym (ap (λ z. shown new.frames z (absent_at os o p)) that.is))))
+            ∙ (ap (local_of_row new.frames (row_at old.resident o p)) (sym same.1) ∙ sym (ap (λ z. local_of_row new.frames z (absent_at os o p)) that.is))))
       ];
       live = λ o p r is. elim (row_cases key.object.0 key.page.0 now old.resident new.resident c.row o p) [
         | inl put ↦ subst (λ (z : ℕ). has_region cs z ≡ true) put.object (region (ap is_some (sym put.is ∙ is)))
@@ -74,10 +74,10 @@ pages_changed key frame was now held bytes lists old new os cs local_at local_no
       ];
     }
   where
-    at_key : local_now key.object.0 key.page.0 ≡ shown new.frames (row_at new.resident key.object.0 key.page.0) (absent_at os key.object.0 key.page.0)
+    at_key : local_now key.object.0 key.page.0 ≡ local_of_row new.frames (row_at new.resident key.object.0 key.page.0) (absent_at os key.object.0 key.page.0)
     at_key =
-        here (has.shown key.object.0 key.page.0 ∙ ap (λ z. shown old.frames z (absent_at old.objects key.object.0 key.page.0)) c.found)
-        ∙ sym (ap (λ z. shown new.frames z (absent_at os key.object.0 key.page.0)) (row_put old.resident new.resident key.object.0 key.page.0 now c.row))
+        here (has.shown key.object.0 key.page.0 ∙ ap (λ z. local_of_row old.frames z (absent_at old.objects key.object.0 key.page.0)) c.found)
+        ∙ sym (ap (λ z. local_of_row new.frames z (absent_at os key.object.0 key.page.0)) (row_put old.resident new.resident key.object.0 key.page.0 now c.row))
 
     elsewhere : (o p : ℕ) (r : PageRow) → (key.object.0 ≡ o → key.page.0 ≡ p → ⊥) → row_at old.resident o p ≡ Some r → page_in new.frames r.frame.0 ≡ page_in old.frames r.frame.0
     elsewhere o p r apart is = elim (one_case frame.0 r.frame.0 bytes (page_in old.frames r.frame.0) (page_in new.frames r.frame.0) (c.page.at r.frame.0)) [
@@ -86,28 +86,28 @@ pages_changed key frame was now held bytes lists old new os cs local_at local_no
     ]
 
 -- an effect on one page alone
-abbrev pub effect_on : ℕ → PageKey → Effect → (ℕ → ℕ → Local) → ℕ → ℕ → Local
-effect_on size key effect local_at = λ o p. moved size (if key.object.0 == o && key.page.0 == p then effect else Elsewhere) (local_at o p)
+abbrev pub effect_on : ℕ → PageKey → LocalEffect → (ℕ → ℕ → Local) → ℕ → ℕ → Local
+effect_on size key effect local_at = λ o p. local_after size (if key.object.0 == o && key.page.0 == p then effect else Elsewhere) (local_at o p)
 
-pub effect_here : (size : ℕ) (key : PageKey) (effect : Effect) (local_at : ℕ → ℕ → Local) → effect_on size key effect local_at key.object.0 key.page.0 ≡ moved size effect (local_at key.object.0 key.page.0)
+pub effect_here : (size : ℕ) (key : PageKey) (effect : LocalEffect) (local_at : ℕ → ℕ → Local) → effect_on size key effect local_at key.object.0 key.page.0 ≡ local_after size effect (local_at key.object.0 key.page.0)
 effect_here size key effect local_at = rw (itself key.object.0, itself key.page.0) refl
 
-pub effect_apart : (size : ℕ) (key : PageKey) (effect : Effect) (local_at : ℕ → ℕ → Local) (o p : ℕ) → (key.object.0 == o && key.page.0 == p) ≡ false → effect_on size key effect local_at o p ≡ local_at o p
-effect_apart size key effect local_at o p apart = ap (λ b. moved size (if b then effect else Elsewhere) (local_at o p)) apart
+pub effect_apart : (size : ℕ) (key : PageKey) (effect : LocalEffect) (local_at : ℕ → ℕ → Local) (o p : ℕ) → (key.object.0 == o && key.page.0 == p) ≡ false → effect_on size key effect local_at o p ≡ local_at o p
+effect_apart size key effect local_at o p apart = ap (λ b. local_after size (if b then effect else Elsewhere) (local_at o p)) apart
 
 -- what an effect leaves that changes one page
-pub pages_moved : (size : ℕ) (effect : Effect) (key : PageKey) (frame : FrameNo) (was now : Option PageRow) (held : Bool) (bytes : List ℕ) (lists : Queues) (old new : HostParts) (os : ObjectTable) (cs : ChainTable) (local_at : ℕ → ℕ → Local)
+pub pages_moved : (size : ℕ) (effect : LocalEffect) (key : PageKey) (frame : FrameNo) (was now : Option PageRow) (held : Bool) (bytes : List ℕ) (lists : Queues) (old new : HostParts) (os : ObjectTable) (cs : ChainTable) (local_at : ℕ → ℕ → Local)
     → Fit old → HasPages old.frames old.resident old.objects cs local_at → Changes key frame was now held bytes lists old new → (is_some now ≡ true → has_region cs key.object.0 ≡ true)
-    → moved size effect (shown old.frames was (absent_at old.objects key.object.0 key.page.0)) ≡ shown new.frames now (absent_at os key.object.0 key.page.0)
+    → local_after size effect (local_of_row old.frames was (absent_at old.objects key.object.0 key.page.0)) ≡ local_of_row new.frames now (absent_at os key.object.0 key.page.0)
     → ((o p : ℕ) → (key.object.0 == o && key.page.0 == p) ≡ false → absent_at os o p ≡ absent_at old.objects o p)
     → HasPages new.frames new.resident os cs (effect_on size key effect local_at)
 pages_moved size effect key frame was now held bytes lists old new os cs local_at fit has c region shows absent =
     pages_changed key frame was now held bytes lists old new os cs local_at (effect_on size key effect local_at) fit has c region
-    (λ was_shown. effect_here size key effect local_at ∙ (ap (moved size effect) was_shown ∙ shows))
+    (λ was_shown. effect_here size key effect local_at ∙ (ap (local_after size effect) was_shown ∙ shows))
     (λ o p apart. (effect_apart size key effect local_at o p apart, absent o p apart))
 
 -- what a request for a page is to a page
-abbrev pub asking : Bool → Bool → Bool → Effect
+abbrev pub asking : Bool → Bool → Bool → LocalEffect
 asking object page live = if object then (if page && live then Asks else Elsewhere) else Elsewhere
 
 pub asking_it : (object page live : Bool) → (object && page) ≡ true → live ≡ true → asking object page live ≡ Asks

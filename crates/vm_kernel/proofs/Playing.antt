@@ -14,13 +14,13 @@ use Rattle.vm_model.specs.declared.script.Header.{Header}
 use Rattle.vm_legal.specs.Used.{in_use}
 use Rattle.vm_objects.specs.declared.row.PagerState.{PagerState}
 use Rattle.vm_objects.specs.declared.row.PagerState.TheVariants as state
-use Rattle.vm_pageout.specs.Reclaims.{IsChosen, Reclaims, controlled, looked, searched, sends, told_from}
+use Rattle.vm_pageout.specs.Reclaims.{IsChosen, ReclaimEffects, controlled, looked, queues_after_search, sends, told_from}
 use Rattle.vm_parts.specs.Changes.{Changes}
 use Rattle.vm_pageout.specs.declared.answer.Reclaim.{Reclaim}
 use Rattle.vm_pageout.specs.declared.answer.Reclaim.TheVariants as reclaim
 use Rattle.vm_queues.proofs.Balance.{balanced_done, none_needed, spared_done}
 use Rattle.vm_queues.specs.Kept.{front_referenced_of}
-use Rattle.vm_queues.specs.Queues.{AllSkipped, KeepsPages, Page, Queues, balanced, chosen, cleared, from_unreferenced, has_page, needs_none, referenced_front, removed, shortage, spared, touched}
+use Rattle.vm_queues.specs.Queues.{AllSkipped, KeepsPages, Page, Queues, balanced, cleared, from_unreferenced, has_page, needs_none, referenced_front, removed, shortage, spared, victim_frame, with_reference}
 use Rattle.vm_resident.specs.Resident.{PutsRow, ResidentTable, row_at}
 use Rattle.vm_resident.specs.declared.page_row.PageRow.{PageRow}
 use Rattle.vm_shadow.specs.declared.ids.Ids.{Ids}
@@ -28,7 +28,7 @@ use Rattle.vm_waits.specs.declared.waiting.Want.{Want}
 use Rattle.vm_waits.specs.declared.waiting.Want.TheVariants as want
 use Rattle.vm_kernel.specs.Changes.{Brought, IsHere, Wrote, zeroed}
 use Rattle.vm_kernel.specs.Counts.{count_by, most_tasks}
-use Rattle.vm_kernel.specs.Faulting.{AfterZeros, AtOnce, Ended, Faulted, Faults, Hits, Requested, Stays, Touched}
+use Rattle.vm_kernel.specs.Faulting.{AfterZeros, AtOnce, Ended, Faulted, Faults, Hits, MarksReferenced, NothingChanges, RequestsPage}
 use Rattle.vm_kernel.specs.Matches.{Rests}
 use Rattle.vm_kernel.specs.Plays.{DepartsFrom, Does, IsVictim, Marks, Paging, Plays, Still, Then, frame_here, paging, with_frame}
 use Rattle.vm_kernel.specs.declared.parts.Parts.{Parts}
@@ -95,12 +95,12 @@ pub here_is : (x : Option PageRow) (row : PageRow) (frame : FrameNo) → x ≡ S
 here_is x row frame found here is = ap frame_here found ∙ ap (λ (b : Bool). if b then Some row.frame else None) here ∙ ap Some is
 
 -- a page that is here was marked
-marked_one : (key : PageKey) (frame : FrameNo) (k mid new : Parts) → IsHere key frame k → paging mid ≡ paging k → Touched frame mid new → Marks key.object.0 key.page.0 (paging k) (paging new)
+marked_one : (key : PageKey) (frame : FrameNo) (k mid new : Parts) → IsHere key frame k → paging mid ≡ paging k → MarksReferenced frame mid new → Marks key.object.0 key.page.0 (paging k) (paging new)
 marked_one key frame k mid new here same touches =
     record {
       frame = frame;
       here = here_is (row_at k.memory.resident key.object.0 key.page.0) here.row frame here.found here.here here.is;
-      is = ap paging touches.is ∙ ap (λ q. record { frame_at = (paging mid).frame_at; queues = q }) touches.marks ∙ ap (λ (z : Paging). record { frame_at = z.frame_at; queues = touched frame.0 z.queues }) same;
+      is = ap paging touches.is ∙ ap (λ q. record { frame_at = (paging mid).frame_at; queues = q }) touches.marks ∙ ap (λ (z : Paging). record { frame_at = z.frame_at; queues = with_reference frame.0 z.queues }) same;
     }
 
 wrote_same : (key : PageKey) (frame : FrameNo) (bytes : List ℕ) (k mid : Parts) → Wrote key frame bytes k mid → paging mid ≡ paging k
@@ -130,10 +130,10 @@ ended_plays header past task what key at k new before after (AfterZeros frame mi
     plays_both (brought_plays header past before key frame k mid brought)
     (hit_plays header past task what key frame at mid new (zeroed key k ∷ before) after (brought_here key frame k mid brought) hits)
 
-stays_plays : (header : Header) (past : List Event) (k new : Parts) (before after : List Event) → Stays k new before after → Plays header past before (paging k) after (paging new)
+stays_plays : (header : Header) (past : List Event) (k new : Parts) (before after : List Event) → NothingChanges k new before after → Plays header past before (paging k) after (paging new)
 stays_plays header past k new before after stays = plays_none header past before after (paging k) (paging new) stays.told (ap paging stays.same)
 
-asked_plays : (header : Header) (past : List Event) (key : PageKey) (access : ℕ) (k new : Parts) (before after : List Event) → Requested key access k new before after → Plays header past before (paging k) after (paging new)
+asked_plays : (header : Header) (past : List Event) (key : PageKey) (access : ℕ) (k new : Parts) (before after : List Event) → RequestsPage key access k new before after → Plays header past before (paging k) after (paging new)
 asked_plays header past key access k new before after asked =
     plays_one header past before after (event.Sent (Up k.host key.object) (message.Request asked.control key.page access)) (paging k) (paging new) asked.told
     (same_paging _ _ _ _ (frames_kept k.memory.resident new.memory.resident key.object.0 key.page.0 _ asked.page.row (sym (ap frame_here asked.page.found))) asked.page.queues)
@@ -162,18 +162,18 @@ front_plain [] [] = refl
 front_plain [] (y ∷ ys) = refl
 front_plain (x ∷ xs) ys = front_cons x.referenced x xs ys refl (front_plain xs ys)
 
-pub searched_twice : (q : Queues) → searched (searched q) ≡ searched q
+pub searched_twice : (q : Queues) → queues_after_search (queues_after_search q) ≡ queues_after_search q
 searched_twice q =
     let b = balanced q in
     let x : Queues = record b { active = b.active ++ map cleared (referenced_front b.inactive); inactive = from_unreferenced b.inactive } in
-    let none : needs_none (searched q) = none_needed x in
-    ap spared (balanced_done (searched q) none) ∙ spared_done (searched q) (front_plain b.inactive (take (shortage x) x.active)) none
+    let none : needs_none (queues_after_search q) = none_needed x in
+    ap spared (balanced_done (queues_after_search q) none) ∙ spared_done (queues_after_search q) (front_plain b.inactive (take (shortage x) x.active)) none
 
 -- where no page is on a list, nothing is searched
-pub searched_none : (q : Queues) → AllSkipped [] q → searched q ≡ q
+pub searched_none : (q : Queues) → AllSkipped [] q → queues_after_search q ≡ q
 searched_none q none = go q.inactive q.active q.frames none
   where
-    go : (i a : List Page) (n : ℕ) → AllSkipped [] (record { active = a; inactive = i; frames = n }) → searched (record { active = a; inactive = i; frames = n }) ≡ record { active = a; inactive = i; frames = n }
+    go : (i a : List Page) (n : ℕ) → AllSkipped [] (record { active = a; inactive = i; frames = n }) → queues_after_search (record { active = a; inactive = i; frames = n }) ≡ record { active = a; inactive = i; frames = n }
     go [] [] n none = refl
     go [] (x ∷ a) n none = absurd (let bad : false ≡ true = none x.frame (ap (λ (b : Bool). b || has_page a x.frame) (itself x.frame)) in cc)
     go (x ∷ i) a n none = absurd (let bad : false ≡ true = none x.frame (ap (λ (b : Bool). b || has_page (i ++ a) x.frame) (itself x.frame)) in cc)
@@ -188,15 +188,15 @@ page_used header h k ids past o p row rests found =
     rests.matches.uses.used o ∙ grind (arith, nat_tests)
 
 -- the victim has gone
-victim_of : (key : PageKey) (row : PageRow) (held : Bool) (bytes : List ℕ) (k k2 : Parts) → IsChosen [] row (searched k.memory.queues)
-    → Changes key row.frame (Some row) None held bytes (removed row.frame.0 (searched (searched k.memory.queues))) (looked (record k.memory { queues = searched k.memory.queues })) k2.memory → IsVictim key.object.0 key.page.0 (paging k) (paging k2)
+victim_of : (key : PageKey) (row : PageRow) (held : Bool) (bytes : List ℕ) (k k2 : Parts) → IsChosen [] row (queues_after_search k.memory.queues)
+    → Changes key row.frame (Some row) None held bytes (removed row.frame.0 (queues_after_search (queues_after_search k.memory.queues))) (looked (record k.memory { queues = queues_after_search k.memory.queues })) k2.memory → IsVictim key.object.0 key.page.0 (paging k) (paging k2)
 victim_of key row held bytes k k2 victim page =
     let o = key.object.0 in
     let p = key.page.0 in
     let here = here_is (row_at k.memory.resident o p) row row.frame page.found victim.here refl in
-    let lists : searched (searched k.memory.queues) ≡ searched k.memory.queues = searched_twice k.memory.queues in
+    let lists : queues_after_search (queues_after_search k.memory.queues) ≡ queues_after_search k.memory.queues = searched_twice k.memory.queues in
     record {
-      victim = ap (chosen []) (sym lists) ∙ victim.victim ∙ sym here;
+      victim = ap (victim_frame []) (sym lists) ∙ victim.victim ∙ sym here;
       departs =
           record {
             frame = row.frame;
@@ -206,8 +206,8 @@ victim_of key row held bytes k k2 victim page =
     }
 
 -- a page was reclaimed, or none is here
-pub reclaim_plays : (header : Header) (h : ℕ) (past : List Event) (ids : Ids) (answer : Reclaim) (k k2 : Parts) (before after : List Event) → Rests header h k ids (before ++ past) → KeepsPages k.memory.queues (searched k.memory.queues)
-    → Reclaims answer k.host [] (record k.memory { queues = searched k.memory.queues }) k2.memory k.laundry k2.laundry before after → Plays header past before (paging k) after (paging k2)
+pub reclaim_plays : (header : Header) (h : ℕ) (past : List Event) (ids : Ids) (answer : Reclaim) (k k2 : Parts) (before after : List Event) → Rests header h k ids (before ++ past) → KeepsPages k.memory.queues (queues_after_search k.memory.queues)
+    → ReclaimEffects answer k.host [] (record k.memory { queues = queues_after_search k.memory.queues }) k2.memory k.laundry k2.laundry before after → Plays header past before (paging k) after (paging k2)
 reclaim_plays header h past ids reclaim.Freed k k2 before after rests keeps is =
     plays_one header past before after (event.Dropped k.host is.key.object is.key.page) (paging k) (paging k2) is.events
     (subst (λ (b : Bool). DepartsFrom b is.key.object.0 is.key.page.0 (paging k) (paging k2)) (sym used) (victim_of is.key is.row _ _ k k2 is.victim is.page))

@@ -12,7 +12,7 @@ use Rattle.vm_model.specs.Regions.{region_of}
 use Rattle.vm_model.specs.Tasks.{entries_of}
 use Rattle.vm_model.specs.Waiting.{Access, address_of, is_store, next_page, waiting}
 use Rattle.vm_legal.specs.Accesses.{HasPlace, Waits, page_of}
-use Rattle.vm_legal.specs.Prompt.{AReady, AnAnswer, Awaits, IsFull, IsSwept, NoneInVain, PromptAt, WaitsForPager}
+use Rattle.vm_legal.specs.Prompt.{AReady, AnAnswer, Awaits, HostIsFull, IsSwept, NoneInVain, PromptAt, WaitsForPager}
 use Rattle.vm_legal.specs.Walks.{IsTop, Reach, page_on}
 use Rattle.vm_frames.specs.Frames.{FrameTable}
 use Rattle.vm_kernel.proofs.Regions.{region_row}
@@ -34,7 +34,7 @@ use Rattle.vm_waits.proofs.Entries.{none_again, none_queued}
 use Rattle.vm_kernel.specs.Counts.{count_by, most_tasks}
 use Rattle.vm_kernel.specs.Matches.{HasWaits, Matches, Rests}
 use Rattle.vm_kernel.specs.Pagers.{is_ready_state, live_in, ready_in}
-use Rattle.vm_kernel.specs.Places.{has_region, shown}
+use Rattle.vm_kernel.specs.Places.{has_region, local_of_row}
 use Rattle.vm_kernel.specs.Serving.{HasQueue, IsServed}
 use Rattle.vm_kernel.specs.Waiters.{IsAsked, IsAt, IsTold, Reason, access_in, address_in, waiting_in}
 use Rattle.vm_kernel.specs.declared.parts.Parts.{Parts}
@@ -42,7 +42,7 @@ use Rattle.vm_kernel.proofs.Own.{own_host}
 use Rattle.vm_model.specs.Local.{is_on}
 
 -- what is on the host has a row
-here_row : (fs : FrameTable) (x : Option PageRow) (lacked : Bool) → (shown fs x lacked).here ≡ true → (row : PageRow) × (x ≡ Some row)
+here_row : (fs : FrameTable) (x : Option PageRow) (lacked : Bool) → (local_of_row fs x lacked).here ≡ true → (row : PageRow) × (x ≡ Some row)
 here_row fs None lacked bad = absurd (let no : false ≡ true = bad in cc)
 here_row fs (Some row) lacked is = (row, refl)
 
@@ -92,15 +92,15 @@ awaits_ready header h k ids past lost o p store m told =
 -- a page that is asked
 awaits_page : (header : Header) (h : ℕ) (k : Parts) (ids : Ids) (past : List Event) (lost : List Entry) (o p : ℕ) (store : Bool) → Matches header h k ids lost past → IsAsked k.memory.resident o p → Awaits header h store o p past
 awaits_page header h k ids past lost o p store m asked =
-    AnAnswer (ap (λ z. z.asked) (m.pages.shown o p) ∙ (ap (λ z. (shown k.memory.frames z (absent_at k.memory.objects o p)).asked) asked.found ∙ ap not asked.away))
+    AnAnswer (ap (λ z. z.asked) (m.pages.shown o p) ∙ (ap (λ z. (local_of_row k.memory.frames z (absent_at k.memory.objects o p)).asked) asked.found ∙ ap not asked.away))
 
 -- a task that waits on the host is in its maps
 pub at_home : (header : Header) (h : ℕ) (k : Parts) (ids : Ids) (past : List Event) (task : ℕ) (access : Access) → Matches header h k ids [] past → (waits : Waits header task access past) → waits.at.host ≡ h → is_some (entries_in task k.maps) ≡ true
 at_home header h k ids past task access m waits home = sym (m.tasks.hosts task) ∙ (ap (is_on h) (waits.at.lives ∙ ap Some home) ∙ own_host h)
 
 -- what an access waits for that isn't to be run again
-waits_for : (header : Header) (h : ℕ) (k : Parts) (ids : Ids) (past : List Event) (task : ℕ) (what : Want) (why : On) → Matches header h k ids [] past → Reason k.maps k.chains k.memory.resident k.memory.objects task what why → is_again why ≡ false → (is_frame why ≡ true → IsFull header h past)
-    → (waits : Waits header task (access_in what) past) → waits.at.host ≡ h → WaitsForPager header h task (access_in what) past ⊎ IsFull header h past
+waits_for : (header : Header) (h : ℕ) (k : Parts) (ids : Ids) (past : List Event) (task : ℕ) (what : Want) (why : On) → Matches header h k ids [] past → Reason k.maps k.chains k.memory.resident k.memory.objects task what why → is_again why ≡ false → (is_frame why ≡ true → HostIsFull header h past)
+    → (waits : Waits header task (access_in what) past) → waits.at.host ≡ h → WaitsForPager header h task (access_in what) past ⊎ HostIsFull header h past
 waits_for header h k ids past task what on.Again m reason fresh full waits home = absurd (let bad : true ≡ false = fresh in cc)
 waits_for header h k ids past task what (on.Ready object) m reason fresh full waits home =
     let told : IsTold k.memory.objects reason.0.object.0 = subst (λ z. IsTold k.memory.objects z.0) (sym reason.2) reason.3 in
@@ -124,7 +124,7 @@ waits_for header h k ids past task what (on.Page key) m reason fresh full waits 
 waits_for header h k ids past task what on.Frame m reason fresh full waits home = inr (full refl)
 
 -- an access that wants a frame waits while the queue can't go on
-queue_full : (header : Header) (h : ℕ) (k : Parts) (past : List Event) (task : ℕ) (w : Waiting) → IsServed header h k past → entry k.waits.rows task ≡ Some w → is_frame w.on ≡ true → IsFull header h past
+queue_full : (header : Header) (h : ℕ) (k : Parts) (past : List Event) (task : ℕ) (w : Waiting) → IsServed header h k past → entry k.waits.rows task ≡ Some w → is_frame w.on ≡ true → HostIsFull header h past
 queue_full header h k past task w (inl empty) found queues = absurd (let none = none_queued k.waits.rows task w empty found in let bad : true ≡ false = sym queues ∙ none in cc)
 queue_full header h k past task w (inr full) found queues = full
 
@@ -132,7 +132,7 @@ none_in_vain : (header : Header) (h : ℕ) (k : Parts) (ids : Ids) (past : List 
 none_in_vain header h k ids past rests served task access waits home =
     let row = has_row k past task access rests.waits (at_home header h k ids past task access rests.matches waits home) waits.waits in
     let w = row.row in
-    subst (λ (z : Access). (it : Waits header task z past) → it.at.host ≡ h → WaitsForPager header h task z past ⊎ IsFull header h past) (sym row.is)
+    subst (λ (z : Access). (it : Waits header task z past) → it.at.host ≡ h → WaitsForPager header h task z past ⊎ HostIsFull header h past) (sym row.is)
     (waits_for header h k ids past task w.want w.on rests.matches (rests.waits.reasons task w row.found refl) (none_again k.waits.rows task w rests.idle row.found) (queue_full header h k past task w served row.found))
     waits home
 

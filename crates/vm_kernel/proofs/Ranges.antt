@@ -46,7 +46,7 @@ use Rattle.vm_kernel.specs.Counts.{count_by, most_tasks}
 use Rattle.vm_kernel.specs.Forking.{got}
 use Rattle.vm_kernel.specs.Matches.{AllReached, AllUsed, HasEntries, HasPages, HasRegions, HasUse, IsInside, IsOverOwn, IsUnder, Rests, holds}
 use Rattle.vm_parts.specs.Fits.{Fit, pages_kept}
-use Rattle.vm_kernel.specs.Places.{has_region, pages_in, place_of, region_pages, shown}
+use Rattle.vm_kernel.specs.Places.{has_region, local_of_row, pages_in, place_of, region_pages}
 use Rattle.vm_kernel.specs.Waiters.{waiting_in}
 use Rattle.vm_kernel.specs.declared.parts.Parts.{Parts}
 use Rattle.vm_kernel.proofs.Counts.{by_none, most_is, on_entered}
@@ -266,7 +266,7 @@ entries_range size maps new chains chains2 task n address bytes object has none 
     other r apart = elim (eqb_tells n r) [ inl is ↦ absurd (apart is.1) | inr isnt ↦ ap (λ b. if b then 1 else 0) isnt.0 ]
 
 pub pages_range : (fs : FrameTable) (rs : ResidentTable) (os os2 : ObjectTable) (chains chains2 : ChainTable) (local_at : ℕ → ℕ → Local) → HasPages fs rs os chains local_at → SameMarks os os2 → Keeps chains chains2 → HasPages fs rs os2 chains2 local_at
-pages_range fs rs os os2 chains chains2 local_at has marks keeps = record { shown = λ o p. has.shown o p ∙ ap (shown fs (row_at rs o p)) (sym (marks.at o p)); live = λ o p row found. keeps.there o (has.live o p row found) }
+pages_range fs rs os os2 chains chains2 local_at has marks keeps = record { shown = λ o p. has.shown o p ∙ ap (local_of_row fs (row_at rs o p)) (sym (marks.at o p)); live = λ o p row found. keeps.there o (has.live o p row found) }
 
 used_range : (chains chains2 : ChainTable) (n : ℕ) (object : ObjectId) (pages : ℕ) → AllUsed chains → PutsRegion n (Some (new_region object pages)) chains chains2 → AllUsed chains2
 used_range chains chains2 n object pages used put r row found = elim (region_cases n (Some (new_region object pages)) chains chains2 put r) [

@@ -6,12 +6,12 @@ use Rattle.vm_base.specs.declared.ids.PageKey.{PageKey}
 use Rattle.vm_frames.specs.Frames.{claimed, frame_count, free, is_claimed, page_in}
 use Rattle.vm_legal.specs.Accesses.{is_ready}
 use Rattle.vm_legal.specs.Frames.{frames_held, frames_wired, returns_out}
-use Rattle.vm_legal.specs.Licences.{Created, Creates, Drops, Gives, GivesBack, Reclaimed as ForFrames, ReturnsOn}
+use Rattle.vm_legal.specs.Licences.{Created, Creates, Drops, GivesBack, Reclaimed as ForFrames, ReturnCause, ReturnsOn}
 use Rattle.vm_legal.specs.Living.{tasks as made_tasks}
 use Rattle.vm_legal.specs.Outside.{Outside}
-use Rattle.vm_legal.specs.Prompt.{IsExhausted, IsFull}
+use Rattle.vm_legal.specs.Prompt.{HostIsFull, IsExhausted}
 use Rattle.vm_legal.specs.Reclaims.{PagesOut, Starves, Reclaims as May}
-use Rattle.vm_legal.specs.Steps.{gone}
+use Rattle.vm_legal.specs.Steps.{departures}
 use Rattle.vm_legal.specs.Used.{in_use}
 use Rattle.vm_model.specs.declared.command.Command.{Command}
 use Rattle.vm_model.specs.declared.event.Event.{Event}
@@ -22,14 +22,14 @@ use Rattle.vm_model.specs.declared.message.Message.TheVariants as message
 use Rattle.vm_model.specs.declared.script.Declared.{Declared}
 use Rattle.vm_model.specs.declared.script.Header.{Header}
 use Rattle.vm_model.specs.Controls.{last_control, live_control}
-use Rattle.vm_model.specs.Local.{Drops as Leaves, Elsewhere, Returns, away, local, moved}
+use Rattle.vm_model.specs.Local.{Drops as Leaves, Elsewhere, Returns, away, local, local_after}
 use Rattle.vm_model.specs.Regions.{backing_of, next_object, next_region, region_of}
 use Rattle.vm_model.specs.Tasks.{entries_of, host_of}
 use Rattle.vm_objects.specs.Objects.{PutsObject, absent_at}
 use Rattle.vm_objects.specs.declared.row.ObjectRow.{ObjectRow}
 use Rattle.vm_objects.specs.declared.row.PagerState.{PagerState}
 use Rattle.vm_objects.specs.declared.row.PagerState.TheVariants as state
-use Rattle.vm_pageout.specs.Reclaims.{IsFreed, IsNothing, IsReturned, Reclaims, controlled, looked, searched, sends, told_from, with_control}
+use Rattle.vm_pageout.specs.Reclaims.{IsFreed, IsNothing, IsReturned, ReclaimEffects, controlled, looked, queues_after_search, sends, told_from, with_control}
 use Rattle.vm_pageout.specs.declared.answer.Reclaim.{Reclaim}
 use Rattle.vm_pageout.specs.declared.answer.Reclaim.TheVariants as reclaim
 use Rattle.vm_parts.specs.Controls.{AllLive}
@@ -40,12 +40,12 @@ use Rattle.vm_resident.specs.Resident.{owner_of, row_at}
 use Rattle.vm_resident.specs.declared.page_row.PageRow.{PageRow}
 use Rattle.vm_shadow.specs.declared.ids.Ids.{Ids}
 use Rattle.vm_supply.specs.declared.woken.Woken.TheVariants as woken
-use Rattle.vm_kernel.specs.Begun.{Goes}
-use Rattle.vm_kernel.specs.Fits.{ArePlain, Fits}
+use Rattle.vm_kernel.specs.Begun.{LegalEvents}
+use Rattle.vm_kernel.specs.Fits.{ArePlain, PartsFit}
 use Rattle.vm_kernel.specs.Matches.{HasControls, HasFrames, HasLaundry, HasPages, HasRegions, HasTasks, HasUse, HasOrder, HasWaits, Matches, Rests, host_id, holds}
 use Rattle.vm_kernel.specs.Pagers.{has_pager, last_in, live_in}
-use Rattle.vm_kernel.specs.Places.{place_of, shown}
-use Rattle.vm_kernel.specs.Serving.{Reclaimed}
+use Rattle.vm_kernel.specs.Places.{local_of_row, place_of}
+use Rattle.vm_kernel.specs.Serving.{FreesOrReturns}
 use Rattle.vm_kernel.specs.Taking.{EachGone}
 use Rattle.vm_kernel.specs.declared.parts.Parts.{Parts}
 use Rattle.vm_kernel.proofs.Growing.{Follows, free_is, goes_none, goes_one, suffices}
@@ -76,9 +76,9 @@ pub record Beside (k k2 : Parts) : Type 0 where
 -- what a reclaim owes its caller
 pub record Took (header : Header) (h : ℕ) (outside : Outside) (doing : Command) (past : List Event) (ids : Ids) (answer : Reclaim) (k k2 : Parts) (before after : List Event) : Type 0 where
   pub rests : Rests header h k2 ids (after ++ past)
-  pub goes : Goes header h outside doing past before after
+  pub goes : LegalEvents header h outside doing past before after
   pub gone : EachGone h before after
-  pub reclaimed : Reclaimed h answer k k2 (before ++ past) (after ++ past)
+  pub reclaimed : FreesOrReturns h answer k k2 (before ++ past) (after ++ past)
 
 -- why a page may be reclaimed
 abbrev pub MayTake : Header → ℕ → Command → List Event → Type 0
@@ -89,7 +89,7 @@ may_take : (header : Header) (h : ℕ) (doing : Command) (o p : ℕ) (past : Lis
 may_take header h doing o p past none why = record { spared = λ waits. unnamed (local header.size h (place_of o p) past).lock _ none waits.named; may = why }
 
 -- the parts fit still, with fewer rows
-fits_of : (k k2 : Parts) → Beside k k2 → Fits k → ArePlain k2.memory.resident → Fits k2
+fits_of : (k k2 : Parts) → Beside k k2 → PartsFit k → ArePlain k2.memory.resident → PartsFit k2
 fits_of k k2 beside fits plain = record { parts = beside.fit; plain = plain; buffers = beside.buffers ∙ (fits.buffers ∙ sym beside.size) }
 
 no_bool : (b : Bool) → (b ≡ true → ⊥) → b ≡ false
@@ -145,7 +145,7 @@ took_nothing header h outside doing past ids k k2 before after rests beside is =
 
 -- a clean page was dropped
 took_freed : (header : Header) (h : ℕ) (outside : Outside) (doing : Command) (past : List Event) (ids : Ids) (k k2 : Parts) (before after : List Event)
-    → Rests header h k ids (before ++ past) → Beside k k2 → KeepsPages k.memory.queues (searched k.memory.queues) → MayTake header h doing (before ++ past) → IsFreed k.host [] k.memory k2.memory k.laundry k2.laundry before after → Took header h outside doing past ids reclaim.Freed k k2 before after
+    → Rests header h k ids (before ++ past) → Beside k k2 → KeepsPages k.memory.queues (queues_after_search k.memory.queues) → MayTake header h doing (before ++ past) → IsFreed k.host [] k.memory k2.memory k.laundry k2.laundry before after → Took header h outside doing past ids reclaim.Freed k k2 before after
 took_freed header h outside doing past ids k k2 before after rests beside keeps may freed =
     let m = rests.matches in
     let key = freed.key in
@@ -157,14 +157,14 @@ took_freed header h outside doing past ids k k2 before after rests beside keeps 
     let moment = before ++ past in
     let e : Event = event.Dropped (host_id h) key.object key.page in
     let log : after ≡ e ∷ before = freed.events ∙ ap (λ z. event.Dropped z key.object key.page ∷ before) (named_host k.host h m.host) in
-    let is : local header.size h (place_of o p) moment ≡ shown k.memory.frames (Some row) (absent_at k.memory.objects o p) = m.pages.shown o p ∙ ap (λ z. shown k.memory.frames z (absent_at k.memory.objects o p)) page.found in
+    let is : local header.size h (place_of o p) moment ≡ local_of_row k.memory.frames (Some row) (absent_at k.memory.objects o p) = m.pages.shown o p ∙ ap (λ z. local_of_row k.memory.frames z (absent_at k.memory.objects o p)) page.found in
     let seen = seen_here k.memory.frames row (absent_at k.memory.objects o p) (local header.size h (place_of o p) moment) is here (m.fits.plain o p row page.found) in
     let frames : HasFrames (slice_get (reverse header.frames.items) h) k2.memory.frames (frames_held header.size h (e ∷ moment)) (frames_wired h (e ∷ moment)) =
     rw (own_host h) (frames_changed (slice_get (reverse header.frames.items) h) key row.frame _ _ _ _ _ (looked k.memory) k2.memory (frames_held header.size h moment) (frames_held header.size h moment - 1) (frames_wired h moment) m.frames page (λ held. let less = page.claims in omega arith)) in
     let drops : Drops header doing h o p moment = record { here = seen.here; why = ForFrames (seen.dirty ∙ freed.clean) seen.precious (may_take header h doing o p moment seen.lock may) } in
     let follows : Follows header h outside doing e moment =
     record { consequence = tt; cause = drops; own_bytes = tt; frames = suffices header h k2.memory.frames (e ∷ moment) frames; inner = tt; said = tt; own = own_named h; creates = tt } in
-    let fit = fit_touched k.memory (searched k.memory.queues) m.fits.parts keeps refl in
+    let fit = fit_touched k.memory (queues_after_search k.memory.queues) m.fits.parts keeps refl in
     subst (λ (z : List Event). Took header h outside doing past ids reclaim.Freed k k2 before z) (sym log)
     (record {
       rests =
@@ -206,7 +206,7 @@ took_freed header h outside doing past ids k k2 before after rests beside keeps 
     })
 
 -- a page is on its way to its pager, in its frame
-on_its_way : (h : ℕ) (k k2 : Parts) (before after : List Event) → Beside k k2 → claimed k2.memory.frames + 1 ≡ claimed k.memory.frames + 1 → free k2.memory.frames + 1 ≡ free k.memory.frames + 1 → gone h after ≡ gone h before + 1 → 0 < returns_out h after → Reclaimed h reclaim.Returned k k2 before after
+on_its_way : (h : ℕ) (k k2 : Parts) (before after : List Event) → Beside k k2 → claimed k2.memory.frames + 1 ≡ claimed k.memory.frames + 1 → free k2.memory.frames + 1 ≡ free k.memory.frames + 1 → departures h after ≡ departures h before + 1 → 0 < returns_out h after → FreesOrReturns h reclaim.Returned k k2 before after
 on_its_way h k k2 before after beside claims left less out =
     record {
       waits = beside.waits;
@@ -236,7 +236,7 @@ abbrev creating : ℕ → PageKey → ℕ → ℕ → Event
 creating h key control size = event.Sent (Up (host_id h) key.object) (message.Create control size)
 
 -- what a return leaves of the kernel
-returned_rests : (header : Header) (h : ℕ) (ids : Ids) (k k2 : Parts) (before after moment past : List Event) (control : ℕ) → Rests header h k ids past → Beside k k2 → KeepsPages k.memory.queues (searched k.memory.queues) → (is : IsReturned k.host [] k.memory k2.memory k.laundry k2.laundry before after) → Before header h k ids moment
+returned_rests : (header : Header) (h : ℕ) (ids : Ids) (k k2 : Parts) (before after moment past : List Event) (control : ℕ) → Rests header h k ids past → Beside k k2 → KeepsPages k.memory.queues (queues_after_search k.memory.queues) → (is : IsReturned k.host [] k.memory k2.memory k.laundry k2.laundry before after) → Before header h k ids moment
     → HasControls h k2.memory.objects (λ o. last_control h o moment) (λ o. live_control h o moment) (λ o. is_ready h o moment) (λ o. home_of o moment)
     → Rests header h k2 ids (returning h is.key control is.row.dirty (page_in k.memory.frames is.row.frame.0) ∷ moment)
 returned_rests header h ids k k2 before after moment past control rests beside keeps is b controls =
@@ -246,7 +246,7 @@ returned_rests header h ids k k2 before after moment past control rests beside k
     let key = is.key in
     let row = is.row in
     let page = is.page in
-    let fit = fit_touched k.memory (searched k.memory.queues) m.fits.parts keeps refl in
+    let fit = fit_touched k.memory (queues_after_search k.memory.queues) m.fits.parts keeps refl in
     let local_at = λ (o p : ℕ). local header.size h (place_of o p) moment in
     let region = m.pages.live o p is.row page.found in
     record {
@@ -260,11 +260,11 @@ returned_rests header h ids k k2 before after moment past control rests beside k
             tasks = rw beside.maps b.tasks;
             regions = rw beside.chains (regions_controlled k.chains k.memory.objects k2.memory.objects ids _ _ _ _ o is.object b.regions is.known is.objects);
             entries = rw (beside.chains, beside.maps) m.entries;
-            pages = rw (beside.chains, own_host h) (pages_eq k2.memory.frames k2.memory.resident k2.memory.objects k.chains (effect_on header.size key (Returns false) local_at) (λ o2 p2. moved header.size (if o == o2 then (if p == p2 then Returns false else Elsewhere) else Elsewhere) (local_at o2 p2))
+            pages = rw (beside.chains, own_host h) (pages_eq k2.memory.frames k2.memory.resident k2.memory.objects k.chains (effect_on header.size key (Returns false) local_at) (λ o2 p2. local_after header.size (if o == o2 then (if p == p2 then Returns false else Elsewhere) else Elsewhere) (local_at o2 p2))
                 (pages_moved header.size (Returns false) key row.frame _ _ _ _ _ (looked k.memory) k2.memory k2.memory.objects k.chains local_at fit b.pages page (λ some. absurd (let bad : false ≡ true = some in cc))
                 (ap (λ z. record away { asked = not z }) is.victim.here ∙ ap (λ z. record away { absent = z }) (sym (is.present.at o p ∙ rw (itself o, itself p) refl)))
                 (λ o2 p2 apart. is.present.at o2 p2 ∙ ap (λ b. if b then false else absent_at k.memory.objects o2 p2) apart))
-                (λ o2 p2. ap (λ e. moved header.size e (local_at o2 p2)) (nested (o == o2) (p == p2))));
+                (λ o2 p2. ap (λ e. local_after header.size e (local_at o2 p2)) (nested (o == o2) (p == p2))));
             uses = rw beside.maps b.uses;
             controls = controls;
             homeless = b.homeless;
@@ -288,7 +288,7 @@ either precious is = rw is refl
 
 -- a return has its cause, and its bytes are those of the page
 back_follows : (header : Header) (h : ℕ) (outside : Outside) (doing : Command) (ids : Ids) (k : Parts) (key : PageKey) (row : PageRow) (f control : ℕ) (past moment : List Event) → Matches header h k ids [] past → row_at k.memory.resident key.object.0 key.page.0 ≡ Some row → row.frame.0 ≡ f
-    → IsSeen (local header.size h (place_of key.object.0 key.page.0) moment) row (page_in k.memory.frames row.frame.0) → row.dirty ≡ true → live_control h key.object.0 moment ≡ Some control → Gives header doing h key.object.0 key.page.0 false moment
+    → IsSeen (local header.size h (place_of key.object.0 key.page.0) moment) row (page_in k.memory.frames row.frame.0) → row.dirty ≡ true → live_control h key.object.0 moment ≡ Some control → ReturnCause header doing h key.object.0 key.page.0 false moment
     → HasFrames (slice_get (reverse header.frames.items) h) k.memory.frames (frames_held header.size h moment) (frames_wired h moment) → Follows header h outside doing (returning h key control row.dirty (page_in k.memory.frames f)) moment
 back_follows header h outside doing ids k key row f control past moment m found framed seen dirty live why frames =
     let back : GivesBack header doing h control key.object.0 key.page.0 row.dirty false (page_in k.memory.frames f) moment =
@@ -304,7 +304,7 @@ sent_back key dirty object bytes events size pager host =
     ∷ told_from pager (sends host key (message.Create (with_control pager object).control size)) events
 
 -- a changed page was returned, to a pager that was told of the object
-took_told : (header : Header) (h : ℕ) (outside : Outside) (doing : Command) (past : List Event) (ids : Ids) (k k2 : Parts) (before after : List Event) → Rests header h k ids (before ++ past) → Beside k k2 → KeepsPages k.memory.queues (searched k.memory.queues) → MayTake header h doing (before ++ past)
+took_told : (header : Header) (h : ℕ) (outside : Outside) (doing : Command) (past : List Event) (ids : Ids) (k k2 : Parts) (before after : List Event) → Rests header h k ids (before ++ past) → Beside k k2 → KeepsPages k.memory.queues (queues_after_search k.memory.queues) → MayTake header h doing (before ++ past)
     → (is : IsReturned k.host [] k.memory k2.memory k.laundry k2.laundry before after) → is.row.dirty ≡ true → has_pager is.object.state ≡ true → controlled is.object ≡ is.object
     → after ≡ returning h is.key is.object.control is.row.dirty (page_in k.memory.frames is.row.frame.0) ∷ before → Took header h outside doing past ids reclaim.Returned k k2 before after
 took_told header h outside doing past ids k k2 before after rests beside keeps may is dirty paged same log =
@@ -316,10 +316,10 @@ took_told header h outside doing past ids k k2 before after rests beside keeps m
     let p = key.page.0 in
     let moment = before ++ past in
     let e = returning h key is.object.control row.dirty (page_in k.memory.frames is.row.frame.0) in
-    let seen = seen_here k.memory.frames row (absent_at k.memory.objects o p) (local header.size h (place_of o p) moment) (m.pages.shown o p ∙ ap (λ z. shown k.memory.frames z (absent_at k.memory.objects o p)) page.found) is.victim.here (m.fits.plain o p row page.found) in
+    let seen = seen_here k.memory.frames row (absent_at k.memory.objects o p) (local header.size h (place_of o p) moment) (m.pages.shown o p ∙ ap (λ z. local_of_row k.memory.frames z (absent_at k.memory.objects o p)) page.found) is.victim.here (m.fits.plain o p row page.found) in
     let first = first_of_object k.chains k.memory.objects ids _ _ _ _ o is.object m.regions (m.pages.live o p row page.found) is.known in
     let lives : live_control h o moment ≡ Some is.object.control = m.controls.live o ∙ (ap live_in is.known ∙ ap (λ b. if b then Some is.object.control else None) (first.live ∙ paged)) in
-    let why : Gives header doing h o p false moment = ForFrames refl (may_take header h doing o p moment seen.lock may) in
+    let why : ReturnCause header doing h o p false moment = ForFrames refl (may_take header h doing o p moment seen.lock may) in
     let follows = back_follows header h outside doing ids k key row is.row.frame.0 is.object.control moment moment m page.found refl seen dirty lives why m.frames in
     let b : Before header h k ids moment = record { tasks = m.tasks; regions = m.regions; pages = m.pages; uses = m.uses; homeless = m.homeless; laundry = m.laundry; frames = m.frames; waits = rests.waits; order = rests.order } in
     let controls = controls_same k.memory.objects k2.memory.objects _ _ _ m.controls (controls_told k.memory.objects k2.memory.objects o is.object is.known same is.objects) in
@@ -332,7 +332,7 @@ took_told header h outside doing past ids k k2 before after rests beside keeps m
     })
 
 -- a changed page was returned, and its pager told of the object first
-took_first : (header : Header) (h : ℕ) (outside : Outside) (doing : Command) (past : List Event) (ids : Ids) (k k2 : Parts) (before after : List Event) → Rests header h k ids (before ++ past) → Beside k k2 → KeepsPages k.memory.queues (searched k.memory.queues) → MayTake header h doing (before ++ past)
+took_first : (header : Header) (h : ℕ) (outside : Outside) (doing : Command) (past : List Event) (ids : Ids) (k k2 : Parts) (before after : List Event) → Rests header h k ids (before ++ past) → Beside k k2 → KeepsPages k.memory.queues (queues_after_search k.memory.queues) → MayTake header h doing (before ++ past)
     → (is : IsReturned k.host [] k.memory k2.memory k.laundry k2.laundry before after) → is.row.dirty ≡ true → is.object.state ≡ state.Without
     → after ≡ returning h is.key (is.object.control + 1) is.row.dirty (page_in k.memory.frames is.row.frame.0) ∷ creating h is.key (is.object.control + 1) header.size ∷ before → Took header h outside doing past ids reclaim.Returned k k2 before after
 took_first header h outside doing past ids k k2 before after rests beside keeps may is dirty without log =
@@ -353,12 +353,12 @@ took_first header h outside doing past ids k k2 before after rests beside keeps 
     let pages : HasPages k.memory.frames k.memory.resident k.memory.objects k.chains (λ o p. local header.size h (place_of o p) moment) =
     rw (own_host h) (pages_created header.size k.memory.frames k.memory.resident k.memory.objects k.chains (λ o p. local header.size h (place_of o p) h0) o m.pages (λ q. unasked header.size h o q h0 dead)) in
     let plain = m.fits.plain o p row page.found in
-    let seen0 = seen_here k.memory.frames row (absent_at k.memory.objects o p) (local header.size h (place_of o p) h0) (m.pages.shown o p ∙ ap (λ z. shown k.memory.frames z (absent_at k.memory.objects o p)) page.found) is.victim.here plain in
-    let seen = seen_here k.memory.frames row (absent_at k.memory.objects o p) (local header.size h (place_of o p) moment) (pages.shown o p ∙ ap (λ z. shown k.memory.frames z (absent_at k.memory.objects o p)) page.found) is.victim.here plain in
+    let seen0 = seen_here k.memory.frames row (absent_at k.memory.objects o p) (local header.size h (place_of o p) h0) (m.pages.shown o p ∙ ap (λ z. local_of_row k.memory.frames z (absent_at k.memory.objects o p)) page.found) is.victim.here plain in
+    let seen = seen_here k.memory.frames row (absent_at k.memory.objects o p) (local header.size h (place_of o p) moment) (pages.shown o p ∙ ap (λ z. local_of_row k.memory.frames z (absent_at k.memory.objects o p)) page.found) is.victim.here plain in
     let put : PutsObject o (Some (with_control state.Without is.object)) k.memory.objects k2.memory.objects = subst (λ (z : PagerState). PutsObject o (Some (with_control z is.object)) k.memory.objects k2.memory.objects) without is.objects in
     let controls : HasControls h k2.memory.objects (λ o. last_control h o moment) (λ o. live_control h o moment) (λ o. is_ready h o moment) (λ o. home_of o moment) = rw (own_host h) (controls_begun k.memory.objects k2.memory.objects _ _ _ o is.object m.controls beside.live is.known none put) in
     let lives : live_control h o moment ≡ Some control = if_true o (Some control) (live_control h o h0) (live_control h o moment) (rw (own_host h) refl) in
-    let why : Gives header doing h o p false moment = Created control header.size h0 refl refl (may_take header h doing o p h0 seen0.lock may) in
+    let why : ReturnCause header doing h o p false moment = Created control header.size h0 refl refl (may_take header h doing o p h0 seen0.lock may) in
     let follows = back_follows header h outside doing ids k key row is.row.frame.0 control h0 moment m page.found refl seen dirty lives why m.frames in
     let creates : Creates header h control o header.size h0 =
     record { number = ap (λ z. z + 1) none; sized = refl; temporary = subst (λ (z : List Declared). length z ≤ o) (sym m.plain.objects) (omega arith); never = m.controls.last o ∙ (ap last_in is.known ∙ none); page = p; here = seen0.here } in
@@ -382,7 +382,7 @@ took_first header h outside doing past ids k k2 before after rests beside keeps 
       reclaimed = on_its_way h k k2 h0 (e2 ∷ moment) beside page.claims page.left (rw (own_host h) refl) (rw (own_host h) (omega arith));
     })
 
-took_returned : (header : Header) (h : ℕ) (outside : Outside) (doing : Command) (past : List Event) (ids : Ids) (k k2 : Parts) (before after : List Event) → Rests header h k ids (before ++ past) → Beside k k2 → KeepsPages k.memory.queues (searched k.memory.queues) → MayTake header h doing (before ++ past)
+took_returned : (header : Header) (h : ℕ) (outside : Outside) (doing : Command) (past : List Event) (ids : Ids) (k k2 : Parts) (before after : List Event) → Rests header h k ids (before ++ past) → Beside k k2 → KeepsPages k.memory.queues (queues_after_search k.memory.queues) → MayTake header h doing (before ++ past)
     → IsReturned k.host [] k.memory k2.memory k.laundry k2.laundry before after → Took header h outside doing past ids reclaim.Returned k k2 before after
 took_returned header h outside doing past ids k k2 before after rests beside keeps may is = go is.object.state refl
   where
@@ -409,8 +409,8 @@ took_returned header h outside doing past ids k k2 before after rests beside kee
     go state.Ready same = took_told header h outside doing past ids k k2 before after rests beside keeps may is dirty (ap has_pager same) (ap (λ z. with_control z is.object) same) (log state.Ready same)
 
 -- a page was reclaimed, or none is here
-pub took : (header : Header) (h : ℕ) (outside : Outside) (doing : Command) (past : List Event) (ids : Ids) (answer : Reclaim) (k k2 : Parts) (before after : List Event) → Rests header h k ids (before ++ past) → Beside k k2 → KeepsPages k.memory.queues (searched k.memory.queues) → MayTake header h doing (before ++ past)
-    → Reclaims answer k.host [] k.memory k2.memory k.laundry k2.laundry before after → Took header h outside doing past ids answer k k2 before after
+pub took : (header : Header) (h : ℕ) (outside : Outside) (doing : Command) (past : List Event) (ids : Ids) (answer : Reclaim) (k k2 : Parts) (before after : List Event) → Rests header h k ids (before ++ past) → Beside k k2 → KeepsPages k.memory.queues (queues_after_search k.memory.queues) → MayTake header h doing (before ++ past)
+    → ReclaimEffects answer k.host [] k.memory k2.memory k.laundry k2.laundry before after → Took header h outside doing past ids answer k k2 before after
 took header h outside doing past ids reclaim.Freed k k2 before after rests beside keeps may is = took_freed header h outside doing past ids k k2 before after rests beside keeps may is
 took header h outside doing past ids reclaim.Returned k k2 before after rests beside keeps may is = took_returned header h outside doing past ids k k2 before after rests beside keeps may is
 took header h outside doing past ids reclaim.Nothing k k2 before after rests beside keeps may is = took_nothing header h outside doing past ids k k2 before after rests beside is
@@ -446,11 +446,11 @@ rests_touched header h ids k queues past rests keeps count =
       idle = rests.idle;
     }
 
-pub reclaimed_touched : (h : ℕ) (answer : Reclaim) (k k2 : Parts) (queues : Queues) (before after : List Event) → Reclaimed h answer (record k { memory = record k.memory { queues = queues } }) k2 before after → Reclaimed h answer k k2 before after
+pub reclaimed_touched : (h : ℕ) (answer : Reclaim) (k k2 : Parts) (queues : Queues) (before after : List Event) → FreesOrReturns h answer (record k { memory = record k.memory { queues = queues } }) k2 before after → FreesOrReturns h answer k k2 before after
 reclaimed_touched h answer k k2 queues before after r = record { waits = r.waits; freed = r.freed; returned = r.returned; nothing = r.nothing }
 
 -- no page is on a list, so none is here
-pub none_queued : (header : Header) (h : ℕ) (k : Parts) (queues : Queues) (ids : Ids) (past : List Event) → Rests header h k ids past → AllSkipped [] k.memory.queues → Reclaimed h reclaim.Nothing k (record k { memory = record k.memory { queues = queues } }) past past
+pub none_queued : (header : Header) (h : ℕ) (k : Parts) (queues : Queues) (ids : Ids) (past : List Event) → Rests header h k ids past → AllSkipped [] k.memory.queues → FreesOrReturns h reclaim.Nothing k (record k { memory = record k.memory { queues = queues } }) past past
 none_queued header h k queues ids past rests none =
     record {
       waits = refl;
@@ -481,14 +481,14 @@ pub exhausted : (header : Header) (h : ℕ) (k : Parts) (ids : Ids) (moment past
 exhausted header h k ids moment past m none = record { held = λ o p here. never o p here; one = λ o p q u here here2 spared spared2. never o p here }
   where
     away : (o p : ℕ) (x : Option PageRow) → row_at k.memory.resident o p ≡ x → (local header.size h (place_of o p) past).here ≡ false
-    away o p None found = ap (λ z. z.here) (m.pages.shown o p ∙ ap (λ z. shown k.memory.frames z (absent_at k.memory.objects o p)) found)
-    away o p (Some row) found = ap (λ z. z.here) (m.pages.shown o p ∙ ap (λ z. shown k.memory.frames z (absent_at k.memory.objects o p)) found) ∙ none o p row found
+    away o p None found = ap (λ z. z.here) (m.pages.shown o p ∙ ap (λ z. local_of_row k.memory.frames z (absent_at k.memory.objects o p)) found)
+    away o p (Some row) found = ap (λ z. z.here) (m.pages.shown o p ∙ ap (λ z. local_of_row k.memory.frames z (absent_at k.memory.objects o p)) found) ∙ none o p row found
 
     never : {B : Type 0} (o p : ℕ) → (local header.size h (place_of o p) past).here ≡ true → B
     never o p here = absurd (let bad : false ≡ true = sym (away o p (row_at k.memory.resident o p) refl) ∙ here in cc)
 
 -- nothing was freed
-pub full_after : (header : Header) (h : ℕ) (k k2 : Parts) (ids : Ids) (answer : Reclaim) (past after : List Event) → Rests header h k2 ids after → free k.memory.frames ≡ 0 → Reclaimed h answer k k2 past after → (answer ≡ reclaim.Returned) ⊎ (answer ≡ reclaim.Nothing) → IsFull header h after
+pub full_after : (header : Header) (h : ℕ) (k k2 : Parts) (ids : Ids) (answer : Reclaim) (past after : List Event) → Rests header h k2 ids after → free k.memory.frames ≡ 0 → FreesOrReturns h answer k k2 past after → (answer ≡ reclaim.Returned) ⊎ (answer ≡ reclaim.Nothing) → HostIsFull header h after
 full_after header h k k2 ids answer past after rests none r (inl returned) =
     record { none = free_is header h k2.memory.frames after rests.matches.frames ∙ ((r.returned returned).2 ∙ none); why = inl (r.returned returned).3 }
 full_after header h k k2 ids answer past after rests none r (inr nothing) =

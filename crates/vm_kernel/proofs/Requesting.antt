@@ -16,7 +16,7 @@ use Rattle.vm_legal.specs.Licences.{access_number}
 use Rattle.vm_legal.specs.Outside.{Outside}
 use Rattle.vm_shadow.specs.declared.ids.Ids.{Ids}
 use Rattle.vm_waits.specs.declared.waiting.Want.{Want}
-use Rattle.vm_kernel.specs.Faulting.{Requested}
+use Rattle.vm_kernel.specs.Faulting.{RequestsPage}
 use Rattle.vm_kernel.specs.Matches.{Matches, host_id}
 use Rattle.vm_kernel.specs.Places.{place_of}
 use Rattle.vm_kernel.specs.Waiters.{access_in}
@@ -25,7 +25,7 @@ use Rattle.vm_kernel.proofs.Growing.{Follows}
 use Rattle.vm_kernel.proofs.Leading.{Leads, Lies, it_waits, lies_there, top_at}
 use Rattle.vm_kernel.proofs.Pages.{asking, asking_it, asking_other, frames_changed, itself, laundry_changed, pages_changed}
 use Rattle.vm_model.specs.Controls.{is_control}
-use Rattle.vm_model.specs.Local.{Asks, moved}
+use Rattle.vm_model.specs.Local.{Asks, local_after}
 use Rattle.vm_kernel.proofs.Standing.{MayAnswer, Misses}
 use Rattle.vm_kernel.proofs.Own.{own_host}
 use Rattle.vm_kernel.proofs.Mine.{own_named}
@@ -61,16 +61,16 @@ request_follows header h outside doing past task what key control access lacked 
       creates = tt;
     }
 
-pub matches_asked : (header : Header) (h : ℕ) (k new : Parts) (ids : Ids) (lost : List Entry) (past before after : List Event) (key : PageKey) (access : ℕ) → Matches header h k ids lost past → (asked : Requested key access k new before after) → Lies k key
+pub matches_asked : (header : Header) (h : ℕ) (k new : Parts) (ids : Ids) (lost : List Entry) (past before after : List Event) (key : PageKey) (access : ℕ) → Matches header h k ids lost past → (asked : RequestsPage key access k new before after) → Lies k key
     → live_control h key.object.0 past ≡ Some asked.control → Matches header h new ids lost (requesting h key asked.control access ∷ past)
 matches_asked header h k new ids lost past before after key access m a lies live =
     let moment = λ (o p : ℕ). local header.size h (place_of o p) past in
-    let now = λ (o p : ℕ). moved header.size (asking (key.object.0 == o) (key.page.0 == p) (is_control a.control (live_control h o past))) (moment o p) in
+    let now = λ (o p : ℕ). local_after header.size (asking (key.object.0 == o) (key.page.0 == p) (is_control a.control (live_control h o past))) (moment o p) in
     let lives : is_control a.control (live_control h key.object.0 past) ≡ true = ap (is_control a.control) live ∙ itself a.control in
     let both : (key.object.0 == key.object.0 && key.page.0 == key.page.0) ≡ true = rw (itself key.object.0, itself key.page.0) refl in
     let pages2 = pages_changed key a.frame _ _ _ _ _ k.memory new.memory k.memory.objects k.chains moment now m.fits.parts m.pages a.page (λ some. lies_there k key lies)
-    (λ shows. ap (λ z. moved header.size z (moment key.object.0 key.page.0)) (asking_it _ _ _ both lives) ∙ ap (moved header.size Asks) shows)
-    (λ o p apart. (ap (λ z. moved header.size z (moment o p)) (asking_other _ _ (is_control a.control (live_control h o past)) apart), refl)) in
+    (λ shows. ap (λ z. local_after header.size z (moment key.object.0 key.page.0)) (asking_it _ _ _ both lives) ∙ ap (local_after header.size Asks) shows)
+    (λ o p apart. (ap (λ z. local_after header.size z (moment o p)) (asking_other _ _ (is_control a.control (live_control h o past)) apart), refl)) in
     record {
       plain = m.plain;
       known = m.known;

@@ -10,7 +10,7 @@ use Rattle.vm_model.specs.declared.message.Channel.TheVariants.{Up, Down}
 use Rattle.vm_model.specs.declared.message.Message.{Message}
 use Rattle.vm_model.specs.declared.message.Message.TheVariants as message
 use Rattle.vm_model.specs.Controls.{is_control, live_control, without_control}
-use Rattle.vm_model.specs.Local.{Asks, Begins, Drops, Effect, Elsewhere, Ends, Local, Raises, Returns, Stores, TakesError, TakesLock, TakesNothing, TakesPage, Unlocks, Zeroes, came, local, moved, taken_effect}
+use Rattle.vm_model.specs.Local.{Asks, Begins, Drops, Elsewhere, Ends, Local, LocalEffect, Raises, Returns, Stores, TakesError, TakesLock, TakesNothing, TakesPage, Unlocks, Zeroes, local, local_after, local_with_page, taken_effect}
 use Rattle.vm_model.specs.Regions.{Backing, Region}
 use Rattle.vm_objects.specs.Objects.{ObjectTable, PutsObject, object_at}
 use Rattle.vm_objects.specs.declared.row.ObjectRow.{ObjectRow}
@@ -31,7 +31,7 @@ use Rattle.vm_parts.proofs.Rows.{one_case, some_is}
 -- nothing is asked of an object without a live control
 
 -- what asks for no page
-abbrev IsCalm : Effect → Type 0
+abbrev IsCalm : LocalEffect → Type 0
 IsCalm Asks = ⊥
 IsCalm other = Unit {0}
 
@@ -39,7 +39,7 @@ either : (b : Bool) (x y : Local) → x.asked ≡ false → y.asked ≡ false �
 either true x y one other = one
 either false x y one other = other
 
-calm : (size : ℕ) (e : Effect) (was : Local) → IsCalm e → was.asked ≡ false → (moved size e was).asked ≡ false
+calm : (size : ℕ) (e : LocalEffect) (was : Local) → IsCalm e → was.asked ≡ false → (local_after size e was).asked ≡ false
 calm size Zeroes was none is = is
 calm size (Raises bytes) was none is = is
 calm size (Stores at bytes) was none is = is
@@ -48,7 +48,7 @@ calm size (Returns true) was none is = is
 calm size (Returns false) was none is = is
 calm size Asks was none is = absurd none
 calm size Unlocks was none is = is
-calm size (TakesPage lock precious bytes) was none is = either was.asked (record (came bytes lock false precious was) { asked = false }) was refl is
+calm size (TakesPage lock precious bytes) was none is = either was.asked (record (local_with_page bytes lock false precious was) { asked = false }) was refl is
 calm size TakesNothing was none is = either was.asked (record was { asked = false; absent = true }) was refl is
 calm size TakesError was none is = refl
 calm size (TakesLock lock flush) was none is = either was.here (record was { lock = if flush || lock == 8 then was.lock else lock; unlocking = false }) was is is
@@ -56,7 +56,7 @@ calm size Begins was none is = refl
 calm size Ends was none is = refl
 calm size Elsewhere was none is = is
 
-calm_if : (b : Bool) (e : Effect) → IsCalm e → IsCalm (if b then e else Elsewhere)
+calm_if : (b : Bool) (e : LocalEffect) → IsCalm e → IsCalm (if b then e else Elsewhere)
 calm_if true e none = none
 calm_if false e none = tt
 
@@ -68,23 +68,23 @@ calm_taken page (message.Lock at count returns flush lock reply) = calm_if _ (Ta
 calm_taken page other = tt
 
 -- the object gets a control
-begun : (size control : ℕ) (b : Bool) (live : Option ℕ) (was : Local) → (if b then Some control else live) ≡ None → (live ≡ None → was.asked ≡ false) → (moved size (if b then Begins else Elsewhere) was).asked ≡ false
+begun : (size control : ℕ) (b : Bool) (live : Option ℕ) (was : Local) → (if b then Some control else live) ≡ None → (live ≡ None → was.asked ≡ false) → (local_after size (if b then Begins else Elsewhere) was).asked ≡ false
 begun size control true live was none before = refl
 begun size control false live was none before = before none
 
 -- its control may end
 ended : (size control : ℕ) (b : Bool) (live : Option ℕ) (was : Local) → (if b then without_control control live else live) ≡ None → (live ≡ None → was.asked ≡ false)
-    → (moved size (if b then (if is_control control live then Ends else Elsewhere) else Elsewhere) was).asked ≡ false
+    → (local_after size (if b then (if is_control control live then Ends else Elsewhere) else Elsewhere) was).asked ≡ false
 ended size control false live was none before = before none
 ended size control true None was none before = before refl
 ended size control true (Some number) was none before = go (number == control) none
   where
-    go : (b : Bool) → (if b then None else Some number) ≡ None → (moved size (if b then Ends else Elsewhere) was).asked ≡ false
+    go : (b : Bool) → (if b then None else Some number) ≡ None → (local_after size (if b then Ends else Elsewhere) was).asked ≡ false
     go true is = refl
     go false is = absurd (let bad : Some number ≡ None = is in cc)
 
 -- nothing is asked where no control lives
-requested : (size control : ℕ) (b at : Bool) (live : Option ℕ) (was : Local) → live ≡ None → was.asked ≡ false → (moved size (if b then (if at && is_control control live then Asks else Elsewhere) else Elsewhere) was).asked ≡ false
+requested : (size control : ℕ) (b at : Bool) (live : Option ℕ) (was : Local) → live ≡ None → was.asked ≡ false → (local_after size (if b then (if at && is_control control live then Asks else Elsewhere) else Elsewhere) was).asked ≡ false
 requested size control b at (Some number) was none is = absurd (let bad : Some number ≡ None = none in cc)
 requested size control true true None was none is = is
 requested size control true false None was none is = is
@@ -109,14 +109,14 @@ unasked size host o p (e ∷ past) none = unasked size host o p past none
 
 -- the pager is told of the object, of which nothing is asked
 pub pages_created : (size : ℕ) (fs : FrameTable) (rs : ResidentTable) (os : ObjectTable) (cs : ChainTable) (local_at : ℕ → ℕ → Local) (o : ℕ)
-    → HasPages fs rs os cs local_at → ((p : ℕ) → (local_at o p).asked ≡ false) → HasPages fs rs os cs (λ o2 p2. moved size (if o == o2 then Begins else Elsewhere) (local_at o2 p2))
+    → HasPages fs rs os cs local_at → ((p : ℕ) → (local_at o p).asked ≡ false) → HasPages fs rs os cs (λ o2 p2. local_after size (if o == o2 then Begins else Elsewhere) (local_at o2 p2))
 pages_created size fs rs os cs local_at o has none =
     record {
       shown = λ o2 p2. elim (eqb_tells o o2) [
         | inl same ↦
-            ap (λ b. moved size (if b then Begins else Elsewhere) (local_at o2 p2)) same.0
+            ap (λ b. local_after size (if b then Begins else Elsewhere) (local_at o2 p2)) same.0
             ∙ (ap (λ z. record (local_at o2 p2) { asked = z }) (sym (subst (λ (z : ℕ). (local_at z p2).asked ≡ false) same.1 (none p2))) ∙ has.shown o2 p2)
-        | inr apart ↦ ap (λ b. moved size (if b then Begins else Elsewhere) (local_at o2 p2)) apart.0 ∙ has.shown o2 p2
+        | inr apart ↦ ap (λ b. local_after size (if b then Begins else Elsewhere) (local_at o2 p2)) apart.0 ∙ has.shown o2 p2
       ];
       live = has.live;
     }

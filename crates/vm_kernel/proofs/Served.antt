@@ -10,7 +10,7 @@ use Rattle.vm_shadow.specs.declared.ids.Ids.{Ids}
 use Rattle.vm_supply.specs.declared.woken.Woken.TheVariants as woken
 use Rattle.vm_waits.specs.Waits.{again}
 use Rattle.vm_waits.specs.declared.waiting.Waiting.{Waiting}
-use Rattle.vm_kernel.specs.Begun.{Goes, Served}
+use Rattle.vm_kernel.specs.Begun.{LegalEvents, Served}
 use Rattle.vm_kernel.specs.Matches.{Rests, Works}
 use Rattle.vm_kernel.specs.Serving.{Attempts, HasQueue}
 use Rattle.vm_kernel.specs.declared.parts.Parts.{Parts}
@@ -27,7 +27,7 @@ three_ok (Err e) P Q R S f p q s = tt
 
 -- the queue was served
 pub served_ok : {A B : Type 0} (r : Result A B) (header : Header) (h : ℕ) (outside : Outside) (doing : Command) (past old : List Event) (k : Parts) (ids : Ids) (new : List Event)
-    → OnOk r (Rests header h k ids (new ++ past)) → OnOk r (Goes header h outside doing past old new) → OnOk r (HasQueue header h k (new ++ past)) → OnOk r (PromptAt header h (new ++ past)) → OnOk r (Served header h outside doing past old k ids new)
+    → OnOk r (Rests header h k ids (new ++ past)) → OnOk r (LegalEvents header h outside doing past old new) → OnOk r (HasQueue header h k (new ++ past)) → OnOk r (PromptAt header h (new ++ past)) → OnOk r (Served header h outside doing past old k ids new)
 served_ok (Ok x) header h outside doing past old k ids new rests goes queue prompt = record { rests = rests; goes = goes; queue = queue; prompt = prompt }
 served_ok (Err e) header h outside doing past old k ids new rests goes queue prompt = tt
 

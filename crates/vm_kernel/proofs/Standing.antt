@@ -21,7 +21,7 @@ use Rattle.vm_kernel.specs.Changes.{IsHere}
 use Rattle.vm_kernel.specs.Faulting.{IsAvailable, IsUnavailable}
 use Rattle.vm_kernel.specs.Matches.{IsPlain, Matches}
 use Rattle.vm_kernel.specs.Pagers.{has_pager, is_ready_state, live_in, ready_in}
-use Rattle.vm_kernel.specs.Places.{lock_number, place_of, shown}
+use Rattle.vm_kernel.specs.Places.{local_of_row, lock_number, place_of}
 use Rattle.vm_kernel.specs.declared.parts.Parts.{Parts}
 use Rattle.vm_kernel.proofs.Leading.{Lies, none_named}
 use Rattle.vm_kernel.proofs.Pages.{shown_as, shown_here}
@@ -39,7 +39,7 @@ shows_of header h k ids lost past key frame m here =
     let p = key.page.0 in
     let lacked = absent_at k.memory.objects o p in
     let all : page_on header h o p past ≡ shown_as here.row true true (page_in k.memory.frames here.row.frame.0) lacked =
-    m.pages.shown o p ∙ (ap (λ z. shown k.memory.frames z lacked) here.found ∙ shown_here k.memory.frames here.row lacked here.here) in
+    m.pages.shown o p ∙ (ap (λ z. local_of_row k.memory.frames z lacked) here.found ∙ shown_here k.memory.frames here.row lacked here.here) in
     record {
       here = ap (λ (z : Local). z.here) all;
       bytes_are = ap (λ (z : Local). z.bytes) all ∙ ap (λ (z : FrameNo). page_in k.memory.frames z.0) here.is;
@@ -65,7 +65,7 @@ misses_of header h k ids lost past key m none =
     let o = key.object.0 in
     let p = key.page.0 in
     let lacked = absent_at k.memory.objects o p in
-    let all : page_on header h o p past ≡ shown k.memory.frames None lacked = m.pages.shown o p ∙ ap (λ z. shown k.memory.frames z lacked) none in
+    let all : page_on header h o p past ≡ local_of_row k.memory.frames None lacked = m.pages.shown o p ∙ ap (λ z. local_of_row k.memory.frames z lacked) none in
     record {
       away = ap (λ (z : Local). z.here) all;
       unasked = ap (λ (z : Local). z.asked) all;

@@ -18,7 +18,7 @@ use Rattle.vm_model.specs.Regions.{backing_of, region_of}
 use Rattle.vm_model.specs.Tasks.{entries_of}
 use Rattle.vm_model.specs.Waiting.{Access, next_page}
 use Rattle.vm_legal.specs.Accesses.{Comes, Waits, page_of}
-use Rattle.vm_legal.specs.Debts.{StopsAt}
+use Rattle.vm_legal.specs.Debts.{WaitsAt}
 use Rattle.vm_legal.specs.Frames.{frames_free}
 use Rattle.vm_legal.specs.Outside.{Outside}
 use Rattle.vm_legal.specs.Steps.{Asked, before_step, error_taken}
@@ -34,10 +34,10 @@ use Rattle.vm_waits.specs.declared.waiting.On.TheVariants as on
 use Rattle.vm_waits.specs.declared.waiting.Waiting.{Waiting}
 use Rattle.vm_waits.specs.declared.waiting.Want.{Want}
 use Rattle.vm_waits.proofs.Entries.{none_again, none_queued}
-use Rattle.vm_kernel.specs.Begun.{Goes}
+use Rattle.vm_kernel.specs.Begun.{LegalEvents}
 use Rattle.vm_kernel.specs.Matches.{Rests, host_id}
 use Rattle.vm_kernel.specs.Pagers.{is_ready_state, ready_in}
-use Rattle.vm_kernel.specs.Places.{place_of, shown}
+use Rattle.vm_kernel.specs.Places.{local_of_row, place_of}
 use Rattle.vm_kernel.specs.Serving.{HasQueue}
 use Rattle.vm_kernel.specs.Taking.{EndsAll, EndsEach}
 use Rattle.vm_kernel.specs.Waiters.{IsTold, Reason, access_in}
@@ -111,13 +111,13 @@ asked_ready header h k ids past o p rests asked = by (row_at k.memory.resident o
     unwhere true is = absurd (let bad : false ≡ true = is in cc)
     unwhere false is = refl
 
-    by : (x : Option PageRow) → row_at k.memory.resident o p ≡ x → (shown k.memory.frames x (absent_at k.memory.objects o p)).asked ≡ true → ready_in (object_at k.memory.objects o) ≡ true
+    by : (x : Option PageRow) → row_at k.memory.resident o p ≡ x → (local_of_row k.memory.frames x (absent_at k.memory.objects o p)).asked ≡ true → ready_in (object_at k.memory.objects o) ≡ true
     by None found is = absurd (let bad : false ≡ true = is in cc)
     by (Some row) found is = rests.waits.ready o p row found (unwhere row.here is)
 
 -- each that waited has ended
 pub ends_waiters : (header : Header) (h : ℕ) (outside : Outside) (doing : Command) (k : Parts) (ids : Ids) (past front : List Event) (object : ObjectId) (control : ℕ) (m : Message) (events : List Event) → Rests header h k ids past → HasQueue header h k past
-    → front ≡ event.Taken (Down (host_id h) object control) m ∷ [] → Goes header h outside doing (front ++ past) [] events → EndsEach header k.waits.rows (events ++ (front ++ past)) → EndsAll header (events ++ (front ++ past))
+    → front ≡ event.Taken (Down (host_id h) object control) m ∷ [] → LegalEvents header h outside doing (front ++ past) [] events → EndsEach header k.waits.rows (events ++ (front ++ past)) → EndsAll header (events ++ (front ++ past))
 ends_waiters header h outside doing k ids past front object control m events rests queue is goes each = λ host o p error task stops frees.
     let now : events ≡ goes.more = goes.is ∙ append-nil goes.more in
     let inner : AllInner events = subst AllInner (sym now) goes.inner in
@@ -126,7 +126,7 @@ ends_waiters header h outside doing k ids past front object control m events res
     let asked = error_asked h header.size object control m past host o p (sym (ap (error_taken header.size) first) ∙ (sym (error_more header.size events (front ++ past) inner) ∙ error)) in
     let home : host ≡ h = asked.0 in
     let ready = asked_ready header h k ids past o p rests asked.1 in
-    let stops_here : StopsAt header h task o p past = subst (λ (z : ℕ). StopsAt header z task o p past) home (subst (λ (z : List Event). StopsAt header host task o p z) before stops) in
+    let stops_here : WaitsAt header h task o p past = subst (λ (z : ℕ). WaitsAt header z task o p past) home (subst (λ (z : List Event). WaitsAt header host task o p z) before stops) in
     let frees_here : frames_free header h past ≡ 0 → ⊥ = subst (λ (z : ℕ). frames_free header z past ≡ 0 → ⊥) home (subst (λ (z : List Event). frames_free header host z ≡ 0 → ⊥) before frees) in
     let row = has_row k past task stops_here.access rests.waits (at_home header h k ids past task stops_here.access rests.matches stops_here.waits stops_here.on_host) stops_here.waits.waits in
     let w = row.row in

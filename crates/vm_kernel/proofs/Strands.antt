@@ -33,7 +33,7 @@ use Rattle.vm_waits.specs.declared.waiting.Want.{Want}
 use Rattle.vm_kernel.specs.Counts.{count_by, count_on, most_tasks}
 use Rattle.vm_kernel.specs.Matches.{AllInside, HasControls, HasEntries, HasRegions, IsUnder, Matches}
 use Rattle.vm_kernel.specs.Pagers.{last_in, live_in, ready_in}
-use Rattle.vm_kernel.specs.Places.{entries_in_row, has_region, pages_in, region_entries, shown}
+use Rattle.vm_kernel.specs.Places.{entries_in_row, has_region, local_of_row, pages_in, region_entries}
 use Rattle.vm_kernel.specs.Sweeping.{Ends, Strands}
 use Rattle.vm_kernel.specs.Waiters.{Asker, HasWaiters, IsAt, IsTold, Reason, address_in}
 use Rattle.vm_kernel.specs.declared.parts.Parts.{Parts}
@@ -311,7 +311,7 @@ strands_ended header h outside doing past k ids rest r left events chains object
             counts = λ r2 row2 found2. m.entries.counts r2 row2 (other_row r k.chains chains put r2 row2 found2).1;
           };
           pages = record {
-            shown = λ o p. m.pages.shown o p ∙ ap (shown k.memory.frames (row_at k.memory.resident o p)) (sym (marks.at o p));
+            shown = λ o p. m.pages.shown o p ∙ ap (local_of_row k.memory.frames (row_at k.memory.resident o p)) (sym (marks.at o p));
             live = λ o p page is. elim (region_cases r None k.chains chains put o) [
               | inl this ↦ absurd (let bad : None ≡ Some page = sym (subst (λ (z : ℕ). row_at k.memory.resident z p ≡ None) this.0 (bare p)) ∙ is in cc)
               | inr other ↦ ap is_some other.1 ∙ m.pages.live o p page is

@@ -6,7 +6,7 @@ use Rattle.vm_base.specs.declared.ids.ObjectId.{ObjectId}
 use Rattle.vm_model.specs.declared.event.Event.{Event}
 use Rattle.vm_resident.specs.Resident.{row_at}
 use Rattle.vm_resident.specs.declared.page_row.PageRow.{PageRow}
-use Rattle.vm_supply.specs.Answers.{Answered, Discarded, Failed, Lacked, Outcome, Readied, Supplied, Zeroed, outcome_of}
+use Rattle.vm_supply.specs.Answers.{AnswerEffects, Discarded, Failed, Lacked, Outcome, Readied, Supplied, Zeroed, outcome_of}
 use Rattle.vm_supply.specs.declared.woken.Woken.{Woken}
 use Rattle.vm_base.specs.declared.ids.PageKey.{PageKey}
 use Rattle.vm_model.specs.declared.message.Message.{Message}
@@ -34,7 +34,7 @@ ended_same key k row new asked ends =
     same_paging _ _ _ _ (frames_kept k.memory.resident new.resident key.object.0 key.page.0 None ends.row (sym (asked_away _ row asked))) ends.queues
 
 pub answer_brings : (host : HostId) (object : ObjectId) (outcome : Outcome) (who : Woken) (k : Parts) (events after : List Event) (new : HostParts)
-    → Answered host object outcome who k.memory new events after → after ≡ events → AnswerBrings object outcome (paging k) (paging (heard k new))
+    → AnswerEffects host object outcome who k.memory new events after → after ≡ events → AnswerBrings object outcome (paging k) (paging (heard k new))
 answer_brings host object Discarded who k events after new is none = ap (λ z. paging (heard k z)) is.1
 answer_brings host object Readied who k events after new is none = ap (λ z. paging (heard k z)) is.rest
 answer_brings host object (Supplied page lock precious bytes) who k events after new is none =

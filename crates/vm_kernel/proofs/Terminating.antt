@@ -11,7 +11,7 @@ use Rattle.vm_model.specs.declared.message.Channel.TheVariants.{Up}
 use Rattle.vm_model.specs.declared.message.Message.TheVariants as message
 use Rattle.vm_model.specs.declared.script.Header.{Header}
 use Rattle.vm_model.specs.Controls.{is_control, last_control, live_control, without_control}
-use Rattle.vm_model.specs.Local.{Local, away, local, moved, Elsewhere, Ends as EndsControl}
+use Rattle.vm_model.specs.Local.{Local, away, local, local_after, Elsewhere, Ends as EndsControl}
 use Rattle.vm_model.specs.Regions.{Backing, Region}
 use Rattle.vm_model.specs.Waiting.{waiting}
 use Rattle.vm_legal.specs.Accesses.{is_ready}
@@ -28,7 +28,7 @@ use Rattle.vm_shadow.specs.declared.ids.Ids.{Ids}
 use Rattle.vm_supply.specs.declared.woken.Woken.TheVariants as woken
 use Rattle.vm_kernel.specs.Matches.{HasControls, HasPages, HasRegions, IsUnder, Matches, host_id}
 use Rattle.vm_kernel.specs.Pagers.{last_in, live_in, ready_in}
-use Rattle.vm_kernel.specs.Places.{place_of, shown}
+use Rattle.vm_kernel.specs.Places.{local_of_row, place_of}
 use Rattle.vm_kernel.specs.Sweeping.{Strands, Sweeps}
 use Rattle.vm_kernel.specs.declared.parts.Parts.{Parts}
 use Rattle.vm_kernel.proofs.Growing.{grows_more, suffices}
@@ -45,20 +45,20 @@ abbrev quiet_row : ObjectRow → ObjectRow
 quiet_row row = record row { live = false; state = state.Without }
 
 pages_quiet : (size control o : ℕ) (fs : FrameTable) (rs : ResidentTable) (os os2 : ObjectTable) (cs : ChainTable) (local_at : ℕ → ℕ → Local) (live_at : ℕ → Option ℕ) → HasPages fs rs os cs local_at → live_at o ≡ Some control → ((p : ℕ) → row_at rs o p ≡ None) → SameMarks os os2
-    → HasPages fs rs os2 cs (λ o2 p. moved size (if o == o2 then (if is_control control (live_at o2) then EndsControl else Elsewhere) else Elsewhere) (local_at o2 p))
+    → HasPages fs rs os2 cs (λ o2 p. local_after size (if o == o2 then (if is_control control (live_at o2) then EndsControl else Elsewhere) else Elsewhere) (local_at o2 p))
 pages_quiet size control o fs rs os os2 cs local_at live_at has live bare marks =
     record {
       shown = λ o2 p. elim (eqb_tells o o2) [
         | inl same ↦
             let none : row_at rs o2 p ≡ None = subst (λ (z : ℕ). row_at rs z p ≡ None) same.1 (bare p) in
-            let had : local_at o2 p ≡ shown fs None (absent_at os o2 p) = has.shown o2 p ∙ ap (λ z. shown fs z (absent_at os o2 p)) none in
+            let had : local_at o2 p ≡ local_of_row fs None (absent_at os o2 p) = has.shown o2 p ∙ ap (λ z. local_of_row fs z (absent_at os o2 p)) none in
             let its : is_control control (live_at o2) ≡ true = ap (λ z. is_control control (live_at z)) (sym same.1) ∙ (ap (is_control control) live ∙ itself control) in
-            ap (λ b. moved size (if b then (if is_control control (live_at o2) then EndsControl else Elsewhere) else Elsewhere) (local_at o2 p)) same.0
-            ∙ (ap (λ b. moved size (if b then EndsControl else Elsewhere) (local_at o2 p)) its
-            ∙ (ap (moved size EndsControl) had ∙ (ap (λ z. record away { absent = z }) (sym (marks.at o2 p)) ∙ sym (ap (λ z. shown fs z (absent_at os2 o2 p)) none))))
+            ap (λ b. local_after size (if b then (if is_control control (live_at o2) then EndsControl else Elsewhere) else Elsewhere) (local_at o2 p)) same.0
+            ∙ (ap (λ b. local_after size (if b then EndsControl else Elsewhere) (local_at o2 p)) its
+            ∙ (ap (local_after size EndsControl) had ∙ (ap (λ z. record away { absent = z }) (sym (marks.at o2 p)) ∙ sym (ap (λ z. local_of_row fs z (absent_at os2 o2 p)) none))))
         | inr apart ↦
-            ap (λ b. moved size (if b then (if is_control control (live_at o2) then EndsControl else Elsewhere) else Elsewhere) (local_at o2 p)) apart.0
-            ∙ (has.shown o2 p ∙ ap (shown fs (row_at rs o2 p)) (sym (marks.at o2 p)))
+            ap (λ b. local_after size (if b then (if is_control control (live_at o2) then EndsControl else Elsewhere) else Elsewhere) (local_at o2 p)) apart.0
+            ∙ (has.shown o2 p ∙ ap (local_of_row fs (row_at rs o2 p)) (sym (marks.at o2 p)))
       ];
       live = has.live;
     }
@@ -216,8 +216,8 @@ sweeps_told header h outside doing past k ids rest object events after row objec
     alive : live_control h object.0 (events ++ past) ≡ Some row.control
     alive = m.controls.live object.0 ∙ (ap live_in found ∙ ap (λ b. if b then Some row.control else None) live)
 
-    bare : (p : ℕ) → local header.size h (place_of object.0 p) (events ++ past) ≡ shown k.memory.frames None (absent_at k.memory.objects object.0 p)
-    bare p = m.pages.shown object.0 p ∙ ap (λ z. shown k.memory.frames z (absent_at k.memory.objects object.0 p)) (s.pages p)
+    bare : (p : ℕ) → local header.size h (place_of object.0 p) (events ++ past) ≡ local_of_row k.memory.frames None (absent_at k.memory.objects object.0 p)
+    bare p = m.pages.shown object.0 p ∙ ap (λ z. local_of_row k.memory.frames z (absent_at k.memory.objects object.0 p)) (s.pages p)
 
     cause : Caused header outside doing (event.Sent (Up (host_id h) object) (message.Terminate row.control)) (events ++ past)
     cause = record {

@@ -26,7 +26,7 @@ use Rattle.vm_shadow.specs.declared.ids.Ids.{Ids}
 use Rattle.vm_supply.specs.declared.woken.Woken.TheVariants as woken
 use Rattle.vm_legal.specs.Frames.{frames_free}
 use Rattle.vm_model.specs.declared.script.Header.{Header}
-use Rattle.vm_kernel.specs.Turns.{ClaimsInTurn, Did, ForAsked, ForZeros, Found, Goes, Joins, KeepsOthers, Leaves, Nothing, Quiet, Restarted, Restarts, RunsNone, RunsOnce, Start}
+use Rattle.vm_kernel.specs.Turns.{ClaimsInTurn, Did, ForAsked, ForZeros, Found, Goes, Joins, KeepsOthers, LeavesInTurn, Nothing, Quiet, Restarted, Restarts, RunsNone, RunsOnce, Start}
 use Rattle.vm_kernel.proofs.Growing.{free_is}
 use Rattle.vm_kernel.proofs.Ordering.{oldest_first}
 use Rattle.vm_legal.proofs.Stretched.{of_both}
@@ -293,16 +293,16 @@ restarts_more header h past q w may wants old new before after was next run want
 
 -- the queue as it was, or some have left
 abbrev pub Serving : WaitTable → WaitTable → List Event → List Event → Type 0
-Serving first now before events = ((now ≡ first) × (events ≡ before)) ⊎ Leaves first.queue now before events
+Serving first now before events = ((now ≡ first) × (events ≡ before)) ⊎ LeavesInTurn first.queue now before events
 
-pub leaves_of : (start now : WaitTable) (before events : List Event) → Serving start now before events → AreQueued now.rows now.queue → Leaves start.queue now before events
+pub leaves_of : (start now : WaitTable) (before events : List Event) → Serving start now before events → AreQueued now.rows now.queue → LeavesInTurn start.queue now before events
 leaves_of start now before events (inr leaves) line = leaves
 leaves_of start now before events (inl (same, told)) line =
     record { left = []; queue = sym (ap (λ z. z.queue) same); once = subst (λ (z : WaitTable). EachListedOnce z.queue) same line.once; served = []; told = told; turns = tt }
 
 -- the front was run
-pub leaves_ran : (q : List TaskId) (w : Waiting) (may wants : Bool) (old new : WaitTable) (start before after : List Event) → Leaves q old start before → AreQueued old.rows old.queue → first old.queue ≡ Some w.task → is_frame w.on ≡ true
-    → RunsOnce w may wants old new before after → Leaves q new start after
+pub leaves_ran : (q : List TaskId) (w : Waiting) (may wants : Bool) (old new : WaitTable) (start before after : List Event) → LeavesInTurn q old start before → AreQueued old.rows old.queue → first old.queue ≡ Some w.task → is_frame w.on ≡ true
+    → RunsOnce w may wants old new before after → LeavesInTurn q new start after
 leaves_ran q w may true old new start before after was line front frame run =
     let s = split w.task old.queue front in
     let same : new.queue ≡ old.queue = subst (λ (z : Bool). new.queue ≡ (if z then old.queue else old.queue ++ w.task ∷ [])) frame run.queue in
@@ -338,9 +338,9 @@ leaves_ran q w may false old new start before after was line front frame run =
     }
 
 -- pages were reclaimed
-pub leaves_gone : (h : ℕ) (q : List TaskId) (old new : WaitTable) (start before after : List Event) → Leaves q old start before → new ≡ old → EachGone h before after → Leaves q new start after
+pub leaves_gone : (h : ℕ) (q : List TaskId) (old new : WaitTable) (start before after : List Event) → LeavesInTurn q old start before → new ≡ old → EachGone h before after → LeavesInTurn q new start after
 leaves_gone h q old new start before after was same gone =
-    subst (λ (z : WaitTable). Leaves q z start after) (sym same)
+    subst (λ (z : WaitTable). LeavesInTurn q z start after) (sym same)
     (record {
       left = was.left;
       queue = was.queue;
@@ -351,7 +351,7 @@ leaves_gone h q old new start before after was same gone =
     })
 
 -- the row of the front alone is another
-pub others_ran : (q : List TaskId) (w : Waiting) (may wants : Bool) (first_rows : List Waiting) (old new : WaitTable) (start before after : List Event) → Leaves q old start before → first old.queue ≡ Some w.task → RunsOnce w may wants old new before after
+pub others_ran : (q : List TaskId) (w : Waiting) (may wants : Bool) (first_rows : List Waiting) (old new : WaitTable) (start before after : List Event) → LeavesInTurn q old start before → first old.queue ≡ Some w.task → RunsOnce w may wants old new before after
     → KeepsOthers q first_rows old.rows → KeepsOthers q first_rows new.rows
 others_ran q w may wants first_rows old new start before after was front run kept = λ t out.
     let s = split w.task old.queue front in

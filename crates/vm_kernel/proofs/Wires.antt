@@ -23,7 +23,7 @@ use Rattle.vm_shadow.specs.Chains.{ChainTable}
 use Rattle.vm_shadow.specs.declared.ids.Ids.{Ids}
 use Rattle.vm_kernel.specs.Begun.{Ran, Starts}
 use Rattle.vm_kernel.specs.Matches.{HasFrames, HasLaundry, HasPages, IsWashed, Rests, host_id}
-use Rattle.vm_kernel.specs.Places.{place_of, shown}
+use Rattle.vm_kernel.specs.Places.{local_of_row, place_of}
 use Rattle.vm_kernel.specs.declared.parts.Parts.{Parts}
 use Rattle.vm_kernel.proofs.Growing.{free_is, suffices}
 use Rattle.vm_kernel.proofs.Heads.{heads_one, passed, ran_head}
@@ -55,7 +55,7 @@ washed_wired fs rs wired held all k f less = let was = all k f less in record { 
 laundry_wired : (fs : FrameTable) (rs : ResidentTable) (laundry : LaundryList) (out wired : ℕ) → HasLaundry fs rs laundry out → HasLaundry (with_wired fs wired) rs laundry out
 laundry_wired fs rs laundry out wired has = record { count = has.count; room = has.room; washed = washed_wired fs rs wired laundry.held has.washed; apart = has.apart }
 
-shown_wired : (fs : FrameTable) (wired : ℕ) (x : Option PageRow) (lacked : Bool) → shown fs x lacked ≡ shown (with_wired fs wired) x lacked
+shown_wired : (fs : FrameTable) (wired : ℕ) (x : Option PageRow) (lacked : Bool) → local_of_row fs x lacked ≡ local_of_row (with_wired fs wired) x lacked
 shown_wired fs wired None lacked = refl
 shown_wired fs wired (Some row) lacked = refl
 

@@ -19,7 +19,7 @@ use Rattle.vm_legal.specs.Prompt.{PromptAt}
 use Rattle.vm_legal.specs.Refusal.{refusal}
 use Rattle.vm_legal.specs.Stretches.{AllInner, EachIn, EachOf, MomentsIn}
 use Rattle.vm_abroad.specs.Home.{home_of}
-use Rattle.vm_abroad.specs.Whose.{IsOwn}
+use Rattle.vm_abroad.specs.Whose.{IsOnlyOfHost}
 use Rattle.vm_shadow.specs.declared.ids.Ids.{Ids}
 use Rattle.vm_kernel.specs.Built.{copies_entries}
 use Rattle.vm_kernel.specs.Matches.{HasOrder, HasWaits, Matches, Rests, host_id}
@@ -89,11 +89,11 @@ CreatesHere h other past = Unit {0}
 -- whosever an event is, it is the kernel's; and behind a region that it makes stands its entry
 pub record IsMine (header : Header) (h : ℕ) (e : Event) (past : List Event) : Type 0 where
   pub enters : EntersNext e past
-  pub own : IsOwn header h e past
+  pub own : IsOnlyOfHost header h e past
   pub creates : CreatesHere h e past
 
 -- what some kernel says
-pub record IsSaid (header : Header) (e : Event) (past : List Event) : Type 0 where
+pub record SomeKernelSays (header : Header) (e : Event) (past : List Event) : Type 0 where
   pub host : ℕ
   pub known : host < length header.frames.items
   pub says : KernelSays host header.size e
@@ -154,7 +154,7 @@ pub record Ran (header : Header) (h : ℕ) (outside : Outside) (doing : Command)
   pub done : IsDone header doing events past
 
 -- inside a command's step, with some entries that have just gone among the counts
-pub record Runs (header : Header) (h : ℕ) (outside : Outside) (doing : Command) (past : List Event) (k : Parts) (ids : Ids) (gone : List Entry) (events : List Event) : Type 0 where
+pub record IsInStep (header : Header) (h : ℕ) (outside : Outside) (doing : Command) (past : List Event) (k : Parts) (ids : Ids) (gone : List Entry) (events : List Event) : Type 0 where
   pub begins : IsLined past
   pub matches : Matches header h k ids gone (events ++ past)
   pub waits : HasWaits k woken.Nobody (events ++ past)
@@ -163,7 +163,7 @@ pub record Runs (header : Header) (h : ℕ) (outside : Outside) (doing : Command
   pub grows : Grows header h outside doing past events
 
 -- events that follow from what stands in front of them, each with its cause and its bytes, within the frames
-pub record Goes (header : Header) (h : ℕ) (outside : Outside) (doing : Command) (past old new : List Event) : Type 0 where
+pub record LegalEvents (header : Header) (h : ℕ) (outside : Outside) (doing : Command) (past old new : List Event) : Type 0 where
   pub more : List Event
   pub is : new ≡ more ++ old
   pub follows : EachOf IsConsequence more
@@ -186,12 +186,12 @@ pub record Passing : Type 0 where
 -- a kernel's part of such a step: the events behind the taking
 pub record Passed (header : Header) (h : ℕ) (outside : Outside) (doing : Command) (past : List Event) (k : Parts) (ids : Ids) (events : List Event) : Type 0 where
   pub rests : Rests header h k ids (events ++ past)
-  pub goes : Goes header h outside doing past [] events
+  pub goes : LegalEvents header h outside doing past [] events
 
 -- the frame queue was served at the end of a step: it goes no further, and nobody of the host waits in vain
 pub record Served (header : Header) (h : ℕ) (outside : Outside) (doing : Command) (past old : List Event) (k : Parts) (ids : Ids) (new : List Event) : Type 0 where
   pub rests : Rests header h k ids (new ++ past)
-  pub goes : Goes header h outside doing past old new
+  pub goes : LegalEvents header h outside doing past old new
   pub queue : HasQueue header h k (new ++ past)
   pub prompt : PromptAt header h (new ++ past)
 

@@ -26,3 +26,11 @@ is_built other = false
 abbrev pub copies_entries : Header → List Event → Command → Bool
 copies_entries header past (command.Fork task child) = not (copies (entries_of header.size task.0 past) == 0)
 copies_entries header past other = false
+
+-- the command changes a task's entries
+abbrev pub changes_entries : Command → Bool
+changes_entries (command.Allocate task address bytes) = true
+changes_entries (command.Deallocate task address bytes) = true
+changes_entries (command.Protect task address bytes prot) = true
+changes_entries (command.Inherit task address bytes inherit) = true
+changes_entries other = false

@@ -22,7 +22,7 @@ use Rattle.vm_objects.specs.declared.row.PagerState.TheVariants.{Without}
 use Rattle.vm_resident.specs.Resident.{row_at}
 use Rattle.vm_resident.specs.declared.page_row.PageRow.{PageRow}
 use Rattle.vm_shadow.specs.Chains.{PutsRegion}
-use Rattle.vm_kernel.specs.Fits.{Fits}
+use Rattle.vm_kernel.specs.Fits.{PartsFit}
 use Rattle.vm_kernel.specs.declared.parts.Parts.{Parts}
 
 -- tasks, regions and objects are as they were, and so are those who wait, and the frames of returns
@@ -39,7 +39,7 @@ pub record SamePlan (old new : Parts) : Type 0 where
 -- a page of zeros has come into a frame that was free
 pub record Brought (key : PageKey) (frame : FrameNo) (old new : Parts) : Type 0 where
   pub plan : SamePlan old new
-  pub fits : Fits new
+  pub fits : PartsFit new
   pub page : Brings key frame old.memory new.memory
 
 -- the frame of a page that is here
@@ -55,7 +55,7 @@ zeroed key k = event.Zeroed k.host key.object key.page
 -- the number of the access stands in the page, which is changed now
 pub record Wrote (key : PageKey) (frame : FrameNo) (bytes : List ℕ) (old new : Parts) : Type 0 where
   pub plan : SamePlan old new
-  pub fits : Fits new
+  pub fits : PartsFit new
   pub row : PageRow
   pub is : row.frame ≡ frame
   pub page : Writes key row bytes old.memory new.memory
@@ -63,7 +63,7 @@ pub record Wrote (key : PageKey) (frame : FrameNo) (bytes : List ℕ) (old new :
 -- a page has gone, and that was told
 pub record Lost (key : PageKey) (old new : Parts) (before after : List Event) : Type 0 where
   pub plan : SamePlan old new
-  pub fits : Fits new
+  pub fits : PartsFit new
   pub row : PageRow
   pub here : row.here ≡ true
   pub page : Discards key row old.memory new.memory

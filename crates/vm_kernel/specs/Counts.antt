@@ -1,6 +1,7 @@
 -- How many entries lead to each region.
 use Rattle.std.specs.Prelude.{ℕ, zero, suc, ◌+◌, ◌==◌, List, [], ◌∷◌, if◌then◌else◌}
 use Rattle.vm_base.specs.declared.entry.Entry.{Entry}
+use Rattle.vm_base.specs.Limits.{most_tasks as task_limit}
 use Rattle.vm_maps.specs.Maps.{Mapped, rows_in}
 
 -- how many of the entries lead to a region
@@ -15,4 +16,4 @@ count_by (suc task) region maps = count_on region (rows_in task maps) + count_by
 
 -- every task has a number below this
 unfoldable pub most_tasks : ℕ
-most_tasks = 1024
+most_tasks = task_limit

@@ -14,14 +14,14 @@ use Rattle.vm_frames.specs.Frames.{free, page_in}
 use Rattle.vm_objects.specs.Objects.{absent_at, object_at}
 use Rattle.vm_objects.specs.declared.row.ObjectRow.{ObjectRow}
 use Rattle.vm_objects.specs.declared.row.PagerState.TheVariants as state
-use Rattle.vm_parts.specs.Changes.{Asks}
+use Rattle.vm_parts.specs.Changes.{AsksPage}
 use Rattle.vm_parts.specs.Fits.{object_pages}
-use Rattle.vm_queues.specs.Queues.{KeepsPages, touched}
+use Rattle.vm_queues.specs.Queues.{KeepsPages, with_reference}
 use Rattle.vm_resident.specs.Resident.{row_at}
 use Rattle.vm_waits.specs.declared.waiting.Want.{Want}
 use Rattle.vm_waits.specs.declared.waiting.Want.TheVariants as want
 use Rattle.vm_kernel.specs.Changes.{Brought, IsAllowed, IsHere, SamePlan, Wrote, zeroed}
-use Rattle.vm_kernel.specs.Fits.{Fits}
+use Rattle.vm_kernel.specs.Fits.{PartsFit}
 use Rattle.vm_kernel.specs.Waiters.{IsAsked, IsAt, IsSizedWant, IsTold, access_in, address_in, need_in}
 use Rattle.vm_kernel.specs.declared.parts.Parts.{Parts}
 use Rattle.vm_kernel.specs.declared.steps.FaultStep.{FaultStep}
@@ -29,7 +29,7 @@ use Rattle.vm_kernel.specs.declared.steps.FaultStep.TheVariants as step
 
 -- an access can be run: it is allowed, within a page, and the page is one of a known object
 pub record CanFault (k : Parts) (task : ℕ) (what : Want) : Type 0 where
-  pub fits : Fits k
+  pub fits : PartsFit k
   pub allowed : IsAllowed k.maps task (address_in what) (need_in what)
   pub sized : IsSizedWant what
   pub page_size : k.maps.size ≡ k.size
@@ -53,28 +53,28 @@ pub record IsUnavailable (key : PageKey) (k : Parts) : Type 0 where
   pub none : (row.state ≡ state.Without) ⊎ ((row.state ≡ state.Ready) × (absent_at k.memory.objects key.object.0 key.page.0 ≡ true))
 
 -- a page is asked for, and a frame is held for it
-pub record Requested (key : PageKey) (access : ℕ) (old new : Parts) (before after : List Event) : Type 0 where
+pub record RequestsPage (key : PageKey) (access : ℕ) (old new : Parts) (before after : List Event) : Type 0 where
   pub control : ℕ
   pub available : IsAvailable key control old
   pub frame : FrameNo
   pub plan : SamePlan old new
-  pub fits : Fits new
-  pub page : Asks key frame old.memory new.memory
+  pub fits : PartsFit new
+  pub page : AsksPage key frame old.memory new.memory
   pub told : after ≡ event.Sent (Up old.host key.object) (message.Request control key.page access) ∷ before
 
 -- the page in a frame is marked as referenced
-pub record Touched (frame : FrameNo) (old new : Parts) : Type 0 where
+pub record MarksReferenced (frame : FrameNo) (old new : Parts) : Type 0 where
   pub is : new ≡ record old { memory = record old.memory { queues = new.memory.queues } }
-  pub marks : new.memory.queues ≡ touched frame.0 old.memory.queues
+  pub marks : new.memory.queues ≡ with_reference frame.0 old.memory.queues
   pub keeps : KeepsPages old.memory.queues new.memory.queues
   pub frames : new.memory.queues.frames ≡ old.memory.queues.frames
 
 -- the access ends with a page that is here
 abbrev pub Hits : TaskId → Want → PageKey → FrameNo → ℕ → Parts → Parts → List Event → List Event → Type 0
 Hits task (want.Load address size) key frame at old new before after =
-    (value : ℕ) × (value ≡ little_endian (slice_range (page_in old.memory.frames frame.0) at (at + size))) × Touched frame old new × (after ≡ event.Loaded task key.object key.page value ∷ before)
+    (value : ℕ) × (value ≡ little_endian (slice_range (page_in old.memory.frames frame.0) at (at + size))) × MarksReferenced frame old new × (after ≡ event.Loaded task key.object key.page value ∷ before)
 Hits task (want.Store address size value) key frame at old new before after =
-    (mid : Parts) × Wrote key frame (with_bytes at (little_endian_bytes size value) (page_in old.memory.frames frame.0)) old mid × Touched frame mid new × (after ≡ event.Stored task key.object key.page at size value ∷ before)
+    (mid : Parts) × Wrote key frame (with_bytes at (little_endian_bytes size value) (page_in old.memory.frames frame.0)) old mid × MarksReferenced frame mid new × (after ≡ event.Stored task key.object key.page at size value ∷ before)
 
 -- an access ends: its page was here, or came as zeros
 pub data Ended (task : TaskId) (what : Want) (key : PageKey) (at : ℕ) (old new : Parts) (before after : List Event) : Type 0 where
@@ -88,17 +88,17 @@ pub record WantsOne (key : PageKey) (may_claim : Bool) (k : Parts) : Type 0 wher
   pub none : may_claim ≡ true → free k.memory.frames ≡ 0
 
 -- nothing changes
-pub record Stays (old new : Parts) (before after : List Event) : Type 0 where
+pub record NothingChanges (old new : Parts) (before after : List Event) : Type 0 where
   pub same : new ≡ old
   pub told : after ≡ before
 
 -- what running an access comes to, and what it changes
 abbrev pub Faults : TaskId → Want → Bool → PageKey → FaultStep → Parts → Parts → List Event → List Event → Type 0
 Faults task what may_claim key step.Done old new before after = Ended task what key (address_in what % old.size) old new before after
-Faults task what may_claim key (step.Ask asked) old new before after = (asked ≡ key) × Requested key (access_number (access_in what) 0) old new before after
-Faults task what may_claim key (step.WaitReady object) old new before after = (object ≡ key.object) × IsTold old.memory.objects key.object.0 × Stays old new before after × (row_at old.memory.resident key.object.0 key.page.0 ≡ None)
-Faults task what may_claim key (step.WaitAnswer asked) old new before after = (asked ≡ key) × IsAsked old.memory.resident key.object.0 key.page.0 × Stays old new before after
-Faults task what may_claim key step.NeedFrame old new before after = WantsOne key may_claim old × Stays old new before after
+Faults task what may_claim key (step.Ask asked) old new before after = (asked ≡ key) × RequestsPage key (access_number (access_in what) 0) old new before after
+Faults task what may_claim key (step.WaitReady object) old new before after = (object ≡ key.object) × IsTold old.memory.objects key.object.0 × NothingChanges old new before after × (row_at old.memory.resident key.object.0 key.page.0 ≡ None)
+Faults task what may_claim key (step.WaitAnswer asked) old new before after = (asked ≡ key) × IsAsked old.memory.resident key.object.0 key.page.0 × NothingChanges old new before after
+Faults task what may_claim key step.NeedFrame old new before after = WantsOne key may_claim old × NothingChanges old new before after
 
 -- the same, for the page that the access is about
 pub record Faulted (task : TaskId) (what : Want) (may_claim : Bool) (answer : FaultStep) (old new : Parts) (before after : List Event) : Type 0 where

@@ -16,7 +16,7 @@ abbrev pub ArePlain : ResidentTable → Type 0
 ArePlain resident = (o p : ℕ) (row : PageRow) → row_at resident o p ≡ Some row → IsPlainRow row
 
 -- frames, rows, lists and objects fit, all rows are plain, and pages that are sent are as long as frames
-pub record Fits (k : Parts) : Type 0 where
+pub record PartsFit (k : Parts) : Type 0 where
   pub parts : Fit k.memory
   pub plain : ArePlain k.memory.resident
   pub buffers : k.memory.buffers.size ≡ k.size

@@ -41,8 +41,8 @@ use Rattle.vm_shadow.specs.Chains.{ChainTable, region_at}
 use Rattle.vm_shadow.specs.declared.ids.Ids.{Ids}
 use Rattle.vm_shadow.specs.declared.region_row.RegionRow.{RegionRow}
 use Rattle.vm_kernel.specs.Counts.{count_by, count_on, most_tasks}
-use Rattle.vm_kernel.specs.Fits.{Fits}
-use Rattle.vm_kernel.specs.Places.{has_region, place_of, region_pages, shown}
+use Rattle.vm_kernel.specs.Fits.{PartsFit}
+use Rattle.vm_kernel.specs.Places.{has_region, local_of_row, place_of, region_pages}
 use Rattle.vm_kernel.specs.declared.parts.Parts.{Parts}
 
 -- the host with a number
@@ -115,7 +115,7 @@ pub record HasEntries (size : ℕ) (maps : Mapped) (chains : ChainTable) (lost :
 
 -- the pages that are here
 pub record HasPages (frames : FrameTable) (resident : ResidentTable) (objects : ObjectTable) (chains : ChainTable) (local_at : ℕ → ℕ → Local) : Type 0 where
-  pub shown : (o p : ℕ) → local_at o p ≡ shown frames (row_at resident o p) (absent_at objects o p)
+  pub shown : (o p : ℕ) → local_at o p ≡ local_of_row frames (row_at resident o p) (absent_at objects o p)
   pub live : (o p : ℕ) (row : PageRow) → row_at resident o p ≡ Some row → has_region chains o ≡ true
 
 -- the number is one of these
@@ -179,7 +179,7 @@ pub record Matches (header : Header) (h : ℕ) (k : Parts) (ids : Ids) (gone : L
   pub known : h < length header.frames.items
   pub size : k.size ≡ header.size
   pub host : k.host.0 ≡ h
-  pub fits : Fits k
+  pub fits : PartsFit k
   pub tasks : HasTasks h header.size k.maps (λ task. host_of task past) (λ task. entries_of header.size task past)
   pub regions : HasRegions k.chains k.memory.objects ids (λ r. region_of header r past) (λ o. backing_of header o past) (next_region header past) (next_object header past)
   pub entries : HasEntries header.size k.maps k.chains gone

@@ -14,9 +14,9 @@ abbrev pub lock_number : Lock → ℕ
 lock_number lock = (if lock.read then 1 else 0) + (if lock.write then 2 else 0)
 
 -- what the host has of a page that has this row, or none, and whether the pager is known not to have it; a page that isn't here is asked
-abbrev pub shown : FrameTable → Option PageRow → Bool → Local
-shown frames None lacked = record away { absent = lacked }
-shown frames (Some row) lacked =
+abbrev pub local_of_row : FrameTable → Option PageRow → Bool → Local
+local_of_row frames None lacked = record away { absent = lacked }
+local_of_row frames (Some row) lacked =
     record {
       here = row.here;
       bytes = if row.here then page_in frames row.frame.0 else [];

@@ -8,8 +8,8 @@ use Rattle.vm_model.specs.declared.message.Channel.TheVariants.{Up}
 use Rattle.vm_model.specs.declared.message.Message.TheVariants as message
 use Rattle.vm_model.specs.declared.script.Header.{Header}
 use Rattle.vm_legal.specs.Used.{in_use}
-use Rattle.vm_pageout.specs.Reclaims.{searched}
-use Rattle.vm_queues.specs.Queues.{Queues, added, chosen, is_queued, removed, touched}
+use Rattle.vm_pageout.specs.Reclaims.{queues_after_search}
+use Rattle.vm_queues.specs.Queues.{Queues, added, is_queued, removed, victim_frame, with_reference}
 use Rattle.vm_resident.specs.Resident.{row_at}
 use Rattle.vm_resident.specs.declared.page_row.PageRow.{PageRow}
 use Rattle.vm_supply.specs.Answers.{Outcome, Supplied}
@@ -37,7 +37,7 @@ with_frame object page frame was = λ o p. if object == o && page == p then fram
 pub record Marks (object page : ℕ) (old new : Paging) : Type 0 where
   pub frame : FrameNo
   pub here : old.frame_at object page ≡ Some frame
-  pub is : new ≡ record old { queues = touched frame.0 old.queues }
+  pub is : new ≡ record old { queues = with_reference frame.0 old.queues }
 
 -- a page has come into a frame that was on no list
 pub record Arrives (object page : ℕ) (old new : Paging) : Type 0 where
@@ -54,8 +54,8 @@ pub record Departs (object page : ℕ) (lists : Queues) (old new : Paging) : Typ
 
 -- the page that has gone is the victim: the one that the lists choose, with none skipped
 pub record IsVictim (object page : ℕ) (old new : Paging) : Type 0 where
-  pub victim : chosen [] (searched old.queues) ≡ old.frame_at object page
-  pub departs : Departs object page (searched old.queues) old new
+  pub victim : victim_frame [] (queues_after_search old.queues) ≡ old.frame_at object page
+  pub departs : Departs object page (queues_after_search old.queues) old new
 
 -- a page of an object in use goes as the victim, and each of another one in any order
 abbrev pub DepartsFrom : Bool → ℕ → ℕ → Paging → Paging → Type 0

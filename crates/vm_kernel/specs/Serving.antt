@@ -6,8 +6,8 @@ use Rattle.vm_model.specs.declared.script.Header.{Header}
 use Rattle.vm_legal.specs.Accesses.{FindsPage, Wants}
 use Rattle.vm_legal.specs.Follows.{EndsNext}
 use Rattle.vm_legal.specs.Frames.{frames_free, returns_out}
-use Rattle.vm_legal.specs.Prompt.{IsFull}
-use Rattle.vm_legal.specs.Steps.{gone}
+use Rattle.vm_legal.specs.Prompt.{HostIsFull}
+use Rattle.vm_legal.specs.Steps.{departures}
 use Rattle.vm_pageout.specs.declared.answer.Reclaim.{Reclaim}
 use Rattle.vm_pageout.specs.declared.answer.Reclaim.TheVariants as reclaim
 use Rattle.vm_resident.specs.Resident.{row_at}
@@ -17,7 +17,7 @@ use Rattle.vm_waits.specs.declared.waiting.Waiting.{Waiting}
 use Rattle.vm_kernel.specs.declared.parts.Parts.{Parts}
 
 -- an access was run: it has ended, or waits for something else than a frame
-pub record Leaves (was : Waiting) (old new : Parts) : Type 0 where
+pub record LeavesFrameQueue (was : Waiting) (old new : Parts) : Type 0 where
   pub again : again new.waits.rows + one_again was.on ≡ again old.waits.rows
   pub queued : queued new.waits.rows + one_frame was.on ≡ queued old.waits.rows
   pub laundry : new.laundry ≡ old.laundry
@@ -36,18 +36,18 @@ pub record Queues (header : Header) (h : ℕ) (was : Waiting) (may_claim : Bool)
 -- an access was run, and it needs a frame or not
 abbrev pub Attempts : Header → ℕ → Waiting → Bool → Bool → Parts → Parts → List Event → List Event → Type 0
 Attempts header h was may_claim true old new before after = Queues header h was may_claim old new before after
-Attempts header h was may_claim false old new before after = Leaves was old new
+Attempts header h was may_claim false old new before after = LeavesFrameQueue was old new
 
 -- some page was reclaimed, and is dropped or on its way
-pub record Reclaimed (h : ℕ) (answer : Reclaim) (old new : Parts) (before after : List Event) : Type 0 where
+pub record FreesOrReturns (h : ℕ) (answer : Reclaim) (old new : Parts) (before after : List Event) : Type 0 where
   pub waits : new.waits ≡ old.waits
-  pub freed : answer ≡ reclaim.Freed → (claimed old.memory.frames ≡ claimed new.memory.frames + 1) × (gone h after ≡ gone h before + 1)
-  pub returned : answer ≡ reclaim.Returned → (claimed new.memory.frames ≡ claimed old.memory.frames) × (gone h after ≡ gone h before + 1) × (free new.memory.frames ≡ free old.memory.frames) × (0 < returns_out h after)
+  pub freed : answer ≡ reclaim.Freed → (claimed old.memory.frames ≡ claimed new.memory.frames + 1) × (departures h after ≡ departures h before + 1)
+  pub returned : answer ≡ reclaim.Returned → (claimed new.memory.frames ≡ claimed old.memory.frames) × (departures h after ≡ departures h before + 1) × (free new.memory.frames ≡ free old.memory.frames) × (0 < returns_out h after)
   pub nothing : answer ≡ reclaim.Nothing → (after ≡ before) × ((o p : ℕ) (row : PageRow) → row_at new.memory.resident o p ≡ Some row → row.here ≡ false) × (free new.memory.frames ≡ free old.memory.frames)
 
 -- the frame queue is empty, or can't go on
 abbrev pub IsServed : Header → ℕ → Parts → List Event → Type 0
-IsServed header h k past = (queued k.waits.rows ≡ 0) ⊎ IsFull header h past
+IsServed header h k past = (queued k.waits.rows ≡ 0) ⊎ HostIsFull header h past
 
 -- one access is to be run again, and no other
 pub record IsNext (task : ℕ) (rows : List Waiting) : Type 0 where

@@ -12,7 +12,7 @@ use Rattle.vm_resident.specs.Resident.{row_at}
 use Rattle.vm_shadow.specs.Chains.{ChainTable, PutsRegion, region_at}
 use Rattle.vm_shadow.specs.declared.ids.Ids.{Ids}
 use Rattle.vm_shadow.specs.declared.region_row.RegionRow.{RegionRow}
-use Rattle.vm_kernel.specs.Begun.{Runs}
+use Rattle.vm_kernel.specs.Begun.{IsInStep}
 use Rattle.vm_kernel.specs.Counts.{count_on}
 use Rattle.vm_kernel.specs.Matches.{AllReached, AllUsed}
 use Rattle.vm_kernel.specs.Places.{has_region, region_entries}
@@ -46,13 +46,13 @@ pub record Releasing : Type 0 where
 
 -- some entries have gone, but are still among the counts
 pub record Sweeps (header : Header) (h : ℕ) (outside : Outside) (doing : Command) (past : List Event) (k : Parts) (ids : Ids) (gone : List Entry) (events : List Event) : Type 0 where
-  pub runs : Runs header h outside doing past k ids gone events
+  pub runs : IsInStep header h outside doing past k ids gone events
   pub used : AllUsed k.chains
   pub reached : AllReached k.chains k.memory.objects
 
 -- a region has no entries left, and all others have some
 pub record Ends (header : Header) (h : ℕ) (outside : Outside) (doing : Command) (past : List Event) (k : Parts) (ids : Ids) (gone : List Entry) (region : ℕ) (events : List Event) : Type 0 where
-  pub runs : Runs header h outside doing past k ids gone events
+  pub runs : IsInStep header h outside doing past k ids gone events
   pub there : has_region k.chains region ≡ true
   pub none : region_entries k.chains region ≡ 0
   pub others : (r : ℕ) (row : RegionRow) → r ≢ region → region_at k.chains r ≡ Some row → 0 < row.entries
@@ -60,7 +60,7 @@ pub record Ends (header : Header) (h : ℕ) (outside : Outside) (doing : Command
 
 -- no region is over the object, and nothing of it is here; its control may still live
 pub record Strands (header : Header) (h : ℕ) (outside : Outside) (doing : Command) (past : List Event) (k : Parts) (ids : Ids) (gone : List Entry) (object : ℕ) (events : List Event) : Type 0 where
-  pub runs : Runs header h outside doing past k ids gone events
+  pub runs : IsInStep header h outside doing past k ids gone events
   pub used : AllUsed k.chains
   pub others : (o : ℕ) (row : ObjectRow) → o ≢ object → object_at k.memory.objects o ≡ Some row → row.live ≡ true → has_region k.chains o ≡ true
   pub known : IsSome (object_at k.memory.objects object)

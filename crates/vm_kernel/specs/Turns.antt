@@ -99,7 +99,7 @@ ClaimsInTurn rows (task ∷ left) events =
     (claims : Bool) × (late own early : List Event) × (events ≡ late ++ (own ++ early)) × EachOf RunsNone late × Did rows (λ t. is_listed t left ≡ true) task claims own × ClaimsInTurn rows left early
 
 -- some left from the front of a queue in which nobody stood twice, nobody joined, and frames were claimed in turn
-pub record Leaves (old : List TaskId) (new : WaitTable) (before after : List Event) : Type 0 where
+pub record LeavesInTurn (old : List TaskId) (new : WaitTable) (before after : List Event) : Type 0 where
   pub left : List TaskId
   pub queue : old ≡ reverse left ++ new.queue
   pub once : EachListedOnce old

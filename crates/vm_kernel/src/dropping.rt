@@ -3,11 +3,11 @@ ghost use Rattle.std.specs.Prelude.{◌≡◌, ◌++◌, ◌⊎◌, true, IfOk, 
 ghost use Rattle.vm_legal.specs.Reclaims.{PagesOut, Starves};
 ghost use Rattle.vm_model.specs.declared.command.Command.TheVariants as command;
 ghost use Rattle.vm_resident.specs.Resident.{row_at};
-ghost use Rattle.vm_kernel.specs.Begun.{Doing, Goes, Ran, Starts};
+ghost use Rattle.vm_kernel.specs.Begun.{Doing, LegalEvents, Ran, Starts};
 ghost use Rattle.vm_kernel.specs.Changes.{Lost};
-ghost use Rattle.vm_kernel.specs.Fits.{Fits};
+ghost use Rattle.vm_kernel.specs.Fits.{PartsFit};
 ghost use Rattle.vm_kernel.specs.Matches.{Rests, host_id};
-ghost use Rattle.vm_kernel.specs.Serving.{Reclaimed};
+ghost use Rattle.vm_kernel.specs.Serving.{FreesOrReturns};
 ghost use Rattle.vm_kernel.specs.Taking.{EachGone};
 ghost use Rattle.vm_kernel.specs.Plays.{Plays, paging};
 ghost use Rattle.vm_kernel.specs.Turns.{Quiet};
@@ -21,7 +21,7 @@ use vm_shadow::Ids;
 impl Parts {
     // Drops a page that is here.
     pub fn drop_page(&mut self, key: PageKey, log: &mut Events) -> Result<(), NoMemory>
-        requires fits { Fits self.old }
+        requires fits { PartsFit self.old }
         requires there { IsSomeAnd (row_at self.old.memory.resident key.object.0 key.page.0) (λ row. row.here ≡ true) }
         ensures { OnOk result (Lost key self.old self.new log.old.items log.new.items) }
     {
@@ -58,9 +58,9 @@ impl Parts {
         requires rests { Rests given.header given.host self.old ids.now (log.old.items ++ given.past) }
         requires may { PagesOut given.command given.host (log.old.items ++ given.past) ⊎ Starves given.header given.host (log.old.items ++ given.past) }
         ensures rests { OnOk result (Rests given.header given.host self.new ids.now (log.new.items ++ given.past)) }
-        ensures goes { OnOk result (Goes given.header given.host given.outside given.command given.past log.old.items log.new.items) }
+        ensures goes { OnOk result (LegalEvents given.header given.host given.outside given.command given.past log.old.items log.new.items) }
         ensures reclaims { OnOk result (EachGone given.host log.old.items log.new.items) }
-        ensures reclaimed { IfOk result (λ answer. Reclaimed given.host answer self.old self.new (log.old.items ++ given.past) (log.new.items ++ given.past)) }
+        ensures reclaimed { IfOk result (λ answer. FreesOrReturns given.host answer self.old self.new (log.old.items ++ given.past) (log.new.items ++ given.past)) }
         ensures plays { OnOk result (Plays given.header given.past log.old.items (paging self.old) log.new.items (paging self.new)) }
     {
         // The laundry has room for a page that is here, but may be full while none is.

@@ -13,8 +13,8 @@ ghost use Rattle.vm_objects.specs.Objects.{object_at};
 ghost use Rattle.vm_resident.specs.Resident.{row_at};
 ghost use Rattle.vm_model.specs.declared.event.Event.TheVariants as event;
 ghost use Rattle.vm_kernel.specs.Changes.{Brought, IsAllowed, IsHere, Wrote, zeroed};
-ghost use Rattle.vm_kernel.specs.Faulting.{CanFault, Faulted, Faults, Hits, IsAvailable, Requested};
-ghost use Rattle.vm_kernel.specs.Fits.{Fits};
+ghost use Rattle.vm_kernel.specs.Faulting.{CanFault, Faulted, Faults, Hits, IsAvailable, RequestsPage};
+ghost use Rattle.vm_kernel.specs.Fits.{PartsFit};
 ghost use Rattle.vm_kernel.specs.Waiters.{IsSizedWant, access_in, address_in, want_size};
 
 use crate::parts::Parts;
@@ -97,7 +97,7 @@ impl Parts {
         may_claim: bool,
         log: &mut Events,
     ) -> Result<FaultStep, NoMemory>
-        requires fits { Fits self.old }
+        requires fits { PartsFit self.old }
         requires absent { row_at self.old.memory.resident key.object.0 key.page.0 ≡ None }
         requires pages { key.page.0 < object_pages self.old.memory.objects key.object.0 }
         requires at { at ≡ address_in want % self.old.size }
@@ -133,13 +133,13 @@ impl Parts {
         control: u32,
         log: &mut Events,
     ) -> Result<(), NoMemory>
-        requires fits { Fits self.old }
+        requires fits { PartsFit self.old }
         requires absent { row_at self.old.memory.resident key.object.0 key.page.0 ≡ None }
         requires pages { key.page.0 < object_pages self.old.memory.objects key.object.0 }
         requires available { IsAvailable key control self.old }
         requires free { 0 < free self.old.memory.frames }
         requires room { 0 < self.old.memory.resident.spare }
-        ensures { OnOk result (Requested key (access_number (access_in want) 0) self.old self.new log.old.items log.new.items) }
+        ensures { OnOk result (RequestsPage key (access_number (access_in want) 0) self.old self.new log.old.items log.new.items) }
     {
         log.push(Event::Sent {
             channel: Channel::Up {
@@ -166,7 +166,7 @@ impl Parts {
         at: u32,
         log: &mut Events,
     ) -> Result<(), NoMemory>
-        requires fits { Fits self.old }
+        requires fits { PartsFit self.old }
         requires here { IsHere key frame self.old }
         requires inside { at + want_size want ≤ self.old.size }
         requires sized { IsSizedWant want }
@@ -207,7 +207,7 @@ impl Parts {
 
     // Puts a page of zeros into a free frame.
     fn bring(&mut self, key: PageKey, log: &mut Events) -> Result<FrameNo, NoMemory>
-        requires fits { Fits self.old }
+        requires fits { PartsFit self.old }
         requires absent { row_at self.old.memory.resident key.object.0 key.page.0 ≡ None }
         requires pages { key.page.0 < object_pages self.old.memory.objects key.object.0 }
         requires free { 0 < free self.old.memory.frames }

@@ -17,7 +17,7 @@ ghost use Rattle.vm_supply.specs.Answers.{outcome_of};
 ghost use Rattle.vm_kernel.specs.Matches.{HasTasks, IsPlain, Rests, first_ids, host_id};
 ghost use Rattle.vm_kernel.specs.Refusing.{takes_name};
 ghost use Rattle.vm_kernel.specs.Taking.{EndsAll, IsErrorPaid, IsTempAnswer};
-ghost use Rattle.vm_kernel.specs.Turns.{KeepsOthers, Leaves, Restarted};
+ghost use Rattle.vm_kernel.specs.Turns.{KeepsOthers, LeavesInTurn, Restarted};
 
 use crate::parts::Parts;
 use std::alloc::Global;
@@ -34,6 +34,8 @@ use vm_waits::Waits;
 /// The kernel of one host: its tasks with their entries, its regions and memory objects, and the
 /// pages that are in its frames.
 ///
+/// It does what the Mach 3 Kernel Interfaces say of a kernel in external memory management; in which
+/// order things happen in a step, who gets a frame and which page is reclaimed is this profile's.
 /// Contracts see its parts, and which histories it stands for.
 #[derive(Drop)]
 pub struct Kernel {
@@ -76,6 +78,10 @@ impl Kernel {
     /// Runs a command that isn't refused, and gives what happened behind its line; the frame queues
     /// are served behind that.
     ///
+    /// The commands are vm_allocate, vm_deallocate, vm_protect, vm_inherit, task_create and
+    /// task_terminate, loads and stores, and this profile's `pageout`, `wire` and `unwire`. Addresses
+    /// and lengths are in bytes.
+    ///
     /// After `NoMemory` the kernel is used no more.
     pub fn begin(&mut self, command: &Command, ids: &mut Ids) -> Result<Events, NoMemory>
         ghost given: { Given }
@@ -92,7 +98,10 @@ impl Kernel {
 
     /// Takes an answer of the default pager to a control of an object, and gives what happened
     /// behind the taking, up to where the frame queues are served. What isn't for the live control,
-    /// or answers nothing, is discarded.
+    /// or answers nothing, is discarded (this profile).
+    ///
+    /// The answers are memory_object_ready, memory_object_data_supply, memory_object_data_unavailable
+    /// and memory_object_data_error.
     ///
     /// After `NoMemory` the kernel is used no more.
     pub fn take(
@@ -136,8 +145,8 @@ impl Kernel {
     }
 
     /// A step ends: the host's frame queue is served, and what happened is added to the step's
-    /// events. It is called at the end of every step, whosever the step is, but of one that is
-    /// refused and of the line of a `settle`.
+    /// events (this profile). It is called at the end of every step, whosever the step is, but of one
+    /// that is refused and of the line of a `settle`.
     ///
     /// After `NoMemory` the kernel is used no more.
     pub fn serve(&mut self, ids: &mut Ids, log: &mut Events) -> Result<(), NoMemory>
@@ -145,7 +154,7 @@ impl Kernel {
         requires rests { Rests given.header given.host self.old ids.old (log.old.items ++ given.past) }
         ensures served { OnOk result (Served given.header given.host given.outside given.command given.past log.old.items self.new ids.new log.new.items) }
         ensures plays { OnOk result (Plays given.header given.past log.old.items (paging self.old) log.new.items (paging self.new)) }
-        ensures leaves { OnOk result (Leaves self.old.waits.queue self.new.waits log.old.items log.new.items) }
+        ensures leaves { OnOk result (LeavesInTurn self.old.waits.queue self.new.waits log.old.items log.new.items) }
         ensures others { OnOk result (KeepsOthers self.old.waits.queue self.old.waits.rows self.new.waits.rows) }
     {
         self.parts.go_on(ids, log)

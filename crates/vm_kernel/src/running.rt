@@ -1,7 +1,7 @@
 // The commands of a host.
 ghost use Rattle.std.specs.Prelude.{◌≡◌, true, OnOk};
 ghost use Rattle.vm_kernel.specs.Begun.{Given, Ran, Starts};
-ghost use Rattle.vm_kernel.specs.Built.{is_built};
+ghost use Rattle.vm_kernel.specs.Built.{changes_entries, is_built};
 ghost use Rattle.vm_kernel.specs.Plays.{Plays, paging};
 ghost use Rattle.vm_kernel.specs.Turns.{Restarted};
 
@@ -29,6 +29,43 @@ impl Parts {
             Command::Task { task, .. } => self.make_task(ids, *task, log),
             Command::Fork { task, child } => self.fork(ids, *task, *child, log),
             Command::Exit { task } => self.exit(ids, *task, log),
+            Command::Allocate { .. }
+            | Command::Deallocate { .. }
+            | Command::Protect { .. }
+            | Command::Inherit { .. } => self.change_entries(command, ids, log),
+            Command::Load {
+                task,
+                address,
+                size,
+            } => self.load(ids, *task, *address, *size, log),
+            Command::Store {
+                task,
+                address,
+                size,
+                value,
+            } => self.store(ids, *task, *address, *size, *value, log),
+            Command::Pageout { count, .. } => self.pageout(ids, *count, log),
+            Command::Wire { count, .. } => self.wire(ids, *count, log),
+            Command::Unwire { count, .. } => self.unwire(ids, *count, log),
+            _ => Ok(()),
+        }
+    }
+
+    // Runs one command that changes a task's entries.
+    fn change_entries(
+        &mut self,
+        command: &Command,
+        ids: &mut Ids,
+        log: &mut Events,
+    ) -> Result<(), NoMemory>
+        ghost given: { Given }
+        requires starts { Starts given.header given.host command.now given.past self.old ids.old log.old.items }
+        requires changes { changes_entries command.now ≡ true }
+        ensures ran { OnOk result (Ran given.header given.host given.outside command.now given.past self.new ids.new log.new.items) }
+        ensures plays { OnOk result (Plays given.header given.past log.old.items (paging self.old) log.new.items (paging self.new)) }
+        ensures restarts { OnOk result (Restarted given.header given.host self.new.waits.rows given.past self.old.waits.queue self.new.waits.queue log.new.items) }
+    {
+        match command {
             Command::Allocate {
                 task,
                 address,
@@ -51,20 +88,6 @@ impl Parts {
                 bytes,
                 inherit,
             } => self.inherit(ids, *task, *address, *bytes, *inherit, log),
-            Command::Load {
-                task,
-                address,
-                size,
-            } => self.load(ids, *task, *address, *size, log),
-            Command::Store {
-                task,
-                address,
-                size,
-                value,
-            } => self.store(ids, *task, *address, *size, *value, log),
-            Command::Pageout { count, .. } => self.pageout(ids, *count, log),
-            Command::Wire { count, .. } => self.wire(ids, *count, log),
-            Command::Unwire { count, .. } => self.unwire(ids, *count, log),
             _ => Ok(()),
         }
     }

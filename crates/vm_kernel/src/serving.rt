@@ -3,16 +3,16 @@ ghost use Rattle.std.specs.Prelude.{◌≡◌, ◌+◌, ◌++◌, true, false, I
 ghost use Rattle.vm_frames.specs.Frames.{claimed, free};
 ghost use Rattle.vm_legal.specs.Accesses.{FindsPage, Wants};
 ghost use Rattle.vm_legal.specs.Follows.{EndsNext};
-ghost use Rattle.vm_legal.specs.Prompt.{IsFull, PromptAt};
+ghost use Rattle.vm_legal.specs.Prompt.{HostIsFull, PromptAt};
 ghost use Rattle.vm_legal.specs.Stretches.{EachOf};
 ghost use Rattle.vm_supply.specs.declared.woken.Woken.TheVariants as woken;
 ghost use Rattle.vm_waits.specs.Waits.{entry};
-ghost use Rattle.vm_kernel.specs.Begun.{Doing, Goes};
+ghost use Rattle.vm_kernel.specs.Begun.{Doing, LegalEvents};
 ghost use Rattle.vm_kernel.specs.Matches.{Rests, Works};
 ghost use Rattle.vm_kernel.specs.Serving.{Attempts, HasQueue, IsServed, RunsFirst};
 ghost use Rattle.vm_kernel.specs.Plays.{Plays, paging};
 ghost use Rattle.vm_kernel.specs.Taking.{EachGone};
-ghost use Rattle.vm_kernel.specs.Turns.{KeepsOthers, Leaves, Restarted, RunsNone, RunsOnce};
+ghost use Rattle.vm_kernel.specs.Turns.{KeepsOthers, LeavesInTurn, Restarted, RunsNone, RunsOnce};
 
 use crate::parts::Parts;
 use crate::steps::FaultStep;
@@ -35,7 +35,7 @@ impl Parts {
         requires works { Works given.header given.host self.old ids.now woken.Nobody (log.old.items ++ given.past) }
         requires waits { entry self.old.waits.rows waiting.task.0 ≡ Some waiting }
         ensures works { OnOk result (Works given.header given.host self.new ids.now woken.Nobody (log.new.items ++ given.past)) }
-        ensures goes { OnOk result (Goes given.header given.host given.outside given.command given.past log.old.items log.new.items) }
+        ensures goes { OnOk result (LegalEvents given.header given.host given.outside given.command given.past log.old.items log.new.items) }
         ensures ends { OnOk result (FindsPage given.header waiting.task.0 (log.old.items ++ given.past) → EndsNext waiting.task.0 log.old.items log.new.items) }
         ensures attempts { IfOk result (λ needs. Attempts given.header given.host waiting may_claim needs self.old self.new (log.old.items ++ given.past) (log.new.items ++ given.past)) }
         ensures plays { OnOk result (Plays given.header given.past log.old.items (paging self.old) log.new.items (paging self.new)) }
@@ -65,7 +65,7 @@ impl Parts {
         ghost given: { Doing }
         requires works { Works given.header given.host self.old ids.now woken.Nobody (log.old.items ++ given.past) }
         ensures rests { OnOk result (Rests given.header given.host self.new ids.now (log.new.items ++ given.past)) }
-        ensures goes { OnOk result (Goes given.header given.host given.outside given.command given.past log.old.items log.new.items) }
+        ensures goes { OnOk result (LegalEvents given.header given.host given.outside given.command given.past log.old.items log.new.items) }
         ensures first { OnOk result (RunsFirst given.header self.old.waits.rows given.past log.old.items log.new.items) }
         ensures plays { OnOk result (Plays given.header given.past log.old.items (paging self.old) log.new.items (paging self.new)) }
         ensures restarts { OnOk result (EachOf RunsNone log.old.items → Restarted given.header given.host self.new.waits.rows given.past self.old.waits.queue self.new.waits.queue log.new.items) }
@@ -83,10 +83,10 @@ impl Parts {
         ghost given: { Doing }
         requires rests { Rests given.header given.host self.old ids.now (log.old.items ++ given.past) }
         ensures rests { OnOk result (Rests given.header given.host self.new ids.now (log.new.items ++ given.past)) }
-        ensures goes { OnOk result (Goes given.header given.host given.outside given.command given.past log.old.items log.new.items) }
+        ensures goes { OnOk result (LegalEvents given.header given.host given.outside given.command given.past log.old.items log.new.items) }
         ensures served { OnOk result (IsServed given.header given.host self.new (log.new.items ++ given.past)) }
         ensures plays { OnOk result (Plays given.header given.past log.old.items (paging self.old) log.new.items (paging self.new)) }
-        ensures leaves { OnOk result (Leaves self.old.waits.queue self.new.waits log.old.items log.new.items) }
+        ensures leaves { OnOk result (LeavesInTurn self.old.waits.queue self.new.waits log.old.items log.new.items) }
         ensures others { OnOk result (KeepsOthers self.old.waits.queue self.old.waits.rows self.new.waits.rows) }
     {
         'serve: while let Some(waiting) = self.waits.front() {
@@ -105,11 +105,11 @@ impl Parts {
         requires wants { Wants given.header given.host (log.old.items ++ given.past) }
         requires none { free self.old.memory.frames ≡ 0 }
         ensures rests { OnOk result (Rests given.header given.host self.new ids.now (log.new.items ++ given.past)) }
-        ensures goes { OnOk result (Goes given.header given.host given.outside given.command given.past log.old.items log.new.items) }
+        ensures goes { OnOk result (LegalEvents given.header given.host given.outside given.command given.past log.old.items log.new.items) }
         ensures waits { OnOk result (self.new.waits ≡ self.old.waits) }
         ensures reclaims { OnOk result (EachGone given.host log.old.items log.new.items) }
         ensures freed { IfOk result (λ stops. stops ≡ false → claimed self.old.memory.frames ≡ claimed self.new.memory.frames + 1) }
-        ensures full { IfOk result (λ stops. stops ≡ true → IsFull given.header given.host (log.new.items ++ given.past)) }
+        ensures full { IfOk result (λ stops. stops ≡ true → HostIsFull given.header given.host (log.new.items ++ given.past)) }
         ensures plays { OnOk result (Plays given.header given.past log.old.items (paging self.old) log.new.items (paging self.new)) }
     {
         if !self.laundry.is_empty() {
@@ -126,11 +126,11 @@ impl Parts {
         ghost given: { Doing }
         requires rests { Rests given.header given.host self.old ids.now (log.old.items ++ given.past) }
         ensures rests { OnOk result (Rests given.header given.host self.new ids.now (log.new.items ++ given.past)) }
-        ensures goes { OnOk result (Goes given.header given.host given.outside given.command given.past log.old.items log.new.items) }
+        ensures goes { OnOk result (LegalEvents given.header given.host given.outside given.command given.past log.old.items log.new.items) }
         ensures queue { OnOk result (HasQueue given.header given.host self.new (log.new.items ++ given.past)) }
         ensures prompt { OnOk result (PromptAt given.header given.host (log.new.items ++ given.past)) }
         ensures plays { OnOk result (Plays given.header given.past log.old.items (paging self.old) log.new.items (paging self.new)) }
-        ensures leaves { OnOk result (Leaves self.old.waits.queue self.new.waits log.old.items log.new.items) }
+        ensures leaves { OnOk result (LeavesInTurn self.old.waits.queue self.new.waits log.old.items log.new.items) }
         ensures others { OnOk result (KeepsOthers self.old.waits.queue self.old.waits.rows self.new.waits.rows) }
     {
         self.serve(ids, log)

@@ -3,7 +3,7 @@ ghost use Rattle.std.specs.Prelude.{◌≡◌, ◌≢◌, ◌++◌, ◌∷◌, [
 ghost use Rattle.vm_model.specs.declared.event.Event.TheVariants as event;
 ghost use Rattle.vm_model.specs.declared.message.Channel.TheVariants.{Down};
 ghost use Rattle.vm_supply.specs.declared.woken.Woken.TheVariants as who;
-ghost use Rattle.vm_kernel.specs.Begun.{Doing, Goes, IsLaundered, Passing};
+ghost use Rattle.vm_kernel.specs.Begun.{Doing, IsLaundered, LegalEvents, Passing};
 ghost use Rattle.vm_kernel.specs.Matches.{Rests, Works, host_id};
 ghost use Rattle.vm_kernel.specs.Taking.{EndsEach, EndsNobody, FailsNow, HasAsker, HasEnded, HasFailed, IsAnswered, IsErrorPaid, IsTempAnswer};
 ghost use Rattle.vm_objects.specs.Objects.{object_at};
@@ -56,7 +56,7 @@ impl Parts {
         requires asker { HasAsker woken self.old.waits.rows }
         requires answered { IsAnswered woken self.old.memory.resident }
         ensures works { OnOk result (Works given.header given.host self.new ids.now who.Nobody (log.new.items ++ given.past)) }
-        ensures goes { OnOk result (Goes given.header given.host given.outside given.command given.past log.old.items log.new.items) }
+        ensures goes { OnOk result (LegalEvents given.header given.host given.outside given.command given.past log.old.items log.new.items) }
         ensures failed { OnOk result (HasFailed woken (log.new.items ++ given.past)) }
         ensures plays { OnOk result (Plays given.header given.past log.old.items (paging self.old) log.new.items (paging self.new)) }
         ensures ended { OnOk result (HasEnded woken self.old.waits.rows (log.new.items ++ given.past)) }
@@ -86,7 +86,7 @@ impl Parts {
         requires asker { HasAsker (who.Fails key) self.old.waits.rows }
         requires answered { IsAnswered (who.Fails key) self.old.memory.resident }
         ensures works { OnOk result (Works given.header given.host self.new ids.now who.Nobody (log.new.items ++ given.past)) }
-        ensures goes { OnOk result (Goes given.header given.host given.outside given.command given.past log.old.items log.new.items) }
+        ensures goes { OnOk result (LegalEvents given.header given.host given.outside given.command given.past log.old.items log.new.items) }
         ensures failed { OnOk result (HasFailed (who.Fails key) (log.new.items ++ given.past)) }
         ensures plays { OnOk result (Plays given.header given.past log.old.items (paging self.old) log.new.items (paging self.new)) }
         ensures ended { OnOk result (HasEnded (who.Fails key) self.old.waits.rows (log.new.items ++ given.past)) }
@@ -118,7 +118,7 @@ impl Parts {
         requires answer { IsTempAnswer self.old.size message.now }
         requires nothing { log.old.items ≡ [] }
         ensures rests { OnOk result (Rests given.header given.host self.new ids.now (log.new.items ++ (given.front ++ given.past))) }
-        ensures goes { OnOk result (Goes given.header given.host given.outside given.command (given.front ++ given.past) [] log.new.items) }
+        ensures goes { OnOk result (LegalEvents given.header given.host given.outside given.command (given.front ++ given.past) [] log.new.items) }
         ensures failed { OnOk result (IsErrorPaid given.header (log.new.items ++ (given.front ++ given.past))) }
         ensures plays { OnOk result (PlaysAnswer given.header (given.front ++ given.past) object (outcome_of (object_at self.old.memory.objects object.0) control (row_at self.old.memory.resident object.0) message.now) (paging self.old) log.new.items (paging self.new)) }
         ensures ended { OnOk result (EndsEach given.header self.old.waits.rows (log.new.items ++ (given.front ++ given.past))) }

@@ -2,15 +2,15 @@
 use Rattle.std.proofs.Common.{◌≡◌, ℕ, ◌||◌, Bool, true, false, List, [], ◌∷◌, ◌++◌, refl, ◌∙◌}
 use Rattle.vm_model.specs.declared.event.Event.{Event}
 use Rattle.vm_model.specs.declared.event.Event.TheVariants as event
-use Rattle.vm_legal.specs.Steps.{absence_taken, before_step, error_taken, since, taken, takings}
+use Rattle.vm_legal.specs.Steps.{absence_taken, before_step, error_taken, since, taken_letter, takings}
 use Rattle.vm_legal.specs.Stretches.{AllInner, IsInner}
 
-taken_inner : (e : Event) (past : List Event) → IsInner e → taken (e ∷ past) ≡ taken past
+taken_inner : (e : Event) (past : List Event) → IsInner e → taken_letter (e ∷ past) ≡ taken_letter past
 taken_inner (event.Line line) past inner = absurd inner
 taken_inner (event.Taken channel m) past inner = absurd inner
 taken_inner other past inner = refl
 
-pub taken_more : (events past : List Event) → AllInner events → taken (events ++ past) ≡ taken past
+pub taken_more : (events past : List Event) → AllInner events → taken_letter (events ++ past) ≡ taken_letter past
 taken_more [] past inner = refl
 taken_more (e ∷ events) past inner = taken_inner e (events ++ past) inner.0 ∙ taken_more events past inner.1
 

@@ -6,7 +6,7 @@ use Rattle.vm_model.specs.declared.message.Channel.{Channel}
 use Rattle.vm_model.specs.declared.message.Channel.TheVariants.{Up, Down}
 use Rattle.vm_model.specs.declared.message.Message.{Message}
 use Rattle.vm_legal.specs.Licences.{LockRequest, lock_taken}
-use Rattle.vm_legal.specs.Steps.{Letter, taken}
+use Rattle.vm_legal.specs.Steps.{Letter, taken_letter}
 
 abbrev is_down : Channel → Bool
 is_down (Up host object) = false
@@ -21,13 +21,13 @@ unlocking : (at : Channel) (m : Message) (past : List Event) → is_down at ≡ 
 unlocking (Up host object) m past up = refl
 unlocking (Down host object control) m past up = absurd (let bad : true ≡ false = up in cc)
 
-pub no_lock : (past : List Event) → came_down (taken past) ≡ false → lock_taken past ≡ None
+pub no_lock : (past : List Event) → came_down (taken_letter past) ≡ false → lock_taken past ≡ None
 no_lock [] up = refl
 no_lock (event.Line line ∷ past) up = refl
 no_lock (event.Taken channel m ∷ past) up = unlocking channel m past up
 no_lock (e ∷ past) up = no_lock past up
 
-pub none_locked : (past : List Event) → taken past ≡ None → lock_taken past ≡ None
+pub none_locked : (past : List Event) → taken_letter past ≡ None → lock_taken past ≡ None
 none_locked past none = no_lock past (ap came_down none)
 
 -- so it owes nothing of one

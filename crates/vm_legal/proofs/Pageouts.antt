@@ -14,7 +14,7 @@ use Rattle.vm_model.specs.declared.script.Header.{Header}
 use Rattle.vm_legal.specs.Follows.{IsDone}
 use Rattle.vm_legal.specs.Prompt.{IsExhausted}
 use Rattle.vm_legal.specs.Reclaims.{IsReclaim}
-use Rattle.vm_legal.specs.Steps.{gone}
+use Rattle.vm_legal.specs.Steps.{departures}
 use Rattle.vm_legal.specs.Stretches.{EachOf}
 
 -- an event of a stretch is such
@@ -39,37 +39,37 @@ more_if : (b : Bool) (n : ℕ) → n ≤ (if b then n + 1 else n)
 more_if true n = omega arith
 more_if false n = omega arith
 
-up_gone : (host : ℕ) (at : HostId) (object : ObjectId) (m : Message) (past : List Event) → gone host past ≤ gone host (event.Sent (Up at object) m ∷ past)
-up_gone host at object (message.Return control page dirty keep bytes) past = more_if (at.0 == host && not keep) (gone host past)
+up_gone : (host : ℕ) (at : HostId) (object : ObjectId) (m : Message) (past : List Event) → departures host past ≤ departures host (event.Sent (Up at object) m ∷ past)
+up_gone host at object (message.Return control page dirty keep bytes) past = more_if (at.0 == host && not keep) (departures host past)
 up_gone host at object other past = omega arith
 
-reclaim_gone : (host : ℕ) (e : Event) (past : List Event) → IsReclaim host e → gone host past ≤ gone host (e ∷ past)
+reclaim_gone : (host : ℕ) (e : Event) (past : List Event) → IsReclaim host e → departures host past ≤ departures host (e ∷ past)
 reclaim_gone host (event.Line line) past is = absurd is
 reclaim_gone host (event.Taken channel m) past is = absurd is
 reclaim_gone host (event.Sent (Up at object) m) past is = up_gone host at object m past
 reclaim_gone host (event.Sent (Down at object control) m) past is = omega arith
-reclaim_gone host (event.Dropped at object page) past is = more_if (at.0 == host) (gone host past)
+reclaim_gone host (event.Dropped at object page) past is = more_if (at.0 == host) (departures host past)
 reclaim_gone host other past is = omega arith
 
-reclaims_gone : (host : ℕ) (more past : List Event) → EachOf (IsReclaim host) more → gone host past ≤ gone host (more ++ past)
+reclaims_gone : (host : ℕ) (more past : List Event) → EachOf (IsReclaim host) more → departures host past ≤ departures host (more ++ past)
 reclaims_gone host [] past each = omega arith
 reclaims_gone host (e ∷ more) past each = let later = reclaims_gone host more past each.1 in let one = reclaim_gone host e (more ++ past) each.0 in omega (arith, later, one)
 
-pub cut_short : (header : Header) (at : HostId) (count : ℕ) (later front past : List Event) (e : Event) → EachOf (IsReclaim at.0) front → (IsReclaim at.0 e → ⊥) → gone at.0 (front ++ past) < count
+pub cut_short : (header : Header) (at : HostId) (count : ℕ) (later front past : List Event) (e : Event) → EachOf (IsReclaim at.0) front → (IsReclaim at.0 e → ⊥) → departures at.0 (front ++ past) < count
     → ((more first : List Event) → front ≡ more ++ first → IsExhausted header at.0 past (first ++ past) → ⊥) → IsDone header (command.Pageout at count) (later ++ e ∷ front) past → ⊥
 cut_short header at count later front past e reclaims other few left done =
     let split = in_front at.0 later front done.later done.front e done.is done.reclaims other in
     elim done.enough [
       | inl all ↦
           let each : EachOf (IsReclaim at.0) split.0 = of_newer at.0 split.0 done.front (subst (EachOf (IsReclaim at.0)) split.1 reclaims) in
-          let low : gone at.0 (done.front ++ past) ≤ gone at.0 (split.0 ++ (done.front ++ past)) = reclaims_gone at.0 split.0 (done.front ++ past) each in
-          let same : gone at.0 (front ++ past) ≡ gone at.0 (split.0 ++ (done.front ++ past)) = ap (λ z. gone at.0 (z ++ past)) split.1 ∙ ap (gone at.0) (append_assoc split.0 done.front past) in
+          let low : departures at.0 (done.front ++ past) ≤ departures at.0 (split.0 ++ (done.front ++ past)) = reclaims_gone at.0 split.0 (done.front ++ past) each in
+          let same : departures at.0 (front ++ past) ≡ departures at.0 (split.0 ++ (done.front ++ past)) = ap (λ z. departures at.0 (z ++ past)) split.1 ∙ ap (departures at.0) (append_assoc split.0 done.front past) in
           absurd (omega (arith, low, same, all, few))
       | inr empty ↦ left split.0 done.front split.1 empty
     ]
 
 -- a page of another host that goes
-pub of_another : (header : Header) (at other : HostId) (object : ObjectId) (page : PageNo) (count : ℕ) (past : List Event) → other.0 ≢ at.0 → gone at.0 past < count → (IsExhausted header at.0 past past → ⊥)
+pub of_another : (header : Header) (at other : HostId) (object : ObjectId) (page : PageNo) (count : ℕ) (past : List Event) → other.0 ≢ at.0 → departures at.0 past < count → (IsExhausted header at.0 past past → ⊥)
     → IsDone header (command.Pageout at count) (event.Dropped other object page ∷ []) past → ⊥
 of_another header at other object page count past differs few left = cut_short header at count [] [] past (event.Dropped other object page) tt differs few empty
   where

@@ -12,7 +12,7 @@ use Rattle.vm_legal.specs.Follows.{FollowsSoFar, HasPagedOut, IsDoneSoFar, IsCon
 use Rattle.vm_legal.specs.Outside.{Outside}
 use Rattle.vm_legal.specs.Prompt.{IsExhausted}
 use Rattle.vm_legal.specs.Refusal.{refusal}
-use Rattle.vm_legal.specs.Steps.{gone}
+use Rattle.vm_legal.specs.Steps.{departures}
 use Rattle.vm_legal.specs.Stretches.{EachOf}
 
 -- no line stands in the group of a pageout
@@ -27,7 +27,7 @@ no_line header outside past numbered line more (Some code) is = absurd (cc)
 none_gone : (header : Header) (host line count : ℕ) (past : List Event) → 0 < count → (IsExhausted header host (event.Line line ∷ past) (event.Line line ∷ past) → ⊥) → HasPagedOut header host count [] (event.Line line ∷ past) → ⊥
 none_gone header host line count past some left done = by_front done.later done.front done.is done.enough
   where
-    by_front : (later front : List Event) → [] ≡ later ++ front → (gone host (front ++ event.Line line ∷ past) ≡ count) ⊎ IsExhausted header host (event.Line line ∷ past) (front ++ event.Line line ∷ past) → ⊥
+    by_front : (later front : List Event) → [] ≡ later ++ front → (departures host (front ++ event.Line line ∷ past) ≡ count) ⊎ IsExhausted header host (event.Line line ∷ past) (front ++ event.Line line ∷ past) → ⊥
     by_front [] [] is (inl all) = absurd (omega (arith, all, some))
     by_front [] [] is (inr empty) = left empty
     by_front [] (e ∷ front) is enough = absurd (cc)

@@ -11,11 +11,11 @@ use Rattle.vm_legal.specs.Frames.{frames_free}
 use Rattle.vm_legal.specs.Licences.{LockRequest, created, gives_back, is_paged, lock_taken, up, zeroes}
 use Rattle.vm_legal.specs.Outside.{is_wild}
 use Rattle.vm_legal.specs.Pagers.{LacksSlot}
-use Rattle.vm_legal.specs.Steps.{answers, absence_taken, before_step, completes, drops_page, error_taken, fails_access, fails_task, lacks_slot, readies, returns_page, since, taken}
+use Rattle.vm_legal.specs.Steps.{answers, absence_taken, before_step, completes, drops_page, error_taken, fails_access, fails_task, lacks_slot, readies, returns_page, since, taken_letter}
 use Rattle.vm_legal.specs.Walks.{page_on}
 
 -- a task of the host waits with an access whose walk stops at the place
-pub record StopsAt (header : Header) (host task object page : ℕ) (past : List Event) : Type 0 where
+pub record WaitsAt (header : Header) (host task object page : ℕ) (past : List Event) : Type 0 where
   pub access : Access
   pub waits : Waits header task access past
   pub on_host : waits.at.host ≡ host
@@ -35,7 +35,7 @@ pub record HasObeyed (header : Header) (request : LockRequest) (page : ℕ) (pas
 -- an error has ended each access that waited for its page when the step began; on a host without a free frame some may have waited for a frame
 abbrev pub EndsWaiters : Header → ℕ → ℕ → ℕ → List Event → Type 0
 EndsWaiters header host object page past =
-    (task : ℕ) → StopsAt header host task object page (before_step past) → (frames_free header host (before_step past) ≡ 0 → ⊥) → since (fails_task task object page) past ≡ true
+    (task : ℕ) → WaitsAt header host task object page (before_step past) → (frames_free header host (before_step past) ≡ 0 → ⊥) → since (fails_task task object page) past ≡ true
 
 -- each page of its range that was here when a lock_request was taken has been given back, or has gone, as its kind says, and the reply was sent
 pub record HasLocked (header : Header) (request : LockRequest) (past : List Event) : Type 0 where
@@ -46,11 +46,11 @@ pub record IsPaid (header : Header) (past : List Event) : Type 0 where
   -- an object's first control is never made without the return behind it
   pub returned : created past ≡ None
   -- a pager that was told of an object is ready; a wild object has none
-  pub init : (host object control size : ℕ) → is_wild header object ≡ false → taken past ≡ Some (record { channel = up host object; message = message.Init control size }) → since (readies object) past ≡ true
-  pub create : (host object control size : ℕ) → is_wild header object ≡ false → taken past ≡ Some (record { channel = up host object; message = message.Create control size }) → since (readies object) past ≡ true
+  pub init : (host object control size : ℕ) → is_wild header object ≡ false → taken_letter past ≡ Some (record { channel = up host object; message = message.Init control size }) → since (readies object) past ≡ true
+  pub create : (host object control size : ℕ) → is_wild header object ≡ false → taken_letter past ≡ Some (record { channel = up host object; message = message.Create control size }) → since (readies object) past ≡ true
   -- a request is answered; the server of shared memory may do so later
   pub request : (host object control page access : ℕ) → is_paged header object ≡ true
-      → taken past ≡ Some (record { channel = up host object; message = message.Request control (record { 0 = page }) access }) → since (answers object page) past ≡ true
+      → taken_letter past ≡ Some (record { channel = up host object; message = message.Request control (record { 0 = page }) access }) → since (answers object page) past ≡ true
   -- an error ends some access, and each that waited for its page
   pub error : (host object page : ℕ) → error_taken header.size past ≡ Some (record { host = host; object = object; page = page }) → (since (fails_access object page) past ≡ true) × EndsWaiters header host object page past
   -- a lock_request is obeyed
@@ -59,5 +59,5 @@ pub record IsPaid (header : Header) (past : List Event) : Type 0 where
   pub absence : (host object page : ℕ) → object < named header → absence_taken header.size past ≡ Some (record { host = host; object = object; page = page }) → since (zeroes object page) past ≡ true
   -- a returned page for which there is no slot is told of
   pub slot : (host object control page : ℕ) (dirty keep : Bool) (bytes : List ℕ) → named header ≤ object
-      → taken past ≡ Some (record { channel = up host object; message = message.Return control (record { 0 = page }) dirty keep bytes })
+      → taken_letter past ≡ Some (record { channel = up host object; message = message.Return control (record { 0 = page }) dirty keep bytes })
       → LacksSlot header host object page (before_step past) → since (lacks_slot object page) past ≡ true

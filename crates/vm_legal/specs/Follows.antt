@@ -26,7 +26,7 @@ use Rattle.vm_legal.specs.Outside.{Outside}
 use Rattle.vm_legal.specs.Prompt.{IsExhausted}
 use Rattle.vm_legal.specs.Reclaims.{IsReclaim}
 use Rattle.vm_legal.specs.Refusal.{refusal}
-use Rattle.vm_legal.specs.Steps.{gone, takings}
+use Rattle.vm_legal.specs.Steps.{departures, takings}
 use Rattle.vm_legal.specs.Stretches.{EachOf}
 use Rattle.vm_legal.specs.Undelivered.{undelivered}
 
@@ -126,7 +126,7 @@ pub record HasPagedOut (header : Header) (host count : ℕ) (group past : List E
   pub front : List Event
   pub is : group ≡ later ++ front
   pub reclaims : EachOf (IsReclaim host) front
-  pub enough : (gone host (front ++ past) ≡ count) ⊎ IsExhausted header host past (front ++ past)
+  pub enough : (departures host (front ++ past) ≡ count) ⊎ IsExhausted header host past (front ++ past)
 
 -- the event ends the access of a task that did what it was to do
 abbrev pub IsEnd : ℕ → Event → Type 0
@@ -167,8 +167,8 @@ IsDone header (command.FailPaging count) group past = Unit {0}
 IsDone header (command.Say host object m) group past = Unit {0}
 
 -- the group goes as far as its command does, unless that is refused
-abbrev pub IsWhole : Header → List Event → Numbered → List Event → Type 0
-IsWhole header past numbered group = IfNone (refusal header past numbered.command) (IsDone header numbered.command group (event.Line numbered.line ∷ past))
+abbrev pub IsWholeGroup : Header → List Event → Numbered → List Event → Type 0
+IsWholeGroup header past numbered group = IfNone (refusal header past numbered.command) (IsDone header numbered.command group (event.Line numbered.line ∷ past))
 
 -- the groups are those of the commands
 abbrev pub Follows : Header → Outside → List Numbered → List Event → Type 0
@@ -177,7 +177,7 @@ Follows header outside (numbered ∷ before) history =
     (past : List Event) × (group : List Event)
     × (history ≡ group ++ event.Line numbered.line ∷ past)
     × IsGroup header outside past numbered group
-    × IsWhole header past numbered group
+    × IsWholeGroup header past numbered group
     × Follows header outside before past
 
 -- the last command is done, but that a settle may have more to take

@@ -11,31 +11,31 @@ use Rattle.vm_model.specs.Local.{local}
 use Rattle.vm_legal.specs.Living.{lives_on}
 
 -- what an event does to the frames in use
-pub data Change : Type 0 where
-  Takes : Change
-  Gives : Change
-  Keeps : Change
+pub data FrameChange : Type 0 where
+  Takes : FrameChange
+  Gives : FrameChange
+  Keeps : FrameChange
 
-abbrev pub where_true : Bool → Change → Change
+abbrev pub where_true : Bool → FrameChange → FrameChange
 where_true test change = if test then change else Keeps
 
 -- A request takes the frame for its page. A return that keeps no copy gives its frame back when its pager takes it.
-abbrev pub sent_up : Bool → Message → Change
+abbrev pub sent_up : Bool → Message → FrameChange
 sent_up here (message.Request control page access) = where_true here Takes
 sent_up here other = Keeps
 
-abbrev pub taken_up : Bool → Message → Change
+abbrev pub taken_up : Bool → Message → FrameChange
 taken_up here (message.Return control page dirty keep bytes) = where_true (here && not keep) Gives
 taken_up here other = Keeps
 
 -- What a pager supplies stands in the frame that was asked for; where it has none, or fails, that frame is given back. Whether the
 -- page is asked comes in as a function.
-abbrev pub taken_down : (ℕ → Bool) → Message → Change
+abbrev pub taken_down : (ℕ → Bool) → Message → FrameChange
 taken_down asked (message.Unavailable page) = where_true (asked page.0) Gives
 taken_down asked (message.Error page reason) = where_true (asked page.0) Gives
 taken_down asked other = Keeps
 
-abbrev pub change : ℕ → ℕ → Event → List Event → Change
+abbrev pub change : ℕ → ℕ → Event → List Event → FrameChange
 change size host (event.Zeroed at object page) past = where_true (at.0 == host) Takes
 change size host (event.Raised at lower lower_page upper upper_page) past = where_true (at.0 == host) Takes
 change size host (event.CopiedPage task page object object_page target) past = where_true (lives_on host task.0 past) Takes
@@ -46,15 +46,15 @@ change size host (event.Taken (Down at object control) m) past =
     taken_down (λ page. at.0 == host && (is_control control (live_control host object.0 past) && (local size host (record { object = object.0; page = page }) past).asked)) m
 change size host e past = Keeps
 
-abbrev pub changed : Change → ℕ → ℕ
-changed Takes held = held + 1
-changed Gives held = held - 1
-changed Keeps held = held
+abbrev pub frames_after : FrameChange → ℕ → ℕ
+frames_after Takes held = held + 1
+frames_after Gives held = held - 1
+frames_after Keeps held = held
 
 -- the frames of pages that are here or asked, and of returns that their pagers did not take yet
 abbrev pub frames_held : ℕ → ℕ → List Event → ℕ
 frames_held size host [] = 0
-frames_held size host (e ∷ past) = changed (change size host e past) (frames_held size host past)
+frames_held size host (e ∷ past) = frames_after (change size host e past) (frames_held size host past)
 
 -- how many are wired: what was told last
 abbrev pub frames_wired : ℕ → List Event → ℕ

@@ -32,7 +32,7 @@ use Rattle.vm_legal.specs.Living.{lives_on, tasks}
 use Rattle.vm_legal.specs.Outside.{Outside, is_file, is_said, is_wild, kind_of, start_page, zeros}
 use Rattle.vm_legal.specs.Pagers.{LacksSlot, is_lost, known_control, last_return, newer, slot_at}
 use Rattle.vm_legal.specs.Reclaims.{Reclaims}
-use Rattle.vm_legal.specs.Steps.{Letter, absence_taken, answers, completes, error_taken, fails_reading, fails_task, gives_page, just_begun, readies, since, taken, takings}
+use Rattle.vm_legal.specs.Steps.{Letter, absence_taken, answers, completes, error_taken, fails_reading, fails_task, gives_page, just_begun, readies, since, taken_letter, takings}
 use Rattle.vm_legal.specs.Undelivered.{oldest}
 use Rattle.vm_legal.specs.Used.{in_use, is_filled}
 use Rattle.vm_legal.specs.Walks.{IsTop, Reach, Sinks, Walks, page_on, sight}
@@ -233,17 +233,17 @@ pub record Unlocks (header : Header) (host control object page wanted : ℕ) (pa
   pub behind : is_answered_over host object page (lock_taken past) ≡ true → since (completes host object) past ≡ true
 
 -- why a page goes back to its pager
-pub data Gives (header : Header) (doing : Command) (host object page : ℕ) (keep : Bool) (past : List Event) : Type 0 where
+pub data ReturnCause (header : Header) (doing : Command) (host object page : ℕ) (keep : Bool) (past : List Event) : Type 0 where
   -- it is reclaimed
-  Reclaimed : keep ≡ false → Reclaims header doing host object page past → Gives header doing host object page keep past
+  Reclaimed : keep ≡ false → Reclaims header doing host object page past → ReturnCause header doing host object page keep past
   -- it is reclaimed, and its object's first control was made for that
   Created : (control size : ℕ) (rest : List Event) → past ≡ event.Sent (up host object) (message.Create control size) ∷ rest
-      → keep ≡ false → Reclaims header doing host object page rest → Gives header doing host object page keep past
+      → keep ≡ false → Reclaims header doing host object page rest → ReturnCause header doing host object page keep past
   -- its pager wants it
   Wanted : (returns : ℕ) (flush : Bool) → IsLocked host object page returns flush past → gives_back returns (page_on header host object page past).dirty (page_on header host object page past).precious ≡ true
-      → keep ≡ not flush → Gives header doing host object page keep past
+      → keep ≡ not flush → ReturnCause header doing host object page keep past
   -- its object ends on the host
-  Ended : keep ≡ false → object < named header → IsUnheld header host object past → Gives header doing host object page keep past
+  Ended : keep ≡ false → object < named header → IsUnheld header host object past → ReturnCause header doing host object page keep past
 
 -- a changed or precious page goes back to its pager, as it is
 pub record GivesBack (header : Header) (doing : Command) (host control object page : ℕ) (changed keep : Bool) (bytes : List ℕ) (past : List Event) : Type 0 where
@@ -252,7 +252,7 @@ pub record GivesBack (header : Header) (doing : Command) (host control object pa
   pub due : ((page_on header host object page past).dirty || (page_on header host object page past).precious) ≡ true
   pub same : bytes ≡ (page_on header host object page past).bytes
   pub flag : changed ≡ (page_on header host object page past).dirty
-  pub why : Gives header doing host object page keep past
+  pub why : ReturnCause header doing host object page keep past
 
 -- an object's first control is made: a page of it, which is here, goes to the default pager next
 pub record Creates (header : Header) (host control object size : ℕ) (past : List Event) : Type 0 where
@@ -295,9 +295,9 @@ MaySendUp header why host object (message.Terminate control) past = Ends header 
 MaySendUp header why host object other past = ⊥
 
 -- the step took a request for the page from this control, and it is not answered yet
-pub record Answers (host object control page : ℕ) (past : List Event) : Type 0 where
+pub record OwesAnswer (host object control page : ℕ) (past : List Event) : Type 0 where
   pub access : ℕ
-  pub taken : taken past ≡ Some (record { channel = up host object; message = message.Request control (record { 0 = page }) access })
+  pub taken : taken_letter past ≡ Some (record { channel = up host object; message = message.Request control (record { 0 = page }) access })
   pub unanswered : since (answers object page) past ≡ false
 
 -- the pager can give the page: its last return is not lost, and reading it did not fail in this step
@@ -332,15 +332,15 @@ IsClean other object page count flush = ⊥
 -- what the pager of a temporary object or a file sends down
 abbrev pub MaySendDown : Header → Outside → Command → ℕ → ℕ → ℕ → Message → List Event → Type 0
 MaySendDown header outside why host object control (message.Supply page lock precious bytes) past =
-    Answers host object control page.0 past × Reads object page.0 past × (lock ≡ 0) × (precious ≡ false)
+    OwesAnswer host object control page.0 past × Reads object page.0 past × (lock ≡ 0) × (precious ≡ false)
     × (is_file header object ≡ false → (was : List ℕ) × (last_return host object page.0 past ≡ Some was))
     × (tells header outside object ≡ true → pager_has header outside host object page.0 past ≡ Some bytes)
-MaySendDown header outside why host object control (message.Unavailable page) past = Answers host object control page.0 past × Reads object page.0 past × MayLack header outside host object page.0 past
-MaySendDown header outside why host object control (message.Error page reason) past = Answers host object control page.0 past × (reason ≡ 10) × IsFault object page.0 past
+MaySendDown header outside why host object control (message.Unavailable page) past = OwesAnswer host object control page.0 past × Reads object page.0 past × MayLack header outside host object page.0 past
+MaySendDown header outside why host object control (message.Error page reason) past = OwesAnswer host object control page.0 past × (reason ≡ 10) × IsFault object page.0 past
 MaySendDown header outside why host object control (message.Ready cache strategy) past =
     (size : ℕ) × (cache ≡ false) × (since (readies object) past ≡ false)
-    × (((taken past ≡ Some (record { channel = up host object; message = message.Create control size })) × (strategy ≡ 3))
-    ⊎ ((taken past ≡ Some (record { channel = up host object; message = message.Init control size })) × (strategy ≡ 0)))
+    × (((taken_letter past ≡ Some (record { channel = up host object; message = message.Create control size })) × (strategy ≡ 3))
+    ⊎ ((taken_letter past ≡ Some (record { channel = up host object; message = message.Init control size })) × (strategy ≡ 0)))
 -- a clean wants all changed pages of a file back, from the control that its pager knows
 MaySendDown header outside why host object control (message.Lock page count returns flush lock reply) past =
     (is_file header object ≡ true) × (returns ≡ 2) × (lock ≡ 8) × (reply ≡ true)
@@ -350,12 +350,12 @@ MaySendDown header outside why host object control other past = ⊥
 -- what the server of shared memory sends down: what its directory of the page allows, and one ready for an init
 abbrev pub ServerSends : Header → ℕ → ℕ → ℕ → Message → List Event → Type 0
 ServerSends header host object control (message.Supply page lock precious bytes) past =
-    server.Answers header.size host control (Supplying lock precious bytes) (page_part header.size object page.0 past)
+    server.ReplyCause header.size host control (Supplying lock precious bytes) (page_part header.size object page.0 past)
 ServerSends header host object control (message.Lock page count returns flush lock reply) past =
-    server.Answers header.size host control (Locking count returns flush lock reply) (page_part header.size object page.0 past)
+    server.ReplyCause header.size host control (Locking count returns flush lock reply) (page_part header.size object page.0 past)
 ServerSends header host object control (message.Ready cache strategy) past =
     (size : ℕ) × (cache ≡ false) × (since (readies object) past ≡ false)
-    × (taken past ≡ Some (record { channel = up host object; message = message.Init control size })) × (strategy ≡ 0)
+    × (taken_letter past ≡ Some (record { channel = up host object; message = message.Init control size })) × (strategy ≡ 0)
 ServerSends header host object control other past = ⊥
 
 -- the script says it, to the live control: the one message of its command
@@ -406,19 +406,19 @@ pub record Shadows (header : Header) (region new old : ℕ) (past : List Event) 
   pub region_is : region ≡ waits.at.entry.region.0
 
 -- why a page goes away without a word
-pub data Leaves (header : Header) (doing : Command) (host object page : ℕ) (seen : Local) (past : List Event) : Type 0 where
+pub data DropCause (header : Header) (doing : Command) (host object page : ℕ) (seen : Local) (past : List Event) : Type 0 where
   -- it is clean, and is reclaimed
-  Reclaimed : seen.dirty ≡ false → seen.precious ≡ false → Reclaims header doing host object page past → Leaves header doing host object page seen past
+  Reclaimed : seen.dirty ≡ false → seen.precious ≡ false → Reclaims header doing host object page past → DropCause header doing host object page seen past
   -- no region leads to its temporary object, whose pages go by rising number
-  Unreached : named header ≤ object → (Reach header host object past → ⊥) → ((q : ℕ) → q < page → (page_on header host object q past).here ≡ false) → Leaves header doing host object page seen past
+  Unreached : named header ≤ object → (Reach header host object past → ⊥) → ((q : ℕ) → q < page → (page_on header host object q past).here ≡ false) → DropCause header doing host object page seen past
   -- its pager flushes it, and doesn't want it back
-  Flushed : (returns : ℕ) → IsLocked host object page returns true past → gives_back returns seen.dirty seen.precious ≡ false → Leaves header doing host object page seen past
+  Flushed : (returns : ℕ) → IsLocked host object page returns true past → gives_back returns seen.dirty seen.precious ≡ false → DropCause header doing host object page seen past
   -- it is clean, and its object ends on the host
-  Ended : seen.dirty ≡ false → seen.precious ≡ false → object < named header → IsUnheld header host object past → Leaves header doing host object page seen past
+  Ended : seen.dirty ≡ false → seen.precious ≡ false → object < named header → IsUnheld header host object past → DropCause header doing host object page seen past
 
 pub record Drops (header : Header) (doing : Command) (host object page : ℕ) (past : List Event) : Type 0 where
   pub here : (page_on header host object page past).here ≡ true
-  pub why : Leaves header doing host object page (page_on header host object page past) past
+  pub why : DropCause header doing host object page (page_on header host object page past) past
 
 -- a message is taken for the command: `take` takes one of its channel, `settle` the oldest of all, up to its number
 abbrev pub MayTake : Command → Channel → List Event → Type 0

@@ -39,16 +39,16 @@ abbrev pub is_file : Header → ℕ → Bool
 is_file header object = nat_lt object (named header) && is_file_kept (declared header object)
 
 -- what the files hold at the start, by object and page; or it is not told
-pub data Held : Type 0 where
-  Told : (pages : ℕ → ℕ → List ℕ) → Held
-  Untold : Held
+pub data FilesAtStart : Type 0 where
+  Told : (pages : ℕ → ℕ → List ℕ) → FilesAtStart
+  Untold : FilesAtStart
 
 -- what is told of the outside: what the files hold at the start, and whether the paging area gives back what it got
 pub record Outside : Type 0 where
-  pub files : Held
+  pub files : FilesAtStart
   pub paging : Bool
 
-abbrev pub are_untold : Held → Bool
+abbrev pub are_untold : FilesAtStart → Bool
 are_untold (Told pages) = false
 are_untold Untold = true
 
@@ -61,7 +61,7 @@ abbrev pub zeros : Header → List ℕ
 zeros header = replicate header.size 0
 
 -- a file's page at the start; where it is not told, zeros until an answer
-abbrev pub start_in : Header → Held → ℕ → ℕ → List ℕ
+abbrev pub start_in : Header → FilesAtStart → ℕ → ℕ → List ℕ
 start_in header (Told pages) object page = pages object page
 start_in header Untold object page = zeros header
 

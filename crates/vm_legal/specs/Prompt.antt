@@ -45,13 +45,13 @@ pub record IsExhausted (header : Header) (host : ℕ) (moment past : List Event)
       → (WaitsUnlocked header host o p past → ⊥) → (WaitsUnlocked header host q r past → ⊥) → (o ≡ q) × (p ≡ r)
 
 -- the host has no free frame, and a return is on its way, or nothing can be reclaimed
-pub record IsFull (header : Header) (host : ℕ) (past : List Event) : Type 0 where
+pub record HostIsFull (header : Header) (host : ℕ) (past : List Event) : Type 0 where
   pub none : frames_free header host past ≡ 0
   pub why : (0 < returns_out host past) ⊎ IsExhausted header host past past
 
 -- no access of the host waits in vain
 abbrev pub NoneInVain : Header → ℕ → List Event → Type 0
-NoneInVain header host past = (task : ℕ) (access : Access) → (waits : Waits header task access past) → waits.at.host ≡ host → WaitsForPager header host task access past ⊎ IsFull header host past
+NoneInVain header host past = (task : ℕ) (access : Access) → (waits : Waits header task access past) → waits.at.host ≡ host → WaitsForPager header host task access past ⊎ HostIsFull header host past
 
 -- no temporary object to which no region leads has a page or a live control left on the host, and no declared one that nothing holds there
 pub record IsSwept (header : Header) (host : ℕ) (past : List Event) : Type 0 where

@@ -9,7 +9,7 @@ use Rattle.vm_model.specs.declared.message.Message.TheVariants as message
 use Rattle.vm_model.specs.declared.script.Header.{Header}
 use Rattle.vm_legal.specs.Accesses.{Wants, WaitsUnlocked}
 use Rattle.vm_legal.specs.Frames.{frames_free, returns_out}
-use Rattle.vm_legal.specs.Steps.{gone}
+use Rattle.vm_legal.specs.Steps.{departures}
 
 -- the event takes a page from the host, or makes the control for its return
 abbrev pub IsReclaim : ℕ → Event → Type 0
@@ -26,7 +26,7 @@ ReclaimsOnly host (e ∷ past) = IsReclaim host e × ReclaimsOnly host past
 
 -- a pageout reclaims so many pages of its host, before anything else is done
 abbrev pub PagesOut : Command → ℕ → List Event → Type 0
-PagesOut (command.Pageout at count) host past = (at.0 ≡ host) × (gone host past < count) × ReclaimsOnly host past
+PagesOut (command.Pageout at count) host past = (at.0 ≡ host) × (departures host past < count) × ReclaimsOnly host past
 PagesOut other host past = ⊥
 
 -- somebody on the host wants a frame, none is free, and none is on its way back

@@ -6,6 +6,7 @@ use Rattle.vm_base.specs.declared.entry.Entry.{Entry}
 use Rattle.vm_base.specs.declared.ids.Access.{Access}
 use Rattle.vm_base.specs.declared.ids.Access.TheVariants as need
 use Rattle.vm_base.specs.Entries.{allows, entry_at, inherited, is_mapped, is_range, meets_range, most_entries, protected, removed}
+use Rattle.vm_base.specs.Limits.{most_objects, most_pages, most_regions}
 use Rattle.vm_model.specs.declared.event.Event.{Event}
 use Rattle.vm_model.specs.declared.command.Command.{Command}
 use Rattle.vm_model.specs.declared.command.Command.TheVariants as command
@@ -33,7 +34,7 @@ acting past task later = where_true (is_none (host_of task past)) NoSuchName (wh
 
 -- one entry, region and object more is too much
 abbrev pub is_full : Header → ℕ → List Event → Bool
-is_full header task past = nat_lt most_entries (length (entries_of header.size task past) + 1) || (nat_le 8192 (next_region header past) || nat_le 8192 (next_object header past + marked_regions header past))
+is_full header task past = nat_lt most_entries (length (entries_of header.size task past) + 1) || (nat_le most_regions (next_region header past) || nat_le most_objects (next_object header past + marked_regions header past))
 
 -- more entries than a task may have
 abbrev pub are_many : List Entry → Bool
@@ -46,12 +47,12 @@ is_marked header past region = (region_of header region past).mark
 -- so many regions and marks of regions more, by a fork, are too much
 abbrev pub is_fork_full : Header → List Entry → List Event → Bool
 is_fork_full header rows past =
-    nat_lt 8192 (next_region header past + copies rows) || nat_lt 8192 (next_object header past + marked_regions header past + copies rows + new_marks (is_marked header past) rows)
+    nat_lt most_regions (next_region header past + copies rows) || nat_lt most_objects (next_object header past + marked_regions header past + copies rows + new_marks (is_marked header past) rows)
 
 -- one region more is too much, with its object, or with its mark and the one of the region that it copies
 abbrev pub is_copy_full : Header → ℕ → List Event → Bool
 is_copy_full header source past =
-    nat_le 8192 (next_region header past) || nat_lt 8192 (next_object header past + marked_regions header past + copy_cost (nat_lt source (named header)) (is_marked header past source))
+    nat_le most_regions (next_region header past) || nat_lt most_objects (next_object header past + marked_regions header past + copy_cost (nat_lt source (named header)) (is_marked header past source))
   where
     copy_cost : Bool → Bool → ℕ
     copy_cost true marked = 1
@@ -100,7 +101,7 @@ abbrev pub refusal : Header → List Event → Command → Option Code
 refusal header past (command.Task task host) = where_true (is_some (host_of task.0 past)) NameTaken None
 refusal header past (command.Allocate task address bytes) =
     acting past task.0
-    (where_true (not (is_range header.size address bytes) || nat_lt 4096 (bytes / header.size)) InvalidArgument
+    (where_true (not (is_range header.size address bytes) || nat_lt most_pages (bytes / header.size)) InvalidArgument
     (where_true (meets_range address bytes (entries_of header.size task.0 past)) NoSpace
     (where_true (is_full header task.0 past) TableFull None)))
 refusal header past (command.Load task address size) =
@@ -143,7 +144,7 @@ refusal header past (command.Map task address bytes object offset) =
 refusal header past (command.Copy task address bytes target to) =
     where_true (is_none (host_of task.0 past) || is_none (host_of target.0 past)) NoSuchName
     (where_true (is_some (waiting task.0 past) || is_some (waiting target.0 past)) Blocked
-    (where_true (not (is_range header.size address bytes && is_range header.size to bytes) || (nat_lt 4096 (bytes / header.size) || (not (same_host (host_of task.0 past) (host_of target.0 past))
+    (where_true (not (is_range header.size address bytes && is_range header.size to bytes) || (nat_lt most_pages (bytes / header.size) || (not (same_host (host_of task.0 past) (host_of target.0 past))
     || is_uncopied header (task.0 == target.0) (entry_at address (entries_of header.size task.0 past))))) InvalidArgument
     (copy_refusal header address bytes target.0 to past (entry_at address (entries_of header.size task.0 past)))))
 refusal header past (command.Clean object page count flush) =

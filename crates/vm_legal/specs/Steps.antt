@@ -19,11 +19,11 @@ pub record Letter : Type 0 where
   pub message : Message
 
 -- what the step took, if it began with that
-abbrev pub taken : List Event → Option Letter
-taken [] = None
-taken (event.Line line ∷ past) = None
-taken (event.Taken channel m ∷ past) = Some (record { channel = channel; message = m })
-taken (e ∷ past) = taken past
+abbrev pub taken_letter : List Event → Option Letter
+taken_letter [] = None
+taken_letter (event.Line line ∷ past) = None
+taken_letter (event.Taken channel m ∷ past) = Some (record { channel = channel; message = m })
+taken_letter (e ∷ past) = taken_letter past
 
 -- some event of the step so far is such
 abbrev pub since : (Event → Bool) → List Event → Bool
@@ -40,13 +40,13 @@ takings (event.Taken channel m ∷ past) = takings past + 1
 takings (e ∷ past) = takings past
 
 -- how many pages of a host were reclaimed, or went otherwise, in the step
-abbrev pub gone : ℕ → List Event → ℕ
-gone host [] = 0
-gone host (event.Line line ∷ past) = 0
-gone host (event.Taken channel m ∷ past) = 0
-gone host (event.Dropped at object page ∷ past) = if at.0 == host then gone host past + 1 else gone host past
-gone host (event.Sent (Up at object) (message.Return control page dirty keep bytes) ∷ past) = if at.0 == host && not keep then gone host past + 1 else gone host past
-gone host (e ∷ past) = gone host past
+abbrev pub departures : ℕ → List Event → ℕ
+departures host [] = 0
+departures host (event.Line line ∷ past) = 0
+departures host (event.Taken channel m ∷ past) = 0
+departures host (event.Dropped at object page ∷ past) = if at.0 == host then departures host past + 1 else departures host past
+departures host (event.Sent (Up at object) (message.Return control page dirty keep bytes) ∷ past) = if at.0 == host && not keep then departures host past + 1 else departures host past
+departures host (e ∷ past) = departures host past
 
 -- nothing stands behind the line of the present command yet
 abbrev pub just_begun : List Event → Bool

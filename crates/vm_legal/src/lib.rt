@@ -21,7 +21,7 @@ ghost use Rattle.vm_legal.specs.Outside.{Outside};
 ghost use Rattle.vm_legal.specs.Prompt.{IsExhausted};
 ghost use Rattle.vm_legal.specs.Reclaims.{IsReclaim};
 ghost use Rattle.vm_legal.specs.Refusal.{refusal};
-ghost use Rattle.vm_legal.specs.Steps.{gone, completes, since};
+ghost use Rattle.vm_legal.specs.Steps.{departures, completes, since};
 ghost use Rattle.vm_legal.specs.Stretches.{EachOf};
 ghost use Rattle.vm_legal.specs.Walks.{page_on};
 
@@ -37,7 +37,7 @@ pub fn groups_have_causes()
 /// A pageout isn't done where something else stands in its group behind fewer reclaims than it wants, while more could be reclaimed all along:
 /// a page that goes later, for an access that waits, doesn't count as its own.
 pub fn pageouts_reclaim_first()
-    ensures { (header : Header) (at : HostId) (count : ℕ) (later front past : List Event) (e : Event) → EachOf (IsReclaim at.0) front → (IsReclaim at.0 e → ⊥) → gone at.0 (front ++ past) < count → ((more first : List Event) → front ≡ more ++ first → IsExhausted header at.0 past (first ++ past) → ⊥) → IsDone header (command.Pageout at count) (later ++ e ∷ front) past → ⊥ }
+    ensures { (header : Header) (at : HostId) (count : ℕ) (later front past : List Event) (e : Event) → EachOf (IsReclaim at.0) front → (IsReclaim at.0 e → ⊥) → departures at.0 (front ++ past) < count → ((more first : List Event) → front ≡ more ++ first → IsExhausted header at.0 past (first ++ past) → ⊥) → IsDone header (command.Pageout at count) (later ++ e ∷ front) past → ⊥ }
 {}
 
 /// A host says once that it has done a lock_request, only where its pager wants that, and not while a page is still here that the
@@ -52,7 +52,7 @@ pub fn locks_complete_once()
 
 /// Nor does a page that goes from another host.
 pub fn pageouts_count_own_pages()
-    ensures { (header : Header) (at : HostId) (other : HostId) (object : ObjectId) (page : PageNo) (count : ℕ) (past : List Event) → other.0 ≢ at.0 → gone at.0 past < count → (IsExhausted header at.0 past past → ⊥) → IsDone header (command.Pageout at count) (event.Dropped other object page ∷ []) past → ⊥ }
+    ensures { (header : Header) (at : HostId) (other : HostId) (object : ObjectId) (page : PageNo) (count : ℕ) (past : List Event) → other.0 ≢ at.0 → departures at.0 past < count → (IsExhausted header at.0 past past → ⊥) → IsDone header (command.Pageout at count) (event.Dropped other object page ∷ []) past → ⊥ }
 {}
 
 /// A history isn't legal so far where it ends behind the line of a pageout that wants a page, while one could be reclaimed: none but a settle

@@ -11,7 +11,7 @@ use Rattle.vm_base.specs.Listing.{Listed}
 use Rattle.vm_base.specs.declared.ids.TaskId.{TaskId}
 use Rattle.vm_base.specs.declared.entry.Entry.{Entry}
 use Rattle.vm_maps.specs.Maps.{ChangesOnly, Mapped, entries_among, entries_in, rows_in}
-use Rattle.vm_maps.specs.Tables.{AllTables, AreKept, ByTask, IsTable, rank, rows_of, task_rows}
+use Rattle.vm_maps.specs.Tables.{AllTables, AreTaskMaps, ByTask, IsTable, rows_of, task_rows, tasks_before}
 use Rattle.vm_maps.specs.declared.task_map.TaskMap.{TaskMap}
 
 low_bound : (from j : ℕ) (tables : List TaskMap) (d : TaskMap) → ByTask from tables → j < length tables → from ≤ (get_or tables j d).task.0
@@ -30,7 +30,7 @@ non_decreasing from (table ∷ tables) by_task (suc i) (suc j) d le within = non
 pub rank_is : (task i : ℕ) (tables : List TaskMap) → i ≤ length tables
     → ((k : ℕ) (d : TaskMap) → 0 ≤ k → k < i → nat_lt (get_or tables k d).task.0 task ≡ true)
     → ((k : ℕ) (d : TaskMap) → i ≤ k → k < length tables → nat_lt (get_or tables k d).task.0 task ≡ false)
-    → i ≡ rank task tables
+    → i ≡ tasks_before task tables
 rank_is task i [] within low high = omega arith
 rank_is task zero (table ∷ tables) within low high = let no = high 0 table (omega arith) (omega arith) in rw no refl
 rank_is task (suc i) (table ∷ tables) within low high =
@@ -44,9 +44,9 @@ weaker from low (table ∷ tables) le by_task = (omega (arith, by_task.0), by_ta
 
 -- where the map of a task stands
 pub record Stands (task : ℕ) (tables : List TaskMap) : Type 0 where
-  pub within : rank task tables < length tables
-  pub is : (d : TaskMap) → entries_among task (task_rows tables) ≡ Some (rows_of (get_or tables (rank task tables) d))
-  pub named : (d : TaskMap) → (get_or tables (rank task tables) d).task.0 ≡ task
+  pub within : tasks_before task tables < length tables
+  pub is : (d : TaskMap) → entries_among task (task_rows tables) ≡ Some (rows_of (get_or tables (tasks_before task tables) d))
+  pub named : (d : TaskMap) → (get_or tables (tasks_before task tables) d).task.0 ≡ task
 
 none_among : (from task : ℕ) (tables : List TaskMap) → ByTask from tables → task < from → entries_among task (task_rows tables) ≡ None
 none_among from task [] by_task less = refl
@@ -60,20 +60,20 @@ abbrev pub is_named : ℕ → Option TaskMap → Bool
 is_named task None = false
 is_named task (Some table) = table.task.0 == task
 
-pub has_among : (from task : ℕ) (tables : List TaskMap) → ByTask from tables → is_some (entries_among task (task_rows tables)) ≡ is_named task (slice_get tables (rank task tables))
+pub has_among : (from task : ℕ) (tables : List TaskMap) → ByTask from tables → is_some (entries_among task (task_rows tables)) ≡ is_named task (slice_get tables (tasks_before task tables))
 has_among from task [] by_task = refl
 has_among from task (table ∷ tables) by_task =
-    let front : table.task.0 < task → is_some (entries_among task (task_rows (table ∷ tables))) ≡ is_named task (slice_get (table ∷ tables) (rank task (table ∷ tables)))
+    let front : table.task.0 < task → is_some (entries_among task (task_rows (table ∷ tables))) ≡ is_named task (slice_get (table ∷ tables) (tasks_before task (table ∷ tables)))
     = λ less.
     let yes : nat_lt table.task.0 task ≡ true = grind (arith, nat_tests) in
     let no : (table.task.0 == task) ≡ false = grind (arith, nat_tests) in
     rw (yes, no) (has_among (suc table.task.0) task tables by_task.1) in
-    let same : table.task.0 ≡ task → is_some (entries_among task (task_rows (table ∷ tables))) ≡ is_named task (slice_get (table ∷ tables) (rank task (table ∷ tables)))
+    let same : table.task.0 ≡ task → is_some (entries_among task (task_rows (table ∷ tables))) ≡ is_named task (slice_get (table ∷ tables) (tasks_before task (table ∷ tables)))
     = λ e.
     let no : nat_lt table.task.0 task ≡ false = grind (arith, nat_tests) in
     let yes : (table.task.0 == task) ≡ true = grind (arith, nat_tests) in
     rw (no, yes) refl in
-    let behind : task < table.task.0 → is_some (entries_among task (task_rows (table ∷ tables))) ≡ is_named task (slice_get (table ∷ tables) (rank task (table ∷ tables)))
+    let behind : task < table.task.0 → is_some (entries_among task (task_rows (table ∷ tables))) ≡ is_named task (slice_get (table ∷ tables) (tasks_before task (table ∷ tables)))
     = λ less.
     let no : nat_lt table.task.0 task ≡ false = grind (arith, nat_tests) in
     let apart : (table.task.0 == task) ≡ false = grind (arith, nat_tests) in
@@ -110,15 +110,15 @@ stands from task (table ∷ tables) by_task some =
     = λ less. let no : (table.task.0 == task) ≡ false = grind (arith, nat_tests) in later_stands task table tables less (stands (suc table.task.0) task tables by_task.1 (rw no at some)) in
     ⊎_elim (λ same. first_stands task table tables same) (⊎_elim behind (λ less. absurd (before less))) (cases_order table.task.0 task)
 
-pub by_task_inserted : (from : ℕ) (new : TaskMap) (tables : List TaskMap) → ByTask from tables → from ≤ new.task.0 → entries_among new.task.0 (task_rows tables) ≡ None → ByTask from (insert tables (rank new.task.0 tables) new)
+pub by_task_inserted : (from : ℕ) (new : TaskMap) (tables : List TaskMap) → ByTask from tables → from ≤ new.task.0 → entries_among new.task.0 (task_rows tables) ≡ None → ByTask from (insert tables (tasks_before new.task.0 tables) new)
 by_task_inserted from new [] by_task low absent = (low, tt)
 by_task_inserted from new (table ∷ tables) by_task low absent =
-    let behind : table.task.0 < new.task.0 → ByTask from (insert (table ∷ tables) (rank new.task.0 (table ∷ tables)) new)
+    let behind : table.task.0 < new.task.0 → ByTask from (insert (table ∷ tables) (tasks_before new.task.0 (table ∷ tables)) new)
     = λ less.
     let yes : nat_lt table.task.0 new.task.0 ≡ true = grind (arith, nat_tests) in
     let no : (table.task.0 == new.task.0) ≡ false = grind (arith, nat_tests) in
     rw yes (by_task.0, by_task_inserted (suc table.task.0) new tables by_task.1 (omega arith) (rw no at absent)) in
-    let front : new.task.0 < table.task.0 → ByTask from (insert (table ∷ tables) (rank new.task.0 (table ∷ tables)) new)
+    let front : new.task.0 < table.task.0 → ByTask from (insert (table ∷ tables) (tasks_before new.task.0 (table ∷ tables)) new)
     = λ less.
     let no : nat_lt table.task.0 new.task.0 ≡ false = grind (arith, nat_tests) in
     rw no (low, (omega arith, by_task.1)) in
@@ -126,15 +126,15 @@ by_task_inserted from new (table ∷ tables) by_task low absent =
     = λ e. let yes : (table.task.0 == new.task.0) ≡ true = grind (arith, nat_tests) in let some : Some (rows_of table) ≡ None = rw yes at absent in cc in
     ⊎_elim (λ e. absurd (same e)) (⊎_elim behind front) (cases_order table.task.0 new.task.0)
 
-pub rows_inserted : (task : ℕ) (new : TaskMap) (tables : List TaskMap) → entries_among task (task_rows (insert tables (rank new.task.0 tables) new)) ≡ (if new.task.0 == task then Some (rows_of new) else entries_among task (task_rows tables))
+pub rows_inserted : (task : ℕ) (new : TaskMap) (tables : List TaskMap) → entries_among task (task_rows (insert tables (tasks_before new.task.0 tables) new)) ≡ (if new.task.0 == task then Some (rows_of new) else entries_among task (task_rows tables))
 rows_inserted task new [] = refl
 rows_inserted task new (table ∷ tables) =
-    let behind : table.task.0 < new.task.0 → entries_among task (task_rows (insert (table ∷ tables) (rank new.task.0 (table ∷ tables)) new)) ≡ (if new.task.0 == task then Some (rows_of new) else entries_among task (task_rows (table ∷ tables)))
+    let behind : table.task.0 < new.task.0 → entries_among task (task_rows (insert (table ∷ tables) (tasks_before new.task.0 (table ∷ tables)) new)) ≡ (if new.task.0 == task then Some (rows_of new) else entries_among task (task_rows (table ∷ tables)))
     = λ less.
     let yes : nat_lt table.task.0 new.task.0 ≡ true = grind (arith, nat_tests) in
     let rest = rows_inserted task new tables in
     rw (yes, rest) (grind (arith, nat_tests)) in
-    let front : new.task.0 ≤ table.task.0 → entries_among task (task_rows (insert (table ∷ tables) (rank new.task.0 (table ∷ tables)) new)) ≡ (if new.task.0 == task then Some (rows_of new) else entries_among task (task_rows (table ∷ tables)))
+    let front : new.task.0 ≤ table.task.0 → entries_among task (task_rows (insert (table ∷ tables) (tasks_before new.task.0 (table ∷ tables)) new)) ≡ (if new.task.0 == task then Some (rows_of new) else entries_among task (task_rows (table ∷ tables)))
     = λ le. let no : nat_lt table.task.0 new.task.0 ≡ false = grind (arith, nat_tests) in rw no refl in
     ⊎_elim behind front (cases_lt table.task.0 new.task.0)
 
@@ -206,29 +206,29 @@ pub record StandsAt (tables : List TaskMap) (maps : Mapped) (task i : ℕ) : Typ
 abbrev pub seen : ℕ → List TaskMap → Mapped
 seen size tables = record { size = size; tasks = task_rows tables }
 
-pub stands_at : (size : ℕ) (tables found : List TaskMap) (maps : Mapped) (task i : ℕ) → seen size tables ≡ maps → AreKept size tables → found ≡ tables → i ≡ rank task found → IsSome (entries_in task maps) → StandsAt tables maps task i
+pub stands_at : (size : ℕ) (tables found : List TaskMap) (maps : Mapped) (task i : ℕ) → seen size tables ≡ maps → AreTaskMaps size tables → found ≡ tables → i ≡ tasks_before task found → IsSome (entries_in task maps) → StandsAt tables maps task i
 stands_at size tables found maps task i view kept same place some =
     let stand = stands 0 task tables kept.by_task (rw (← view) at some) in
     rw (← view, place, same) record {
       within = stand.within;
       is = stand.is;
       named = stand.named;
-      table = λ d. table_at size (rank task tables) tables d kept.whole stand.within;
+      table = λ d. table_at size (tasks_before task tables) tables d kept.whole stand.within;
     }
 
 -- what an edit of the tables leaves
 pub record Edited (size : ℕ) (tables : List TaskMap) (maps : Mapped) (task : ℕ) (rows : Option (List Entry)) : Type 0 where
-  pub kept : AreKept size tables
+  pub kept : AreTaskMaps size tables
   pub changes : ChangesOnly maps (seen size tables) task rows
 
-pub task_removed : (size : ℕ) (tables left : List TaskMap) (maps : Mapped) (task i : ℕ) (d : TaskMap) → seen size tables ≡ maps → AreKept size tables → StandsAt tables maps task i → left ≡ remove tables i → Edited size left maps task None
+pub task_removed : (size : ℕ) (tables left : List TaskMap) (maps : Mapped) (task i : ℕ) (d : TaskMap) → seen size tables ≡ maps → AreTaskMaps size tables → StandsAt tables maps task i → left ≡ remove tables i → Edited size left maps task None
 task_removed size tables left maps task i d view kept stand is =
     rw is record {
       kept = record { by_task = by_task_removed 0 i tables kept.by_task stand.within; whole = all_removed size i tables kept.whole };
       changes = rw (← view) (changes_only (seen size tables) (seen size (remove tables i)) task None refl (λ other. rw (← stand.named d) (rows_removed 0 i other tables d kept.by_task stand.within)));
     }
 
-pub task_set : (size : ℕ) (tables left : List TaskMap) (maps : Mapped) (task i : ℕ) (new : TaskMap) → seen size tables ≡ maps → AreKept size tables → StandsAt tables maps task i → new.task.0 ≡ task → IsTable size new → left ≡ set tables i new → Edited size left maps task (Some (rows_of new))
+pub task_set : (size : ℕ) (tables left : List TaskMap) (maps : Mapped) (task i : ℕ) (new : TaskMap) → seen size tables ≡ maps → AreTaskMaps size tables → StandsAt tables maps task i → new.task.0 ≡ task → IsTable size new → left ≡ set tables i new → Edited size left maps task (Some (rows_of new))
 task_set size tables left maps task i new view kept stand named table is =
     let same : (get_or tables i new).task.0 ≡ new.task.0 = stand.named new ∙ sym named in
     rw is record {
@@ -236,12 +236,12 @@ task_set size tables left maps task i new view kept stand named table is =
       changes = rw (← view) (changes_only (seen size tables) (seen size (set tables i new)) task (Some (rows_of new)) refl (λ other. rw (← named) (rows_set 0 i other new tables new kept.by_task stand.within same)));
     }
 
-pub task_inserted : (size : ℕ) (tables found left : List TaskMap) (maps : Mapped) (task i : ℕ) (new : TaskMap) → seen size tables ≡ maps → AreKept size tables → found ≡ tables → i ≡ rank task found → entries_in task maps ≡ None → new.task.0 ≡ task → IsTable size new → left ≡ insert tables i new → Edited size left maps task (Some (rows_of new))
+pub task_inserted : (size : ℕ) (tables found left : List TaskMap) (maps : Mapped) (task i : ℕ) (new : TaskMap) → seen size tables ≡ maps → AreTaskMaps size tables → found ≡ tables → i ≡ tasks_before task found → entries_in task maps ≡ None → new.task.0 ≡ task → IsTable size new → left ≡ insert tables i new → Edited size left maps task (Some (rows_of new))
 task_inserted size tables found left maps task i new view kept same place absent named table is =
     let none : entries_among new.task.0 (task_rows tables) ≡ None = rw (named) (rw (← view) at absent) in
     rw (is, place, same, ← named) record {
-      kept = record { by_task = by_task_inserted 0 new tables kept.by_task (omega arith) none; whole = all_inserted size (rank new.task.0 tables) new tables kept.whole table };
-      changes = rw (← view) (changes_only (seen size tables) (seen size (insert tables (rank new.task.0 tables) new)) new.task.0 (Some (rows_of new)) refl (λ other. rows_inserted other new tables));
+      kept = record { by_task = by_task_inserted 0 new tables kept.by_task (omega arith) none; whole = all_inserted size (tasks_before new.task.0 tables) new tables kept.whole table };
+      changes = rw (← view) (changes_only (seen size tables) (seen size (insert tables (tasks_before new.task.0 tables) new)) new.task.0 (Some (rows_of new)) refl (λ other. rows_inserted other new tables));
     }
 
 pub empty_table : (size : ℕ) (task : TaskId) (entries : Listed Entry) → entries.items ≡ [] → most_entries ≤ entries.room → IsTable size (record { task = task; entries = entries })
@@ -270,18 +270,18 @@ task_map_read size tables maps task i table view stand read =
 pub entries_read : (size : ℕ) (maps : Mapped) (task : ℕ) (table : TaskMap) → IsTaskMap size maps task table → AreEntries maps.size (rows_in task maps)
 entries_read size maps task table read = rw (read.size, read.rows) read.kept.entries
 
-pub has_here : (size : ℕ) (tables found : List TaskMap) (maps : Mapped) (task i count : ℕ) (table : TaskMap) → seen size tables ≡ maps → AreKept size tables → found ≡ tables → i ≡ rank task found
+pub has_here : (size : ℕ) (tables found : List TaskMap) (maps : Mapped) (task i count : ℕ) (table : TaskMap) → seen size tables ≡ maps → AreTaskMaps size tables → found ≡ tables → i ≡ tasks_before task found
     → count ≡ length tables → i < count → table ≡ get_or tables i table → (table.task.0 == task) ≡ is_some (entries_in task maps)
 has_here size tables found maps task i count table view kept same place counted inside is =
     let read : slice_get tables i ≡ Some table = slice_get_read tables count i table counted inside is in
-    let at : i ≡ rank task tables = place ∙ ap (rank task) same in
+    let at : i ≡ tasks_before task tables = place ∙ ap (tasks_before task) same in
     let told = has_among 0 task tables kept.by_task in
     rw (← view, told, ← at, read) refl
 
-pub has_past : (size : ℕ) (tables found : List TaskMap) (maps : Mapped) (task i count : ℕ) → seen size tables ≡ maps → AreKept size tables → found ≡ tables → i ≡ rank task found
+pub has_past : (size : ℕ) (tables found : List TaskMap) (maps : Mapped) (task i count : ℕ) → seen size tables ≡ maps → AreTaskMaps size tables → found ≡ tables → i ≡ tasks_before task found
     → count ≡ length tables → count ≤ i → false ≡ is_some (entries_in task maps)
 has_past size tables found maps task i count view kept same place counted behind =
     let read : slice_get tables i ≡ None = slice_get_past tables i (omega arith) in
-    let at : i ≡ rank task tables = place ∙ ap (rank task) same in
+    let at : i ≡ tasks_before task tables = place ∙ ap (tasks_before task) same in
     let told = has_among 0 task tables kept.by_task in
     rw (← view, told, ← at, read) refl

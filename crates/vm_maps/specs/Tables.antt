@@ -25,10 +25,10 @@ ByTask from [] = Unit {0}
 ByTask from (table ∷ tables) = (from ≤ table.task.0) × ByTask (suc table.task.0) tables
 
 -- how many tasks come in front of one
-abbrev pub rank : ℕ → List TaskMap → ℕ
-rank task [] = 0
-rank task (table ∷ tables) = if nat_lt table.task.0 task then suc (rank task tables) else 0
+abbrev pub tasks_before : ℕ → List TaskMap → ℕ
+tasks_before task [] = 0
+tasks_before task (table ∷ tables) = if nat_lt table.task.0 task then suc (tasks_before task tables) else 0
 
-pub record AreKept (size : ℕ) (tables : List TaskMap) : Type 0 where
+pub record AreTaskMaps (size : ℕ) (tables : List TaskMap) : Type 0 where
   pub by_task : ByTask 0 tables
   pub whole : AllTables size tables

@@ -35,11 +35,11 @@ impl Model for Maps {
 
     ghost Value = { Mapped };
 
-    ghost use Rattle.vm_maps.specs.Tables.{AreKept, task_rows};
+    ghost use Rattle.vm_maps.specs.Tables.{AreTaskMaps, task_rows};
 
     ghost view = { λ m. record { size = m.size; tasks = task_rows m.tables.items } };
 
-    ghost invariant = { λ m. AreKept m.size m.tables.items };
+    ghost invariant = { λ m. AreTaskMaps m.size m.tables.items };
 }
 
 impl Maps {

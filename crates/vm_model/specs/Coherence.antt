@@ -1,7 +1,7 @@
 -- What holds of a shared page: one writer, the same bytes everywhere, and nobody waits in vain.
 use Rattle.std.specs.Prelude.{◌≡◌, ◌≢◌, ◌⊎◌, ◌+◌, ℕ, ◌<◌, List, [], ◌∷◌, Bool, true, false, Option, Some, None, slice_range}
 use Rattle.vm_base.specs.Pages.{little_endian}
-use Rattle.vm_model.specs.Words.{UpWord, Asking, Unlocking, Returning, Doing, Ending, OtherUp, DownWord, Supplying, Locking, Lacking, Failing, Readying, OtherDown, Effect, Opens, SendsUp, TakenUp, SentDown, TakesDown, Puts, Drops, Begins, Loads, Stores, Fails, BeginsCopy, Copies, EndsCopy, StepBegins, Nothing, Act}
+use Rattle.vm_model.specs.Words.{UpWord, Asking, Unlocking, Returning, Doing, Ending, OtherUp, DownWord, Supplying, Locking, Lacking, Failing, Readying, OtherDown, ActEffect, Opens, SendsUp, TakenUp, SentDown, TakesDown, Puts, Drops, Begins, Loads, Stores, Fails, BeginsCopy, Copies, EndsCopy, StepBegins, Nothing, Act}
 use Rattle.vm_model.specs.Side.{Side, side, can_read, can_write}
 use Rattle.vm_model.specs.Waiters.{Waiter, waiters, waiter_of}
 use Rattle.vm_model.specs.Server.{line, current}
@@ -56,7 +56,7 @@ abbrev pub Reads : List ℕ → ℕ → Option Waiter → Type 0
 Reads page value None = ⊥
 Reads page value (Some w) = value ≡ little_endian (slice_range page w.at (w.at + w.size))
 
-abbrev pub LoadReads : ℕ → ℕ → Effect → List Act → Type 0
+abbrev pub LoadReads : ℕ → ℕ → ActEffect → List Act → Type 0
 LoadReads size h (Loads task value) past = Reads (current size past) value (waiter_of task (waiters h past))
 LoadReads size h (Opens control ready) past = Unit {0}
 LoadReads size h (SendsUp control word) past = Unit {0}
@@ -93,7 +93,7 @@ pub record PageLegal (size : ℕ) (acts : List Act) : Type 0 where
 abbrev pub Done : List Act → Type 0
 Done past = (h : ℕ) → (side h past).step ≡ 0
 
-abbrev pub begins_step : Effect → Bool
+abbrev pub begins_step : ActEffect → Bool
 begins_step (TakenUp word) = true
 begins_step (TakesDown control word) = true
 begins_step StepBegins = true
@@ -109,8 +109,8 @@ Prompt past = (h : ℕ) → waiters h past ≢ [] →
     ((side h past).asked ≡ true) ⊎ (((0 < (side h past).right) × ((side h past).unlocking ≡ true)) ⊎ (((side h past).live ≡ true) × ((side h past).ready ≡ false)))
 
 -- where the server's line is not empty, a host is awaited
-abbrev pub Served : List Act → Type 0
-Served past = line past ≢ [] → (h : ℕ) × (0 < (side h past).awaits)
+abbrev pub SomebodyIsAwaited : List Act → Type 0
+SomebodyIsAwaited past = line past ≢ [] → (h : ℕ) × (0 < (side h past).awaits)
 
 -- nothing of the page is on its way, every live control is ready, and no step is under way
 pub record Quiet (past : List Act) : Type 0 where
@@ -120,7 +120,7 @@ pub record Quiet (past : List Act) : Type 0 where
   pub done : Done past
 
 -- no place is asked, and no unlock is outstanding
-pub record Answered (past : List Act) : Type 0 where
+pub record NothingIsAsked (past : List Act) : Type 0 where
   pub none_asked : (h : ℕ) → (side h past).asked ≡ false
   pub none_unlocking : (h : ℕ) → 0 < (side h past).right → (side h past).unlocking ≡ false
 

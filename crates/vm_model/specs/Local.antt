@@ -33,32 +33,32 @@ pub record Local : Type 0 where
   pub absent : Bool
 
 -- what an event is to a place of a host
-pub data Effect : Type 0 where
+pub data LocalEffect : Type 0 where
   -- a page of zeros is put there
-  Zeroes : Effect
+  Zeroes : LocalEffect
   -- another page is copied there
-  Raises : (bytes : List ℕ) → Effect
+  Raises : (bytes : List ℕ) → LocalEffect
   -- bytes are put into the page
-  Stores : (at : ℕ) → (bytes : List ℕ) → Effect
+  Stores : (at : ℕ) → (bytes : List ℕ) → LocalEffect
   -- it goes
-  Drops : Effect
+  Drops : LocalEffect
   -- it is returned to the pager, and stays or goes
-  Returns : (keep : Bool) → Effect
+  Returns : (keep : Bool) → LocalEffect
   -- the live control asks for it
-  Asks : Effect
-  Unlocks : Effect
+  Asks : LocalEffect
+  Unlocks : LocalEffect
   -- the live control takes what the pager answers: the page, that it has none, or that it can't
-  TakesPage : (lock : ℕ) → (precious : Bool) → (bytes : List ℕ) → Effect
-  TakesNothing : Effect
-  TakesError : Effect
+  TakesPage : (lock : ℕ) → (precious : Bool) → (bytes : List ℕ) → LocalEffect
+  TakesNothing : LocalEffect
+  TakesError : LocalEffect
   -- it takes a lock over the page
-  TakesLock : (lock : ℕ) → (flush : Bool) → Effect
+  TakesLock : (lock : ℕ) → (flush : Bool) → LocalEffect
   -- a control of the object begins
-  Begins : Effect
+  Begins : LocalEffect
   -- the live one ends
-  Ends : Effect
+  Ends : LocalEffect
   -- it is about something else
-  Elsewhere : Effect
+  Elsewhere : LocalEffect
 
 abbrev pub is_place : Place → ℕ → ℕ → Bool
 is_place place object page = object == place.object && page == place.page
@@ -69,7 +69,7 @@ is_on host None = false
 is_on host (Some own) = own == host
 
 -- what the host sends about the object is to a page of it
-abbrev pub sent_effect : ℕ → Option ℕ → Message → Effect
+abbrev pub sent_effect : ℕ → Option ℕ → Message → LocalEffect
 sent_effect page live (message.Init control size) = Begins
 sent_effect page live (message.Create control size) = Begins
 sent_effect page live (message.Terminate control) = if is_control control live then Ends else Elsewhere
@@ -88,7 +88,7 @@ sent_effect page live (message.Destroy reason) = Elsewhere
 sent_effect page live (message.Changed control cache strategy) = Elsewhere
 
 -- what the live control takes is to a page
-abbrev pub taken_effect : ℕ → Message → Effect
+abbrev pub taken_effect : ℕ → Message → LocalEffect
 taken_effect page (message.Supply at lock precious bytes) =
     if at.0 == page then TakesPage lock precious bytes else Elsewhere
 taken_effect page (message.Unavailable at) = if at.0 == page then TakesNothing else Elsewhere
@@ -108,7 +108,7 @@ taken_effect page (message.Destroy reason) = Elsewhere
 taken_effect page (message.Changed control cache strategy) = Elsewhere
 
 -- What an event is to the place on the host. What the host has of the other places comes in as a function.
-abbrev pub effect : ℕ → Place → (Place → Local) → Event → List Event → Effect
+abbrev pub effect : ℕ → Place → (Place → Local) → Event → List Event → LocalEffect
 effect host place others (Zeroed at object page) past =
     if at.0 == host && is_place place object.0 page.0 then Zeroes else Elsewhere
 effect host place others (Raised at lower lower_page upper upper_page) past =
@@ -147,32 +147,32 @@ effect host place others (DeviceFailed who way object page) past = Elsewhere
 effect host place others (NoSlot object page) past = Elsewhere
 effect host place others (Wired at count) past = Elsewhere
 
-abbrev pub came : List ℕ → ℕ → Bool → Bool → Local → Local
-came bytes lock dirty precious was =
+abbrev pub local_with_page : List ℕ → ℕ → Bool → Bool → Local → Local
+local_with_page bytes lock dirty precious was =
     record was { here = true; bytes = bytes; lock = lock; dirty = dirty; precious = precious; unlocking = false }
 
-abbrev pub gone : Local → Local
-gone was = record was { here = false; bytes = []; lock = 0; dirty = false; precious = false; unlocking = false }
+abbrev pub local_without_page : Local → Local
+local_without_page was = record was { here = false; bytes = []; lock = 0; dirty = false; precious = false; unlocking = false }
 
 -- an answer counts only where the page is asked; 8 leaves the lock as it is
-abbrev pub moved : ℕ → Effect → Local → Local
-moved size Zeroes was = came (replicate size 0) 0 false false was
-moved size (Raises bytes) was = came bytes 0 true false was
-moved size (Stores at bytes) was = record was { bytes = with_bytes at bytes was.bytes; dirty = true }
-moved size Drops was = gone was
-moved size (Returns true) was = record was { dirty = false; precious = false; absent = false }
-moved size (Returns false) was = record (gone was) { absent = false }
-moved size Asks was = record was { asked = true }
-moved size Unlocks was = record was { unlocking = was.here }
-moved size (TakesPage lock precious bytes) was =
-    if was.asked then record (came bytes lock false precious was) { asked = false } else was
-moved size TakesNothing was = if was.asked then record was { asked = false; absent = true } else was
-moved size TakesError was = record was { asked = false }
-moved size (TakesLock lock flush) was =
+abbrev pub local_after : ℕ → LocalEffect → Local → Local
+local_after size Zeroes was = local_with_page (replicate size 0) 0 false false was
+local_after size (Raises bytes) was = local_with_page bytes 0 true false was
+local_after size (Stores at bytes) was = record was { bytes = with_bytes at bytes was.bytes; dirty = true }
+local_after size Drops was = local_without_page was
+local_after size (Returns true) was = record was { dirty = false; precious = false; absent = false }
+local_after size (Returns false) was = record (local_without_page was) { absent = false }
+local_after size Asks was = record was { asked = true }
+local_after size Unlocks was = record was { unlocking = was.here }
+local_after size (TakesPage lock precious bytes) was =
+    if was.asked then record (local_with_page bytes lock false precious was) { asked = false } else was
+local_after size TakesNothing was = if was.asked then record was { asked = false; absent = true } else was
+local_after size TakesError was = record was { asked = false }
+local_after size (TakesLock lock flush) was =
     if was.here then record was { lock = if flush || lock == 8 then was.lock else lock; unlocking = false } else was
-moved size Begins was = record was { asked = false }
-moved size Ends was = record was { asked = false }
-moved size Elsewhere was = was
+local_after size Begins was = record was { asked = false }
+local_after size Ends was = record was { asked = false }
+local_after size Elsewhere was = was
 
 -- nothing is here, nor asked
 abbrev pub away : Local
@@ -181,7 +181,7 @@ away = record { here = false; bytes = []; lock = 0; dirty = false; precious = fa
 -- for a page size
 abbrev pub local : ℕ → ℕ → Place → List Event → Local
 local size host place [] = away
-local size host place (event ∷ past) = moved size (effect host place (λ source. local size host source past) event past) (local size host place past)
+local size host place (event ∷ past) = local_after size (effect host place (λ source. local size host source past) event past) (local size host place past)
 
 -- the host can read the page
 pub record CanRead (page : Local) : Type 0 where

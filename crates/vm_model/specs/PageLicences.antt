@@ -1,7 +1,7 @@
 -- Why each event of a page of a shared object may happen.
 use Rattle.std.specs.Prelude.{◌≡◌, ◌≢◌, ◌+◌, ◌==◌, ◌&&◌, ◌||◌, if◌then◌else◌, ℕ, ◌<◌, ◌≤◌, List, [], ◌∷◌, Bool, true, false, Option, Some, None, slice_range}
 use Rattle.vm_base.specs.Pages.{little_endian}
-use Rattle.vm_model.specs.Words.{UpWord, Asking, Unlocking, Returning, Doing, Ending, OtherUp, DownWord, Supplying, Locking, Lacking, Failing, Readying, OtherDown, Effect, Opens, SendsUp, TakenUp, SentDown, TakesDown, Puts, Drops, Begins, Loads, Stores, Fails, BeginsCopy, Copies, EndsCopy, StepBegins, Nothing, Act}
+use Rattle.vm_model.specs.Words.{UpWord, Asking, Unlocking, Returning, Doing, Ending, OtherUp, DownWord, Supplying, Locking, Lacking, Failing, Readying, OtherDown, ActEffect, Opens, SendsUp, TakenUp, SentDown, TakesDown, Puts, Drops, Begins, Loads, Stores, Fails, BeginsCopy, Copies, EndsCopy, StepBegins, Nothing, Act}
 use Rattle.vm_model.specs.Side.{Side, side, fresh, can_read, can_write}
 use Rattle.vm_model.specs.Waiters.{Waiter, waiters, waiter_of, any_store, any_load, readers, any_reader}
 use Rattle.vm_model.specs.Server.{first, Wanting, wants_write, line, kept}
@@ -39,7 +39,7 @@ MayStore (Some w) s at size value =
     (w.store ≡ true) × (can_write s ≡ true) × (at ≡ w.at) × (size ≡ w.size) × (value ≡ w.value)
 
 -- what is taken is the oldest of its channel; no page is put into the host but by a supply, and no access fails
-abbrev pub May : List Waiter → List ℕ → Side → Effect → Type 0
+abbrev pub May : List Waiter → List ℕ → Side → ActEffect → Type 0
 May ws rs s (Opens control ready) = (s.live ≡ false) × (control ≡ s.control + 1)
 May ws rs s (SendsUp control OtherUp) = Unit {0}
 May ws rs s (SendsUp control word) = (s.live ≡ true) × (s.control ≡ control) × MaySend ws rs s word
@@ -87,22 +87,22 @@ RecallRow h true lock holds (Some w) = (w.host ≢ h) × (lock ≡ 8) × (wants_
 RecallRow h false lock holds (Some w) = (w.host ≢ h) × (lock ≡ 2) × (wants_write w ≡ false) × (holds ≡ 2)
 
 -- why the server may send this to the host
-abbrev pub Answers : ℕ → ℕ → ℕ → DownWord → List Act → Type 0
-Answers size h control (Supplying lock precious bytes) past =
+abbrev pub ReplyCause : ℕ → ℕ → ℕ → DownWord → List Act → Type 0
+ReplyCause size h control (Supplying lock precious bytes) past =
     (control ≡ (side h past).heard) × (precious ≡ false) × NobodyAwaited past × (bytes ≡ kept size past) × SupplyRow h lock past (first (line past))
-Answers size h control (Locking count returns flush lock true) past =
+ReplyCause size h control (Locking count returns flush lock true) past =
     (control ≡ (side h past).heard) × (count ≡ 1) × (returns ≡ 1) × ((side h past).awaits ≡ 0) × (0 < (side h past).holds)
     × RecallRow h flush lock (side h past).holds (first (line past))
-Answers size h control (Locking count returns flush lock false) past =
+ReplyCause size h control (Locking count returns flush lock false) past =
     (control ≡ (side h past).heard) × (count ≡ 1) × (returns ≡ 0) × (flush ≡ false) × (lock ≡ 0) × NobodyAwaited past × OthersHold 0 h past
     × UpgradeRow h (first (line past))
-Answers size h control Lacking past = ⊥
-Answers size h control Failing past = ⊥
-Answers size h control Readying past = Unit {0}
-Answers size h control OtherDown past = Unit {0}
+ReplyCause size h control Lacking past = ⊥
+ReplyCause size h control Failing past = ⊥
+ReplyCause size h control Readying past = Unit {0}
+ReplyCause size h control OtherDown past = Unit {0}
 
-abbrev pub Cause : ℕ → ℕ → Effect → List Act → Type 0
-Cause size h (SentDown control word) past = Answers size h control word past
+abbrev pub Cause : ℕ → ℕ → ActEffect → List Act → Type 0
+Cause size h (SentDown control word) past = ReplyCause size h control word past
 Cause size h e past = May (waiters h past) (readers h past) (side h past) e
 
 -- each act has its cause

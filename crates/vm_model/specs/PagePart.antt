@@ -1,7 +1,7 @@
 -- The part of a history that is of one place, and what it says of the place.
 use Rattle.std.specs.Prelude.{ℕ, ◌+◌, List, [], ◌∷◌, true, if◌then◌else◌}
 use Rattle.vm_model.specs.declared.event.Event.{Event}
-use Rattle.vm_model.specs.Words.{Act, act_of, Effect, Begins, Opens}
+use Rattle.vm_model.specs.Words.{Act, act_of, ActEffect, Begins, Opens}
 use Rattle.vm_model.specs.Side.{Side, side}
 use Rattle.vm_model.specs.TaskPlace.{task_host, means_page}
 use Rattle.vm_model.specs.PageLicences.{Licensed}
@@ -28,7 +28,7 @@ PagesLicensed size o history = (p : ℕ) → Licensed size (page_part size o p h
 -- The page world: a world of one page of object 0, in which task h is the one task of host h.
 
 -- a host that has no control begins its next one with its next access, ready at once
-abbrev pub with_control : Side → ℕ → Effect → List Act → List Act
+abbrev pub with_control : Side → ℕ → ActEffect → List Act → List Act
 with_control s host (Begins task store at bytes value) past =
     if s.live then past else record { host = host; effect = Opens (s.control + 1) true } ∷ past
 with_control s host e past = past

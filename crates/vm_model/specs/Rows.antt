@@ -36,12 +36,12 @@ part size row start end =
     record row { address = start; bytes = end - start; offset = row.offset + (start - row.address) / size }
 
 -- parts have what their entry has
-abbrev pub Parts : ℕ → (Entry → Type 0) → Type 0
-Parts size P =
+abbrev pub HoldsOfParts : ℕ → (Entry → Type 0) → Type 0
+HoldsOfParts size P =
     (row : Entry) (start end : ℕ) → P row → row.address ≤ start → start < end → end ≤ row.address + row.bytes
     → P (part size row start end)
 
-pub rows_cut : (size : ℕ) (P : Entry → Type 0) → Parts size P → (from to : ℕ) (row : Entry) → P row
+pub rows_cut : (size : ℕ) (P : Entry → Type 0) → HoldsOfParts size P → (from to : ℕ) (row : Entry) → P row
     → AllRows P (cut size from to row)
 rows_cut size P parts from to row is = by_test (nat_lt (max from row.address) (min to (row.address + row.bytes))) refl
   where
@@ -50,7 +50,7 @@ rows_cut size P parts from to row is = by_test (nat_lt (max from row.address) (m
     by_test true less = (parts row (max from row.address) (min to (row.address + row.bytes)) is (omega arith) (grind (arith, nat_tests)) (omega arith), tt)
     by_test false less = tt
 
-pub rows_rewritten : (size : ℕ) (P : Entry → Type 0) (becomes : Entry → List Entry) → Parts size P
+pub rows_rewritten : (size : ℕ) (P : Entry → Type 0) (becomes : Entry → List Entry) → HoldsOfParts size P
     → ((row : Entry) → P row → AllRows P (becomes row)) → (address bytes : ℕ) (rows : List Entry) → AllRows P rows
     → AllRows P (rewritten becomes size address bytes rows)
 rows_rewritten size P becomes parts each address bytes [] all = tt

@@ -1,7 +1,7 @@
 -- The shared memory server and one page: the line of those who want it, and its bytes.
 use Rattle.std.specs.Prelude.{ℕ, ◌≡◌, ◌≢◌, ◌==◌, ◌&&◌, List, [], ◌∷◌, ◌++◌, Bool, true, false, if◌then◌else◌, Option, Some, None, replicate}
 use Rattle.vm_base.specs.Pages.{little_endian_bytes, with_bytes}
-use Rattle.vm_model.specs.Words.{Asking, Unlocking, Returning, Supplying, Effect, TakenUp, SentDown, Stores, Act}
+use Rattle.vm_model.specs.Words.{Asking, Unlocking, Returning, Supplying, ActEffect, TakenUp, SentDown, Stores, Act}
 use Rattle.vm_model.specs.Side.{Side, side}
 
 abbrev pub first : {A : Type 0} → List A → Option A
@@ -23,7 +23,7 @@ without h [] = []
 without h (w ∷ ws) = if w.host == h then (if w.upgrade then w ∷ without h ws else ws) else w ∷ without h ws
 
 -- a request joins; so does an unlock, to write, from a host that holds Read and isn't awaited
-abbrev pub joined : Side → ℕ → Effect → List Wanting → List Wanting
+abbrev pub joined : Side → ℕ → ActEffect → List Wanting → List Wanting
 joined s h (TakenUp (Asking asker access)) ws = ws ++ record { host = h; upgrade = false; access = access } ∷ []
 joined s h (TakenUp (Unlocking access)) ws =
     if s.holds == 1 && s.awaits == 0 then ws ++ record { host = h; upgrade = true; access = 3 } ∷ [] else ws
@@ -55,7 +55,7 @@ NoRequest h [] = Unit {0}
 NoRequest h (w ∷ ws) = (w.upgrade ≡ false → w.host ≢ h) × NoRequest h ws
 
 -- the page's bytes as the stores leave them, zeros at first
-abbrev pub current_after : Effect → List ℕ → List ℕ
+abbrev pub current_after : ActEffect → List ℕ → List ℕ
 current_after (Stores task at size value) page = with_bytes at (little_endian_bytes size value) page
 current_after e page = page
 
@@ -64,7 +64,7 @@ current size [] = replicate size 0
 current size (a ∷ past) = current_after a.effect (current size past)
 
 -- the server's bytes: those of the last return that it took, zeros where there is none
-abbrev pub kept_after : Effect → List ℕ → List ℕ
+abbrev pub kept_after : ActEffect → List ℕ → List ℕ
 kept_after (TakenUp (Returning dirty keep bytes)) page = bytes
 kept_after e page = page
 

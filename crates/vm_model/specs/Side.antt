@@ -1,7 +1,7 @@
 -- One host and one place: what the host has of it, what is on the way, and what the server says of the host.
 use Rattle.std.specs.Prelude.{nat_lt, ℕ, zero, suc, ◌+◌, ◌-◌, ◌==◌, List, [], ◌∷◌, ◌++◌, Bool, true, false, if◌then◌else◌, ◌&&◌, ◌||◌}
 use Rattle.vm_base.specs.Pages.{little_endian_bytes, with_bytes}
-use Rattle.vm_model.specs.Words.{UpWord, Asking, Unlocking, Returning, Doing, Ending, OtherUp, DownWord, Supplying, Locking, Lacking, Failing, Readying, OtherDown, Effect, Opens, SendsUp, TakenUp, SentDown, TakesDown, Puts, Drops, Begins, Loads, Stores, Fails, BeginsCopy, Copies, EndsCopy, StepBegins, Nothing, Act, effect_on}
+use Rattle.vm_model.specs.Words.{UpWord, Asking, Unlocking, Returning, Doing, Ending, OtherUp, DownWord, Supplying, Locking, Lacking, Failing, Readying, OtherDown, ActEffect, Opens, SendsUp, TakenUp, SentDown, TakesDown, Puts, Drops, Begins, Loads, Stores, Fails, BeginsCopy, Copies, EndsCopy, StepBegins, Nothing, Act, effect_on}
 
 pub record Side : Type 0 where
   -- what is on the way, oldest first; downwards to the live control alone
@@ -194,26 +194,26 @@ hears s OtherDown = record s { step = 0 }
 abbrev pub put : Side → List ℕ → Bool → Side
 put s bytes dirty = record s { right = 2; lock = 0; bytes = bytes; dirty = dirty; precious = false; unlocking = false }
 
-abbrev pub move : Side → Effect → Side
-move s (Opens control ready) = opened s control ready
-move s (SendsUp control word) = sent_up s word
-move s (TakenUp word) = taken_up s word
-move s (SentDown control word) = sent_down s control word
-move s (TakesDown control word) = if reaches s control then hears s word else record s { step = 0 }
-move s (Puts bytes dirty) = put s bytes dirty
-move s Drops = record s { right = 0 }
-move s (Begins task store at size value) = s
-move s (Loads task value) = s
-move s (Stores task at size value) =
+abbrev pub side_after : Side → ActEffect → Side
+side_after s (Opens control ready) = opened s control ready
+side_after s (SendsUp control word) = sent_up s word
+side_after s (TakenUp word) = taken_up s word
+side_after s (SentDown control word) = sent_down s control word
+side_after s (TakesDown control word) = if reaches s control then hears s word else record s { step = 0 }
+side_after s (Puts bytes dirty) = put s bytes dirty
+side_after s Drops = record s { right = 0 }
+side_after s (Begins task store at size value) = s
+side_after s (Loads task value) = s
+side_after s (Stores task at size value) =
     record s { bytes = with_bytes at (little_endian_bytes size value) s.bytes; dirty = true }
-move s (Fails task) = s
-move s (BeginsCopy task times) = s
-move s (Copies task) = s
-move s (EndsCopy task) = s
-move s StepBegins = record s { step = 0 }
-move s Nothing = s
+side_after s (Fails task) = s
+side_after s (BeginsCopy task times) = s
+side_after s (Copies task) = s
+side_after s (EndsCopy task) = s
+side_after s StepBegins = record s { step = 0 }
+side_after s Nothing = s
 
 -- what a list of acts, newest first, leaves of the place at host h
 abbrev pub side : ℕ → List Act → Side
 side h [] = nobody
-side h (a ∷ past) = move (side h past) (effect_on h a)
+side h (a ∷ past) = side_after (side h past) (effect_on h a)

@@ -1,6 +1,6 @@
 -- The loads and stores of a host that wait for a place, and the slow copies that are still to read it.
 use Rattle.std.specs.Prelude.{ℕ, ◌==◌, ◌||◌, not, List, [], ◌∷◌, ◌++◌, filter, replicate, Bool, true, false, if◌then◌else◌, Option, Some, None}
-use Rattle.vm_model.specs.Words.{Effect, Begins, Loads, Stores, Fails, BeginsCopy, Copies, EndsCopy, Act, effect_on}
+use Rattle.vm_model.specs.Words.{ActEffect, Begins, Loads, Stores, Fails, BeginsCopy, Copies, EndsCopy, Act, effect_on}
 
 pub record Waiter : Type 0 where
   pub task : ℕ
@@ -15,7 +15,7 @@ abbrev pub without_task : ℕ → List Waiter → List Waiter
 without_task task [] = []
 without_task task (w ∷ ws) = if w.task == task then without_task task ws else w ∷ without_task task ws
 
-abbrev pub waiters_after : Effect → List Waiter → List Waiter
+abbrev pub waiters_after : ActEffect → List Waiter → List Waiter
 waiters_after (Begins task store at size value) ws =
     record { task = task; store = store; at = at; size = size; value = value } ∷ ws
 waiters_after (Loads task value) ws = without_task task ws
@@ -46,7 +46,7 @@ abbrev pub without_once : ℕ → List ℕ → List ℕ
 without_once task [] = []
 without_once task (r ∷ rs) = if r == task then rs else r ∷ without_once task rs
 
-abbrev pub readers_after : Effect → List ℕ → List ℕ
+abbrev pub readers_after : ActEffect → List ℕ → List ℕ
 readers_after (BeginsCopy task times) rs = replicate times task ++ rs
 readers_after (Copies task) rs = without_once task rs
 readers_after (EndsCopy task) rs = filter (λ r. not (r == task)) rs

@@ -28,34 +28,34 @@ pub data DownWord : Type 0 where
   Readying : DownWord
   OtherDown : DownWord
 
-pub data Effect : Type 0 where
+pub data ActEffect : Type 0 where
   -- a control begins, ready at once or by a message
-  Opens : (control : ℕ) → (ready : Bool) → Effect
-  SendsUp : (control : ℕ) → (word : UpWord) → Effect
-  TakenUp : (word : UpWord) → Effect
-  SentDown : (control : ℕ) → (word : DownWord) → Effect
-  TakesDown : (control : ℕ) → (word : DownWord) → Effect
+  Opens : (control : ℕ) → (ready : Bool) → ActEffect
+  SendsUp : (control : ℕ) → (word : UpWord) → ActEffect
+  TakenUp : (word : UpWord) → ActEffect
+  SentDown : (control : ℕ) → (word : DownWord) → ActEffect
+  TakesDown : (control : ℕ) → (word : DownWord) → ActEffect
   -- a page of these bytes is put into the host: of zeros, or copied from another place
-  Puts : (bytes : List ℕ) → (dirty : Bool) → Effect
-  Drops : Effect
+  Puts : (bytes : List ℕ) → (dirty : Bool) → ActEffect
+  Drops : ActEffect
   -- an access of a task begins, of `size` bytes from `at` on in the page
-  Begins : (task : ℕ) → (store : Bool) → (at : ℕ) → (size : ℕ) → (value : ℕ) → Effect
-  Loads : (task : ℕ) → (value : ℕ) → Effect
-  Stores : (task : ℕ) → (at : ℕ) → (size : ℕ) → (value : ℕ) → Effect
-  Fails : (task : ℕ) → Effect
+  Begins : (task : ℕ) → (store : Bool) → (at : ℕ) → (size : ℕ) → (value : ℕ) → ActEffect
+  Loads : (task : ℕ) → (value : ℕ) → ActEffect
+  Stores : (task : ℕ) → (at : ℕ) → (size : ℕ) → (value : ℕ) → ActEffect
+  Fails : (task : ℕ) → ActEffect
   -- a slow copy of a task begins, over so many pages that are this one
-  BeginsCopy : (task : ℕ) → (times : ℕ) → Effect
+  BeginsCopy : (task : ℕ) → (times : ℕ) → ActEffect
   -- it has copied one of them
-  Copies : (task : ℕ) → Effect
+  Copies : (task : ℕ) → ActEffect
   -- if a slow copy of a task is under way, it ends
-  EndsCopy : (task : ℕ) → Effect
-  StepBegins : Effect
-  Nothing : Effect
+  EndsCopy : (task : ℕ) → ActEffect
+  StepBegins : ActEffect
+  Nothing : ActEffect
 
 -- an event of the place: the host, and what the event is to it
 pub record Act : Type 0 where
   pub host : ℕ
-  pub effect : Effect
+  pub effect : ActEffect
 
 -- the page is one of `count` pages
 abbrev pub in_range : ℕ → ℕ → ℕ → Bool
@@ -87,13 +87,13 @@ down_word p (message.Ready cache strategy) = Readying
 down_word p m = OtherDown
 
 -- what a host sends up
-abbrev pub sent_effect : ℕ → Message → Effect
+abbrev pub sent_effect : ℕ → Message → ActEffect
 sent_effect p (message.Init control size) = Opens control false
 sent_effect p (message.Create control size) = Opens control false
 sent_effect p m = SendsUp (control_of m) (up_word p m)
 
 -- the effect on this host, if the event is of the place
-abbrev pub act_if : Bool → ℕ → Effect → Act
+abbrev pub act_if : Bool → ℕ → ActEffect → Act
 act_if b host effect = record { host = host; effect = if b then effect else Nothing }
 
 -- how many of the `count` pages of a range are the place, where `means` says it of each address
@@ -138,11 +138,11 @@ act_of size o p host_of means held (event.Line line) = record { host = 0; effect
 act_of size o p host_of means held e = record { host = 0; effect = Nothing }
 
 -- what an act of one host is to all others: a step begins for them too
-abbrev pub to_others : Effect → Effect
+abbrev pub to_others : ActEffect → ActEffect
 to_others (TakenUp word) = StepBegins
 to_others (TakesDown control word) = StepBegins
 to_others StepBegins = StepBegins
 to_others e = Nothing
 
-abbrev pub effect_on : ℕ → Act → Effect
+abbrev pub effect_on : ℕ → Act → ActEffect
 effect_on h a = if a.host == h then a.effect else to_others a.effect

@@ -5,7 +5,7 @@ use Rattle.std.proofs.lemmas.Bool.Decides.{nat_tests}
 use Rattle.std.specs.List.Sorted.{IsNonDecreasingBy}
 use Rattle.std.specs.Prelude.{IsSome, nat_lt, slice_get, if◌then◌else◌}
 use Rattle.vm_objects.specs.Objects.{absent_among, object_among}
-use Rattle.vm_objects.specs.Slots.{ById, entries_of, rank}
+use Rattle.vm_objects.specs.Slots.{ById, entries_of, objects_before}
 use Rattle.vm_objects.specs.declared.row.ObjectRow.{ObjectRow}
 use Rattle.vm_objects.specs.declared.slot.Slot.{Slot}
 
@@ -25,7 +25,7 @@ non_decreasing from (slot ∷ slots) by_id (suc i) (suc j) d le within = non_dec
 pub rank_is : (id i : ℕ) (slots : List Slot) → i ≤ length slots
     → ((k : ℕ) (d : Slot) → 0 ≤ k → k < i → nat_lt (get_or slots k d).id.0 id ≡ true)
     → ((k : ℕ) (d : Slot) → i ≤ k → k < length slots → nat_lt (get_or slots k d).id.0 id ≡ false)
-    → i ≡ rank id slots
+    → i ≡ objects_before id slots
 rank_is id i [] within low high = omega arith
 rank_is id zero (slot ∷ slots) within low high = let no = high 0 slot (omega arith) (omega arith) in rw no refl
 rank_is id (suc i) (slot ∷ slots) within low high =
@@ -45,20 +45,20 @@ abbrev pub row_named : ℕ → Option Slot → Option ObjectRow
 row_named id None = None
 row_named id (Some slot) = if slot.id.0 == id then Some slot.row else None
 
-pub found_among : (from id : ℕ) (marks : List Bool) (slots : List Slot) → ById from slots → row_named id (slice_get slots (rank id slots)) ≡ object_among id (entries_of marks slots)
+pub found_among : (from id : ℕ) (marks : List Bool) (slots : List Slot) → ById from slots → row_named id (slice_get slots (objects_before id slots)) ≡ object_among id (entries_of marks slots)
 found_among from id marks [] by_id = refl
 found_among from id marks (slot ∷ slots) by_id =
-    let front : slot.id.0 < id → row_named id (slice_get (slot ∷ slots) (rank id (slot ∷ slots))) ≡ object_among id (entries_of marks (slot ∷ slots))
+    let front : slot.id.0 < id → row_named id (slice_get (slot ∷ slots) (objects_before id (slot ∷ slots))) ≡ object_among id (entries_of marks (slot ∷ slots))
     = λ less.
     let yes : nat_lt slot.id.0 id ≡ true = grind (arith, nat_tests) in
     let no : (slot.id.0 == id) ≡ false = grind (arith, nat_tests) in
     rw (yes, no) (found_among (suc slot.id.0) id marks slots by_id.1) in
-    let same : slot.id.0 ≡ id → row_named id (slice_get (slot ∷ slots) (rank id (slot ∷ slots))) ≡ object_among id (entries_of marks (slot ∷ slots))
+    let same : slot.id.0 ≡ id → row_named id (slice_get (slot ∷ slots) (objects_before id (slot ∷ slots))) ≡ object_among id (entries_of marks (slot ∷ slots))
     = λ e.
     let no : nat_lt slot.id.0 id ≡ false = grind (arith, nat_tests) in
     let yes : (slot.id.0 == id) ≡ true = grind (arith, nat_tests) in
     rw (no, yes) refl in
-    let behind : id < slot.id.0 → row_named id (slice_get (slot ∷ slots) (rank id (slot ∷ slots))) ≡ object_among id (entries_of marks (slot ∷ slots))
+    let behind : id < slot.id.0 → row_named id (slice_get (slot ∷ slots) (objects_before id (slot ∷ slots))) ≡ object_among id (entries_of marks (slot ∷ slots))
     = λ less.
     let no : nat_lt slot.id.0 id ≡ false = grind (arith, nat_tests) in
     let apart : (slot.id.0 == id) ≡ false = grind (arith, nat_tests) in
@@ -68,10 +68,10 @@ found_among from id marks (slot ∷ slots) by_id =
 
 -- where an object stands, and what is known of it there
 pub record Stands (id : ℕ) (slots : List Slot) : Type 0 where
-  pub within : rank id slots < length slots
-  pub named : (d : Slot) → (get_or slots (rank id slots) d).id.0 ≡ id
-  pub object : (marks : List Bool) (d : Slot) → object_among id (entries_of marks slots) ≡ Some (get_or slots (rank id slots) d).row
-  pub mark : (marks : List Bool) (p : ℕ) (d : Slot) → absent_among id p (entries_of marks slots) ≡ get_or (take (get_or slots (rank id slots) d).row.pages (drop (get_or slots (rank id slots) d).start marks)) p false
+  pub within : objects_before id slots < length slots
+  pub named : (d : Slot) → (get_or slots (objects_before id slots) d).id.0 ≡ id
+  pub object : (marks : List Bool) (d : Slot) → object_among id (entries_of marks slots) ≡ Some (get_or slots (objects_before id slots) d).row
+  pub mark : (marks : List Bool) (p : ℕ) (d : Slot) → absent_among id p (entries_of marks slots) ≡ get_or (take (get_or slots (objects_before id slots) d).row.pages (drop (get_or slots (objects_before id slots) d).start marks)) p false
 
 first_stands : (id : ℕ) (slot : Slot) (slots : List Slot) → slot.id.0 ≡ id → Stands id (slot ∷ slots)
 first_stands id slot slots same =

@@ -5,7 +5,7 @@ use Rattle.std.proofs.lemmas.Bool.Decides.{nat_tests}
 use Rattle.std.specs.List.{insert}
 use Rattle.std.specs.Prelude.{nat_lt}
 use Rattle.vm_objects.specs.Objects.{object_among}
-use Rattle.vm_objects.specs.Slots.{AllApart, AllInside, ApartFrom, AreApart, AreKept, ById, entries_of, rank}
+use Rattle.vm_objects.specs.Slots.{AllApart, AllInside, ApartFrom, AreApart, AreObjectSlots, ById, entries_of, objects_before}
 use Rattle.vm_objects.specs.declared.slot.Slot.{Slot}
 
 -- two rows of one object, with the same range
@@ -44,22 +44,22 @@ all_apart_set i new [] d apart within same = absurd (omega arith)
 all_apart_set zero new (slot ∷ slots) d apart within same = (apart_from_same slot new slots same apart.0, apart.1)
 all_apart_set (suc i) new (slot ∷ slots) d apart within same = (apart_from_set i slot new slots d apart.0 (omega arith) same, all_apart_set i new slots d apart.1 (omega arith) same)
 
-pub kept_set : (count i : ℕ) (new : Slot) (slots : List Slot) (d : Slot) → AreKept count slots → i < length slots → SamePlace (get_or slots i d) new → AreKept count (set slots i new)
+pub kept_set : (count i : ℕ) (new : Slot) (slots : List Slot) (d : Slot) → AreObjectSlots count slots → i < length slots → SamePlace (get_or slots i d) new → AreObjectSlots count (set slots i new)
 kept_set count i new slots d kept within same = record {
   by_id = by_id_set 0 i new slots d kept.by_id within same.id;
   inside = inside_set count i new slots d kept.inside within same;
   apart = all_apart_set i new slots d kept.apart within same;
 }
 
-by_id_inserted : (from : ℕ) (new : Slot) (marks : List Bool) (slots : List Slot) → ById from slots → from ≤ new.id.0 → object_among new.id.0 (entries_of marks slots) ≡ None → ById from (insert slots (rank new.id.0 slots) new)
+by_id_inserted : (from : ℕ) (new : Slot) (marks : List Bool) (slots : List Slot) → ById from slots → from ≤ new.id.0 → object_among new.id.0 (entries_of marks slots) ≡ None → ById from (insert slots (objects_before new.id.0 slots) new)
 by_id_inserted from new marks [] by_id low absent = (low, tt)
 by_id_inserted from new marks (slot ∷ slots) by_id low absent =
-    let behind : slot.id.0 < new.id.0 → ById from (insert (slot ∷ slots) (rank new.id.0 (slot ∷ slots)) new)
+    let behind : slot.id.0 < new.id.0 → ById from (insert (slot ∷ slots) (objects_before new.id.0 (slot ∷ slots)) new)
     = λ less.
     let yes : nat_lt slot.id.0 new.id.0 ≡ true = grind (arith, nat_tests) in
     let no : (slot.id.0 == new.id.0) ≡ false = grind (arith, nat_tests) in
     rw yes (by_id.0, by_id_inserted (suc slot.id.0) new marks slots by_id.1 (omega arith) (rw no at absent)) in
-    let front : new.id.0 < slot.id.0 → ById from (insert (slot ∷ slots) (rank new.id.0 (slot ∷ slots)) new)
+    let front : new.id.0 < slot.id.0 → ById from (insert (slot ∷ slots) (objects_before new.id.0 (slot ∷ slots)) new)
     = λ less.
     let no : nat_lt slot.id.0 new.id.0 ≡ false = grind (arith, nat_tests) in
     rw no (low, (omega arith, by_id.1)) in
@@ -91,11 +91,11 @@ all_apart_inserted (suc i) new [] apart inside = (tt, tt)
 all_apart_inserted (suc i) new (slot ∷ slots) apart inside = (apart_from_inserted i slot new slots apart.0 (inl inside.0), all_apart_inserted i new slots apart.1 inside.1)
 
 -- a new object, with its range behind all others
-pub kept_inserted : (count : ℕ) (new : Slot) (marks : List Bool) (slots : List Slot) → AreKept new.start slots → new.start + new.row.pages ≤ count → object_among new.id.0 (entries_of marks slots) ≡ None → AreKept count (insert slots (rank new.id.0 slots) new)
+pub kept_inserted : (count : ℕ) (new : Slot) (marks : List Bool) (slots : List Slot) → AreObjectSlots new.start slots → new.start + new.row.pages ≤ count → object_among new.id.0 (entries_of marks slots) ≡ None → AreObjectSlots count (insert slots (objects_before new.id.0 slots) new)
 kept_inserted count new marks slots kept within absent = record {
   by_id = by_id_inserted 0 new marks slots kept.by_id (omega arith) absent;
-  inside = inside_inserted count (rank new.id.0 slots) new slots (inside_more new.start count slots (omega arith) kept.inside) within;
-  apart = all_apart_inserted (rank new.id.0 slots) new slots kept.apart kept.inside;
+  inside = inside_inserted count (objects_before new.id.0 slots) new slots (inside_more new.start count slots (omega arith) kept.inside) within;
+  apart = all_apart_inserted (objects_before new.id.0 slots) new slots kept.apart kept.inside;
 }
 
 pub inside_at : (count i : ℕ) (slots : List Slot) (d : Slot) → AllInside count slots → i < length slots → (get_or slots i d).start + (get_or slots i d).row.pages ≤ count

@@ -3,7 +3,7 @@ use Rattle.std.proofs.Common.{ℕ, ◌≡◌, ◌+◌, ◌<◌, ◌≤◌, Bool,
 use Rattle.std.proofs.lemmas.List.{get_or_read}
 use Rattle.std.specs.Prelude.{IsSome, slice_get}
 use Rattle.vm_objects.specs.Objects.{ObjectTable, PutsAbsent, PutsObject, SameMarks, SameObjects, absent_at, object_at}
-use Rattle.vm_objects.specs.Slots.{AreKept, entries_of, rank}
+use Rattle.vm_objects.specs.Slots.{AreObjectSlots, entries_of, objects_before}
 use Rattle.vm_objects.specs.declared.row.ObjectRow.{ObjectRow}
 use Rattle.vm_objects.specs.declared.slot.Slot.{Slot}
 use Rattle.vm_objects.proofs.Marks.{mark_inside, mark_past, marks_set, marks_written, objects_same, objects_set}
@@ -17,7 +17,7 @@ pub record StandsAt (slots : List Slot) (marks : List Bool) (table : ObjectTable
   pub object : (d : Slot) → object_at table id ≡ Some (get_or slots i d).row
   pub mark : (p : ℕ) (d : Slot) → absent_at table id p ≡ get_or (take (get_or slots i d).row.pages (drop (get_or slots i d).start marks)) p false
 
-pub stands_at : (slots found : List Slot) (marks : List Bool) (table : ObjectTable) (id i : ℕ) → entries_of marks slots ≡ table.entries → AreKept (length marks) slots → found ≡ slots → i ≡ rank id found → IsSome (object_at table id) → StandsAt slots marks table id i
+pub stands_at : (slots found : List Slot) (marks : List Bool) (table : ObjectTable) (id i : ℕ) → entries_of marks slots ≡ table.entries → AreObjectSlots (length marks) slots → found ≡ slots → i ≡ objects_before id found → IsSome (object_at table id) → StandsAt slots marks table id i
 stands_at slots found marks table id i view kept same place some =
     let stand = stands 0 id marks slots kept.by_id (rw (← view) at some) in
     record {
@@ -38,7 +38,7 @@ same_place slots marks table id i was row stand read pages = record {
   pages = rw (stand.object was) at pages;
 }
 
-pub object_put : (slots : List Slot) (marks : List Bool) (table new : ObjectTable) (id i : ℕ) (was : Slot) (row : ObjectRow) → entries_of marks slots ≡ table.entries → AreKept (length marks) slots → StandsAt slots marks table id i
+pub object_put : (slots : List Slot) (marks : List Bool) (table new : ObjectTable) (id i : ℕ) (was : Slot) (row : ObjectRow) → entries_of marks slots ≡ table.entries → AreObjectSlots (length marks) slots → StandsAt slots marks table id i
     → SamePlace (get_or slots i was) (record was { row = row }) → new.entries ≡ entries_of marks (set slots i (record was { row = row })) → PutsObject id (Some row) table new
 object_put slots marks table new id i was row view kept stand same is =
     let named : was.id.0 ≡ id = sym same.id ∙ stand.named was in
@@ -49,7 +49,7 @@ pub marks_put : (slots : List Slot) (marks : List Bool) (table new : ObjectTable
 marks_put slots marks table new id i was row view stand same is =
     record { at = λ o p. rw (is, ← view) (marks_set i o p (record was { row = row }) marks slots was stand.within same) }
 
-pub place_within : (slots : List Slot) (marks : List Bool) (table : ObjectTable) (id i p : ℕ) (slot : Slot) → AreKept (length marks) slots → StandsAt slots marks table id i → slot ≡ get_or slots i slot → p < slot.row.pages → slot.start + p < length marks
+pub place_within : (slots : List Slot) (marks : List Bool) (table : ObjectTable) (id i p : ℕ) (slot : Slot) → AreObjectSlots (length marks) slots → StandsAt slots marks table id i → slot ≡ get_or slots i slot → p < slot.row.pages → slot.start + p < length marks
 place_within slots marks table id i p slot kept stand read less =
     let end = inside_at (length marks) i slots slot kept.inside stand.within in
     let start : (get_or slots i slot).start ≡ slot.start = ap (λ (s : Slot). s.start) (sym read) in
@@ -62,7 +62,7 @@ pub record MarksAt (slots : List Slot) (count i p : ℕ) (slot : Slot) : Type 0 
   pub start : (get_or slots i slot).start ≡ slot.start
   pub within : slot.start + p < count
 
-pub marks_at : (slots : List Slot) (marks : List Bool) (table : ObjectTable) (id i p : ℕ) (slot : Slot) → AreKept (length marks) slots → StandsAt slots marks table id i → slot ≡ get_or slots i slot → IfSome (object_at table id) (λ row. p < row.pages)
+pub marks_at : (slots : List Slot) (marks : List Bool) (table : ObjectTable) (id i p : ℕ) (slot : Slot) → AreObjectSlots (length marks) slots → StandsAt slots marks table id i → slot ≡ get_or slots i slot → IfSome (object_at table id) (λ row. p < row.pages)
     → MarksAt slots (length marks) i p slot
 marks_at slots marks table id i p slot kept stand read inside =
     let less = rw (stand.object slot) at inside in
@@ -74,7 +74,7 @@ marks_at slots marks table id i p slot kept stand read inside =
       within = omega (arith, less, start, end);
     }
 
-pub mark_put : (slots : List Slot) (marks : List Bool) (table new : ObjectTable) (id i p : ℕ) (slot : Slot) (b : Bool) → entries_of marks slots ≡ table.entries → AreKept (length marks) slots → StandsAt slots marks table id i
+pub mark_put : (slots : List Slot) (marks : List Bool) (table new : ObjectTable) (id i p : ℕ) (slot : Slot) (b : Bool) → entries_of marks slots ≡ table.entries → AreObjectSlots (length marks) slots → StandsAt slots marks table id i
     → MarksAt slots (length marks) i p slot → new.entries ≡ entries_of (set marks (slot.start + p) b) slots → PutsAbsent id p b table new
 mark_put slots marks table new id i p slot b view kept stand place is =
     record { at = λ o q. rw (is, ← view) (rw (place.start, stand.named slot) at (marks_written 0 i p o q b marks slots slot kept.by_id kept.inside kept.apart stand.within place.less)) }
@@ -82,17 +82,17 @@ mark_put slots marks table new id i p slot b view kept stand place is =
 pub objects_kept : (slots : List Slot) (marks other : List Bool) (table new : ObjectTable) → entries_of marks slots ≡ table.entries → new.entries ≡ entries_of other slots → SameObjects table new
 objects_kept slots marks other table new view is = record { at = λ o. rw (is, ← view) (objects_same o other marks slots) }
 
-pub found_here : (slots found : List Slot) (marks : List Bool) (table : ObjectTable) (id i : ℕ) (slot : Slot) → entries_of marks slots ≡ table.entries → AreKept (length marks) slots → found ≡ slots → i ≡ rank id found → slice_get slots i ≡ Some slot
+pub found_here : (slots found : List Slot) (marks : List Bool) (table : ObjectTable) (id i : ℕ) (slot : Slot) → entries_of marks slots ≡ table.entries → AreObjectSlots (length marks) slots → found ≡ slots → i ≡ objects_before id found → slice_get slots i ≡ Some slot
     → row_named id (Some slot) ≡ object_at table id
 found_here slots found marks table id i slot view kept same place is =
-    let at : i ≡ rank id slots = place ∙ ap (rank id) same in
+    let at : i ≡ objects_before id slots = place ∙ ap (objects_before id) same in
     let told = found_among 0 id marks slots kept.by_id in
     rw (← view, ← told, ← at, is) refl
 
-pub found_past : (slots found : List Slot) (marks : List Bool) (table : ObjectTable) (id i : ℕ) → entries_of marks slots ≡ table.entries → AreKept (length marks) slots → found ≡ slots → i ≡ rank id found → slice_get slots i ≡ None
+pub found_past : (slots found : List Slot) (marks : List Bool) (table : ObjectTable) (id i : ℕ) → entries_of marks slots ≡ table.entries → AreObjectSlots (length marks) slots → found ≡ slots → i ≡ objects_before id found → slice_get slots i ≡ None
     → None ≡ object_at table id
 found_past slots found marks table id i view kept same place is =
-    let at : i ≡ rank id slots = place ∙ ap (rank id) same in
+    let at : i ≡ objects_before id slots = place ∙ ap (objects_before id) same in
     let told = found_among 0 id marks slots kept.by_id in
     rw (← view, ← told, ← at, is) refl
 

@@ -13,9 +13,9 @@ ById from [] = Unit {0}
 ById from (slot ∷ slots) = (from ≤ slot.id.0) × ById (suc slot.id.0) slots
 
 -- how many objects come in front of one
-abbrev pub rank : ℕ → List Slot → ℕ
-rank id [] = 0
-rank id (slot ∷ slots) = if nat_lt slot.id.0 id then suc (rank id slots) else 0
+abbrev pub objects_before : ℕ → List Slot → ℕ
+objects_before id [] = 0
+objects_before id (slot ∷ slots) = if nat_lt slot.id.0 id then suc (objects_before id slots) else 0
 
 -- the range of each object lies in so many marks
 abbrev pub AllInside : ℕ → List Slot → Type 0
@@ -34,7 +34,7 @@ abbrev pub AllApart : List Slot → Type 0
 AllApart [] = Unit {0}
 AllApart (slot ∷ slots) = ApartFrom slot slots × AllApart slots
 
-pub record AreKept (count : ℕ) (slots : List Slot) : Type 0 where
+pub record AreObjectSlots (count : ℕ) (slots : List Slot) : Type 0 where
   pub by_id : ById 0 slots
   pub inside : AllInside count slots
   pub apart : AllApart slots

@@ -28,7 +28,7 @@ impl Model for Objects {
 
     ghost Value = { ObjectTable };
 
-    ghost use Rattle.vm_objects.specs.Slots.{AreKept, entries_of};
+    ghost use Rattle.vm_objects.specs.Slots.{AreObjectSlots, entries_of};
 
     ghost view = { λ s. record {
       entries = entries_of s.marks.items s.slots.items;
@@ -36,7 +36,7 @@ impl Model for Objects {
       pages = vec_capacity s.marks - length s.marks.items;
     } };
 
-    ghost invariant = { λ s. AreKept (length s.marks.items) s.slots.items };
+    ghost invariant = { λ s. AreObjectSlots (length s.marks.items) s.slots.items };
 }
 
 impl Objects {

@@ -18,13 +18,13 @@ use Rattle.vm_parts.specs.declared.parts.HostParts.{HostParts}
 use Rattle.vm_pageout.specs.Laundry.{LaundryList}
 use Rattle.vm_pageout.specs.declared.answer.Reclaim.{Reclaim}
 use Rattle.vm_pageout.specs.declared.answer.Reclaim.TheVariants as reclaim
-use Rattle.vm_queues.specs.Queues.{AllSkipped, Queues, balanced, chosen, is_queued, is_skipped, removed, spared}
+use Rattle.vm_queues.specs.Queues.{AllSkipped, Queues, balanced, is_queued, is_skipped, removed, spared, victim_frame}
 use Rattle.vm_resident.specs.Resident.{PutsOwner, PutsRow, ResidentTable, owner_of, row_at}
 use Rattle.vm_resident.specs.declared.page_row.PageRow.{PageRow}
 
 -- the queues, once a victim was looked for
-abbrev pub searched : Queues → Queues
-searched queues = spared (balanced queues)
+abbrev pub queues_after_search : Queues → Queues
+queues_after_search queues = spared (balanced queues)
 
 abbrev pub with_control : PagerState → ObjectRow → ObjectRow
 with_control state.Without row = record row { control = row.control + 1; live = true; state = state.Sent }
@@ -43,16 +43,16 @@ told_from state.Without creation events = creation ∷ events
 told_from told creation events = events
 
 -- the pager is told of its object first, where it wasn't
-abbrev pub told : HostId → PageKey → ℕ → ObjectRow → List Event → List Event
-told host key size row events = told_from row.state (sends host key (message.Create (controlled row).control size)) events
+abbrev pub creation_events : HostId → PageKey → ℕ → ObjectRow → List Event → List Event
+creation_events host key size row events = told_from row.state (sends host key (message.Create (controlled row).control size)) events
 
 -- the parts, once a victim was looked for
 abbrev pub looked : HostParts → HostParts
-looked parts = record parts { queues = searched parts.queues }
+looked parts = record parts { queues = queues_after_search parts.queues }
 
 -- a page that is here is the victim
 pub record IsChosen (skip : List FrameNo) (row : PageRow) (queues : Queues) : Type 0 where
-  pub victim : chosen skip (searched queues) ≡ Some row.frame
+  pub victim : victim_frame skip (queues_after_search queues) ≡ Some row.frame
   pub listed : is_queued queues row.frame.0 ≡ true
   pub unskipped : is_skipped skip row.frame.0 ≡ false
   pub here : row.here ≡ true
@@ -60,7 +60,7 @@ pub record IsChosen (skip : List FrameNo) (row : PageRow) (queues : Queues) : Ty
 -- each page is skipped, and nothing but the lists' order changes
 pub record IsNothing (skip : List FrameNo) (old new : HostParts) (was now : LaundryList) (before after : List Event) : Type 0 where
   pub skipped : AllSkipped skip old.queues
-  pub queues : new.queues ≡ searched old.queues
+  pub queues : new.queues ≡ queues_after_search old.queues
   pub frames : new.frames ≡ old.frames
   pub resident : new.resident ≡ old.resident
   pub objects : new.objects ≡ old.objects
@@ -97,13 +97,13 @@ pub record IsReturned (host : HostId) (skip : List FrameNo) (old new : HostParts
   pub room : now.room + 1 ≡ was.room
   pub events :
       after ≡ sends host key (message.Return (controlled object).control key.page row.dirty false (page_in old.frames row.frame.0))
-      ∷ told host key old.buffers.size object before
+      ∷ creation_events host key old.buffers.size object before
 
 -- what the answer says of the parts, the laundry and the events
-abbrev pub Reclaims : Reclaim → HostId → List FrameNo → HostParts → HostParts → LaundryList → LaundryList → List Event → List Event → Type 0
-Reclaims reclaim.Freed host skip old new was now before after = IsFreed host skip old new was now before after
-Reclaims reclaim.Returned host skip old new was now before after = IsReturned host skip old new was now before after
-Reclaims reclaim.Nothing host skip old new was now before after = IsNothing skip old new was now before after
+abbrev pub ReclaimEffects : Reclaim → HostId → List FrameNo → HostParts → HostParts → LaundryList → LaundryList → List Event → List Event → Type 0
+ReclaimEffects reclaim.Freed host skip old new was now before after = IsFreed host skip old new was now before after
+ReclaimEffects reclaim.Returned host skip old new was now before after = IsReturned host skip old new was now before after
+ReclaimEffects reclaim.Nothing host skip old new was now before after = IsNothing skip old new was now before after
 
 -- all is as it was, but for the buffers that are kept
 pub record IsUnchanged (old new : HostParts) (was now : LaundryList) (before after : List Event) : Type 0 where

@@ -5,7 +5,7 @@ ghost use Rattle.vm_model.specs.declared.event.Event.TheVariants as event;
 ghost use Rattle.vm_model.specs.declared.message.Message.TheVariants as message;
 ghost use Rattle.vm_objects.specs.Objects.{PutsAbsent, PutsObject, SameMarks, SameRooms, object_at};
 ghost use Rattle.vm_pageout.specs.declared.answer.Reclaim.TheVariants as answers;
-ghost use Rattle.vm_pageout.specs.Reclaims.{IsUnchanged, Reclaims, controlled, sends, told};
+ghost use Rattle.vm_pageout.specs.Reclaims.{IsUnchanged, ReclaimEffects, controlled, creation_events, sends};
 ghost use Rattle.vm_parts.specs.Changes.{Discards};
 ghost use Rattle.vm_parts.specs.Controls.{AllLive, HasNumbers};
 ghost use Rattle.vm_parts.specs.Fits.{Fit};
@@ -36,7 +36,7 @@ pub fn reclaim(
     requires room { 0 < laundry.old.room }
     requires live { AllLive parts.old.objects }
     requires numbers { HasNumbers parts.old.objects }
-    ensures ok { IfOk result (λ answer. Reclaims answer host skip.now parts.old parts.new laundry.old laundry.new log.old.items log.new.items) }
+    ensures ok { IfOk result (λ answer. ReclaimEffects answer host skip.now parts.old parts.new laundry.old laundry.new log.old.items log.new.items) }
     ensures nothing { IfOk result (λ answer. (answer ≡ answers.Nothing) ↔ AllSkipped skip.now parts.old.queues) }
     ensures err { OnErr result (IsUnchanged parts.old parts.new laundry.old laundry.new log.old.items log.new.items) }
     ensures fit { Fit parts.new }
@@ -105,7 +105,7 @@ fn return_page(host: HostId, key: PageKey, row: PageRow, parts: &mut HostParts, 
     ensures rooms { SameRooms parts.old.objects parts.new.objects }
     ensures log { IfSome (object_at parts.old.objects key.object.0) (λ object. log.new.items ≡
         sends host key (message.Return (controlled object).control key.page row.dirty false (page_in parts.old.frames row.frame.0))
-        ∷ told host key parts.old.buffers.size object log.old.items) }
+        ∷ creation_events host key parts.old.buffers.size object log.old.items) }
     ensures size { parts.new.buffers.size ≡ parts.old.buffers.size }
     ensures count { parts.old.buffers.count ≡ parts.new.buffers.count + 1 }
     ensures less { log.old.room ≤ log.new.room + 2 }
@@ -139,7 +139,7 @@ fn control_of(host: HostId, key: PageKey, size: u32, objects: &mut Objects, log:
     ensures objects { IfSome (object_at objects.old key.object.0) (λ object. PutsObject key.object.0 (Some (controlled object)) objects.old objects.new) }
     ensures marks { SameMarks objects.old objects.new }
     ensures rooms { SameRooms objects.old objects.new }
-    ensures log { IfSome (object_at objects.old key.object.0) (λ object. log.new.items ≡ told host key size object log.old.items) }
+    ensures log { IfSome (object_at objects.old key.object.0) (λ object. log.new.items ≡ creation_events host key size object log.old.items) }
     ensures room { log.old.room ≤ log.new.room + 1 }
 {
     let Some(row) = objects.find(key.object) else {

@@ -79,16 +79,16 @@ pub record Changes (key : PageKey) (frame : FrameNo) (was now : Option PageRow) 
   pub lists_are : (g : ℕ) → is_queued new.queues g ≡ (if frame.0 == g then is_here now else is_queued old.queues g)
 
 -- a page that isn't here is asked, and holds a frame that was free
-abbrev pub Asks : PageKey → FrameNo → HostParts → HostParts → Type 0
-Asks key frame old new = Changes key frame None (Some (asking_row frame)) true (page_in old.frames frame.0) old.queues old new
+abbrev pub AsksPage : PageKey → FrameNo → HostParts → HostParts → Type 0
+AsksPage key frame old new = Changes key frame None (Some (asking_row frame)) true (page_in old.frames frame.0) old.queues old new
 
 -- a page of zeros has come into a frame that was free
 abbrev pub Brings : PageKey → FrameNo → HostParts → HostParts → Type 0
 Brings key frame old new = Changes key frame None (Some (clean_row frame unlocked false)) true (replicate old.buffers.size 0) (added frame.0 old.queues) old new
 
 -- a page that was asked has come into the frame that it held, with these bytes
-abbrev pub Fills : PageKey → PageRow → Lock → Bool → List ℕ → HostParts → HostParts → Type 0
-Fills key was lock precious bytes old new = Changes key was.frame (Some was) (Some (clean_row was.frame lock precious)) true bytes (added was.frame.0 old.queues) old new
+abbrev pub FillsPage : PageKey → PageRow → Lock → Bool → List ℕ → HostParts → HostParts → Type 0
+FillsPage key was lock precious bytes old new = Changes key was.frame (Some was) (Some (clean_row was.frame lock precious)) true bytes (added was.frame.0 old.queues) old new
 
 -- a page that is here has these bytes, and is dirty
 abbrev pub Writes : PageKey → PageRow → List ℕ → HostParts → HostParts → Type 0

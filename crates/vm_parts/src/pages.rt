@@ -3,7 +3,7 @@ ghost use Rattle.std.specs.Prelude.{◌≡◌, ◌+◌, ◌≤◌, ◌<◌, ◌^
 ghost use Rattle.vm_base.specs.Pages.{IsAccessSize, little_endian_bytes, with_bytes};
 ghost use Rattle.vm_frames.specs.Frames.{free, page_in};
 ghost use Rattle.vm_resident.specs.Resident.{row_at};
-ghost use Rattle.vm_parts.specs.Changes.{Asks, Brings, Fills, Writes, asked_row, filled};
+ghost use Rattle.vm_parts.specs.Changes.{AsksPage, Brings, FillsPage, Writes, asked_row, filled};
 ghost use Rattle.vm_parts.specs.Fits.{Fit, IsStart, object_pages};
 
 use crate::HostParts;
@@ -69,7 +69,7 @@ impl HostParts {
         requires free { 0 < free self.old.frames }
         requires room { 0 < self.old.resident.spare }
         ensures fit { Fit self.new }
-        ensures asks { Asks key result self.old self.new }
+        ensures asks { AsksPage key result self.old self.new }
         ensures objects { self.new.objects ≡ self.old.objects }
         ensures buffers { self.new.buffers ≡ self.old.buffers }
         ensures room { self.old.resident.spare ≡ self.new.resident.spare + 1 }
@@ -125,7 +125,7 @@ impl HostParts {
         requires asked { IsSomeAnd (row_at self.old.resident key.object.0 key.page.0) (λ was. was.here ≡ false) }
         requires bytes { length bytes.now ≤ self.old.buffers.size }
         ensures fit { Fit self.new }
-        ensures fills { IfSome (row_at self.old.resident key.object.0 key.page.0) (λ was. Fills key was lock precious (filled self.old.buffers.size bytes.now) self.old self.new) }
+        ensures fills { IfSome (row_at self.old.resident key.object.0 key.page.0) (λ was. FillsPage key was lock precious (filled self.old.buffers.size bytes.now) self.old self.new) }
         ensures objects { self.new.objects ≡ self.old.objects }
         ensures buffers { self.new.buffers ≡ self.old.buffers }
         ensures room { self.new.resident.spare ≡ self.old.resident.spare }

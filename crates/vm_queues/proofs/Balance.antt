@@ -5,7 +5,7 @@ use Rattle.std.proofs.lemmas.List.{append-nil, append_assoc, drop-append-le, dro
 use Rattle.std.specs.Prelude.{if◌then◌else◌}
 use Rattle.vm_base.specs.declared.ids.FrameNo.{FrameNo}
 use Rattle.vm_queues.specs.Kept.{front_referenced}
-use Rattle.vm_queues.specs.Queues.{Page, Queues, balanced, cleared, first_unskipped, from_unreferenced, moved, needs_none, one_spared, referenced_front, shortage, spared}
+use Rattle.vm_queues.specs.Queues.{Page, Queues, balanced, cleared, first_unskipped, from_unreferenced, needs_none, one_spared, referenced_front, shortage, spared, with_deactivated}
 
 abbrev pub queues : List Page → List Page → ℕ → Queues
 queues a i n = record { active = a; inactive = i; frames = n }
@@ -20,7 +20,7 @@ take_two k n xs =
     ∙ take-append-drop k (take (k + n) xs)
 
 -- what is lacking when some pages have moved
-short_moved : (k : ℕ) (a i : List Page) (n : ℕ) → k ≤ shortage (queues a i n) → k ≤ length a → shortage (queues a i n) ≡ k + shortage (moved k (queues a i n))
+short_moved : (k : ℕ) (a i : List Page) (n : ℕ) → k ≤ shortage (queues a i n) → k ≤ length a → shortage (queues a i n) ≡ k + shortage (with_deactivated k (queues a i n))
 short_moved k a i n few there =
     let left = length-drop k a in
     let more = length-append i (map cleared (take k a)) in
@@ -31,10 +31,10 @@ short_moved k a i n few there =
 pub short_fits : (a i : List Page) (n : ℕ) → shortage (queues a i n) ≤ length a
 short_fits a i n = omega arith
 
-pub balanced_moved : (k : ℕ) (a i : List Page) (n : ℕ) → k ≤ shortage (queues a i n) → k ≤ length a → balanced (moved k (queues a i n)) ≡ balanced (queues a i n)
+pub balanced_moved : (k : ℕ) (a i : List Page) (n : ℕ) → k ≤ shortage (queues a i n) → k ≤ length a → balanced (with_deactivated k (queues a i n)) ≡ balanced (queues a i n)
 balanced_moved k a i n few there =
     let short = short_moved k a i n few there in
-    let left = shortage (moved k (queues a i n)) in
+    let left = shortage (with_deactivated k (queues a i n)) in
     let gone = map-append cleared (take k a) (take left (drop k a)) in
     same_queues _ _ _ _ _ _
     (drop-drop left k a ∙ ap (λ z. drop z a) (sym short))
@@ -42,10 +42,10 @@ balanced_moved k a i n few there =
     ∙ ap (λ z. i ++ z) (sym gone ∙ ap (map cleared) (take_two k left a ∙ ap (λ z. take z a) (sym short))))
     refl
 
-pub balanced_one : (q : Queues) → 0 < shortage q → balanced (moved 1 q) ≡ balanced q
+pub balanced_one : (q : Queues) → 0 < shortage q → balanced (with_deactivated 1 q) ≡ balanced q
 balanced_one q some = balanced_moved 1 q.active q.inactive q.frames (omega (arith, some)) (omega (arith, some, short_fits q.active q.inactive q.frames))
 
-pub short_one : (q : Queues) → 0 < shortage q → shortage (moved 1 q) < shortage q
+pub short_one : (q : Queues) → 0 < shortage q → shortage (with_deactivated 1 q) < shortage q
 short_one q some = omega (arith, some, short_moved 1 q.active q.inactive q.frames (omega (arith, some)) (omega (arith, some, short_fits q.active q.inactive q.frames)))
 
 pub balanced_done : (q : Queues) → needs_none q → balanced q ≡ q
@@ -89,7 +89,7 @@ step_pages p a i n is =
     let gone = map cleared (take k z) in
     let back : map cleared (referenced_front (i ++ gone)) ≡ front = ap (map cleared) (front_stays i (take k z)) in
     let behind : from_unreferenced (i ++ gone) ≡ rest ++ gone = rest_grows i (take k z) in
-    let split : queues (drop k z ++ map cleared (referenced_front (i ++ gone))) (from_unreferenced (i ++ gone)) n ≡ moved k (queues (z ++ front) rest n)
+    let split : queues (drop k z ++ map cleared (referenced_front (i ++ gone))) (from_unreferenced (i ++ gone)) n ≡ with_deactivated k (queues (z ++ front) rest n)
     = same_queues _ _ _ _ _ _
     (ap (λ w. drop k z ++ w) back ∙ sym (drop-append-le k z front fits))
     (behind ∙ ap (λ w. rest ++ map cleared w) (sym (take-append-le k z front fits)))

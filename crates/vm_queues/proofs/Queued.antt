@@ -4,7 +4,7 @@ use Rattle.std.proofs.lemmas.Bool.Decides.{nat_tests}
 use Rattle.std.proofs.lemmas.List.{append_assoc, map-append, take-append-drop}
 use Rattle.std.specs.Prelude.{MatchOption, if◌then◌else◌}
 use Rattle.vm_base.specs.declared.ids.FrameNo.{FrameNo}
-use Rattle.vm_queues.specs.Queues.{AllSkipped, GainsPage, KeepsPages, LosesPage, Page, Queues, added, balanced, chosen, cleared, first_unskipped, fresh, from_unreferenced, has_page, is_queued, is_skipped, marked, moved, referenced_front, removed, shortage, spared, touched, without}
+use Rattle.vm_queues.specs.Queues.{AllSkipped, GainsPage, KeepsPages, LosesPage, Page, Queues, added, balanced, cleared, first_unskipped, fresh, from_unreferenced, has_page, is_queued, is_skipped, marked, referenced_front, removed, shortage, spared, victim_frame, with_deactivated, with_reference, without}
 use Rattle.vm_queues.proofs.Balance.{queues}
 
 has_append : (xs ys : List Page) (f : ℕ) → has_page (xs ++ ys) f ≡ (has_page xs f || has_page ys f)
@@ -22,7 +22,7 @@ has_moved k a f =
     ∙ sym (has_append (take k a) (drop k a) f)
     ∙ ap (λ z. has_page z f) (take-append-drop k a)
 
-pub queued_moved : (k : ℕ) (q : Queues) → KeepsPages q (moved k q)
+pub queued_moved : (k : ℕ) (q : Queues) → KeepsPages q (with_deactivated k q)
 queued_moved k q = λ f.
     ap (λ z. has_page z f) (append_assoc q.inactive (map cleared (take k q.active)) (drop k q.active))
     ∙ has_append q.inactive (map cleared (take k q.active) ++ drop k q.active) f
@@ -85,7 +85,7 @@ has_marked : (f : ℕ) (xs : List Page) (other : ℕ) → has_page (map (marked 
 has_marked f [] other = refl
 has_marked f (x ∷ xs) other = rw (has_marked f xs other) refl
 
-pub queued_touched : (f : ℕ) (q new : Queues) → new ≡ touched f q → KeepsPages q new
+pub queued_touched : (f : ℕ) (q new : Queues) → new ≡ with_reference f q → KeepsPages q new
 queued_touched f q new is = λ other.
     ap (λ r. is_queued r other) is
     ∙ ap (λ z. has_page z other) (sym (map-append (marked f) q.inactive q.active))
@@ -135,7 +135,7 @@ picked : (skip : List FrameNo) (xs : List Page) (f : FrameNo) → first_unskippe
 picked skip [] f some = absurd (cc)
 picked skip (x ∷ xs) f some = picked_cons (is_skipped skip x.frame) skip x xs f refl (picked skip xs f) some
 
-pub chosen_stands : (skip : List FrameNo) (q old : Queues) (o : Option FrameNo) → o ≡ chosen skip q → KeepsPages old q → MatchOption o (AllSkipped skip old) (λ f. (is_queued old f.0 ≡ true) × (is_skipped skip f.0 ≡ false))
+pub chosen_stands : (skip : List FrameNo) (q old : Queues) (o : Option FrameNo) → o ≡ victim_frame skip q → KeepsPages old q → MatchOption o (AllSkipped skip old) (λ f. (is_queued old f.0 ≡ true) × (is_skipped skip f.0 ≡ false))
 chosen_stands skip q old None is same = λ f there. none_left skip (q.inactive ++ q.active) f (sym is) (same f ∙ there)
 chosen_stands skip q old (Some f) is same =
     let stands = picked skip (q.inactive ++ q.active) f (sym is) in

@@ -22,7 +22,7 @@ AreApart n (f ∷ fs) = (f.0 < n) × (is_skipped fs f.0 ≡ false) × AreApart n
 abbrev pub all_frames : Lists → List FrameNo
 all_frames lists = lists.inactive.items ++ lists.active.items
 
-pub record AreKept (lists : Lists) : Type 0 where
+pub record ArePageLists (lists : Lists) : Type 0 where
   pub apart : AreApart (length lists.marks.items) (all_frames lists)
   pub active : length lists.marks.items ≤ deque_capacity lists.active
   pub inactive : length lists.marks.items ≤ deque_capacity lists.inactive

@@ -33,8 +33,8 @@ added f queues = record queues { active = queues.active ++ fresh f ∷ [] }
 abbrev pub marked : ℕ → Page → Page
 marked f page = record { frame = page.frame; referenced = (page.frame == f) || page.referenced }
 
-abbrev pub touched : ℕ → Queues → Queues
-touched f queues = record queues { active = map (marked f) queues.active; inactive = map (marked f) queues.inactive }
+abbrev pub with_reference : ℕ → Queues → Queues
+with_reference f queues = record queues { active = map (marked f) queues.active; inactive = map (marked f) queues.inactive }
 
 abbrev pub without : ℕ → List Page → List Page
 without f [] = []
@@ -44,8 +44,8 @@ abbrev pub removed : ℕ → Queues → Queues
 removed f queues = record queues { active = without f queues.active; inactive = without f queues.inactive }
 
 -- the first active pages go to the inactive back, their marks cleared
-abbrev pub moved : ℕ → Queues → Queues
-moved n queues =
+abbrev pub with_deactivated : ℕ → Queues → Queues
+with_deactivated n queues =
     record queues { active = drop n queues.active; inactive = queues.inactive ++ map cleared (take n queues.active) }
 
 -- how many pages the inactive list lacks to a third of all, rounded up
@@ -56,7 +56,7 @@ abbrev pub needs_none : Queues → Type 0
 needs_none queues = shortage queues ≡ 0
 
 abbrev pub balanced : Queues → Queues
-balanced queues = moved (shortage queues) queues
+balanced queues = with_deactivated (shortage queues) queues
 
 -- the pages in front of the first one that is not referenced
 abbrev pub referenced_front : List Page → List Page
@@ -88,8 +88,8 @@ first_unskipped skip (page ∷ pages) =
     if is_skipped skip page.frame then first_unskipped skip pages else Some (record { 0 = page.frame })
 
 -- the first page that is not skipped, inactive ones first
-abbrev pub chosen : List FrameNo → Queues → Option FrameNo
-chosen skip queues = first_unskipped skip (queues.inactive ++ queues.active)
+abbrev pub victim_frame : List FrameNo → Queues → Option FrameNo
+victim_frame skip queues = first_unskipped skip (queues.inactive ++ queues.active)
 
 -- each page on a list is skipped
 abbrev pub AllSkipped : List FrameNo → Queues → Type 0

@@ -1,7 +1,7 @@
 // The two lists and the marks, and the moves between the lists.
 ghost use Rattle.std.specs.Prelude.{◌≡◌, ◌<◌, ◌≤◌, ◌++◌, ◌∷◌, ℕ, [], Bool, List, true, false, IfOk, get_or, length, replicate};
-ghost use Rattle.vm_queues.specs.Queues.{balanced, chosen, first_unskipped, is_skipped, moved, needs_none, one_spared, removed, spared};
-ghost use Rattle.vm_queues.specs.Kept.{AreKept, front_referenced, pages, seen, without_frame};
+ghost use Rattle.vm_queues.specs.Queues.{balanced, first_unskipped, is_skipped, needs_none, one_spared, removed, spared, victim_frame, with_deactivated};
+ghost use Rattle.vm_queues.specs.Kept.{ArePageLists, front_referenced, pages, seen, without_frame};
 ghost use Rattle.std.specs.VecDeque.{deque_capacity};
 
 use std::alloc::Global;
@@ -19,7 +19,7 @@ pub struct Lists {
 
 /// Lists with room for so many frames, so that no later call takes memory; it fails for want of it.
 pub fn empty(alloc: Global, frames: u32) -> Result<Lists, NoMemory>
-    ensures kept { IfOk result (λ lists. AreKept lists) }
+    ensures kept { IfOk result (λ lists. ArePageLists lists) }
     ensures seen { IfOk result (λ lists. seen lists ≡ record { active = []; inactive = []; frames = frames }) }
 {
     let active = VecDeque::with_capacity(alloc, frames as usize)?;
@@ -34,10 +34,10 @@ pub fn empty(alloc: Global, frames: u32) -> Result<Lists, NoMemory>
 
 // Moves the active front to the inactive back, and clears its mark.
 fn age(lists: &mut Lists)
-    requires kept { AreKept lists.old }
+    requires kept { ArePageLists lists.old }
     requires some { 0 < length lists.old.active.items }
-    ensures kept { AreKept lists.new }
-    ensures moved { seen lists.new ≡ moved 1 (seen lists.old) }
+    ensures kept { ArePageLists lists.new }
+    ensures moved { seen lists.new ≡ with_deactivated 1 (seen lists.old) }
 {
     if let Some(frame) = lists.active.pop_front() {
         lists.marks[frame.0 as usize] = false;
@@ -47,9 +47,9 @@ fn age(lists: &mut Lists)
 
 // Moves the inactive front to the active back, and clears its mark.
 fn spare_front(lists: &mut Lists)
-    requires kept { AreKept lists.old }
+    requires kept { ArePageLists lists.old }
     requires some { 0 < length lists.old.inactive.items }
-    ensures kept { AreKept lists.new }
+    ensures kept { ArePageLists lists.new }
     ensures spared { seen lists.new ≡ one_spared (seen lists.old) }
 {
     if let Some(frame) = lists.inactive.pop_front() {
@@ -61,8 +61,8 @@ fn spare_front(lists: &mut Lists)
 /// Moves active fronts to the inactive back, their marks cleared, as long as three times the
 /// inactive frames are fewer than all (this profile).
 pub fn balance(lists: &mut Lists)
-    requires { AreKept lists.old }
-    ensures kept { AreKept lists.new }
+    requires { ArePageLists lists.old }
+    ensures kept { ArePageLists lists.new }
     ensures balanced { seen lists.new ≡ balanced (seen lists.old) }
     ensures done { needs_none (seen lists.new) }
 {
@@ -73,7 +73,7 @@ pub fn balance(lists: &mut Lists)
 
 // Whether the inactive front is referenced.
 fn is_front_referenced(lists: &Lists) -> bool
-    requires { AreKept lists.now }
+    requires { ArePageLists lists.now }
     ensures { result ≡ front_referenced (seen lists.now) }
 {
     match lists.inactive.front() {
@@ -84,9 +84,9 @@ fn is_front_referenced(lists: &Lists) -> bool
 
 /// Moves referenced inactive fronts to the active back, and balances again behind each.
 pub fn spare(lists: &mut Lists)
-    requires kept { AreKept lists.old }
+    requires kept { ArePageLists lists.old }
     requires balanced { needs_none (seen lists.old) }
-    ensures kept { AreKept lists.new }
+    ensures kept { ArePageLists lists.new }
     ensures spared { seen lists.new ≡ spared (seen lists.old) }
 {
     'spare: while is_front_referenced(lists) {
@@ -104,8 +104,8 @@ fn take_off(frames: &mut VecDeque<FrameNo>, f: FrameNo)
 
 /// Takes a frame off both lists.
 pub fn drop_frame(lists: &mut Lists, f: FrameNo)
-    requires { AreKept lists.old }
-    ensures kept { AreKept lists.new }
+    requires { ArePageLists lists.old }
+    ensures kept { ArePageLists lists.new }
     ensures removed { seen lists.new ≡ removed f.0 (seen lists.old) }
 {
     take_off(&mut lists.active, f);
@@ -138,7 +138,7 @@ fn first_unskipped(frames: &VecDeque<FrameNo>, skip: &[FrameNo]) -> Option<Frame
 
 /// The first frame that isn't skipped, inactive ones first.
 pub fn choose(lists: &Lists, skip: &[FrameNo]) -> Option<FrameNo>
-    ensures { result ≡ chosen skip.now (seen lists.now) }
+    ensures { result ≡ victim_frame skip.now (seen lists.now) }
 {
     match first_unskipped(&lists.inactive, skip) {
         Some(frame) => Some(frame),

@@ -1,6 +1,6 @@
 // The queues of the pages that are here.
 ghost use Rattle.std.specs.Prelude.{◌≡◌, ◌<◌, ℕ, [], true, false, IfOk, MatchOption, if◌then◌else◌};
-ghost use Rattle.vm_queues.specs.Queues.{AllSkipped, GainsPage, IsEmpty, KeepsPages, LosesPage, Queues, added, balanced, chosen, is_queued, is_skipped, removed, spared, touched};
+ghost use Rattle.vm_queues.specs.Queues.{AllSkipped, GainsPage, IsEmpty, KeepsPages, LosesPage, Queues, added, balanced, is_queued, is_skipped, removed, spared, victim_frame, with_reference};
 
 use crate::lists::{Lists, balance, choose, drop_frame, empty, spare};
 use std::alloc::Global;
@@ -19,13 +19,13 @@ pub struct PageQueues {
 
 impl Model for PageQueues {
     ghost use Rattle.vm_queues.specs.Queues.{Queues};
-    ghost use Rattle.vm_queues.specs.Kept.{AreKept, seen};
+    ghost use Rattle.vm_queues.specs.Kept.{ArePageLists, seen};
 
     ghost Value = { Queues };
 
     ghost view = { λ s. seen s.lists };
 
-    ghost invariant = { λ s. AreKept s.lists };
+    ghost invariant = { λ s. ArePageLists s.lists };
 }
 
 impl PageQueues {
@@ -52,7 +52,7 @@ impl PageQueues {
     /// Marks a page as referenced.
     pub fn touch(&mut self, f: FrameNo)
         requires { is_queued self.old f.0 ≡ true }
-        ensures queues { self.new ≡ touched f.0 self.old }
+        ensures queues { self.new ≡ with_reference f.0 self.old }
         ensures pages { KeepsPages self.old self.new }
     {
         self.lists.marks[f.0 as usize] = true;
@@ -82,7 +82,7 @@ impl PageQueues {
     pub fn victim(&mut self, skip: &[FrameNo]) -> Option<FrameNo>
         ensures queues { self.new ≡ spared (balanced self.old) }
         ensures pages { KeepsPages self.old self.new }
-        ensures victim { result ≡ chosen skip.now self.new }
+        ensures victim { result ≡ victim_frame skip.now self.new }
         ensures none { MatchOption result (AllSkipped skip.now self.old)
             (λ f. (is_queued self.old f.0 ≡ true) × (is_skipped skip.now f.0 ≡ false)) }
     {

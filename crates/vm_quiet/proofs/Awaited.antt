@@ -14,7 +14,7 @@ use Rattle.vm_model.specs.declared.message.Message.TheVariants as message
 use Rattle.vm_model.specs.declared.script.Header.{Header}
 use Rattle.vm_model.specs.Channels.{is_channel, queue, up_port, down_port}
 use Rattle.vm_model.specs.Controls.{is_control, without_control, live_control}
-use Rattle.vm_model.specs.Local.{Effect, Local, Zeroes, Raises, Stores, Drops, Returns, Asks, Unlocks, TakesPage, TakesNothing, TakesError, TakesLock, Begins, Ends, Elsewhere, is_on, moved, taken_effect}
+use Rattle.vm_model.specs.Local.{LocalEffect, Local, Zeroes, Raises, Stores, Drops, Returns, Asks, Unlocks, TakesPage, TakesNothing, TakesError, TakesLock, Begins, Ends, Elsewhere, is_on, local_after, taken_effect}
 use Rattle.vm_model.specs.Moments.{BeforeSteps, EachEvent}
 use Rattle.vm_model.specs.Server.{first}
 use Rattle.vm_model.specs.Tasks.{host_of}
@@ -22,9 +22,9 @@ use Rattle.vm_model.specs.Words.{in_range}
 use Rattle.vm_legal.specs.Accesses.{is_ready}
 use Rattle.vm_legal.specs.Debts.{IsPaid}
 use Rattle.vm_legal.proofs.Served.{paged_may, paged_supplied}
-use Rattle.vm_legal.specs.Licences.{Answers, HasCause, MaySendDown, MaySendUp}
+use Rattle.vm_legal.specs.Licences.{HasCause, MaySendDown, MaySendUp, OwesAnswer}
 use Rattle.vm_legal.specs.Outside.{Outside}
-use Rattle.vm_legal.specs.Steps.{answers, is_answer, is_ready as says_ready, readies, since, taken}
+use Rattle.vm_legal.specs.Steps.{answers, is_answer, is_ready as says_ready, readies, since, taken_letter}
 use Rattle.vm_legal.specs.Walks.{page_on}
 use Rattle.vm_quiet.specs.Carried.{is_request, opens}
 use Rattle.vm_quiet.specs.Places.{AllPaged}
@@ -53,16 +53,16 @@ Asking host o p past = (k : ℕ) × (live_control host o past ≡ Some k) × OnT
 abbrev pub AllAsking : Header → ℕ → List Event → Type 0
 AllAsking header host past = (o p : ℕ) → (page_on header host o p past).asked ≡ true → Asking host o p past
 
-asked_if : (size : ℕ) (t : Bool) (e : Effect) (page : Local) → (moved size e page).asked ≡ page.asked → (moved size (if t then e else Elsewhere) page).asked ≡ page.asked
+asked_if : (size : ℕ) (t : Bool) (e : LocalEffect) (page : Local) → (local_after size e page).asked ≡ page.asked → (local_after size (if t then e else Elsewhere) page).asked ≡ page.asked
 asked_if size true e page is = is
 asked_if size false e page is = refl
 
-asked_two : (size : ℕ) (s t : Bool) (e : Effect) (page : Local) → (moved size e page).asked ≡ page.asked → (moved size (if s then (if t then e else Elsewhere) else Elsewhere) page).asked ≡ page.asked
+asked_two : (size : ℕ) (s t : Bool) (e : LocalEffect) (page : Local) → (local_after size e page).asked ≡ page.asked → (local_after size (if s then (if t then e else Elsewhere) else Elsewhere) page).asked ≡ page.asked
 asked_two size true true e page is = is
 asked_two size true false e page is = refl
 asked_two size false t e page is = refl
 
-returned_asked : (size : ℕ) (keep : Bool) (page : Local) → (moved size (Returns keep) page).asked ≡ page.asked
+returned_asked : (size : ℕ) (keep : Bool) (page : Local) → (local_after size (Returns keep) page).asked ≡ page.asked
 returned_asked size true page = refl
 returned_asked size false page = refl
 
@@ -75,24 +75,24 @@ request_is k p q e = grind (arith, nat_tests)
 up_asks : (header : Header) (host : ℕ) (at : HostId) (object : ObjectId) (m : Message) (past : List Event) → ((doing : Command) × MaySendUp header doing at.0 object.0 m past) → AllAsking header host past → AllAsking header host (event.Sent (Up at object) m ∷ past)
 up_asks header host at object (message.Init control size) past c all o p = by (at.0 == host && object.0 == o) refl
   where
-    by : (b : Bool) → (at.0 == host && object.0 == o) ≡ b → (moved header.size (if b then Begins else Elsewhere) (page_on header host o p past)).asked ≡ true → Asking host o p (event.Sent (Up at object) (message.Init control size) ∷ past)
+    by : (b : Bool) → (at.0 == host && object.0 == o) ≡ b → (local_after header.size (if b then Begins else Elsewhere) (page_on header host o p past)).asked ≡ true → Asking host o p (event.Sent (Up at object) (message.Init control size) ∷ past)
     by true own is = never is
     by false own is = asking_sent host o p at object (message.Init control size) past (passed (at.0 == host && object.0 == o) (Some control) (live_control host o past) own) (all o p is)
 up_asks header host at object (message.Create control size) past c all o p = by (at.0 == host && object.0 == o) refl
   where
-    by : (b : Bool) → (at.0 == host && object.0 == o) ≡ b → (moved header.size (if b then Begins else Elsewhere) (page_on header host o p past)).asked ≡ true → Asking host o p (event.Sent (Up at object) (message.Create control size) ∷ past)
+    by : (b : Bool) → (at.0 == host && object.0 == o) ≡ b → (local_after header.size (if b then Begins else Elsewhere) (page_on header host o p past)).asked ≡ true → Asking host o p (event.Sent (Up at object) (message.Create control size) ∷ past)
     by true own is = never is
     by false own is = asking_sent host o p at object (message.Create control size) past (passed (at.0 == host && object.0 == o) (Some control) (live_control host o past) own) (all o p is)
 up_asks header host at object (message.Terminate control) past c all o p = by (at.0 == host && object.0 == o) (is_control control (live_control host o past)) refl refl
   where
-    by : (b t : Bool) → (at.0 == host && object.0 == o) ≡ b → is_control control (live_control host o past) ≡ t → (moved header.size (if b then (if t then Ends else Elsewhere) else Elsewhere) (page_on header host o p past)).asked ≡ true
+    by : (b t : Bool) → (at.0 == host && object.0 == o) ≡ b → is_control control (live_control host o past) ≡ t → (local_after header.size (if b then (if t then Ends else Elsewhere) else Elsewhere) (page_on header host o p past)).asked ≡ true
         → Asking host o p (event.Sent (Up at object) (message.Terminate control) ∷ past)
     by true true own live is = never is
     by true false own live is = never (sym live ∙ control_of (live_control host o past) control (there_two (λ h k. live_control h k past ≡ Some control) at.0 object.0 host o own c.1.live))
     by false t own live is = asking_sent host o p at object (message.Terminate control) past (passed (at.0 == host && object.0 == o) (without_control control (live_control host o past)) (live_control host o past) own) (all o p is)
 up_asks header host at object (message.Request control page access) past c all o p = by (at.0 == host && object.0 == o) (page.0 == p) (is_control control (live_control host o past)) refl refl
   where
-    by : (b t l : Bool) → (at.0 == host && object.0 == o) ≡ b → (page.0 == p) ≡ t → (moved header.size (if b then (if t && l then Asks else Elsewhere) else Elsewhere) (page_on header host o p past)).asked ≡ true
+    by : (b t l : Bool) → (at.0 == host && object.0 == o) ≡ b → (page.0 == p) ≡ t → (local_after header.size (if b then (if t && l then Asks else Elsewhere) else Elsewhere) (page_on header host o p past)).asked ≡ true
         → Asking host o p (event.Sent (Up at object) (message.Request control page access) ∷ past)
     by true true true own its is = (
       control,
@@ -110,16 +110,16 @@ up_asks header host at object (message.Completed control page count) past c all 
     asking_sent host o p at object (message.Completed control page count) past refl (all o p (sym (asked_if header.size (at.0 == host && object.0 == o) Elsewhere (page_on header host o p past) refl) ∙ is))
 up_asks header host at object m past c all o p = absurd c.1
 
-answer_cause : (header : Header) (outside : Outside) (doing : Command) (h o k p : ℕ) (m : Message) (past : List Event) → MaySendDown header outside doing h o k m past → is_answer p m ≡ true → Answers h o k p past
-answer_cause header outside doing h o k p (message.Supply page lock precious bytes) past c is = subst (λ q. Answers h o k q past) (page_is page.0 p is) c.0
+answer_cause : (header : Header) (outside : Outside) (doing : Command) (h o k p : ℕ) (m : Message) (past : List Event) → MaySendDown header outside doing h o k m past → is_answer p m ≡ true → OwesAnswer h o k p past
+answer_cause header outside doing h o k p (message.Supply page lock precious bytes) past c is = subst (λ q. OwesAnswer h o k q past) (page_is page.0 p is) c.0
   where
     page_is : (a b : ℕ) → (a == b) ≡ true → a ≡ b
     page_is a b e = grind (arith, nat_tests)
-answer_cause header outside doing h o k p (message.Unavailable page) past c is = subst (λ q. Answers h o k q past) (page_is page.0 p is) c.0
+answer_cause header outside doing h o k p (message.Unavailable page) past c is = subst (λ q. OwesAnswer h o k q past) (page_is page.0 p is) c.0
   where
     page_is : (a b : ℕ) → (a == b) ≡ true → a ≡ b
     page_is a b e = grind (arith, nat_tests)
-answer_cause header outside doing h o k p (message.Error page reason) past c is = subst (λ q. Answers h o k q past) (page_is page.0 p is) c.0
+answer_cause header outside doing h o k p (message.Error page reason) past c is = subst (λ q. OwesAnswer h o k q past) (page_is page.0 p is) c.0
   where
     page_is : (a b : ℕ) → (a == b) ≡ true → a ≡ b
     page_is a b e = grind (arith, nat_tests)
@@ -130,34 +130,34 @@ port_is : (a b n h o k : ℕ) → a ≡ h → b ≡ o → (n == k) ≡ true → 
 port_is a b n h o k e f g = grind (arith, nat_tests)
 
 answered_there : (header : Header) (outside : Outside) (doing : Command) (host o p k : ℕ) (at : HostId) (object : ObjectId) (n : ℕ) (m : Message) (past : List Event) → MaySendDown header outside doing at.0 object.0 n m past → (object.0 == o && is_answer p m) ≡ true
-    → (r : Message) → taken past ≡ Some (record { channel = up_port host o; message = r }) → is_request k p r ≡ true → (is_channel (down_port host o k) (Down at object n) ≡ true) × (is_answer p m ≡ true)
+    → (r : Message) → taken_letter past ≡ Some (record { channel = up_port host o; message = r }) → is_request k p r ≡ true → (is_channel (down_port host o k) (Down at object n) ≡ true) × (is_answer p m ≡ true)
 answered_there header outside doing host o p k at object n m past c is r was test =
-    let a : Answers at.0 object.0 n p past = answer_cause header outside doing at.0 object.0 n p m past c (right (object.0 == o) (is_answer p m) is) in
+    let a : OwesAnswer at.0 object.0 n p past = answer_cause header outside doing at.0 object.0 n p m past c (right (object.0 == o) (is_answer p m) is) in
     let s = same_taken host o at.0 object.0 r (message.Request n (record { 0 = p }) a.access) (is_request k p) past was a.taken test in
     (port_is at.0 object.0 n host o k s.0 s.1 (left (n == k) (p == p) s.2), right (object.0 == o) (is_answer p m) is)
 
-asked_before : (size : ℕ) (s : Bool) (p : ℕ) (m : Message) (page : Local) → (moved size (if s then taken_effect p m else Elsewhere) page).asked ≡ true → page.asked ≡ true
+asked_before : (size : ℕ) (s : Bool) (p : ℕ) (m : Message) (page : Local) → (local_after size (if s then taken_effect p m else Elsewhere) page).asked ≡ true → page.asked ≡ true
 asked_before size false p m page is = is
 asked_before size true p (message.Supply at lock precious bytes) page is = by (at.0 == p) page.asked refl is
   where
-    by : (t b : Bool) → page.asked ≡ b → (moved size (if t then TakesPage lock precious bytes else Elsewhere) page).asked ≡ true → page.asked ≡ true
+    by : (t b : Bool) → page.asked ≡ b → (local_after size (if t then TakesPage lock precious bytes else Elsewhere) page).asked ≡ true → page.asked ≡ true
     by t true e is = e
     by true false e is = subst (λ b. (if b then record page { here = true; bytes = bytes; lock = lock; dirty = false; precious = precious; unlocking = false; asked = false } else page).asked ≡ true) e is
     by false false e is = is
 asked_before size true p (message.Unavailable at) page is = by (at.0 == p) page.asked refl is
   where
-    by : (t b : Bool) → page.asked ≡ b → (moved size (if t then TakesNothing else Elsewhere) page).asked ≡ true → page.asked ≡ true
+    by : (t b : Bool) → page.asked ≡ b → (local_after size (if t then TakesNothing else Elsewhere) page).asked ≡ true → page.asked ≡ true
     by t true e is = e
     by true false e is = subst (λ b. (if b then record page { asked = false; absent = true } else page).asked ≡ true) e is
     by false false e is = is
 asked_before size true p (message.Error at reason) page is = by (at.0 == p) is
   where
-    by : (t : Bool) → (moved size (if t then TakesError else Elsewhere) page).asked ≡ true → page.asked ≡ true
+    by : (t : Bool) → (local_after size (if t then TakesError else Elsewhere) page).asked ≡ true → page.asked ≡ true
     by true is = never is
     by false is = is
 asked_before size true p (message.Lock at count returns flush lock reply) page is = by (in_range p at.0 count) page.here is
   where
-    by : (t b : Bool) → (moved size (if t then TakesLock lock flush else Elsewhere) page).asked ≡ true → page.asked ≡ true
+    by : (t b : Bool) → (local_after size (if t then TakesLock lock flush else Elsewhere) page).asked ≡ true → page.asked ≡ true
     by true b is = sym (same page.here) ∙ is
       where
         same : (b : Bool) → (if b then record page { lock = if flush || lock == 8 then page.lock else lock; unlocking = false } else page).asked ≡ page.asked
@@ -166,7 +166,7 @@ asked_before size true p (message.Lock at count returns flush lock reply) page i
     by false b is = is
 asked_before size true p m page is = is
 
-answered_after : (size : ℕ) (s : Bool) (p : ℕ) (m : Message) (page : Local) → s ≡ true → is_answer p m ≡ true → (moved size (if s then taken_effect p m else Elsewhere) page).asked ≡ false
+answered_after : (size : ℕ) (s : Bool) (p : ℕ) (m : Message) (page : Local) → s ≡ true → is_answer p m ≡ true → (local_after size (if s then taken_effect p m else Elsewhere) page).asked ≡ false
 answered_after size false p m page e is = never e
 answered_after size true p (message.Supply at lock precious bytes) page e is = by (at.0 == p) is
   where
@@ -174,7 +174,7 @@ answered_after size true p (message.Supply at lock precious bytes) page e is = b
     pick true e = refl
     pick false e = e
 
-    by : (t : Bool) → t ≡ true → (moved size (if t then TakesPage lock precious bytes else Elsewhere) page).asked ≡ false
+    by : (t : Bool) → t ≡ true → (local_after size (if t then TakesPage lock precious bytes else Elsewhere) page).asked ≡ false
     by true e = pick page.asked refl
     by false e = never e
 answered_after size true p (message.Unavailable at) page e is = by (at.0 == p) is
@@ -183,12 +183,12 @@ answered_after size true p (message.Unavailable at) page e is = by (at.0 == p) i
     pick true e = refl
     pick false e = e
 
-    by : (t : Bool) → t ≡ true → (moved size (if t then TakesNothing else Elsewhere) page).asked ≡ false
+    by : (t : Bool) → t ≡ true → (local_after size (if t then TakesNothing else Elsewhere) page).asked ≡ false
     by true e = pick page.asked refl
     by false e = never e
 answered_after size true p (message.Error at reason) page e is = by (at.0 == p) is
   where
-    by : (t : Bool) → t ≡ true → (moved size (if t then TakesError else Elsewhere) page).asked ≡ false
+    by : (t : Bool) → t ≡ true → (local_after size (if t then TakesError else Elsewhere) page).asked ≡ false
     by true e = refl
     by false e = never e
 answered_after size true p m page e is = never is
@@ -293,10 +293,10 @@ up_opens host at object (message.Terminate control) past all o k = λ live is.
 up_opens host at object m past all o k = λ live is. opening_sent host o k at object m past (all o k live is)
 
 ready_there : (header : Header) (outside : Outside) (doing : Command) (host o k : ℕ) (at : HostId) (object : ObjectId) (n : ℕ) (m : Message) (past : List Event) → MaySendDown header outside doing at.0 object.0 n m past → (object.0 == o && says_ready m) ≡ true
-    → (r : Message) → taken past ≡ Some (record { channel = up_port host o; message = r }) → opens k r ≡ true → (is_channel (down_port host o k) (Down at object n) ≡ true) × (says_ready m ≡ true)
+    → (r : Message) → taken_letter past ≡ Some (record { channel = up_port host o; message = r }) → opens k r ≡ true → (is_channel (down_port host o k) (Down at object n) ≡ true) × (says_ready m ≡ true)
 ready_there header outside doing host o k at object n (message.Ready cache strategy) past c is r was test = by c.3
   where
-    by : ((taken past ≡ Some (record { channel = up_port at.0 object.0; message = message.Create n c.0 })) × (strategy ≡ 3)) ⊎ ((taken past ≡ Some (record { channel = up_port at.0 object.0; message = message.Init n c.0 })) × (strategy ≡ 0))
+    by : ((taken_letter past ≡ Some (record { channel = up_port at.0 object.0; message = message.Create n c.0 })) × (strategy ≡ 3)) ⊎ ((taken_letter past ≡ Some (record { channel = up_port at.0 object.0; message = message.Init n c.0 })) × (strategy ≡ 0))
         → (is_channel (down_port host o k) (Down at object n) ≡ true) × (true ≡ true)
     by (inl t) = let s = same_taken host o at.0 object.0 r (message.Create n c.0) (opens k) past was t.0 test in (port_is at.0 object.0 n host o k s.0 s.1 s.2, refl)
     by (inr t) = let s = same_taken host o at.0 object.0 r (message.Init n c.0) (opens k) past was t.0 test in (port_is at.0 object.0 n host o k s.0 s.1 s.2, refl)

@@ -14,12 +14,12 @@ use Rattle.vm_model.specs.declared.message.Message.TheVariants as message
 use Rattle.vm_model.specs.declared.script.Header.{Header}
 use Rattle.vm_model.specs.Channels.{queue}
 use Rattle.vm_model.specs.Controls.{is_control, last_control, live_control}
-use Rattle.vm_model.specs.Local.{Effect, Local, Zeroes, Raises, Stores, Drops, Returns, Asks, Unlocks, TakesPage, TakesNothing, TakesError, TakesLock, Begins, Ends, Elsewhere, is_on, moved}
+use Rattle.vm_model.specs.Local.{LocalEffect, Local, Zeroes, Raises, Stores, Drops, Returns, Asks, Unlocks, TakesPage, TakesNothing, TakesError, TakesLock, Begins, Ends, Elsewhere, is_on, local_after}
 use Rattle.vm_model.specs.Moments.{EachEvent}
 use Rattle.vm_model.specs.Server.{first}
 use Rattle.vm_model.specs.Tasks.{host_of}
 use Rattle.vm_model.specs.Words.{in_range}
-use Rattle.vm_legal.specs.Frames.{Takes, Gives, changed, frames_held, returns_out, where_true}
+use Rattle.vm_legal.specs.Frames.{Takes, Gives, frames_after, frames_held, returns_out, where_true}
 use Rattle.vm_legal.specs.Licences.{HasCause, MaySendUp}
 use Rattle.vm_legal.specs.Outside.{Outside}
 use Rattle.vm_legal.specs.Walks.{page_on}
@@ -52,22 +52,22 @@ asked_framed page is = by page.here page.asked is
 
 -- what an effect at one place makes of the frames
 
-used_if : (size : ℕ) (t : Bool) (e : Effect) (page : Local) (v : Bool) → (t ≡ true → has_frame (moved size e page) ≡ v) → has_frame (moved size (if t then e else Elsewhere) page) ≡ (if t then v else has_frame page)
+used_if : (size : ℕ) (t : Bool) (e : LocalEffect) (page : Local) (v : Bool) → (t ≡ true → has_frame (local_after size e page) ≡ v) → has_frame (local_after size (if t then e else Elsewhere) page) ≡ (if t then v else has_frame page)
 used_if size true e page v is = is refl
 used_if size false e page v is = refl
 
-used_two : (size : ℕ) (own object at : Bool) (e : Effect) (page : Local) (v : Bool) → ((own && (object && at)) ≡ true → has_frame (moved size e page) ≡ v)
-    → has_frame (moved size (if own && object then (if at then e else Elsewhere) else Elsewhere) page) ≡ (if own && (object && at) then v else has_frame page)
+used_two : (size : ℕ) (own object at : Bool) (e : LocalEffect) (page : Local) (v : Bool) → ((own && (object && at)) ≡ true → has_frame (local_after size e page) ≡ v)
+    → has_frame (local_after size (if own && object then (if at then e else Elsewhere) else Elsewhere) page) ≡ (if own && (object && at) then v else has_frame page)
 used_two size true true true e page v is = is refl
 used_two size true true false e page v is = refl
 used_two size true false at e page v is = refl
 used_two size false object at e page v is = refl
 
-kept_if : (size : ℕ) (t : Bool) (e : Effect) (page : Local) → (t ≡ true → has_frame (moved size e page) ≡ has_frame page) → has_frame (moved size (if t then e else Elsewhere) page) ≡ has_frame page
+kept_if : (size : ℕ) (t : Bool) (e : LocalEffect) (page : Local) → (t ≡ true → has_frame (local_after size e page) ≡ has_frame page) → has_frame (local_after size (if t then e else Elsewhere) page) ≡ has_frame page
 kept_if size true e page is = is refl
 kept_if size false e page is = refl
 
-kept_two : (size : ℕ) (s t : Bool) (e : Effect) (page : Local) → (s ≡ true → t ≡ true → has_frame (moved size e page) ≡ has_frame page) → has_frame (moved size (if s then (if t then e else Elsewhere) else Elsewhere) page) ≡ has_frame page
+kept_two : (size : ℕ) (s t : Bool) (e : LocalEffect) (page : Local) → (s ≡ true → t ≡ true → has_frame (local_after size e page) ≡ has_frame page) → has_frame (local_after size (if s then (if t then e else Elsewhere) else Elsewhere) page) ≡ has_frame page
 kept_two size true true e page is = is refl refl
 kept_two size true false e page is = refl
 kept_two size false t e page is = refl
@@ -80,11 +80,11 @@ less_if : (own : Bool) (U V : ℕ → ℕ → Bool) (n a b : ℕ) → (own ≡ t
 less_if true U V n a b there new h = held_less U V n a b (there refl) new h
 less_if false U V n a b there new h = held_same U V n new h
 
-takes : (own : Bool) (n r f : ℕ) → n + r ≡ f → (if own then n + 1 else n) + r ≡ changed (where_true own Takes) f
+takes : (own : Bool) (n r f : ℕ) → n + r ≡ f → (if own then n + 1 else n) + r ≡ frames_after (where_true own Takes) f
 takes true n r f e = omega (arith, e)
 takes false n r f e = e
 
-gives : (own : Bool) (U : ℕ → ℕ → Bool) (n a b r f : ℕ) → (own ≡ true → U a b ≡ true) → Held U n → n + r ≡ f → (if own then n - 1 else n) + r ≡ changed (where_true own Gives) f
+gives : (own : Bool) (U : ℕ → ℕ → Bool) (n a b r f : ℕ) → (own ≡ true → U a b ≡ true) → Held U n → n + r ≡ f → (if own then n - 1 else n) + r ≡ frames_after (where_true own Gives) f
 gives true U n a b r f there h e = omega (arith, e, held_some U n a b (there refl) h)
 gives false U n a b r f there h e = e
 
@@ -125,7 +125,7 @@ asks_here true false at live is = refl
 asks_here false object at live is = refl
 
 asks_used : (size : ℕ) (own object at live : Bool) (page : Local) → ((own && object) ≡ true → live ≡ true)
-    → has_frame (moved size (if own && object then (if at && live then Asks else Elsewhere) else Elsewhere) page) ≡ (if own && (object && at) then true else has_frame page)
+    → has_frame (local_after size (if own && object then (if at && live then Asks else Elsewhere) else Elsewhere) page) ≡ (if own && (object && at) then true else has_frame page)
 asks_used size own object at live page is =
     used_two size own object (at && live) Asks page true (λ e. either page.here) ∙ ap (λ b. if b then true else has_frame page) (asks_here own object at live is)
   where
@@ -182,14 +182,14 @@ count_up header host at object m past base c count = absurd c.1
 
 -- what comes down
 
-page_used : (size : ℕ) (lock : ℕ) (precious : Bool) (bytes : List ℕ) (page : Local) → has_frame (moved size (TakesPage lock precious bytes) page) ≡ has_frame page
+page_used : (size : ℕ) (lock : ℕ) (precious : Bool) (bytes : List ℕ) (page : Local) → has_frame (local_after size (TakesPage lock precious bytes) page) ≡ has_frame page
 page_used size lock precious bytes page = by page.asked refl
   where
     by : (b : Bool) → page.asked ≡ b → has_frame (if b then record page { here = true; bytes = bytes; lock = lock; dirty = false; precious = precious; unlocking = false; asked = false } else page) ≡ has_frame page
     by true is = sym (asked_framed page is)
     by false is = refl
 
-lock_used : (size : ℕ) (lock : ℕ) (flush : Bool) (page : Local) → has_frame (moved size (TakesLock lock flush) page) ≡ has_frame page
+lock_used : (size : ℕ) (lock : ℕ) (flush : Bool) (page : Local) → has_frame (local_after size (TakesLock lock flush) page) ≡ has_frame page
 lock_used size lock flush page = by page.here
   where
     by : (b : Bool) → has_frame (if b then record page { lock = if flush || lock == 8 then page.lock else lock; unlocking = false } else page) ≡ has_frame page
@@ -205,7 +205,7 @@ ended_used page apart = by page.here page.asked apart
     by false true apart = refl
     by false false apart = refl
 
-nothing_used : (size : ℕ) (page : Local) → (page.here ≡ true → page.asked ≡ false) → has_frame (moved size TakesNothing page) ≡ (if page.asked then false else has_frame page)
+nothing_used : (size : ℕ) (page : Local) → (page.here ≡ true → page.asked ≡ false) → has_frame (local_after size TakesNothing page) ≡ (if page.asked then false else has_frame page)
 nothing_used size page apart = by page.asked refl
   where
     by : (b : Bool) → page.asked ≡ b → has_frame (if b then record page { asked = false; absent = true } else page) ≡ (if b then false else has_frame page)
@@ -234,8 +234,8 @@ same_end u true true true live live' asked asked' e f = by live asked ∙ ap (λ
     by false true = refl
     by false false = refl
 
-end_used : (size : ℕ) (s t : Bool) (e : Effect) (page : Local) → has_frame (moved size e page) ≡ (if page.asked then false else has_frame page)
-    → has_frame (moved size (if s then (if t then e else Elsewhere) else Elsewhere) page) ≡ (if s then (if t then (if page.asked then false else has_frame page) else has_frame page) else has_frame page)
+end_used : (size : ℕ) (s t : Bool) (e : LocalEffect) (page : Local) → has_frame (local_after size e page) ≡ (if page.asked then false else has_frame page)
+    → has_frame (local_after size (if s then (if t then e else Elsewhere) else Elsewhere) page) ≡ (if s then (if t then (if page.asked then false else has_frame page) else has_frame page) else has_frame page)
 end_used size true true e page is = is
 end_used size true false e page is = refl
 end_used size false t e page is = refl
@@ -247,7 +247,7 @@ count_end : (header : Header) (host : ℕ) (at : HostId) (object : ObjectId) (co
     → ((o p : ℕ) → V o p ≡ (if at.0 == host && (object.0 == o && is_control control (live_control host o past)) then (if page == p then (if (page_on header host o p past).asked then false else framed header host past o p) else framed header host past o p) else framed header host past o p))
     → (count : Count header host past) → Held V (if at.0 == host && (is_control control (live_control host object.0 past) && (page_on header host object.0 page past).asked) then count.number - 1 else count.number)
     × ((if at.0 == host && (is_control control (live_control host object.0 past) && (page_on header host object.0 page past).asked) then count.number - 1 else count.number) + returns_out host past
-    ≡ changed (where_true (at.0 == host && (is_control control (live_control host object.0 past) && (page_on header host object.0 page past).asked)) Gives) (frames_held header.size host past))
+    ≡ frames_after (where_true (at.0 == host && (is_control control (live_control host object.0 past) && (page_on header host object.0 page past).asked)) Gives) (frames_held header.size host past))
 count_end header host at object control page past V base new count =
     let own : Bool = at.0 == host && (is_control control (live_control host object.0 past) && (page_on header host object.0 page past).asked) in (
       less_if own (framed header host past) V count.number object.0 page there_is
@@ -304,7 +304,7 @@ count_taken header host at object (message.Return control page dirty keep bytes)
       sum = by (at.0 == host && not keep) count.number (returns_out host past) (frames_held header.size host past) (λ is. some_out host (Up at object) (message.Return control page dirty keep bytes) past head is base.returns) count.sum;
     }
   where
-    by : (b : Bool) (n r f : ℕ) → (b ≡ true → 0 < r) → n + r ≡ f → n + (if b then r - 1 else r) ≡ changed (where_true b Gives) f
+    by : (b : Bool) (n r f : ℕ) → (b ≡ true → 0 < r) → n + r ≡ f → n + (if b then r - 1 else r) ≡ frames_after (where_true b Gives) f
     by true n r f some e = omega (arith, some refl, e)
     by false n r f some e = e
 count_taken header host at object m past base head count = taken_same header host at object m past refl refl count

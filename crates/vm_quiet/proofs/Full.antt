@@ -9,7 +9,7 @@ use Rattle.vm_legal.specs.Accesses.{Waits}
 use Rattle.vm_legal.specs.Debts.{IsPaid}
 use Rattle.vm_legal.specs.Licences.{HasCause, created}
 use Rattle.vm_legal.specs.Prompt.{NoneInVain, Prompt}
-use Rattle.vm_legal.specs.Steps.{absence_taken, error_taken, taken}
+use Rattle.vm_legal.specs.Steps.{absence_taken, error_taken, taken_letter}
 use Rattle.vm_legal.specs.Undelivered.{undelivered}
 use Rattle.vm_quiet.specs.Full.{header, history, outside, region}
 use Rattle.vm_quiet.specs.Places.{AllPaged}
@@ -20,7 +20,7 @@ pub full_paged : AllPaged header
 full_paged o below = absurd (omega (arith, below))
 
 -- a step that took nothing owes nothing
-idle : (past : List Event) → created past ≡ None → taken past ≡ None → error_taken header.size past ≡ None → absence_taken header.size past ≡ None → IsPaid header past
+idle : (past : List Event) → created past ≡ None → taken_letter past ≡ None → error_taken header.size past ≡ None → absence_taken header.size past ≡ None → IsPaid header past
 idle past made took failed lacked =
     record {
       returned = made;

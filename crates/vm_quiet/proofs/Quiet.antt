@@ -13,7 +13,7 @@ use Rattle.vm_legal.specs.Licences.{HasCause}
 use Rattle.vm_legal.specs.Undelivered.{undelivered}
 use Rattle.vm_legal.specs.Frames.{frames_held, frames_of, frames_wired, returns_out}
 use Rattle.vm_legal.specs.Outside.{Outside}
-use Rattle.vm_legal.specs.Prompt.{AnAnswer, AReady, AnUnlock, Awaits, IsExhausted, IsFull, Prompt, WaitsForPager}
+use Rattle.vm_legal.specs.Prompt.{AnAnswer, AReady, AnUnlock, Awaits, IsExhausted, HostIsFull, Prompt, WaitsForPager}
 use Rattle.vm_legal.specs.Steps.{answers, is_answer, is_ready as says_ready, readies}
 use Rattle.vm_legal.specs.Walks.{page_on}
 use Rattle.vm_quiet.specs.Carried.{is_request, opens}
@@ -57,7 +57,7 @@ here_of page unasked is = by page.here page.asked unasked is
 short : (of held wired : ℕ) → of - (held + wired) ≡ 0 → held ≤ 1 → of - wired < 2
 short of held wired none one = omega arith
 
-full_short : (header : Header) (outside : Outside) (history : List Event) (host : ℕ) → AllPaged header → IsQuiet header outside history → Base header host history → Count header host history → IsFull header host history → IsShortOfFrames header host history
+full_short : (header : Header) (outside : Outside) (history : List Event) (host : ℕ) → AllPaged header → IsQuiet header outside history → Base header host history → Count header host history → HostIsFull header host history → IsShortOfFrames header host history
 full_short header outside history host all quiet base count full = by full.why
   where
     none_out : returns_out host history ≡ 0
@@ -79,7 +79,7 @@ one_short header outside history host task access all q below waits on = by ((q.
     base : Base header host history
     base = base_of header outside host history all q.causes
 
-    by : WaitsForPager header host task access history ⊎ IsFull header host history → IsShortOfFrames header host history
+    by : WaitsForPager header host task access history ⊎ HostIsFull header host history → IsShortOfFrames header host history
     by (inl w) = absurd (no_pager header outside history host (is_store access) w.object w.page all q base w.what)
     by (inr full) = full_short header outside history host all q base (count_of header outside host history all q.causes) full
 

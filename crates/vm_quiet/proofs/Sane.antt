@@ -14,7 +14,7 @@ use Rattle.vm_model.specs.declared.command.Command.{Command}
 use Rattle.vm_model.specs.declared.script.Header.{Header}
 use Rattle.vm_model.specs.Channels.{queue, down_port}
 use Rattle.vm_model.specs.Controls.{is_control, without_control, last_control, live_control}
-use Rattle.vm_model.specs.Local.{Effect, Local, Zeroes, Raises, Stores, Drops, Returns, Asks, Unlocks, TakesPage, TakesNothing, TakesError, TakesLock, Begins, Ends, Elsewhere, effect, is_on, local, moved}
+use Rattle.vm_model.specs.Local.{LocalEffect, Local, Zeroes, Raises, Stores, Drops, Returns, Asks, Unlocks, TakesPage, TakesNothing, TakesError, TakesLock, Begins, Ends, Elsewhere, effect, is_on, local, local_after}
 use Rattle.vm_model.specs.Moments.{EachEvent}
 use Rattle.vm_model.specs.Named.{named}
 use Rattle.vm_model.specs.Server.{first}
@@ -103,7 +103,7 @@ abbrev pub Lives : Option ℕ → Option ℕ → Type 0
 Lives live after = is_some live ≡ true → is_some after ≡ true
 
 -- what an effect needs, with the live control before and after it
-abbrev pub Allowed : Effect → Local → Option ℕ → Option ℕ → Type 0
+abbrev pub Allowed : LocalEffect → Local → Option ℕ → Option ℕ → Type 0
 Allowed Zeroes was live after = IsVacant was
 Allowed (Raises bytes) was live after = IsVacant was
 Allowed (Stores at bytes) was live after = Lives live after
@@ -130,7 +130,7 @@ lock_kept false lock was is open_ = by (lock == 8) (eight lock is)
     by true e = open_
     by false e = never e
 
-sane_moved : (size : ℕ) (e : Effect) (was : Local) (live after : Option ℕ) → Allowed e was live after → Sane was live → Sane (moved size e was) after
+sane_moved : (size : ℕ) (e : LocalEffect) (was : Local) (live after : Option ℕ) → Allowed e was live after → Sane was live → Sane (local_after size e was) after
 sane_moved size Zeroes was live after c s = record { apart = λ is. c.unasked; living = λ is. never (sym c.unasked ∙ is); unlocked = refl }
 sane_moved size (Raises bytes) was live after c s = record { apart = λ is. c.unasked; living = λ is. never (sym c.unasked ∙ is); unlocked = refl }
 sane_moved size (Stores at bytes) was live after c s = record { apart = s.apart; living = λ is. c (s.living is); unlocked = s.unlocked }
@@ -192,11 +192,11 @@ pub record Base (header : Header) (host : ℕ) (past : List Event) : Type 0 wher
   pub plain : (o k : ℕ) → ArePlain (queue (down_port host o k) past)
   pub returns : returns_out host past ≡ outs host (undelivered past)
 
-allowed_if : (t : Bool) (e : Effect) (was : Local) (live after : Option ℕ) → (t ≡ true → Allowed e was live after) → Lives live after → Allowed (if t then e else Elsewhere) was live after
+allowed_if : (t : Bool) (e : LocalEffect) (was : Local) (live after : Option ℕ) → (t ≡ true → Allowed e was live after) → Lives live after → Allowed (if t then e else Elsewhere) was live after
 allowed_if true e was live after c keeps = c refl
 allowed_if false e was live after c keeps = keeps
 
-allowed_two : (s t : Bool) (e : Effect) (was : Local) (live after : Option ℕ) → (s ≡ true → t ≡ true → Allowed e was live after) → Lives live after → Allowed (if s then (if t then e else Elsewhere) else Elsewhere) was live after
+allowed_two : (s t : Bool) (e : LocalEffect) (was : Local) (live after : Option ℕ) → (s ≡ true → t ≡ true → Allowed e was live after) → Lives live after → Allowed (if s then (if t then e else Elsewhere) else Elsewhere) was live after
 allowed_two true true e was live after c keeps = c refl refl
 allowed_two true false e was live after c keeps = keeps
 allowed_two false t e was live after c keeps = keeps

@@ -9,7 +9,7 @@ use Rattle.vm_model.specs.declared.message.Message.{Message}
 use Rattle.vm_model.specs.Channels.{is_channel, queue, up_port, down_port}
 use Rattle.vm_model.specs.Server.{first}
 use Rattle.vm_model.specs.Side.{rest}
-use Rattle.vm_legal.specs.Steps.{Letter, since, taken}
+use Rattle.vm_legal.specs.Steps.{Letter, since, taken_letter}
 use Rattle.vm_legal.specs.Undelivered.{undelivered}
 use Rattle.vm_quiet.proofs.Letters.{never, none_queued, same_channel}
 
@@ -62,14 +62,14 @@ abbrev pub OnTheWay : (Message → Bool) → (Message → Bool) → (Event → B
 OnTheWay up down done h o k past =
     (some_such up (queue (up_port h o) past) ≡ true)
     ⊎ ((some_such down (queue (down_port h o k) past) ≡ true)
-    ⊎ ((m : Message) × (taken past ≡ Some (record { channel = up_port h o; message = m })) × (up m ≡ true) × (since done past ≡ false)))
+    ⊎ ((m : Message) × (taken_letter past ≡ Some (record { channel = up_port h o; message = m })) × (up m ≡ true) × (since done past ≡ false)))
 
 -- the step did it
 abbrev pub IsDone : (Message → Bool) → (Event → Bool) → ℕ → ℕ → List Event → Type 0
-IsDone up done h o past = (m : Message) → taken past ≡ Some (record { channel = up_port h o; message = m }) → up m ≡ true → since done past ≡ true
+IsDone up done h o past = (m : Message) → taken_letter past ≡ Some (record { channel = up_port h o; message = m }) → up m ≡ true → since done past ≡ true
 
 pub way_sent : (up down : Message → Bool) (done : Event → Bool) (h o k : ℕ) (c : Channel) (m : Message) (past : List Event)
-    → (done (event.Sent c m) ≡ true → (n : Message) → taken past ≡ Some (record { channel = up_port h o; message = n }) → up n ≡ true → (is_channel (down_port h o k) c ≡ true) × (down m ≡ true))
+    → (done (event.Sent c m) ≡ true → (n : Message) → taken_letter past ≡ Some (record { channel = up_port h o; message = n }) → up n ≡ true → (is_channel (down_port h o k) c ≡ true) × (down m ≡ true))
     → OnTheWay up down done h o k past → OnTheWay up down done h o k (event.Sent c m ∷ past)
 way_sent up down done h o k c m past answered (inl q) = inl (some_more (is_channel (up_port h o) c) up (queue (up_port h o) past) m q)
 way_sent up down done h o k c m past answered (inr (inl q)) = inr (inl (some_more (is_channel (down_port h o k) c) down (queue (down_port h o k) past) m q))
@@ -132,7 +132,7 @@ test_in test None = false
 test_in test (Some l) = test l.message
 
 -- two letters up that the step took are one
-pub same_taken : (h o a b : ℕ) (m n : Message) (test : Message → Bool) (past : List Event) → taken past ≡ Some (record { channel = up_port h o; message = m }) → taken past ≡ Some (record { channel = up_port a b; message = n }) → test m ≡ true
+pub same_taken : (h o a b : ℕ) (m n : Message) (test : Message → Bool) (past : List Event) → taken_letter past ≡ Some (record { channel = up_port h o; message = m }) → taken_letter past ≡ Some (record { channel = up_port a b; message = n }) → test m ≡ true
     → (a ≡ h) × (b ≡ o) × (test n ≡ true)
 same_taken h o a b m n test past e f is =
     (ap (λ (l : Option Letter). host_in l) (sym f ∙ e), ap (λ (l : Option Letter). object_in l) (sym f ∙ e), ap (λ (l : Option Letter). test_in test l) (sym f ∙ e) ∙ is)

@@ -8,7 +8,7 @@ use Rattle.vm_base.proofs.Keys.{Ahead, Behind, Same, behind_apart, cases_key, la
 use Rattle.vm_base.specs.Keys.{IsFrom, is_page}
 use Rattle.vm_base.specs.declared.ids.PageKey.{PageKey}
 use Rattle.vm_resident.proofs.Places.{low_bound, none_among}
-use Rattle.vm_resident.specs.Kept.{ByKey, rank}
+use Rattle.vm_resident.specs.Kept.{ByKey, resident_before}
 use Rattle.vm_resident.specs.Resident.{row_among}
 use Rattle.vm_resident.specs.declared.resident_page.ResidentPage.{ResidentPage}
 
@@ -17,7 +17,7 @@ weaker object page key [] from by_key = tt
 weaker object page key (x ∷ xs) from by_key = (later object page key x.key from by_key.0, by_key.1)
 
 pub by_key_inserted : (object page : ℕ) (new : ResidentPage) (pages : List ResidentPage) → ByKey object page pages → IsFrom object page new.key → row_among new.key.object.0 new.key.page.0 pages ≡ None
-    → ByKey object page (insert pages (rank new.key.object.0 new.key.page.0 pages) new)
+    → ByKey object page (insert pages (resident_before new.key.object.0 new.key.page.0 pages) new)
 by_key_inserted object page new [] by_key from absent = (from, tt)
 by_key_inserted object page new (x ∷ xs) by_key from absent =
     cases_key x.key new.key.object.0 new.key.page.0
@@ -28,7 +28,7 @@ by_key_inserted object page new (x ∷ xs) by_key from absent =
     (λ (h : Behind x.key new.key.object.0 new.key.page.0). rw h.before (from, (h.place, by_key.1)))
 
 pub row_inserted : (o p : ℕ) (new : ResidentPage) (pages : List ResidentPage)
-    → row_among o p (insert pages (rank new.key.object.0 new.key.page.0 pages) new) ≡ (if is_page new.key o p then Some new.row else row_among o p pages)
+    → row_among o p (insert pages (resident_before new.key.object.0 new.key.page.0 pages) new) ≡ (if is_page new.key o p then Some new.row else row_among o p pages)
 row_inserted o p new [] = refl
 row_inserted o p new (x ∷ xs) =
     let rest = row_inserted o p new xs in

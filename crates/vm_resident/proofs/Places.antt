@@ -7,7 +7,7 @@ use Rattle.std.specs.Prelude.{slice_get, if◌then◌else◌}
 use Rattle.vm_base.specs.Keys.{IsFrom, is_before, is_page}
 use Rattle.vm_base.proofs.Keys.{Ahead, Behind, IsAhead, Same, apart, before_is, before_read, cases_key, from_ahead, higher_object, higher_page, later, same_page}
 use Rattle.vm_base.specs.declared.ids.PageKey.{PageKey}
-use Rattle.vm_resident.specs.Kept.{ByKey, is_of, rank}
+use Rattle.vm_resident.specs.Kept.{ByKey, is_of, resident_before}
 use Rattle.vm_resident.specs.Resident.{row_among}
 use Rattle.vm_resident.specs.declared.page_row.PageRow.{PageRow}
 use Rattle.vm_resident.specs.declared.resident_page.ResidentPage.{ResidentPage}
@@ -27,7 +27,7 @@ abbrev pub row_if : ℕ → ℕ → Option ResidentPage → Option PageRow
 row_if o p None = None
 row_if o p (Some x) = if is_page x.key o p then Some x.row else None
 
-pub row_found : (object page o p : ℕ) (pages : List ResidentPage) → ByKey object page pages → row_among o p pages ≡ row_if o p (slice_get pages (rank o p pages))
+pub row_found : (object page o p : ℕ) (pages : List ResidentPage) → ByKey object page pages → row_among o p pages ≡ row_if o p (slice_get pages (resident_before o p pages))
 row_found object page o p [] by_key = refl
 row_found object page o p (x ∷ xs) by_key =
     cases_key x.key o p
@@ -57,7 +57,7 @@ partitioned object page o p (x ∷ xs) by_key (suc i) (suc j) d le within before
 pub rank_is : (o p i : ℕ) (pages : List ResidentPage) → i ≤ length pages
     → ((k : ℕ) (d : ResidentPage) → 0 ≤ k → k < i → is_before (get_or pages k d).key o p ≡ true)
     → ((k : ℕ) (d : ResidentPage) → i ≤ k → k < length pages → is_before (get_or pages k d).key o p ≡ false)
-    → i ≡ rank o p pages
+    → i ≡ resident_before o p pages
 rank_is o p i [] within low high = omega arith
 rank_is o p zero (x ∷ xs) within low high = let no = high 0 x (omega arith) (omega arith) in rw no refl
 rank_is o p (suc i) (x ∷ xs) within low high =
@@ -73,7 +73,7 @@ front_apart key o p q ahead le =
     (λ (h : Same key o q). let m = ahead.inside (omega (arith, h.object)) in absurd (omega (arith, h.page)))
     (λ (h : Behind key o q). h.apart)
 
-pub next_none : (object page o p q : ℕ) (pages : List ResidentPage) → ByKey object page pages → is_of o (slice_get pages (rank o p pages)) ≡ false → p ≤ q → row_among o q pages ≡ None
+pub next_none : (object page o p q : ℕ) (pages : List ResidentPage) → ByKey object page pages → is_of o (slice_get pages (resident_before o p pages)) ≡ false → p ≤ q → row_among o q pages ≡ None
 next_none object page o p q [] by_key past le = refl
 next_none object page o p q (x ∷ xs) by_key past le =
     cases_key x.key o p
@@ -107,7 +107,7 @@ first_next o p x xs by_key low same =
           rw (apart.apart) (none_among x.key.object.0 (suc x.key.page.0) o q xs by_key (record { above = omega arith; inside = λ le. omega arith }));
     }
 
-pub next_some : (object page o p : ℕ) (pages : List ResidentPage) (next : ResidentPage) → ByKey object page pages → slice_get pages (rank o p pages) ≡ Some next → next.key.object.0 ≡ o → FoundNext o p pages next
+pub next_some : (object page o p : ℕ) (pages : List ResidentPage) (next : ResidentPage) → ByKey object page pages → slice_get pages (resident_before o p pages) ≡ Some next → next.key.object.0 ≡ o → FoundNext o p pages next
 next_some object page o p [] next by_key is same = absurd (none-some next is)
 next_some object page o p (x ∷ xs) next by_key is same =
     cases_key x.key o p

@@ -11,7 +11,7 @@ use Rattle.vm_base.specs.declared.ids.PageKey.{PageKey}
 use Rattle.vm_resident.proofs.Edits.{by_key_inserted, by_key_removed, by_key_set, row_inserted, row_removed, row_set}
 use Rattle.vm_resident.proofs.Owners.{owner_has, owner_inserted, owner_left, owner_none, owner_set}
 use Rattle.vm_resident.proofs.Places.{FoundNext, next_none, next_some, row_found, row_if}
-use Rattle.vm_resident.specs.Kept.{ByKey, is_of, is_page_at, rank}
+use Rattle.vm_resident.specs.Kept.{ByKey, is_of, is_page_at, resident_before}
 use Rattle.vm_resident.specs.Resident.{IsNextPage, IsOwned, NoRowHas, NoRowsFrom, PutsOwner, PutsRow, ResidentTable, owner_among, owner_of, page_key, row_among, row_at}
 use Rattle.vm_resident.specs.declared.page_row.PageRow.{PageRow}
 use Rattle.vm_resident.specs.declared.resident_page.ResidentPage.{ResidentPage}
@@ -20,16 +20,16 @@ use Rattle.vm_resident.specs.declared.resident_page.ResidentPage.{ResidentPage}
 pub record Placed (pages : List ResidentPage) (table : ResidentTable) (key : PageKey) (i : ℕ) : Type 0 where
   pub kept : ByKey 0 0 pages
   pub rows : table.rows ≡ pages
-  pub place : i ≡ rank key.object.0 key.page.0 pages
+  pub place : i ≡ resident_before key.object.0 key.page.0 pages
 
 abbrev pub seen : List ResidentPage → ℕ → ResidentTable
 seen pages spare = record { rows = pages; spare = spare }
 
-pub placed : (pages found : List ResidentPage) (spare : ℕ) (table : ResidentTable) (key : PageKey) (i : ℕ) → seen pages spare ≡ table → ByKey 0 0 pages → found ≡ pages → i ≡ rank key.object.0 key.page.0 found → Placed pages table key i
+pub placed : (pages found : List ResidentPage) (spare : ℕ) (table : ResidentTable) (key : PageKey) (i : ℕ) → seen pages spare ≡ table → ByKey 0 0 pages → found ≡ pages → i ≡ resident_before key.object.0 key.page.0 found → Placed pages table key i
 placed pages found spare table key i view kept same place = record {
   kept = kept;
   rows = ap (λ (z : ResidentTable). z.rows) (sym view);
-  place = place ∙ ap (rank key.object.0 key.page.0) same;
+  place = place ∙ ap (resident_before key.object.0 key.page.0) same;
 }
 
 -- what stands at the place of a page that has a row
@@ -109,11 +109,11 @@ pub record Inserted (table : ResidentTable) (left : List ResidentPage) (key : Pa
 pub inserted : (pages left : List ResidentPage) (table : ResidentTable) (key : PageKey) (i : ℕ) (row : PageRow) → Placed pages table key i → row_at table key.object.0 key.page.0 ≡ None → left ≡ insert pages i (record { key = key; row = row }) → Inserted table left key row
 inserted pages left table key i row h none is =
     let new : ResidentPage = record { key = key; row = row } in
-    let place : left ≡ insert pages (rank key.object.0 key.page.0 pages) new = is ∙ ap (λ (z : ℕ). insert pages z new) h.place in
+    let place : left ≡ insert pages (resident_before key.object.0 key.page.0 pages) new = is ∙ ap (λ (z : ℕ). insert pages z new) h.place in
     rw place record {
       kept = by_key_inserted 0 0 new pages h.kept (record { above = omega arith; inside = λ le. omega arith }) (rw h.rows at none);
       rows = λ spare. record { at = λ o p. rw h.rows (row_inserted o p new pages) };
-      frames = λ spare free. record { at = λ g. rw h.rows (owner_inserted (rank key.object.0 key.page.0 pages) g new pages (rw h.rows at free)) };
+      frames = λ spare free. record { at = λ g. rw h.rows (owner_inserted (resident_before key.object.0 key.page.0 pages) g new pages (rw h.rows at free)) };
     }
 
 -- what is left where the row of a page is changed
@@ -261,7 +261,7 @@ of_within pages found o i test same told of = let stands = stands_of pages found
 
 pub past : (pages found : List ResidentPage) (table : ResidentTable) (key : PageKey) (i : ℕ) (test : Bool) → Placed pages table key i → found ≡ pages → test ≡ is_of key.object.0 (slice_get found i) → test ≡ false → NoRowsFrom table key.object.0 key.page.0
 past pages found table key i test h same told other q le =
-    let none : is_of key.object.0 (slice_get pages (rank key.object.0 key.page.0 pages)) ≡ false = rw (same, h.place) at (sym told ∙ other) in
+    let none : is_of key.object.0 (slice_get pages (resident_before key.object.0 key.page.0 pages)) ≡ false = rw (same, h.place) at (sym told ∙ other) in
     rw h.rows (next_none 0 0 key.object.0 key.page.0 q pages h.kept none le)
 
 next_page_is : (table : ResidentTable) (pages : List ResidentPage) (o p : ℕ) (page : ResidentPage) → table.rows ≡ pages → FoundNext o p pages page → IsNextPage table o p page.key.page.0
@@ -276,7 +276,7 @@ pub next : (pages found : List ResidentPage) (table : ResidentTable) (key : Page
 next pages found table key i test page h same told of read =
     let stands = stands_of pages found key.object.0 i test same told of in
     let one : page ≡ stands.page = read ∙ get_or_from_slice_get pages i stands.page page stands.is in
-    let is : slice_get pages (rank key.object.0 key.page.0 pages) ≡ Some stands.page = ap (slice_get pages) (sym h.place) ∙ stands.is in
+    let is : slice_get pages (resident_before key.object.0 key.page.0 pages) ≡ Some stands.page = ap (slice_get pages) (sym h.place) ∙ stands.is in
     rw one (next_page_is table pages key.object.0 key.page.0 stands.page h.rows (next_some 0 0 key.object.0 key.page.0 pages stands.page h.kept is stands.object))
 
 some_and : (row : Option PageRow) (has : PageRow) (f : ℕ) → row ≡ Some has → has.frame.0 ≡ f → IsSomeAnd row (λ z. z.frame.0 ≡ f)

@@ -10,9 +10,9 @@ ByKey object page (other ∷ others) =
     IsFrom object page other.key × ByKey other.key.object.0 (suc other.key.page.0) others
 
 -- how many pages come in front of one
-abbrev pub rank : ℕ → ℕ → List ResidentPage → ℕ
-rank object page [] = 0
-rank object page (other ∷ others) = if is_before other.key object page then suc (rank object page others) else 0
+abbrev pub resident_before : ℕ → ℕ → List ResidentPage → ℕ
+resident_before object page [] = 0
+resident_before object page (other ∷ others) = if is_before other.key object page then suc (resident_before object page others) else 0
 
 -- whether a page stands at a place
 abbrev pub is_page_at : ℕ → ℕ → Option ResidentPage → Bool

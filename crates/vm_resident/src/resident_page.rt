@@ -1,7 +1,7 @@
 // A page with its row, and the search in a list of them.
 ghost use Rattle.std.specs.Prelude.{◌≡◌, ◌≤◌, length, slice_get};
 ghost use Rattle.vm_base.specs.Keys.{is_before};
-ghost use Rattle.vm_resident.specs.Kept.{ByKey, is_of, is_page_at, rank};
+ghost use Rattle.vm_resident.specs.Kept.{ByKey, is_of, is_page_at, resident_before};
 ghost use Rattle.vm_resident.specs.Resident.{owner_among};
 
 use crate::PageRow;
@@ -24,7 +24,7 @@ fn comes_before(key: PageKey, other: PageKey) -> bool
 /// The number of pages in front of one, in a list by rising key.
 pub fn find(pages: &[ResidentPage], key: PageKey) -> usize
     requires { ByKey 0 0 pages.now }
-    ensures value { result ≡ rank key.object.0 key.page.0 pages.now }
+    ensures value { result ≡ resident_before key.object.0 key.page.0 pages.now }
     ensures within { result ≤ length pages.now }
 {
     pages.partition_point(|page| comes_before(page.key, key))

@@ -7,7 +7,7 @@ use Rattle.std.specs.List.{insert, remove}
 use Rattle.std.specs.List.Sorted.{IsNonDecreasingBy}
 use Rattle.std.specs.Prelude.{IfSome, IsSome, IsSomeAnd, slice_get, nat_lt, if◌then◌else◌}
 use Rattle.vm_shadow.specs.Chains.{ChainTable, PutsRegion, region_among, region_at}
-use Rattle.vm_shadow.specs.Kept.{ByRegion, rank}
+use Rattle.vm_shadow.specs.Kept.{ByRegion, regions_before}
 use Rattle.vm_shadow.specs.declared.kept_region.KeptRegion.{KeptRegion}
 use Rattle.vm_shadow.specs.declared.region_row.RegionRow.{RegionRow}
 
@@ -27,7 +27,7 @@ non_decreasing from (kept ∷ rest) by_region (suc i) (suc j) d le within = non_
 pub rank_is : (r i : ℕ) (rest : List KeptRegion) → i ≤ length rest
     → ((k : ℕ) (d : KeptRegion) → 0 ≤ k → k < i → nat_lt (get_or rest k d).region.0 r ≡ true)
     → ((k : ℕ) (d : KeptRegion) → i ≤ k → k < length rest → nat_lt (get_or rest k d).region.0 r ≡ false)
-    → i ≡ rank r rest
+    → i ≡ regions_before r rest
 rank_is r i [] within low high = omega arith
 rank_is r zero (kept ∷ rest) within low high = let no = high 0 kept (omega arith) (omega arith) in rw no refl
 rank_is r (suc i) (kept ∷ rest) within low high =
@@ -51,20 +51,20 @@ abbrev pub row_named : ℕ → Option KeptRegion → Option RegionRow
 row_named r None = None
 row_named r (Some kept) = if kept.region.0 == r then Some kept.row else None
 
-pub region_found : (from r : ℕ) (rest : List KeptRegion) → ByRegion from rest → region_among r rest ≡ row_named r (slice_get rest (rank r rest))
+pub region_found : (from r : ℕ) (rest : List KeptRegion) → ByRegion from rest → region_among r rest ≡ row_named r (slice_get rest (regions_before r rest))
 region_found from r [] by_region = refl
 region_found from r (kept ∷ rest) by_region =
-    let front : kept.region.0 < r → region_among r (kept ∷ rest) ≡ row_named r (slice_get (kept ∷ rest) (rank r (kept ∷ rest)))
+    let front : kept.region.0 < r → region_among r (kept ∷ rest) ≡ row_named r (slice_get (kept ∷ rest) (regions_before r (kept ∷ rest)))
     = λ less.
     let yes : nat_lt kept.region.0 r ≡ true = grind (arith, nat_tests) in
     let no : (kept.region.0 == r) ≡ false = grind (arith, nat_tests) in
     rw (yes, no) (region_found (suc kept.region.0) r rest by_region.1) in
-    let same : kept.region.0 ≡ r → region_among r (kept ∷ rest) ≡ row_named r (slice_get (kept ∷ rest) (rank r (kept ∷ rest)))
+    let same : kept.region.0 ≡ r → region_among r (kept ∷ rest) ≡ row_named r (slice_get (kept ∷ rest) (regions_before r (kept ∷ rest)))
     = λ e.
     let no : nat_lt kept.region.0 r ≡ false = grind (arith, nat_tests) in
     let yes : (kept.region.0 == r) ≡ true = grind (arith, nat_tests) in
     rw (no, yes) refl in
-    let behind : r < kept.region.0 → region_among r (kept ∷ rest) ≡ row_named r (slice_get (kept ∷ rest) (rank r (kept ∷ rest)))
+    let behind : r < kept.region.0 → region_among r (kept ∷ rest) ≡ row_named r (slice_get (kept ∷ rest) (regions_before r (kept ∷ rest)))
     = λ less.
     let no : nat_lt kept.region.0 r ≡ false = grind (arith, nat_tests) in
     let apart : (kept.region.0 == r) ≡ false = grind (arith, nat_tests) in
@@ -78,36 +78,36 @@ pub record Stands (rest : List KeptRegion) (r i : ℕ) : Type 0 where
   pub is : (d : KeptRegion) → region_among r rest ≡ Some (get_or rest i d).row
   pub named : (d : KeptRegion) → (get_or rest i d).region.0 ≡ r
 
-first_stands : (r : ℕ) (kept : KeptRegion) (rest : List KeptRegion) → kept.region.0 ≡ r → Stands (kept ∷ rest) r (rank r (kept ∷ rest))
+first_stands : (r : ℕ) (kept : KeptRegion) (rest : List KeptRegion) → kept.region.0 ≡ r → Stands (kept ∷ rest) r (regions_before r (kept ∷ rest))
 first_stands r kept rest same =
     let no : nat_lt kept.region.0 r ≡ false = grind (arith, nat_tests) in
     let yes : (kept.region.0 == r) ≡ true = grind (arith, nat_tests) in
     rw no record { within = omega arith; is = λ d. rw yes refl; named = λ d. same }
 
-later_stands : (r : ℕ) (kept : KeptRegion) (rest : List KeptRegion) → kept.region.0 < r → Stands rest r (rank r rest) → Stands (kept ∷ rest) r (rank r (kept ∷ rest))
+later_stands : (r : ℕ) (kept : KeptRegion) (rest : List KeptRegion) → kept.region.0 < r → Stands rest r (regions_before r rest) → Stands (kept ∷ rest) r (regions_before r (kept ∷ rest))
 later_stands r kept rest less more =
     let yes : nat_lt kept.region.0 r ≡ true = grind (arith, nat_tests) in
     let no : (kept.region.0 == r) ≡ false = grind (arith, nat_tests) in
     rw yes record { within = omega (arith, more.within); is = λ d. rw no (more.is d); named = more.named }
 
-pub stands : (from r : ℕ) (rest : List KeptRegion) → ByRegion from rest → IsSome (region_among r rest) → Stands rest r (rank r rest)
+pub stands : (from r : ℕ) (rest : List KeptRegion) → ByRegion from rest → IsSome (region_among r rest) → Stands rest r (regions_before r rest)
 stands from r [] by_region some = absurd (false≢true some)
 stands from r (kept ∷ rest) by_region some =
     let before : r < kept.region.0 → ⊥
     = λ less. let none : region_among r (kept ∷ rest) ≡ None = none_among kept.region.0 r (kept ∷ rest) (omega arith, by_region.1) less in false≢true (rw none at some) in
-    let behind : kept.region.0 < r → Stands (kept ∷ rest) r (rank r (kept ∷ rest))
+    let behind : kept.region.0 < r → Stands (kept ∷ rest) r (regions_before r (kept ∷ rest))
     = λ less. let no : (kept.region.0 == r) ≡ false = grind (arith, nat_tests) in later_stands r kept rest less (stands (suc kept.region.0) r rest by_region.1 (rw no at some)) in
     ⊎_elim (λ same. first_stands r kept rest same) (⊎_elim behind (λ less. absurd (before less))) (cases_order kept.region.0 r)
 
-pub by_region_inserted : (from : ℕ) (new : KeptRegion) (rest : List KeptRegion) → ByRegion from rest → from ≤ new.region.0 → region_among new.region.0 rest ≡ None → ByRegion from (insert rest (rank new.region.0 rest) new)
+pub by_region_inserted : (from : ℕ) (new : KeptRegion) (rest : List KeptRegion) → ByRegion from rest → from ≤ new.region.0 → region_among new.region.0 rest ≡ None → ByRegion from (insert rest (regions_before new.region.0 rest) new)
 by_region_inserted from new [] by_region low absent = (low, tt)
 by_region_inserted from new (kept ∷ rest) by_region low absent =
-    let behind : kept.region.0 < new.region.0 → ByRegion from (insert (kept ∷ rest) (rank new.region.0 (kept ∷ rest)) new)
+    let behind : kept.region.0 < new.region.0 → ByRegion from (insert (kept ∷ rest) (regions_before new.region.0 (kept ∷ rest)) new)
     = λ less.
     let yes : nat_lt kept.region.0 new.region.0 ≡ true = grind (arith, nat_tests) in
     let no : (kept.region.0 == new.region.0) ≡ false = grind (arith, nat_tests) in
     rw yes (by_region.0, by_region_inserted (suc kept.region.0) new rest by_region.1 (omega arith) (rw no at absent)) in
-    let front : new.region.0 < kept.region.0 → ByRegion from (insert (kept ∷ rest) (rank new.region.0 (kept ∷ rest)) new)
+    let front : new.region.0 < kept.region.0 → ByRegion from (insert (kept ∷ rest) (regions_before new.region.0 (kept ∷ rest)) new)
     = λ less.
     let no : nat_lt kept.region.0 new.region.0 ≡ false = grind (arith, nat_tests) in
     rw no (low, (omega arith, by_region.1)) in
@@ -115,15 +115,15 @@ by_region_inserted from new (kept ∷ rest) by_region low absent =
     = λ e. let yes : (kept.region.0 == new.region.0) ≡ true = grind (arith, nat_tests) in let some : Some kept.row ≡ None = rw yes at absent in cc in
     ⊎_elim (λ e. absurd (same e)) (⊎_elim behind front) (cases_order kept.region.0 new.region.0)
 
-pub region_inserted : (r : ℕ) (new : KeptRegion) (rest : List KeptRegion) → region_among r (insert rest (rank new.region.0 rest) new) ≡ (if new.region.0 == r then Some new.row else region_among r rest)
+pub region_inserted : (r : ℕ) (new : KeptRegion) (rest : List KeptRegion) → region_among r (insert rest (regions_before new.region.0 rest) new) ≡ (if new.region.0 == r then Some new.row else region_among r rest)
 region_inserted r new [] = refl
 region_inserted r new (kept ∷ rest) =
-    let behind : kept.region.0 < new.region.0 → region_among r (insert (kept ∷ rest) (rank new.region.0 (kept ∷ rest)) new) ≡ (if new.region.0 == r then Some new.row else region_among r (kept ∷ rest))
+    let behind : kept.region.0 < new.region.0 → region_among r (insert (kept ∷ rest) (regions_before new.region.0 (kept ∷ rest)) new) ≡ (if new.region.0 == r then Some new.row else region_among r (kept ∷ rest))
     = λ less.
     let yes : nat_lt kept.region.0 new.region.0 ≡ true = grind (arith, nat_tests) in
     let more = region_inserted r new rest in
     rw (yes, more) (grind (arith, nat_tests)) in
-    let front : new.region.0 ≤ kept.region.0 → region_among r (insert (kept ∷ rest) (rank new.region.0 (kept ∷ rest)) new) ≡ (if new.region.0 == r then Some new.row else region_among r (kept ∷ rest))
+    let front : new.region.0 ≤ kept.region.0 → region_among r (insert (kept ∷ rest) (regions_before new.region.0 (kept ∷ rest)) new) ≡ (if new.region.0 == r then Some new.row else region_among r (kept ∷ rest))
     = λ le. let no : nat_lt kept.region.0 new.region.0 ≡ false = grind (arith, nat_tests) in rw no refl in
     ⊎_elim behind front (cases_lt kept.region.0 new.region.0)
 
@@ -160,7 +160,7 @@ region_set from (suc i) r new (kept ∷ rest) d by_region within same =
 abbrev pub seen : List KeptRegion → ℕ → ChainTable
 seen kept spare = record { regions = kept; spare = spare }
 
-pub stands_at : (kept found : List KeptRegion) (spare : ℕ) (table : ChainTable) (r i : ℕ) → seen kept spare ≡ table → ByRegion 0 kept → found ≡ kept → i ≡ rank r found → IsSome (region_at table r) → Stands kept r i
+pub stands_at : (kept found : List KeptRegion) (spare : ℕ) (table : ChainTable) (r i : ℕ) → seen kept spare ≡ table → ByRegion 0 kept → found ≡ kept → i ≡ regions_before r found → IsSome (region_at table r) → Stands kept r i
 stands_at kept found spare table r i view by_region same place some = rw (place, same) (stands 0 r kept by_region (rw (← view) at some))
 
 -- what holds of the row that stands there holds of a region's row
@@ -169,25 +169,25 @@ row_told kept spare table r i d P view stand told =
     let is : region_at table r ≡ Some (get_or kept i d).row = rw (← view) (stand.is d) in
     rw is told
 
-region_read : (kept found : List KeptRegion) (spare : ℕ) (table : ChainTable) (r i : ℕ) → seen kept spare ≡ table → ByRegion 0 kept → found ≡ kept → i ≡ rank r found → region_at table r ≡ row_named r (slice_get kept i)
+region_read : (kept found : List KeptRegion) (spare : ℕ) (table : ChainTable) (r i : ℕ) → seen kept spare ≡ table → ByRegion 0 kept → found ≡ kept → i ≡ regions_before r found → region_at table r ≡ row_named r (slice_get kept i)
 region_read kept found spare table r i view by_region same place = rw (← view, place, same) (region_found 0 r kept by_region)
 
-pub region_here : (kept found now : List KeptRegion) (spare : ℕ) (table : ChainTable) (r i : ℕ) (one : KeptRegion) → seen kept spare ≡ table → ByRegion 0 kept → found ≡ kept → i ≡ rank r found → now ≡ kept → i < length now → one ≡ get_or now i one
+pub region_here : (kept found now : List KeptRegion) (spare : ℕ) (table : ChainTable) (r i : ℕ) (one : KeptRegion) → seen kept spare ≡ table → ByRegion 0 kept → found ≡ kept → i ≡ regions_before r found → now ≡ kept → i < length now → one ≡ get_or now i one
     → region_at table r ≡ (if one.region.0 == r then Some one.row else None)
 region_here kept found now spare table r i one view by_region same place again within is =
     let read : slice_get kept i ≡ Some one = rw (← again) (slice_get_read now (length now) i one refl within is) in
     region_read kept found spare table r i view by_region same place ∙ ap (row_named r) read
 
-pub region_past : (kept found now : List KeptRegion) (spare : ℕ) (table : ChainTable) (r i : ℕ) → seen kept spare ≡ table → ByRegion 0 kept → found ≡ kept → i ≡ rank r found → now ≡ kept → length now ≤ i → region_at table r ≡ None
+pub region_past : (kept found now : List KeptRegion) (spare : ℕ) (table : ChainTable) (r i : ℕ) → seen kept spare ≡ table → ByRegion 0 kept → found ≡ kept → i ≡ regions_before r found → now ≡ kept → length now ≤ i → region_at table r ≡ None
 region_past kept found now spare table r i view by_region same place again past =
     let read : slice_get kept i ≡ None = rw (← again) (slice_get_past now i past) in
     region_read kept found spare table r i view by_region same place ∙ ap (row_named r) read
 
-pub region_made : (kept found roomy left : List KeptRegion) (spare more : ℕ) (table : ChainTable) (i : ℕ) (new : KeptRegion) → seen kept spare ≡ table → roomy ≡ kept → found ≡ roomy → i ≡ rank new.region.0 found → left ≡ insert roomy i new → PutsRegion new.region.0 (Some new.row) table (seen left more)
+pub region_made : (kept found roomy left : List KeptRegion) (spare more : ℕ) (table : ChainTable) (i : ℕ) (new : KeptRegion) → seen kept spare ≡ table → roomy ≡ kept → found ≡ roomy → i ≡ regions_before new.region.0 found → left ≡ insert roomy i new → PutsRegion new.region.0 (Some new.row) table (seen left more)
 region_made kept found roomy left spare more table i new view same deref place is =
     rw (is, place, deref, same, ← view) record { at = λ r. region_inserted r new kept }
 
-pub kept_made : (kept found roomy left : List KeptRegion) (spare : ℕ) (table : ChainTable) (i : ℕ) (new : KeptRegion) → seen kept spare ≡ table → ByRegion 0 kept → roomy ≡ kept → found ≡ roomy → i ≡ rank new.region.0 found → region_at table new.region.0 ≡ None → left ≡ insert roomy i new → ByRegion 0 left
+pub kept_made : (kept found roomy left : List KeptRegion) (spare : ℕ) (table : ChainTable) (i : ℕ) (new : KeptRegion) → seen kept spare ≡ table → ByRegion 0 kept → roomy ≡ kept → found ≡ roomy → i ≡ regions_before new.region.0 found → region_at table new.region.0 ≡ None → left ≡ insert roomy i new → ByRegion 0 left
 kept_made kept found roomy left spare table i new view by_region same deref place absent is =
     rw (is, place, deref, same) (by_region_inserted 0 new kept by_region (omega arith) (rw (← view) at absent))
 

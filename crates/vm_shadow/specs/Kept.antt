@@ -8,6 +8,6 @@ ByRegion from [] = Unit {0}
 ByRegion from (kept ∷ rest) = (from ≤ kept.region.0) × ByRegion (suc kept.region.0) rest
 
 -- how many regions come in front of one
-abbrev pub rank : ℕ → List KeptRegion → ℕ
-rank r [] = 0
-rank r (kept ∷ rest) = if nat_lt kept.region.0 r then suc (rank r rest) else 0
+abbrev pub regions_before : ℕ → List KeptRegion → ℕ
+regions_before r [] = 0
+regions_before r (kept ∷ rest) = if nat_lt kept.region.0 r then suc (regions_before r rest) else 0

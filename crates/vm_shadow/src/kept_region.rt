@@ -1,6 +1,6 @@
 // A region as it is kept.
 ghost use Rattle.std.specs.Prelude.{◌≡◌, ◌≤◌, length};
-ghost use Rattle.vm_shadow.specs.Kept.{ByRegion, rank};
+ghost use Rattle.vm_shadow.specs.Kept.{ByRegion, regions_before};
 
 use crate::RegionRow;
 use vm_base::RegionId;
@@ -15,7 +15,7 @@ pub struct KeptRegion {
 /// The number of regions in front of one, in a list by rising number.
 pub fn find(kept: &[KeptRegion], region: RegionId) -> usize
     requires { ByRegion 0 kept.now }
-    ensures value { result ≡ rank region.0 kept.now }
+    ensures value { result ≡ regions_before region.0 kept.now }
     ensures within { result ≤ length kept.now }
 {
     kept.partition_point(|one| one.region.0 < region.0)

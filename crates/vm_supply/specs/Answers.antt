@@ -19,7 +19,7 @@ use Rattle.vm_objects.specs.declared.row.PagerState.{PagerState}
 use Rattle.vm_objects.specs.declared.row.PagerState.TheVariants as state
 use Rattle.vm_resident.specs.Resident.{row_at}
 use Rattle.vm_resident.specs.declared.page_row.PageRow.{PageRow}
-use Rattle.vm_parts.specs.Changes.{Cancels, Fills, asked_row, unlocked}
+use Rattle.vm_parts.specs.Changes.{Cancels, FillsPage, asked_row, unlocked}
 use Rattle.vm_parts.specs.declared.parts.HostParts.{HostParts}
 use Rattle.vm_supply.specs.declared.woken.Woken.{Woken}
 use Rattle.vm_supply.specs.declared.woken.Woken.TheVariants as woken
@@ -105,7 +105,7 @@ pub record Supplies (key : PageKey) (lock : ℕ) (precious : Bool) (bytes : List
   pub woken : who ≡ woken.Page key
   pub was : PageRow
   pub asked : asked_row (row_at old.resident key.object.0 key.page.0) ≡ Some was
-  pub page : Fills key was (lock_of lock) precious bytes old new
+  pub page : FillsPage key was (lock_of lock) precious bytes old new
   pub objects : new.objects ≡ old.objects
   pub events : after ≡ before
 
@@ -114,7 +114,7 @@ pub record Zeroes (host : HostId) (key : PageKey) (who : Woken) (old new : HostP
   pub woken : who ≡ woken.Page key
   pub was : PageRow
   pub asked : asked_row (row_at old.resident key.object.0 key.page.0) ≡ Some was
-  pub page : Fills key was unlocked false (replicate old.buffers.size 0) old new
+  pub page : FillsPage key was unlocked false (replicate old.buffers.size 0) old new
   pub objects : new.objects ≡ old.objects
   pub events : after ≡ event.Zeroed host key.object key.page ∷ before
 
@@ -142,10 +142,10 @@ abbrev pub key_of : ObjectId → PageNo → PageKey
 key_of object page = record { object = object; page = page }
 
 -- whom an answer wakes, what it changes, and what it tells
-abbrev pub Answered : HostId → ObjectId → Outcome → Woken → HostParts → HostParts → List Event → List Event → Type 0
-Answered host object Discarded who old new before after = (who ≡ woken.Nobody) × (new ≡ old) × (after ≡ before)
-Answered host object Readied who old new before after = Readies object who old new before after
-Answered host object (Supplied page lock precious bytes) who old new before after = Supplies (key_of object page) lock precious bytes who old new before after
-Answered host object (Zeroed page) who old new before after = Zeroes host (key_of object page) who old new before after
-Answered host object (Lacked page) who old new before after = Lacks (key_of object page) who old new before after
-Answered host object (Failed page) who old new before after = Fails (key_of object page) who old new before after
+abbrev pub AnswerEffects : HostId → ObjectId → Outcome → Woken → HostParts → HostParts → List Event → List Event → Type 0
+AnswerEffects host object Discarded who old new before after = (who ≡ woken.Nobody) × (new ≡ old) × (after ≡ before)
+AnswerEffects host object Readied who old new before after = Readies object who old new before after
+AnswerEffects host object (Supplied page lock precious bytes) who old new before after = Supplies (key_of object page) lock precious bytes who old new before after
+AnswerEffects host object (Zeroed page) who old new before after = Zeroes host (key_of object page) who old new before after
+AnswerEffects host object (Lacked page) who old new before after = Lacks (key_of object page) who old new before after
+AnswerEffects host object (Failed page) who old new before after = Fails (key_of object page) who old new before after

@@ -5,7 +5,7 @@ ghost use Rattle.vm_model.specs.declared.event.Event.{Event};
 ghost use Rattle.vm_objects.specs.Objects.{object_at};
 ghost use Rattle.vm_parts.specs.Fits.{Fit};
 ghost use Rattle.vm_resident.specs.Resident.{row_at};
-ghost use Rattle.vm_supply.specs.Answers.{Answered, Failed, IsAnswer, Lacked, Supplied, Zeroed, lock_of, outcome_on, ready_outcome, where_asked};
+ghost use Rattle.vm_supply.specs.Answers.{AnswerEffects, Failed, IsAnswer, Lacked, Supplied, Zeroed, lock_of, outcome_on, ready_outcome, where_asked};
 
 use crate::Woken;
 use vm_base::{HostId, Lock, NoMemory, ObjectId, ObjectKind, PageBytes, PageKey, PageNo};
@@ -38,7 +38,7 @@ pub fn answer(
     requires fit { Fit parts.old }
     requires answer { IsAnswer parts.old.buffers.size message.now }
     ensures fit { Fit parts.new }
-    ensures answered { IfOk result (λ woken. Answered host object (outcome_on parts.old object control message.now) woken parts.old parts.new log.old.items log.new.items) }
+    ensures answered { IfOk result (λ woken. AnswerEffects host object (outcome_on parts.old object control message.now) woken parts.old parts.new log.old.items log.new.items) }
     ensures spare { parts.old.resident.spare ≤ parts.new.resident.spare }
     ensures buffers { parts.new.buffers ≡ parts.old.buffers }
     ensures err { OnErr result ((parts.new ≡ parts.old) × (log.new.items ≡ log.old.items)) }
@@ -76,7 +76,7 @@ fn ready(parts: &mut HostParts, object: ObjectId, state: PagerState) -> Woken
     ensures fit { Fit parts.new }
     ensures buffers { parts.new.buffers ≡ parts.old.buffers }
     ensures spare { parts.old.resident.spare ≤ parts.new.resident.spare }
-    ensures answered { (host : HostId) (events : List Event) → Answered host object (ready_outcome state) result parts.old parts.new events events }
+    ensures answered { (host : HostId) (events : List Event) → AnswerEffects host object (ready_outcome state) result parts.old parts.new events events }
 {
     match state {
         PagerState::Ready => Woken::Nobody,
@@ -112,7 +112,7 @@ fn supply(
     ensures buffers { parts.new.buffers ≡ parts.old.buffers }
     ensures spare { parts.old.resident.spare ≤ parts.new.resident.spare }
     ensures answered { (host : HostId) (events : List Event) →
-        Answered host object (where_asked (row_at parts.old.resident object.0 page.0) (Supplied page lock precious bytes.now)) result parts.old parts.new events events }
+        AnswerEffects host object (where_asked (row_at parts.old.resident object.0 page.0) (Supplied page lock precious bytes.now)) result parts.old parts.new events events }
 {
     let key = PageKey { object, page };
     let Some(_) = parts.asked(key) else {
@@ -134,7 +134,7 @@ fn zero(
     ensures fit { Fit parts.new }
     ensures buffers { parts.new.buffers ≡ parts.old.buffers }
     ensures spare { parts.old.resident.spare ≤ parts.new.resident.spare }
-    ensures answered { IfOk result (λ woken. Answered host object (where_asked (row_at parts.old.resident object.0 page.0) (Zeroed page)) woken parts.old parts.new log.old.items log.new.items) }
+    ensures answered { IfOk result (λ woken. AnswerEffects host object (where_asked (row_at parts.old.resident object.0 page.0) (Zeroed page)) woken parts.old parts.new log.old.items log.new.items) }
     ensures err { OnErr result ((parts.new ≡ parts.old) × (log.new.items ≡ log.old.items)) }
     ensures succeeds { 0 < log.old.room → IsOk result }
 {
@@ -154,7 +154,7 @@ fn lack(parts: &mut HostParts, object: ObjectId, page: PageNo) -> Woken
     ensures buffers { parts.new.buffers ≡ parts.old.buffers }
     ensures spare { parts.old.resident.spare ≤ parts.new.resident.spare }
     ensures answered { (host : HostId) (events : List Event) →
-        Answered host object (where_asked (row_at parts.old.resident object.0 page.0) (Lacked page)) result parts.old parts.new events events }
+        AnswerEffects host object (where_asked (row_at parts.old.resident object.0 page.0) (Lacked page)) result parts.old parts.new events events }
 {
     let key = PageKey { object, page };
     let Some(_) = parts.asked(key) else {
@@ -172,7 +172,7 @@ fn fail(parts: &mut HostParts, object: ObjectId, page: PageNo) -> Woken
     ensures buffers { parts.new.buffers ≡ parts.old.buffers }
     ensures spare { parts.old.resident.spare ≤ parts.new.resident.spare }
     ensures answered { (host : HostId) (events : List Event) →
-        Answered host object (where_asked (row_at parts.old.resident object.0 page.0) (Failed page)) result parts.old parts.new events events }
+        AnswerEffects host object (where_asked (row_at parts.old.resident object.0 page.0) (Failed page)) result parts.old parts.new events events }
 {
     let key = PageKey { object, page };
     let Some(_) = parts.asked(key) else {

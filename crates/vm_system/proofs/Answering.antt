@@ -3,12 +3,12 @@ use Rattle.std.proofs.Common.{◌≡◌, ◌⊎◌, ℕ, ◌+◌, ◌≤◌, ◌
 use Rattle.std.proofs.lemmas.Bool.Decides.{nat_tests}
 use Rattle.std.specs.Prelude.{IsSome, is_some}
 use Rattle.pg_slots.specs.Contents.{IsTold, PutTold, area_name}
-use Rattle.pg_slots.specs.Slots.{KeepsShape, Leaves, SlotTable, held_at, slot_at, slot_of}
+use Rattle.pg_slots.specs.Slots.{KeepsShape, PutEffects, SlotTable, held_at, slot_at, slot_of}
 use Rattle.pg_slots.specs.declared.answers.Put.{Put}
 use Rattle.pg_slots.specs.declared.answers.Put.TheVariants as put
 use Rattle.pg_slots.specs.declared.slot_row.Held.{Held}
 use Rattle.pg_slots.specs.declared.slot_row.Held.TheVariants as held
-use Rattle.pg_default.specs.Answers.{Answered, IsToPager, LeavesAreas, Requested, ReturnsWhole, TellsFault, became, told_of}
+use Rattle.pg_default.specs.Answers.{IsToPager, LeavesAreas, PagerAnswer, RequestAnswer, ReturnsWhole, TellsFault, became, told_of}
 use Rattle.vm_base.specs.Listing.{Listed}
 use Rattle.vm_base.specs.declared.ids.ObjectId.{ObjectId}
 use Rattle.vm_base.specs.declared.ids.PageNo.{PageNo}
@@ -46,7 +46,7 @@ IsReply (event.NoSlot object page) = Unit {0}
 IsReply (event.DeviceFailed who way object page) = Unit {0}
 IsReply other = ⊥
 
-requested : (size host : ℕ) (object : ObjectId) (control : ℕ) (page : PageNo) (has : Option Held) (events : List Event) → Requested size host object control page has events → EachOf IsReply events
+requested : (size host : ℕ) (object : ObjectId) (control : ℕ) (page : PageNo) (has : Option Held) (events : List Event) → RequestAnswer size host object control page has events → EachOf IsReply events
 requested size host object control page None events is = subst (λ (z : List Event). EachOf IsReply z) (sym is) (tt, tt)
 requested size host object control page (Some held.Lost) events is = subst (λ (z : List Event). EachOf IsReply z) (sym is) (tt, tt)
 requested size host object control page (Some (held.Torn s)) events is = subst (λ (z : List Event). EachOf IsReply z) (sym is) (tt, tt)
@@ -58,7 +58,7 @@ told put.Kept object page = tt
 told put.NoSlot object page = (tt, tt)
 told put.Failed object page = (tt, tt)
 
-pub replies : (m : Message) (object : ObjectId) (old new : SlotTable) (events : List Event) → Answered m object old new events → EachOf IsReply events
+pub replies : (m : Message) (object : ObjectId) (old new : SlotTable) (events : List Event) → PagerAnswer m object old new events → EachOf IsReply events
 replies (message.Init control size) object old new events a = subst (λ (z : List Event). EachOf IsReply z) (sym a.1) (tt, tt)
 replies (message.Create control size) object old new events a = subst (λ (z : List Event). EachOf IsReply z) (sym a.1) (tt, tt)
 replies (message.Request control page access) object old new events a = requested old.size old.host object control page (held_at old object.0 page.0) events a.1
@@ -144,7 +144,7 @@ one_fault events past one tells = record { few = omega (arith, one); cause = inr
 faults_at : (events is past : List Event) → events ≡ is → Faults is past → Faults events past
 faults_at events is past same faults = subst (λ (z : List Event). Faults z past) (sym same) faults
 
-request_faults : (size host : ℕ) (object : ObjectId) (control : ℕ) (page : PageNo) (has : Option Held) (events past : List Event) → Requested size host object control page has events → Faults events past
+request_faults : (size host : ℕ) (object : ObjectId) (control : ℕ) (page : PageNo) (has : Option Held) (events past : List Event) → RequestAnswer size host object control page has events → Faults events past
 request_faults size host object control page None events past is = faults_at events _ past is (no_fault _ past refl (λ t. t))
 request_faults size host object control page (Some held.Lost) events past is = faults_at events _ past is (no_fault _ past refl (λ t. t))
 request_faults size host object control page (Some (held.Torn s)) events past is = faults_at events _ past is (no_fault _ past refl (λ t. t))
@@ -156,7 +156,7 @@ told_faults put.Kept object page past = no_fault [] past refl (λ t. t)
 told_faults put.NoSlot object page past = no_fault _ past refl (λ t. t)
 told_faults put.Failed object page past = one_fault _ past refl tt
 
-pub faults : (m : Message) (object : ObjectId) (old new : SlotTable) (events past : List Event) → Answered m object old new events → Faults events past
+pub faults : (m : Message) (object : ObjectId) (old new : SlotTable) (events past : List Event) → PagerAnswer m object old new events → Faults events past
 faults (message.Init control size) object old new events past a = faults_at events _ past a.1 (no_fault _ past refl (λ t. t))
 faults (message.Create control size) object old new events past a = faults_at events _ past a.1 (no_fault _ past refl (λ t. t))
 faults (message.Request control page access) object old new events past a = request_faults old.size old.host object control page (held_at old object.0 page.0) events past a.1
@@ -184,7 +184,7 @@ same_told before after old new host same is =
 pub own_place : (o p : ℕ) → (o == o && p == p) ≡ true
 own_place o p = grind (arith, nat_tests)
 
-put_told : (p : Put) (object page : ℕ) (bytes : List ℕ) (before after : List ℕ → Told) (old new : SlotTable) → new.host ≡ old.host → Leaves p object page old new → PutTold (Ok p) before after new (slot_at new object page) bytes
+put_told : (p : Put) (object page : ℕ) (bytes : List ℕ) (before after : List ℕ → Told) (old new : SlotTable) → new.host ≡ old.host → PutEffects p object page old new → PutTold (Ok p) before after new (slot_at new object page) bytes
     → IsTold before old → IsTold after new
 put_told put.Kept object page bytes before after old new host leaves put is =
     let was = some_of (before (area_name old.host)) is in
@@ -199,7 +199,7 @@ put_told put.Failed object page bytes before after old new host leaves put is =
     some_is (after (area_name new.host)) now.0 now.1
 put_told put.NoSlot object page bytes before after old new host leaves put is = same_told before after old new host put is
 
-pub told_after : (m : Message) (object : ObjectId) (before after : List ℕ → Told) (old new : SlotTable) (events : Listed Event) → KeepsShape old new → Answered m object old new events.items → LeavesAreas m object new before after (Ok events)
+pub told_after : (m : Message) (object : ObjectId) (before after : List ℕ → Told) (old new : SlotTable) (events : Listed Event) → KeepsShape old new → PagerAnswer m object old new events.items → LeavesAreas m object new before after (Ok events)
     → IsTold before old → IsTold after new
 told_after (message.Return control page dirty keep bytes) object before after old new events shape a leaves is = put_told (became events.items) object.0 page.0 bytes before after old new shape.host a.held leaves is
 told_after other object before after old new events shape a leaves is = same_told before after old new shape.host leaves is

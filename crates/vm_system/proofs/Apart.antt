@@ -5,14 +5,14 @@ use Rattle.std.proofs.lemmas.Bool.{false≢true}
 use Rattle.std.proofs.lemmas.Bool.Decides.{nat_tests}
 use Rattle.std.proofs.lemmas.Option.{same_Some}
 use Rattle.std.specs.Prelude.{IsSome, slice_get}
-use Rattle.pg_slots.specs.Contents.{Content, Fits, IsTold, PutTold, area_name}
-use Rattle.pg_slots.specs.Slots.{Leaves, SlotTable, held_at, slot_at, slot_of}
+use Rattle.pg_slots.specs.Contents.{Content, IsTold, PutTold, SlotsFit, area_name}
+use Rattle.pg_slots.specs.Slots.{PutEffects, SlotTable, held_at, slot_at, slot_of}
 use Rattle.pg_slots.specs.declared.answers.Put.{Put}
 use Rattle.pg_slots.specs.declared.answers.Put.TheVariants as put
 use Rattle.pg_slots.specs.declared.slot_row.Held.{Held}
 use Rattle.pg_slots.specs.declared.slot_row.Held.TheVariants as held
-use Rattle.pg_default.specs.Answers.{Answered, LeavesAreas, Requested, became, told_of}
-use Rattle.pg_default.specs.Stands.{IsApart, IsOther, Stands as PagerStands, content_of, is_elsewhere}
+use Rattle.pg_default.specs.Answers.{LeavesAreas, PagerAnswer, RequestAnswer, became, told_of}
+use Rattle.pg_default.specs.Stands.{IsApart, IsOther, PagerStands, content_of, is_elsewhere}
 use Rattle.pg_default.proofs.Others.{others, others_carry}
 use Rattle.vm_base.specs.Listing.{Listed}
 use Rattle.vm_base.specs.declared.ids.ObjectId.{ObjectId}
@@ -76,7 +76,7 @@ IsAbout object (event.DeviceFailed who way o page) = o ≡ object
 IsAbout object (event.NoSlot o page) = o ≡ object
 IsAbout object other = ⊥
 
-requested : (size host : ℕ) (object : ObjectId) (control : ℕ) (page : PageNo) (has : Option Held) (events : List Event) → Requested size host object control page has events → EachOf (IsAbout object) events
+requested : (size host : ℕ) (object : ObjectId) (control : ℕ) (page : PageNo) (has : Option Held) (events : List Event) → RequestAnswer size host object control page has events → EachOf (IsAbout object) events
 requested size host object control page None events is = subst (λ (z : List Event). EachOf (IsAbout object) z) (sym is) (tt, tt)
 requested size host object control page (Some held.Lost) events is = subst (λ (z : List Event). EachOf (IsAbout object) z) (sym is) (tt, tt)
 requested size host object control page (Some (held.Torn s)) events is = subst (λ (z : List Event). EachOf (IsAbout object) z) (sym is) (tt, tt)
@@ -88,7 +88,7 @@ put_about put.Kept object page = tt
 put_about put.NoSlot object page = (refl, tt)
 put_about put.Failed object page = (refl, tt)
 
-pub about : (m : Message) (object : ObjectId) (old new : SlotTable) (events : List Event) → Answered m object old new events → EachOf (IsAbout object) events
+pub about : (m : Message) (object : ObjectId) (old new : SlotTable) (events : List Event) → PagerAnswer m object old new events → EachOf (IsAbout object) events
 about (message.Init control size) object old new events a = subst (λ (z : List Event). EachOf (IsAbout object) z) (sym a.1) (tt, tt)
 about (message.Create control size) object old new events a = subst (λ (z : List Event). EachOf (IsAbout object) z) (sym a.1) (tt, tt)
 about (message.Request control page access) object old new events a = requested old.size old.host object control page (held_at old object.0 page.0) events a.1
@@ -137,7 +137,7 @@ others_stand header g pager object (e ∷ events) past about away stands =
     others header g pager e (events ++ past) (about_other header g object e (events ++ past) about.0 (away_all g object events past about.1 away)) (others_stand header g pager object events past about.1 away stands)
 
 pub others_fit : (header : Header) (g : ℕ) (pager : SlotTable) (object : ObjectId) (areas : List ℕ → Told) (events past : List Event) → EachOf (IsAbout object) events → is_elsewhere g object.0 past ≡ true → IsApart header g past → IsTold areas pager
-    → Fits areas pager (content_of header g past) → Fits areas pager (content_of header g (events ++ past))
+    → SlotsFit areas pager (content_of header g past) → SlotsFit areas pager (content_of header g (events ++ past))
 others_fit header g pager object areas [] past about away apart told fits = fits
 others_fit header g pager object areas (e ∷ events) past about away apart told fits =
     let other = about_other header g object e (events ++ past) about.0 (away_all g object events past about.1 away) in
@@ -154,7 +154,7 @@ other_area h g other same = other (omega (arith, ap (λ (z : List ℕ). last z) 
     last (x ∷ []) = x
     last (x ∷ y ∷ more) = last (y ∷ more)
 
-put_others : (p : Put) (object page : ℕ) (bytes : List ℕ) (before after : List ℕ → Told) (old new : SlotTable) → Leaves p object page old new → PutTold (Ok p) before after new (slot_at new object page) bytes
+put_others : (p : Put) (object page : ℕ) (bytes : List ℕ) (before after : List ℕ → Told) (old new : SlotTable) → PutEffects p object page old new → PutTold (Ok p) before after new (slot_at new object page) bytes
     → (name : List ℕ) (was : Option (List ℕ)) → name ≢ area_name new.host → before name ≡ Some was → after name ≡ Some was
 put_others put.Kept object page bytes before after old new leaves wrote name was other is =
     let at : slot_at new object page ≡ Some leaves.0 = ap slot_of (leaves.2.at object page ∙ ap (λ (z : Bool). if z then Some (held.Kept leaves.0) else held_at old object page) (own_place object page)) in
@@ -164,7 +164,7 @@ put_others put.Failed object page bytes before after old new leaves wrote name w
     (wrote leaves.0 at).others name was other is
 put_others put.NoSlot object page bytes before after old new leaves wrote name was other is = wrote name was is
 
-pub areas_others : (m : Message) (object : ObjectId) (before after : List ℕ → Told) (old new : SlotTable) (events : Listed Event) → Answered m object old new events.items → LeavesAreas m object new before after (Ok events)
+pub areas_others : (m : Message) (object : ObjectId) (before after : List ℕ → Told) (old new : SlotTable) (events : Listed Event) → PagerAnswer m object old new events.items → LeavesAreas m object new before after (Ok events)
     → (name : List ℕ) (was : Option (List ℕ)) → name ≢ area_name new.host → before name ≡ Some was → after name ≡ Some was
 areas_others (message.Return control page dirty keep bytes) object before after old new events a leaves name was apart is = put_others (became events.items) object.0 page.0 bytes before after old new a.held leaves name was apart is
 areas_others other object before after old new events a leaves name was apart is = leaves name was is
@@ -175,7 +175,7 @@ told_still pager before after stays told =
     subst (λ (z : Told). IsSome z) (sym (stays was.0 was.1)) refl
 
 pub fits_still : (pager : SlotTable) (content : Content) (before after : List ℕ → Told) → ((was : Option (List ℕ)) → before (area_name pager.host) ≡ Some was → after (area_name pager.host) ≡ Some was) → IsTold before pager
-    → Fits before pager content → Fits after pager content
+    → SlotsFit before pager content → SlotsFit after pager content
 fits_still pager content before after stays told fits =
     let was = some_of (before (area_name pager.host)) told in
     record {

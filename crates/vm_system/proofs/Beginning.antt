@@ -16,7 +16,7 @@ use Rattle.vm_hosts.specs.Hosts.{AllQueued, AllRest, HostTable}
 use Rattle.vm_hosts.specs.Steps.{Stretch}
 use Rattle.vm_system.specs.Orderly.{IsOrderly}
 use Rattle.vm_system.specs.Posts.{CanTellAll, Posts, SameHosts}
-use Rattle.vm_system.specs.Stands.{AllServe, Stands}
+use Rattle.vm_system.specs.Stands.{AllServe, SystemStands}
 use Rattle.vm_system.specs.Making.{Makes, Spares}
 use Rattle.vm_system.specs.Steps.{DevicesHaveCause, KeepsLegal, LeavesFiles, LeavesPaging, arms_paging, devices, takes_up}
 use Rattle.vm_system.specs.declared.state.State.{State}
@@ -30,7 +30,7 @@ use Rattle.vm_system.proofs.Growth.{front_begun, grew_begun}
 use Rattle.vm_system.proofs.Legal.{legal_refused, legal_settle}
 
 -- what the kernels say behind a line can be told
-pub can_tell : (header : Header) (outside : Outside) (doing : Command) (line : ℕ) (events : List Event) (s : State) → Stands header outside s → Stretch header outside doing (event.Line line ∷ s.history.items) events
+pub can_tell : (header : Header) (outside : Outside) (doing : Command) (line : ℕ) (events : List Event) (s : State) → SystemStands header outside s → Stretch header outside doing (event.Line line ∷ s.history.items) events
     → CanTellAll s.size events (event.Line line ∷ s.history.items)
 can_tell header outside doing line events s stands stretch =
     let past = event.Line line ∷ s.history.items in
@@ -38,9 +38,9 @@ can_tell header outside doing line events s stands stretch =
     (can_say header outside doing past events stands.rests.plain (orderly_line header line s.history.items stands.agrees.orderly) stretch.licensed stretch.said stretch.inner)
 
 -- the system stands for what was told
-pub stands_told : (header : Header) (outside : Outside) (doing : Command) (line : ℕ) (events : List Event) (hosts : HostTable) (old new : State) → Stands header outside old
+pub stands_told : (header : Header) (outside : Outside) (doing : Command) (line : ℕ) (events : List Event) (hosts : HostTable) (old new : State) → SystemStands header outside old
     → Stretch header outside doing (event.Line line ∷ old.history.items) events → AllRest header hosts (events ++ event.Line line ∷ old.history.items) → AllQueued header hosts (events ++ event.Line line ∷ old.history.items)
-    → SameHosts (record old { hosts = hosts }) new → Posts new new.history.items → new.history.items ≡ events ++ event.Line line ∷ old.history.items → Stands header outside new
+    → SameHosts (record old { hosts = hosts }) new → Posts new new.history.items → new.history.items ≡ events ++ event.Line line ∷ old.history.items → SystemStands header outside new
 stands_told header outside doing line events hosts old new stands stretch rests queues same posts grown =
     let h = old.history.items in
     let past = event.Line line ∷ h in
@@ -61,7 +61,7 @@ stands_told header outside doing line events hosts old new stands stretch rests 
     }
 
 -- the step of a command is what the hosts told behind the line
-pub makes_told : (header : Header) (outside : Outside) (numbered : Numbered) (events : List Event) (hosts : HostTable) (old new : State) → Stands header outside old
+pub makes_told : (header : Header) (outside : Outside) (numbered : Numbered) (events : List Event) (hosts : HostTable) (old new : State) → SystemStands header outside old
     → Stretch header outside numbered.command (event.Line numbered.line ∷ old.history.items) events → AllRest header hosts (events ++ event.Line numbered.line ∷ old.history.items)
     → AllQueued header hosts (events ++ event.Line numbered.line ∷ old.history.items) → KeepsLegal header outside numbered old.history.items (events ++ event.Line numbered.line ∷ old.history.items)
     → SameHosts (record old { hosts = hosts }) new → Posts new new.history.items → new.history.items ≡ events ++ event.Line numbered.line ∷ old.history.items → Makes header outside numbered old new
@@ -73,7 +73,7 @@ makes_told header outside numbered events hosts old new stands stretch rests que
 }
 
 -- the paging areas have what was returned, and no backing failed
-pub spares_told : (header : Header) (outside : Outside) (doing : Command) (line : ℕ) (events : List Event) (old new : State) → Stands header outside old → Stretch header outside doing (event.Line line ∷ old.history.items) events
+pub spares_told : (header : Header) (outside : Outside) (doing : Command) (line : ℕ) (events : List Event) (old new : State) → SystemStands header outside old → Stretch header outside doing (event.Line line ∷ old.history.items) events
     → new.history.items ≡ events ++ event.Line line ∷ old.history.items → new.pagers.items ≡ old.pagers.items → Spares header outside old new
 spares_told header outside doing line events old new stands stretch grown pagers =
     let h = old.history.items in
@@ -89,7 +89,7 @@ spares_same header outside old new pagers items = record { kept = λ areas kept.
 
 -- the code of a refusal, or nothing, follows the line
 
-pub tells_code : (header : Header) (outside : Outside) (doing : Command) (why : Code) (line : ℕ) (s : State) → Stands header outside s → Stretch header outside doing (event.Line line ∷ s.history.items) (event.Refused why ∷ [])
+pub tells_code : (header : Header) (outside : Outside) (doing : Command) (why : Code) (line : ℕ) (s : State) → SystemStands header outside s → Stretch header outside doing (event.Line line ∷ s.history.items) (event.Refused why ∷ [])
 tells_code header outside doing why line s stands =
     let hosts = stands.rests.plain.hosts in
     record {
@@ -100,7 +100,7 @@ tells_code header outside doing why line s stands =
       said = (record { host = 0; known = omega (arith, hosts.0); says = tt; creates = tt }, tt);
     }
 
-pub makes_refused : (header : Header) (outside : Outside) (numbered : Numbered) (why : Code) (old new : State) → Stands header outside old → refusal header old.history.items numbered.command ≡ Some why → SameHosts old new
+pub makes_refused : (header : Header) (outside : Outside) (numbered : Numbered) (why : Code) (old new : State) → SystemStands header outside old → refusal header old.history.items numbered.command ≡ Some why → SameHosts old new
     → Posts new new.history.items → new.history.items ≡ event.Refused why ∷ event.Line numbered.line ∷ old.history.items → Makes header outside numbered old new
 makes_refused header outside numbered why old new stands refused same posts grown =
     let h = old.history.items in
@@ -114,7 +114,7 @@ makes_refused header outside numbered why old new stands refused same posts grow
 pub tells_none : (header : Header) (outside : Outside) (doing : Command) (past : List Event) → Stretch header outside doing past []
 tells_none header outside doing past = record { licensed = tt; own_bytes = tt; frames = tt; inner = tt; said = tt }
 
-pub makes_lined : (header : Header) (outside : Outside) (line count : ℕ) (old new : State) → Stands header outside old → SameHosts old new → Posts new new.history.items
+pub makes_lined : (header : Header) (outside : Outside) (line count : ℕ) (old new : State) → SystemStands header outside old → SameHosts old new → Posts new new.history.items
     → new.history.items ≡ event.Line line ∷ old.history.items → Makes header outside (record { line = line; command = command.Settle count }) old new
 makes_lined header outside line count old new stands same posts grown =
     let h = old.history.items in

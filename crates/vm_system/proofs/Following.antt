@@ -1,7 +1,7 @@
 -- What the kernels say leaves the pagers and what was stored.
 use Rattle.std.proofs.Common.{◌≡◌, ℕ, Bool, true, List, ◌++◌, Some, refl, sym, ◌∙◌, ap, subst}
 use Rattle.std.specs.Prelude.{slice_get}
-use Rattle.pg_slots.specs.Contents.{Content, Fits}
+use Rattle.pg_slots.specs.Contents.{Content, SlotsFit}
 use Rattle.pg_slots.specs.Slots.{SlotTable}
 use Rattle.pg_default.specs.Stands.{content_of}
 use Rattle.vm_base.specs.declared.ids.HostId.{HostId}
@@ -11,17 +11,17 @@ use Rattle.vm_model.specs.declared.script.Header.{Header}
 use Rattle.vm_legal.specs.Outside.{Outside}
 use Rattle.vm_legal.specs.Stretches.{AllInner, EachIn}
 use Rattle.vm_outside.specs.Areas.{Told}
-use Rattle.vm_kernel.specs.Begun.{IsSaid}
+use Rattle.vm_kernel.specs.Begun.{SomeKernelSays}
 use Rattle.vm_hosts.specs.Hosts.{HostTable}
-use Rattle.vm_hosts.specs.Steps.{Going, Passed, Stretch}
+use Rattle.vm_hosts.specs.Steps.{Going, HostsPart, Stretch}
 use Rattle.vm_system.proofs.Agreeing.{content_stays, devices_said, serve_said}
 use Rattle.vm_system.proofs.Sayings.{can_say, orderly_said}
 use Rattle.vm_system.specs.Orderly.{IsOrderly}
 use Rattle.vm_system.specs.Posts.{CanTellAll, Posts, SameHosts}
 use Rattle.vm_system.specs.Making.{Spares}
 use Rattle.vm_system.specs.Steps.{devices}
-use Rattle.vm_system.specs.Stands.{Agrees, AllServe, AllTold, Kept}
-use Rattle.vm_system.specs.Takings.{Answered, Followed}
+use Rattle.vm_system.specs.Stands.{Agrees, AllServe, AllTold, PagingIsKept}
+use Rattle.vm_system.specs.Takings.{Followed, PagerHasAnswered}
 use Rattle.vm_system.specs.declared.state.State.{State}
 
 pub same_pagers : (old new : State) → SameHosts old new → new.pagers.items ≡ old.pagers.items
@@ -29,11 +29,11 @@ same_pagers old new same = rw same.pagers refl
 
 -- slots and areas of each pager fit what the history has stored
 abbrev pub AllFit : Header → (List ℕ → Told) → List SlotTable → List Event → Type 0
-AllFit header areas pagers history = (h : ℕ) (pager : SlotTable) → slice_get pagers h ≡ Some pager → Fits areas pager (content_of header h history)
+AllFit header areas pagers history = (h : ℕ) (pager : SlotTable) → slice_get pagers h ≡ Some pager → SlotsFit areas pager (content_of header h history)
 
 -- where pagers and history are these
 pub kept_at : (header : Header) (outside : Outside) (areas : List ℕ → Told) (s : State) (pagers : List SlotTable) (history : List Event) → s.pagers.items ≡ pagers → s.history.items ≡ history → AllServe header pagers history
-    → (outside.paging ≡ true → AllTold areas pagers) → (outside.paging ≡ true → AllFit header areas pagers history) → Kept header outside areas s
+    → (outside.paging ≡ true → AllTold areas pagers) → (outside.paging ≡ true → AllFit header areas pagers history) → PagingIsKept header outside areas s
 kept_at header outside areas s pagers history are items serve told fit = record {
   pagers = rw (are, items) serve;
   told = λ on. subst (λ (z : List SlotTable). AllTold areas z) (sym are) (told on);
@@ -41,16 +41,16 @@ kept_at header outside areas s pagers history are items serve told fit = record 
 }
 
 -- pagers and history are as they were
-pub kept_same : (header : Header) (outside : Outside) (areas : List ℕ → Told) (old new : State) → new.pagers.items ≡ old.pagers.items → new.history.items ≡ old.history.items → Kept header outside areas old → Kept header outside areas new
+pub kept_same : (header : Header) (outside : Outside) (areas : List ℕ → Told) (old new : State) → new.pagers.items ≡ old.pagers.items → new.history.items ≡ old.history.items → PagingIsKept header outside areas old → PagingIsKept header outside areas new
 kept_same header outside areas old new pagers items kept = kept_at header outside areas new old.pagers.items old.history.items pagers items kept.pagers kept.told kept.fits
 
 -- contents that are the same fit alike
 pub fit_same : (header : Header) (areas : List ℕ → Told) (pagers : List SlotTable) (past now : List Event) → ((h : ℕ) → content_of header h now ≡ content_of header h past) → AllFit header areas pagers past → AllFit header areas pagers now
-fit_same header areas pagers past now same fit h pager at = subst (λ (z : Content). Fits areas pager z) (sym (same h)) (fit h pager at)
+fit_same header areas pagers past now same fit h pager at = subst (λ (z : Content). SlotsFit areas pager z) (sym (same h)) (fit h pager at)
 
 -- what kernels say came behind a past whose contents are those of the history
 pub kept_behind : (header : Header) (outside : Outside) (areas : List ℕ → Told) (old new : State) (events past : List Event) → AllServe header old.pagers.items past → ((h : ℕ) → content_of header h past ≡ content_of header h old.history.items)
-    → EachIn (IsSaid header) events past → AllInner events → new.pagers.items ≡ old.pagers.items → new.history.items ≡ events ++ past → Kept header outside areas old → Kept header outside areas new
+    → EachIn (SomeKernelSays header) events past → AllInner events → new.pagers.items ≡ old.pagers.items → new.history.items ≡ events ++ past → PagingIsKept header outside areas old → PagingIsKept header outside areas new
 kept_behind header outside areas old new events past serve front said inner pagers items kept =
     kept_at header outside areas new old.pagers.items (events ++ past) pagers items (serve_said header old.pagers.items events past said inner serve) kept.told
     (λ on. fit_same header areas old.pagers.items old.history.items (events ++ past) (λ h. content_stays header h events past said inner ∙ front h) (kept.fits on))
@@ -66,8 +66,8 @@ agrees_said header outside doing past events s orderly serve stretch size items 
 }
 
 -- what the hosts do behind an answer can be told
-pub can_follow : (given : Going) (host : HostId) (washed : Bool) (old : State) (hosts : HostTable) (events : List Event) → Answered given host washed old
-    → Passed given.header given.outside given.command (given.front ++ given.past) hosts events → CanTellAll old.size events old.history.items
+pub can_follow : (given : Going) (host : HostId) (washed : Bool) (old : State) (hosts : HostTable) (events : List Event) → PagerHasAnswered given host washed old
+    → HostsPart given.header given.outside given.command (given.front ++ given.past) hosts events → CanTellAll old.size events old.history.items
 can_follow given host washed old hosts events answered passed =
     let past = given.front ++ given.past in
     let stretch = passed.follows.stretch in
@@ -75,8 +75,8 @@ can_follow given host washed old hosts events answered passed =
     rw (answered.agrees.size, answered.is) (can_say given.header given.outside given.command past events answered.rests.plain orderly stretch.licensed stretch.said stretch.inner)
 
 -- and is told
-pub followed : (given : Going) (host : HostId) (washed : Bool) (old new : State) (events : List Event) → Answered given host washed old
-    → Passed given.header given.outside given.command (given.front ++ given.past) new.hosts events → new.size ≡ old.size → new.pagers.items ≡ old.pagers.items → new.history.items ≡ events ++ old.history.items → Posts new new.history.items
+pub followed : (given : Going) (host : HostId) (washed : Bool) (old new : State) (events : List Event) → PagerHasAnswered given host washed old
+    → HostsPart given.header given.outside given.command (given.front ++ given.past) new.hosts events → new.size ≡ old.size → new.pagers.items ≡ old.pagers.items → new.history.items ≡ events ++ old.history.items → Posts new new.history.items
     → Followed given new
 followed given host washed old new events answered passed size pagers items posts =
     let past = given.front ++ given.past in
@@ -99,11 +99,11 @@ followed given host washed old new events answered passed size pagers items post
     }
 
 -- and leaves what was stored
-pub kept_followed : (given : Going) (host : HostId) (washed : Bool) (old new : State) (hosts : HostTable) (events : List Event) → Answered given host washed old
-    → Passed given.header given.outside given.command (given.front ++ given.past) hosts events → new.pagers.items ≡ old.pagers.items → new.history.items ≡ events ++ old.history.items → Spares given.header given.outside old new
+pub kept_followed : (given : Going) (host : HostId) (washed : Bool) (old new : State) (hosts : HostTable) (events : List Event) → PagerHasAnswered given host washed old
+    → HostsPart given.header given.outside given.command (given.front ++ given.past) hosts events → new.pagers.items ≡ old.pagers.items → new.history.items ≡ events ++ old.history.items → Spares given.header given.outside old new
 kept_followed given host washed old new hosts events answered passed pagers items =
     let stretch = passed.follows.stretch in
-    let said : EachIn (IsSaid given.header) events old.history.items = rw answered.is stretch.said in
+    let said : EachIn (SomeKernelSays given.header) events old.history.items = rw answered.is stretch.said in
     record {
       kept = λ areas kept. kept_behind given.header given.outside areas old new events old.history.items kept.pagers (λ h. refl) said stretch.inner pagers items kept;
       devices = ap devices items ∙ devices_said given.header events old.history.items said;

@@ -1,5 +1,6 @@
 -- A step makes the history longer, and begins where it may.
 use Rattle.std.proofs.Common.{◌≡◌, ℕ, ◌<◌, ◌≤◌, arith, length-append, List, [], ◌∷◌, ◌++◌, ◌+◌, length, refl, ap, sym, ◌∙◌, subst, append_assoc, Some, None, Option, inl, inr}
+use Rattle.vm_model.specs.Limits.{most_events}
 use Rattle.vm_legal.proofs.Inside.{before_more, takings_more}
 use Rattle.vm_model.specs.declared.event.Event.{Event}
 use Rattle.vm_model.specs.declared.event.Event.TheVariants as event
@@ -7,7 +8,7 @@ use Rattle.vm_model.specs.Moments.{before_last_line}
 use Rattle.vm_legal.specs.Steps.{before_step, takings}
 use Rattle.vm_legal.specs.Stretches.{AllInner, IsInner}
 use Rattle.vm_hosts.specs.Steps.{Step}
-use Rattle.vm_system.specs.Steps.{Grew, IsBelowLimit, MayBegin, devices, event_limit, lined}
+use Rattle.vm_system.specs.Steps.{GrowsWithinLimit, IsBelowLimit, MayBegin, devices, lined}
 use Rattle.vm_system.specs.Takings.{MayBeCut, TakesStep}
 use Rattle.vm_system.proofs.Stretched.{steps_whole}
 
@@ -22,11 +23,11 @@ line_all [] past inner = refl
 line_all (e ∷ events) past inner = line_same e (events ++ past) inner.0 ∙ line_all events past inner.1
 
 -- nothing was told
-pub grew_none : (old new : List Event) → new ≡ old → Grew old new
+pub grew_none : (old new : List Event) → new ≡ old → GrowsWithinLimit old new
 grew_none old new same = record { more = []; is = same; limit = λ below before. subst IsBelowLimit (sym same) before }
 
 -- a line, and what stands behind it in its step
-pub grew_begun : (line : ℕ) (events old new : List Event) → new ≡ events ++ event.Line line ∷ old → AllInner events → Grew old new
+pub grew_begun : (line : ℕ) (events old new : List Event) → new ≡ events ++ event.Line line ∷ old → AllInner events → GrowsWithinLimit old new
 grew_begun line events old new is inner =
     record {
       more = events ++ event.Line line ∷ [];
@@ -43,11 +44,11 @@ lined_more : (line : Option ℕ) (old : List Event) → (more : List Event) × (
 lined_more None old = ([], refl)
 lined_more (Some line) old = (event.Line line ∷ [], refl)
 
-lined_may : (line : Option ℕ) (old : List Event) → length old < event_limit → IsBelowLimit old → MayBegin (lined line old) × IsBelowLimit (lined line old)
+lined_may : (line : Option ℕ) (old : List Event) → length old < most_events → IsBelowLimit old → MayBegin (lined line old) × IsBelowLimit (lined line old)
 lined_may None old below before = (inl below, before)
 lined_may (Some line) old below before = (inr (line, old, refl, below), (inl below, before))
 
-pub grew_taken : (given : Step) (line : Option ℕ) (old new : List Event) → TakesStep given new → given.past ≡ lined line old → Grew old new
+pub grew_taken : (given : Step) (line : Option ℕ) (old new : List Event) → TakesStep given new → given.past ≡ lined line old → GrowsWithinLimit old new
 grew_taken given line old new step past =
     let taken = event.Taken step.channel step.m in
     let whole : new ≡ step.more ++ taken ∷ lined line old = step.is ∙ ap (λ z. step.more ++ taken ∷ z) past in
@@ -69,7 +70,7 @@ pub takings_taken : (given : Step) (new : List Event) → TakesStep given new �
 takings_taken given new step = ap takings step.is ∙ takings_more step.more (event.Taken step.channel step.m ∷ given.past) step.inner
 
 -- whole or cut
-pub grew_cut : (given : Step) (line : Option ℕ) (old new : List Event) → MayBeCut given old new → given.past ≡ lined line old → Grew old new
+pub grew_cut : (given : Step) (line : Option ℕ) (old new : List Event) → MayBeCut given old new → given.past ≡ lined line old → GrowsWithinLimit old new
 grew_cut given line old new (inl same) past = grew_none old new same
 grew_cut given line old new (inr step) past = grew_taken given line old new step past
 
@@ -89,7 +90,7 @@ not_same line events e past old new front is same =
     omega arith
 
 -- it grows further
-pub grew_more : (first old new : List Event) → Grew first old → Grew old new → length old < event_limit → Grew first new
+pub grew_more : (first old new : List Event) → GrowsWithinLimit first old → GrowsWithinLimit old new → length old < most_events → GrowsWithinLimit first new
 grew_more first old new one two below = record {
   more = two.more ++ one.more;
   is = two.is ∙ (ap (λ z. two.more ++ z) one.is ∙ sym (append_assoc two.more one.more first));
@@ -103,5 +104,5 @@ devices_behind [] old = omega arith
 devices_behind (event.DeviceFailed who way object page ∷ more) old = let rest = devices_behind more old in omega arith
 devices_behind (e ∷ more) old = devices_behind more old
 
-pub devices_grow : (old new : List Event) → Grew old new → devices old ≤ devices new
+pub devices_grow : (old new : List Event) → GrowsWithinLimit old new → devices old ≤ devices new
 devices_grow old new grew = subst (λ z. devices old ≤ devices z) (sym grew.is) (devices_behind grew.more old)

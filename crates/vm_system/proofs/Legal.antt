@@ -17,7 +17,7 @@ use Rattle.vm_model.specs.Tasks.{copies, copies_from, entries_of, host_of, is_co
 use Rattle.vm_model.specs.Waiting.{waiting}
 use Rattle.vm_legal.specs.Bytes.{FlatBytes, OwnBytes}
 use Rattle.vm_legal.specs.Debts.{IsPaid}
-use Rattle.vm_legal.specs.Follows.{FollowsSoFar, IsDone, IsDoneSoFar, IsGroup, IsRun, IsWhole, IsWholeSoFar, head}
+use Rattle.vm_legal.specs.Follows.{FollowsSoFar, IsDone, IsDoneSoFar, IsGroup, IsRun, IsWholeGroup, IsWholeSoFar, head}
 use Rattle.vm_legal.specs.Frames.{FramesSuffice}
 use Rattle.vm_legal.specs.Legal.{Holds, IsAtRest}
 use Rattle.vm_legal.specs.Outside.{Outside}
@@ -29,7 +29,7 @@ use Rattle.vm_flat.proofs.Loads.{answers}
 use Rattle.vm_kernel.specs.Built.{copies_entries}
 use Rattle.vm_kernel.specs.Matches.{IsPlain}
 use Rattle.vm_hosts.specs.Hosts.{HostTable}
-use Rattle.vm_hosts.specs.Steps.{Began, Passed}
+use Rattle.vm_hosts.specs.Steps.{Began, HostsPart}
 use Rattle.vm_system.specs.Steps.{KeepsLegal, is_idle, settles}
 use Rattle.vm_legal.proofs.Inside.{takings_more}
 use Rattle.vm_system.proofs.Silent.{all_returned, paid_inner, prompt_code, prompt_line}
@@ -122,7 +122,7 @@ pub flat_of : (header : Header) (outside : Outside) (run : List Numbered) (h : L
 flat_of header outside run h plain follows own = let causes = so_far header outside run h follows in answers header outside h causes own (all_current header outside h plain causes)
 
 -- a command that is no settle is whole so far, where it is whole
-so_far_of : (header : Header) (c : Numbered) (h events : List Event) → (settles c.command ≡ None → IsWhole header h c events) → IsWholeSoFar header h c events
+so_far_of : (header : Header) (c : Numbered) (h events : List Event) → (settles c.command ≡ None → IsWholeGroup header h c events) → IsWholeSoFar header h c events
 so_far_of header c h events whole = by_command (refusal header h c.command) c.command whole
   where
     by_command : (refused : Option Code) (doing : Command) → (settles doing ≡ None → IfNone refused (IsDone header doing events (event.Line c.line ∷ h))) → IfNone refused (IsDoneSoFar header doing events (event.Line c.line ∷ h))
@@ -133,7 +133,7 @@ so_far_of header c h events whole = by_command (refusal header h c.command) c.co
 -- the events behind the line of a command are a step of it that takes no message
 pub record IsStep (header : Header) (outside : Outside) (c : Numbered) (h events : List Event) : Type 0 where
   pub made : IsGroup header outside h c events
-  pub whole : settles c.command ≡ None → IsWhole header h c events
+  pub whole : settles c.command ≡ None → IsWholeGroup header h c events
   pub own_bytes : EachIn (OwnBytes header) events (event.Line c.line ∷ h)
   pub frames : FramesSuffice header h → MomentsIn (FramesSuffice header) events (event.Line c.line ∷ h)
   pub inner : AllInner events
@@ -209,7 +209,7 @@ idle_done header group past other is = absurd (let bad : false ≡ true = is in 
 
 -- a command that is no host's: what they do at the step's end
 pub legal_passed : (header : Header) (outside : Outside) (c : Numbered) (h events : List Event) (hosts : HostTable) → IsPlain header
-    → is_idle c.command ≡ true → Passed header outside c.command (event.Line c.line ∷ h) hosts events → KeepsLegal header outside c h (events ++ event.Line c.line ∷ h)
+    → is_idle c.command ≡ true → HostsPart header outside c.command (event.Line c.line ∷ h) hosts events → KeepsLegal header outside c h (events ++ event.Line c.line ∷ h)
 legal_passed header outside c h events hosts plain idle passed =
     let past = event.Line c.line ∷ h in
     let stretch = passed.follows.stretch in

@@ -13,7 +13,7 @@ use Rattle.vm_model.specs.declared.message.Channel.TheVariants.{Up, Down}
 use Rattle.vm_model.specs.Channels.{is_channel}
 use Rattle.vm_quiet.proofs.Letters.{same_channel}
 use Rattle.vm_system.specs.Channels.{number_in}
-use Rattle.vm_system.specs.Noted.{AreNoted, ByChannel, IsAheadOf, found, is_ahead, is_less, key, rank}
+use Rattle.vm_system.specs.Noted.{AreNoted, ByChannel, IsAheadOf, channels_before, is_ahead, is_less, key, noted_number}
 use Rattle.vm_system.specs.declared.noted.Noted.{Noted}
 use Rattle.vm_system.proofs.Numbers.{is_same, number_end, number_kept}
 
@@ -98,7 +98,7 @@ ahead_all c d [] less above = tt
 ahead_all c d (noted ∷ order) less above = (ahead_through c d noted.channel less above.0, ahead_all c d order less above.1)
 
 -- nothing behind a channel is that one
-none_behind : (c : Channel) (order : List Noted) → IsAheadOf c order → found c order ≡ None
+none_behind : (c : Channel) (order : List Noted) → IsAheadOf c order → noted_number c order ≡ None
 none_behind c [] above = refl
 none_behind c (noted ∷ order) above = rw (behind_apart c noted.channel above.0) (none_behind c order above.1)
 
@@ -119,7 +119,7 @@ partitioned c (noted ∷ order) sorted (suc i) (suc j) d le within less = partit
 pub rank_is : (c : Channel) (i : ℕ) (order : List Noted) → i ≤ length order
     → ((k : ℕ) (d : Noted) → 0 ≤ k → k < i → is_ahead (get_or order k d).channel c ≡ true)
     → ((k : ℕ) (d : Noted) → i ≤ k → k < length order → is_ahead (get_or order k d).channel c ≡ false)
-    → i ≡ rank c order
+    → i ≡ channels_before c order
 rank_is c i [] within low high = omega arith
 rank_is c zero (noted ∷ order) within low high = let no = high 0 noted (omega arith) (omega arith) in rw no refl
 rank_is c (suc i) (noted ∷ order) within low high =
@@ -132,28 +132,28 @@ abbrev pub at_named : Channel → Option Noted → Option ℕ
 at_named c None = None
 at_named c (Some noted) = if is_channel c noted.channel then Some noted.number.0 else None
 
-pub found_at : (c : Channel) (order : List Noted) → ByChannel order → found c order ≡ at_named c (slice_get order (rank c order))
+pub found_at : (c : Channel) (order : List Noted) → ByChannel order → noted_number c order ≡ at_named c (slice_get order (channels_before c order))
 found_at c [] sorted = refl
 found_at c (noted ∷ order) sorted = ⊎_elim same (⊎_elim (front (found_at c order sorted.1)) behind) (stands c noted.channel)
   where
-    front : found c order ≡ at_named c (slice_get order (rank c order)) → is_ahead noted.channel c ≡ true → found c (noted ∷ order) ≡ at_named c (slice_get (noted ∷ order) (rank c (noted ∷ order)))
+    front : noted_number c order ≡ at_named c (slice_get order (channels_before c order)) → is_ahead noted.channel c ≡ true → noted_number c (noted ∷ order) ≡ at_named c (slice_get (noted ∷ order) (channels_before c (noted ∷ order)))
     front more less = rw (less, ahead_apart c noted.channel less) more
 
-    same : noted.channel ≡ c → found c (noted ∷ order) ≡ at_named c (slice_get (noted ∷ order) (rank c (noted ∷ order)))
+    same : noted.channel ≡ c → noted_number c (noted ∷ order) ≡ at_named c (slice_get (noted ∷ order) (channels_before c (noted ∷ order)))
     same e =
         let no : is_ahead noted.channel c ≡ false = ap (λ (k : Channel). is_ahead noted.channel k) (sym e) ∙ less_itself (key noted.channel) in
         let yes : is_channel c noted.channel ≡ true = ap (λ (k : Channel). is_channel c k) e ∙ is_same c in
         rw (no, yes) refl
 
-    behind : Behind c noted.channel → found c (noted ∷ order) ≡ at_named c (slice_get (noted ∷ order) (rank c (noted ∷ order)))
+    behind : Behind c noted.channel → noted_number c (noted ∷ order) ≡ at_named c (slice_get (noted ∷ order) (channels_before c (noted ∷ order)))
     behind b =
         let none = none_behind c order (ahead_all c noted.channel order b.behind sorted.0) in
         rw (b.ahead, behind_apart c noted.channel b.behind) none
 
-pub found_past : (c : Channel) (i : ℕ) (order : List Noted) → ByChannel order → i ≡ rank c order → length order ≤ i → found c order ≡ None
+pub found_past : (c : Channel) (i : ℕ) (order : List Noted) → ByChannel order → i ≡ channels_before c order → length order ≤ i → noted_number c order ≡ None
 found_past c i order sorted place past = found_at c order sorted ∙ ap (at_named c) (ap (slice_get order) (sym place) ∙ slice_get_past order i past)
 
-pub found_here : (c : Channel) (i : ℕ) (order : List Noted) (one : Noted) → ByChannel order → i ≡ rank c order → i < length order → one ≡ get_or order i one → found c order ≡ (if is_channel c one.channel then Some one.number.0 else None)
+pub found_here : (c : Channel) (i : ℕ) (order : List Noted) (one : Noted) → ByChannel order → i ≡ channels_before c order → i < length order → one ≡ get_or order i one → noted_number c order ≡ (if is_channel c one.channel then Some one.number.0 else None)
 found_here c i order one sorted place within is = found_at c order sorted ∙ ap (at_named c) (ap (slice_get order) (sym place) ∙ slice_get_read order (length order) i one refl within is)
 
 -- a channel is noted at its rank
@@ -163,32 +163,32 @@ ahead_inserted c new (suc i) [] less above within = absurd (omega arith)
 ahead_inserted c new zero (noted ∷ order) less above within = (less, above)
 ahead_inserted c new (suc i) (noted ∷ order) less above within = (above.0, ahead_inserted c new i order less above.1 (omega arith))
 
-pub rank_within : (c : Channel) (order : List Noted) → rank c order ≤ length order
+pub rank_within : (c : Channel) (order : List Noted) → channels_before c order ≤ length order
 rank_within c [] = omega arith
 rank_within c (noted ∷ order) = by (is_ahead noted.channel c) (rank_within c order)
   where
-    by : (b : Bool) → rank c order ≤ length order → (if b then suc (rank c order) else 0) ≤ suc (length order)
+    by : (b : Bool) → channels_before c order ≤ length order → (if b then suc (channels_before c order) else 0) ≤ suc (length order)
     by true le = omega arith
     by false le = omega arith
 
-sorted_inserted : (new : Noted) (order : List Noted) → ByChannel order → found new.channel order ≡ None → ByChannel (insert order (rank new.channel order) new)
+sorted_inserted : (new : Noted) (order : List Noted) → ByChannel order → noted_number new.channel order ≡ None → ByChannel (insert order (channels_before new.channel order) new)
 sorted_inserted new [] sorted absent = (tt, tt)
 sorted_inserted new (noted ∷ order) sorted absent = ⊎_elim same (⊎_elim (front (sorted_inserted new order sorted.1)) behind) (stands new.channel noted.channel)
   where
-    front : (found new.channel order ≡ None → ByChannel (insert order (rank new.channel order) new)) → is_ahead noted.channel new.channel ≡ true → ByChannel (insert (noted ∷ order) (rank new.channel (noted ∷ order)) new)
+    front : (noted_number new.channel order ≡ None → ByChannel (insert order (channels_before new.channel order) new)) → is_ahead noted.channel new.channel ≡ true → ByChannel (insert (noted ∷ order) (channels_before new.channel (noted ∷ order)) new)
     front more less =
-        let none : found new.channel order ≡ None = rw (ahead_apart new.channel noted.channel less) at absent in
-        rw less (ahead_inserted noted.channel new (rank new.channel order) order less sorted.0 (rank_within new.channel order), more none)
+        let none : noted_number new.channel order ≡ None = rw (ahead_apart new.channel noted.channel less) at absent in
+        rw less (ahead_inserted noted.channel new (channels_before new.channel order) order less sorted.0 (rank_within new.channel order), more none)
 
-    behind : Behind new.channel noted.channel → ByChannel (insert (noted ∷ order) (rank new.channel (noted ∷ order)) new)
+    behind : Behind new.channel noted.channel → ByChannel (insert (noted ∷ order) (channels_before new.channel (noted ∷ order)) new)
     behind b = rw b.ahead ((b.behind, ahead_all new.channel noted.channel order b.behind sorted.0), sorted)
 
-    same : noted.channel ≡ new.channel → ByChannel (insert (noted ∷ order) (rank new.channel (noted ∷ order)) new)
+    same : noted.channel ≡ new.channel → ByChannel (insert (noted ∷ order) (channels_before new.channel (noted ∷ order)) new)
     same e =
         let yes : is_channel new.channel noted.channel ≡ true = ap (λ (k : Channel). is_channel new.channel k) e ∙ is_same new.channel in
         absurd (none-some noted.number.0 (sym (rw yes at absent)))
 
-found_inserted : (c : Channel) (new : Noted) (order : List Noted) → found c (insert order (rank new.channel order) new) ≡ (if is_channel c new.channel then Some new.number.0 else found c order)
+found_inserted : (c : Channel) (new : Noted) (order : List Noted) → noted_number c (insert order (channels_before new.channel order) new) ≡ (if is_channel c new.channel then Some new.number.0 else noted_number c order)
 found_inserted c new [] = refl
 found_inserted c new (noted ∷ order) = by (is_ahead noted.channel new.channel) refl (found_inserted c new order)
   where
@@ -201,10 +201,10 @@ found_inserted c new (noted ∷ order) = by (is_ahead noted.channel new.channel)
     apart : is_ahead noted.channel new.channel ≡ true → is_channel c new.channel ≡ true → is_channel c noted.channel ≡ true → ⊥
     apart less one two = false≢true (sym (less_itself (key c)) ∙ ap (λ (k : Channel). is_ahead c k) (sym (same_channel c new.channel one)) ∙ ap (λ (k : Channel). is_ahead k new.channel) (sym (same_channel c noted.channel two)) ∙ less)
 
-    by : (b : Bool) → is_ahead noted.channel new.channel ≡ b → found c (insert order (rank new.channel order) new) ≡ (if is_channel c new.channel then Some new.number.0 else found c order)
-        → found c (insert (noted ∷ order) (if b then suc (rank new.channel order) else 0) new) ≡ (if is_channel c new.channel then Some new.number.0 else found c (noted ∷ order))
+    by : (b : Bool) → is_ahead noted.channel new.channel ≡ b → noted_number c (insert order (channels_before new.channel order) new) ≡ (if is_channel c new.channel then Some new.number.0 else noted_number c order)
+        → noted_number c (insert (noted ∷ order) (if b then suc (channels_before new.channel order) else 0) new) ≡ (if is_channel c new.channel then Some new.number.0 else noted_number c (noted ∷ order))
     by true less more = ap (λ (o : Option ℕ). if is_channel c noted.channel then Some noted.number.0 else o) more
-        ∙ swapped (is_channel c new.channel) (is_channel c noted.channel) noted.number.0 new.number.0 (found c order) (apart less)
+        ∙ swapped (is_channel c new.channel) (is_channel c noted.channel) noted.number.0 new.number.0 (noted_number c order) (apart less)
     by false behind more = refl
 
 -- what stands behind all others
@@ -222,11 +222,11 @@ read_end (e ∷ made) c d (suc n) is = ⊎_elim
     (read_end made c d n is)
 
 -- a channel is added
-pub noted_more : (made : List Channel) (order : List Noted) (c : Channel) (number : ChannelId) (i : ℕ) → AreNoted made order → number_in c made ≡ None → number.0 ≡ length made → i ≡ rank c order → length made < 2 ^ 32 - 1
+pub noted_more : (made : List Channel) (order : List Noted) (c : Channel) (number : ChannelId) (i : ℕ) → AreNoted made order → number_in c made ≡ None → number.0 ≡ length made → i ≡ channels_before c order → length made < 2 ^ 32 - 1
     → AreNoted (made ++ c ∷ []) (insert order i (record { channel = c; number = number }))
 noted_more made order c number i kept none is place few =
     let new : Noted = record { channel = c; number = number } in
-    let absent : found c order ≡ None = kept.leads c ∙ none in
+    let absent : noted_number c order ≡ None = kept.leads c ∙ none in
     let within = rank_within c order in
     let long = length-insert order i new (omega arith) in
     let more = length-append made (c ∷ []) in
@@ -238,7 +238,7 @@ noted_more made order c number i kept none is place few =
       few = omega (arith, more);
     }
   where
-    led : (d : Channel) (b : Bool) → is_channel d c ≡ b → (if b then Some number.0 else found d order) ≡ number_in d (made ++ c ∷ [])
+    led : (d : Channel) (b : Bool) → is_channel d c ≡ b → (if b then Some number.0 else noted_number d order) ≡ number_in d (made ++ c ∷ [])
     led d true e =
         let same = same_channel d c e in
         let at : number_in d made ≡ None = ap (λ (k : Channel). number_in k made) (sym same) ∙ none in

@@ -34,7 +34,7 @@ use Rattle.vm_legal.proofs.Stretched.{licensed_both, of_both}
 use Rattle.vm_legal.proofs.Inside.{takings_more}
 use Rattle.vm_system.specs.Channels.{number_in}
 use Rattle.vm_system.specs.Posts.{AreSame}
-use Rattle.vm_system.specs.Stands.{Stands}
+use Rattle.vm_system.specs.Stands.{SystemStands}
 use Rattle.vm_hosts.specs.Steps.{Step}
 use Rattle.vm_system.specs.Steps.{HasMore, KeepsOpen, LegalOpen, MayCutOpen}
 use Rattle.vm_system.specs.Takings.{May, MayBeCut, TakesStep, Took}
@@ -93,7 +93,7 @@ settled_more header outside count line run old new stretch is follows licensed (
     (past, stretch ++ group, is ∙ ap (λ (z : List Event). stretch ++ z) was ∙ sym (append_assoc stretch group (event.Line line ∷ past)), grown header outside count line past group stretch follows licensed_on made, tt, before)
 
 -- what holds of an open history that has a kernel
-pub up_to_open : (header : Header) (outside : Outside) (run : List Numbered) (s : State) → Stands header outside s → LegalOpen header outside run s.history.items → HoldsUpTo header outside s.history.items
+pub up_to_open : (header : Header) (outside : Outside) (run : List Numbered) (s : State) → SystemStands header outside s → LegalOpen header outside run s.history.items → HoldsUpTo header outside s.history.items
 up_to_open header outside run s stands legal = record {
   plain = stands.rests.plain;
   own_bytes = legal.holds.own_bytes;
@@ -113,7 +113,7 @@ follows_open header outside count line run old new step follows =
     settled_more header outside count line run old new (step.more ++ event.Taken step.channel step.m ∷ []) (step_is (settling header outside count old) new step)
     (of_both IsConsequence step.more (event.Taken step.channel step.m ∷ []) step.follows (tt, tt)) step.licensed follows
 
-pub keeps_open : (header : Header) (outside : Outside) (count : ℕ) (s new : State) → Stands header outside s → Took (settling header outside count s.history.items) new → KeepsOpen header outside (command.Settle count) s.history.items new.history.items
+pub keeps_open : (header : Header) (outside : Outside) (count : ℕ) (s new : State) → SystemStands header outside s → Took (settling header outside count s.history.items) new → KeepsOpen header outside (command.Settle count) s.history.items new.history.items
 keeps_open header outside count s new stands took line run legal =
     let given = settling header outside count s.history.items in
     let numbered : Numbered = record { line = line; command = command.Settle count } in
@@ -129,7 +129,7 @@ keeps_open header outside count s new stands took line run legal =
       more = ap takings step.is ∙ takings_more step.more (event.Taken step.channel step.m ∷ s.history.items) step.inner;
     }
 
-pub cuts_open : (header : Header) (outside : Outside) (count : ℕ) (s : State) (new : List Event) → Stands header outside s → MayBeCut (settling header outside count s.history.items) s.history.items new → MayCutOpen header outside (command.Settle count) s.history.items new
+pub cuts_open : (header : Header) (outside : Outside) (count : ℕ) (s : State) (new : List Event) → SystemStands header outside s → MayBeCut (settling header outside count s.history.items) s.history.items new → MayCutOpen header outside (command.Settle count) s.history.items new
 cuts_open header outside count s new stands (inl same) = inl same
 cuts_open header outside count s new stands (inr step) = inr (λ line run legal.
     let given = settling header outside count s.history.items in
@@ -155,7 +155,7 @@ foremost made (p ∷ posted) (letter ∷ letters) number same is =
 first_on : (letter : Letter) (letters : List Letter) → messages_on letter.channel (letter ∷ letters) ≡ letter.message ∷ messages_on letter.channel letters
 first_on letter letters = rw (is_itself letter.channel) refl
 
-pub may_settle : (given : Step) (number : ChannelId) (s : State) → Stands given.header given.outside s → given.past ≡ s.history.items → HasMore given.command s.history.items → oldest_on s.ports.letters ≡ Some number
+pub may_settle : (given : Step) (number : ChannelId) (s : State) → SystemStands given.header given.outside s → given.past ≡ s.history.items → HasMore given.command s.history.items → oldest_on s.ports.letters ≡ Some number
     → (channel : Channel) × May given None number channel s
 may_settle given number s stands past more is =
     let items = s.history.items in
@@ -175,14 +175,14 @@ may_settle given number s stands past more is =
 
 -- a settle goes on
 
-pub keeps_settle : (given : Step) (s new : State) → Stands given.header given.outside s → given.past ≡ s.history.items → HasMore given.command s.history.items → Took given new
+pub keeps_settle : (given : Step) (s new : State) → SystemStands given.header given.outside s → given.past ≡ s.history.items → HasMore given.command s.history.items → Took given new
     → KeepsOpen given.header given.outside given.command s.history.items new.history.items
 keeps_settle given s new stands past more took =
     let same : Took (settling given.header given.outside more.count s.history.items) new = subst (λ (z : Command). Took (record { header = given.header; outside = given.outside; command = z; past = s.history.items }) new) more.is
     (subst (λ (z : List Event). Took (record { header = given.header; outside = given.outside; command = given.command; past = z }) new) past took) in
     subst (λ (z : Command). KeepsOpen given.header given.outside z s.history.items new.history.items) (sym more.is) (keeps_open given.header given.outside more.count s new stands same)
 
-pub cuts_settle : (given : Step) (s : State) (new : List Event) → Stands given.header given.outside s → given.past ≡ s.history.items → HasMore given.command s.history.items → MayBeCut given s.history.items new
+pub cuts_settle : (given : Step) (s : State) (new : List Event) → SystemStands given.header given.outside s → given.past ≡ s.history.items → HasMore given.command s.history.items → MayBeCut given s.history.items new
     → MayCutOpen given.header given.outside given.command s.history.items new
 cuts_settle given s new stands past more cut =
     let same : MayBeCut (settling given.header given.outside more.count s.history.items) s.history.items new = subst (λ (z : Command). MayBeCut (record { header = given.header; outside = given.outside; command = z; past = s.history.items }) s.history.items new) more.is

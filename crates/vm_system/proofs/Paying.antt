@@ -4,7 +4,7 @@ use Rattle.vm_legal.proofs.Inside.{absence_more, before_more, error_more, since_
 use Rattle.vm_model.specs.declared.event.Event.{Event}
 use Rattle.vm_model.specs.declared.event.Event.TheVariants as event
 use Rattle.vm_model.specs.declared.script.Header.{Header}
-use Rattle.vm_legal.specs.Debts.{EndsWaiters, IsPaid, StopsAt, HasLocked}
+use Rattle.vm_legal.specs.Debts.{EndsWaiters, IsPaid, WaitsAt, HasLocked}
 use Rattle.vm_legal.specs.Frames.{frames_free}
 use Rattle.vm_legal.specs.Licences.{LockRequest, created, gives_back, lock_taken, zeroes}
 use Rattle.vm_legal.specs.Pagers.{LacksSlot}
@@ -17,7 +17,7 @@ waiters_more : (header : Header) (host object page : ℕ) (events past : List Ev
 waiters_more header host object page events past inner was = λ task stops frees.
     let same = before_more events past inner in
     since_more (fails_task task object page) events past inner
-    (was task (subst (λ (z : List Event). StopsAt header host task object page z) same stops) (subst (λ (z : List Event). frames_free header host z ≡ 0 → ⊥) same frees))
+    (was task (subst (λ (z : List Event). WaitsAt header host task object page z) same stops) (subst (λ (z : List Event). frames_free header host z ≡ 0 → ⊥) same frees))
 
 lock_inner : (e : Event) (past : List Event) → IsInner e → lock_taken (e ∷ past) ≡ lock_taken past
 lock_inner (event.Line line) past inner = absurd inner

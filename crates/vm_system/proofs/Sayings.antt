@@ -23,7 +23,7 @@ use Rattle.vm_legal.specs.Stretches.{AllInner, EachIn, IsInner}
 use Rattle.vm_legal.specs.Undelivered.{is_made, makes, undelivered}
 use Rattle.vm_quiet.proofs.Letters.{never}
 use Rattle.vm_abroad.specs.Home.{home_of}
-use Rattle.vm_kernel.specs.Begun.{CreatesHere, IsSaid, KernelSays}
+use Rattle.vm_kernel.specs.Begun.{CreatesHere, KernelSays, SomeKernelSays}
 use Rattle.vm_kernel.specs.Matches.{IsPlain, host_id}
 use Rattle.vm_kernel.specs.Taking.{IsTempAnswer}
 use Rattle.pg_slots.specs.Slots.{SlotTable, held_at}
@@ -31,7 +31,7 @@ use Rattle.pg_slots.specs.declared.answers.Put.{Put}
 use Rattle.pg_slots.specs.declared.answers.Put.TheVariants as put
 use Rattle.pg_slots.specs.declared.slot_row.Held.{Held}
 use Rattle.pg_slots.specs.declared.slot_row.Held.TheVariants as held
-use Rattle.pg_default.specs.Answers.{Answered, Requested, became, device_failed, error, sent_to, supply, told_of}
+use Rattle.pg_default.specs.Answers.{PagerAnswer, RequestAnswer, became, device_failed, error, sent_to, supply, told_of}
 use Rattle.pg_default.specs.Stands.{is_ended, taking}
 use Rattle.vm_system.specs.Orderly.{AllLetters, Ending, HasMade, IsLetter, IsOrderly}
 use Rattle.vm_system.specs.Posts.{CanSend, CanTell, CanTellAll}
@@ -172,7 +172,7 @@ sends_tells : (header : Header) (c : Channel) (m : Message) (past : List Event) 
 sends_tells header c m past sends = record { orderly = sends.orderly; can = (sends.page, sends.can) }
 
 -- what a kernel says
-said : (header : Header) (outside : Outside) (doing : Command) (e : Event) (past : List Event) → IsOrderly header past → Licensed header outside doing e past → IsSaid header e past → IsInner e → Tells header e past
+said : (header : Header) (outside : Outside) (doing : Command) (e : Event) (past : List Event) → IsOrderly header past → Licensed header outside doing e past → SomeKernelSays header e past → IsInner e → Tells header e past
 said header outside doing (event.Line line) past old licence is inner = absurd inner
 said header outside doing (event.Taken channel m) past old licence is inner = absurd inner
 said header outside doing (event.Sent (Down host object control) m) past old licence is inner = absurd is.says
@@ -183,13 +183,13 @@ said header outside doing (event.Sent (Up host object) m) past old licence is in
     (subst (λ (h : ℕ). CreatesHere h (event.Sent (Up host object) m) past) here is.creates))
 said header outside doing e past old licence is inner = record { orderly = orderly_silent header e past tt old; can = tt }
 
-pub orderly_said : (header : Header) (outside : Outside) (doing : Command) (past events : List Event) → IsPlain header → IsOrderly header past → AllLicensed header outside doing events past → EachIn (IsSaid header) events past → AllInner events
+pub orderly_said : (header : Header) (outside : Outside) (doing : Command) (past events : List Event) → IsPlain header → IsOrderly header past → AllLicensed header outside doing events past → EachIn (SomeKernelSays header) events past → AllInner events
     → IsOrderly header (events ++ past)
 orderly_said header outside doing past [] plain old licences is inner = old
 orderly_said header outside doing past (e ∷ events) plain old licences is inner =
     (said header outside doing e (events ++ past) (orderly_said header outside doing past events plain old licences.1 is.1 inner.1) licences.0 is.0 inner.0).orderly
 
-pub can_say : (header : Header) (outside : Outside) (doing : Command) (past events : List Event) → IsPlain header → IsOrderly header past → AllLicensed header outside doing events past → EachIn (IsSaid header) events past → AllInner events
+pub can_say : (header : Header) (outside : Outside) (doing : Command) (past events : List Event) → IsPlain header → IsOrderly header past → AllLicensed header outside doing events past → EachIn (SomeKernelSays header) events past → AllInner events
     → CanTellAll header.size events past
 can_say header outside doing past [] plain old licences is inner = tt
 can_say header outside doing past (e ∷ events) plain old licences is inner =
@@ -234,7 +234,7 @@ told_one header host at object control m past old server answer = told_down head
 
 -- a request is answered
 replied : (header : Header) (host at size : ℕ) (object : ObjectId) (control : ℕ) (page : PageNo) (has : Option Held) (events past : List Event) → IsOrderly header past → Server header host at object control past → size ≡ header.size
-    → Requested size at object control page has events → AllTold header events past
+    → RequestAnswer size at object control page has events → AllTold header events past
 replied header host at size object control page None events past old server sized is = subst (λ (x : List Event). AllTold header x past) (sym is) (told_one header host at object control (message.Unavailable page) past old server tt)
 replied header host at size object control page (Some held.Lost) events past old server sized is = subst (λ (x : List Event). AllTold header x past) (sym is) (told_one header host at object control (error page) past old server tt)
 replied header host at size object control page (Some (held.Torn s)) events past old server sized is = subst (λ (x : List Event). AllTold header x past) (sym is) (told_one header host at object control (error page) past old server tt)
@@ -253,7 +253,7 @@ kept_told header object page put.Failed past old = record { orderly = orderly_si
 
 -- what the default pager answers
 answered : (header : Header) (host : ℕ) (object : ObjectId) (m : Message) (past : List Event) (old new : SlotTable) (events : List Event) → IsOrderly header (taking host object m past)
-    → IsLetter header past (record { channel = Up (host_id host) object; message = m }) → old.host ≡ host → old.size ≡ header.size → Answered m object old new events → AllTold header events (taking host object m past)
+    → IsLetter header past (record { channel = Up (host_id host) object; message = m }) → old.host ≡ host → old.size ≡ header.size → PagerAnswer m object old new events → AllTold header events (taking host object m past)
 answered header host object (message.Create control size) past old new events orderly letter home sized is =
     subst (λ (x : List Event). AllTold header x (taking host object (message.Create control size) past)) (sym is.1)
     (told_one header host old.host object control (message.Ready false 3) (taking host object (message.Create control size) past) orderly (record { known = letter.0; own = home; made = letter.1 }) tt)
@@ -267,9 +267,9 @@ answered header host object (message.Terminate control) past old new events orde
 answered header host object m past old new events orderly letter home sized is = absurd letter.1
 
 pub orderly_answered : (header : Header) (host : ℕ) (object : ObjectId) (m : Message) (past : List Event) (old new : SlotTable) (events : List Event) → IsOrderly header (taking host object m past)
-    → IsLetter header past (record { channel = Up (host_id host) object; message = m }) → old.host ≡ host → old.size ≡ header.size → Answered m object old new events → IsOrderly header (events ++ taking host object m past)
+    → IsLetter header past (record { channel = Up (host_id host) object; message = m }) → old.host ≡ host → old.size ≡ header.size → PagerAnswer m object old new events → IsOrderly header (events ++ taking host object m past)
 orderly_answered header host object m past old new events orderly letter home sized is = (answered header host object m past old new events orderly letter home sized is).orderly
 
 pub can_answer : (header : Header) (host : ℕ) (object : ObjectId) (m : Message) (past : List Event) (old new : SlotTable) (events : List Event) → IsOrderly header (taking host object m past)
-    → IsLetter header past (record { channel = Up (host_id host) object; message = m }) → old.host ≡ host → old.size ≡ header.size → Answered m object old new events → CanTellAll header.size events (taking host object m past)
+    → IsLetter header past (record { channel = Up (host_id host) object; message = m }) → old.host ≡ host → old.size ≡ header.size → PagerAnswer m object old new events → CanTellAll header.size events (taking host object m past)
 can_answer header host object m past old new events orderly letter home sized is = (answered header host object m past old new events orderly letter home sized is).can

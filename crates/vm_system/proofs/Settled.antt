@@ -1,6 +1,7 @@
 -- A settle goes on being legal with each message that it takes.
 use Rattle.std.proofs.Common.{◌≡◌, ℕ, ◌+◌, ◌<◌, ◌≤◌, ◌⊎◌, ◌∙◌, Bool, false, Ok, Err, IsErrOf, List, [], ◌∷◌, length, Result, ap, arith, inl, inr, refl, sym, subst}
 use Rattle.std.specs.Prelude.{◌≢◌}
+use Rattle.vm_model.specs.Limits.{most_events}
 use Rattle.vm_model.specs.declared.event.Event.{Event}
 use Rattle.vm_model.specs.declared.command.Command.{Command}
 use Rattle.vm_model.specs.declared.command.Numbered.{Numbered}
@@ -11,7 +12,7 @@ use Rattle.vm_legal.specs.Undelivered.{undelivered}
 use Rattle.vm_legal.proofs.Groups.{cut_of}
 use Rattle.vm_outside.specs.Causes.{Rose}
 use Rattle.vm_system.specs.Settling.{DevicesCounted, StaysOpen}
-use Rattle.vm_system.specs.Steps.{DevicesHaveCause, Grew, KeepsOpen, LegalCut, LegalOpen, MayCutOpen, devices, event_limit, EndsCut}
+use Rattle.vm_system.specs.Steps.{DevicesHaveCause, GrowsWithinLimit, KeepsOpen, LegalCut, LegalOpen, MayCutOpen, devices, EndsCut}
 use Rattle.vm_system.specs.declared.stop.SystemStop.{SystemStop}
 use Rattle.vm_system.specs.declared.stop.SystemStop.TheVariants as stops
 use Rattle.vm_system.proofs.Growth.{devices_grow, grew_more}
@@ -30,22 +31,22 @@ cut_more header outside doing first old new stays (inl same) = λ line run legal
 cut_more header outside doing first old new stays (inr cuts) = λ line run legal. cuts line run (stays line run legal)
 
 -- memory ends in a taking only where one may begin
-pub below_of : (result : Result Bool SystemStop) (letters : List Letter) (n : ℕ) → (letters ≡ [] → result ≡ Ok false) → ((event_limit ≤ n) × (letters ≢ []) → result ≡ Err stops.EventLimit) → result ≡ Err stops.NoMemory
-    → n < event_limit
+pub below_of : (result : Result Bool SystemStop) (letters : List Letter) (n : ℕ) → (letters ≡ [] → result ≡ Ok false) → ((most_events ≤ n) × (letters ≢ []) → result ≡ Err stops.EventLimit) → result ≡ Err stops.NoMemory
+    → n < most_events
 below_of result letters n calm full none = by_order (grind arith)
   where
-    by_letters : (rest : List Letter) → letters ≡ rest → event_limit ≤ n → n < event_limit
+    by_letters : (rest : List Letter) → letters ≡ rest → most_events ≤ n → n < most_events
     by_letters [] is over = let bad = calm is in absurd (cc)
     by_letters (letter ∷ rest) is over = let bad = full (over, λ none. let both : letter ∷ rest ≡ [] = sym is ∙ none in absurd (cc)) in absurd (cc)
 
-    by_order : (n < event_limit) ⊎ (event_limit ≤ n) → n < event_limit
+    by_order : (n < most_events) ⊎ (most_events ≤ n) → n < most_events
     by_order (inl below) = below
     by_order (inr over) = by_letters letters refl over
 
 -- where a taking stops, the history has grown so far
 pub grew_stop : (stop : SystemStop) (result : Result Bool SystemStop) (first old new : List Event) → result ≡ Err stop → (result ≡ Err stops.EventLimit → new ≡ old) → (undelivered old ≡ [] → result ≡ Ok false)
-    → ((event_limit ≤ length old) × (undelivered old ≢ []) → result ≡ Err stops.EventLimit) → Grew first old → Grew old new → Grew first new
-grew_stop stops.EventLimit result first old new is same calm full one two = subst (Grew first) (sym (same is)) one
+    → ((most_events ≤ length old) × (undelivered old ≢ []) → result ≡ Err stops.EventLimit) → GrowsWithinLimit first old → GrowsWithinLimit old new → GrowsWithinLimit first new
+grew_stop stops.EventLimit result first old new is same calm full one two = subst (GrowsWithinLimit first) (sym (same is)) one
 grew_stop stops.NoMemory result first old new is same calm full one two = grew_more first old new one two (below_of result (undelivered old) (length old) calm full is)
 
 -- the failures of the takings are counted together
@@ -56,7 +57,7 @@ counted before was now a b c first then few cause one = grind arith
 spared_more : (before was now a b c : ℕ) → a ≤ b → b ≤ c → (b ≡ a → was ≡ before) → (c ≡ b → now ≡ was) → c ≡ a → now ≡ before
 spared_more before was now a b c first then one two same = let same_b : b ≡ a = omega arith in let same_c : c ≡ b = omega arith in two same_c ∙ one same_b
 
-pub counted_more : (before was now : ℕ) (first old new : List Event) → Grew first old → Grew old new → DevicesCounted before was first old → DevicesHaveCause was now old new → DevicesCounted before now first new
+pub counted_more : (before was now : ℕ) (first old new : List Event) → GrowsWithinLimit first old → GrowsWithinLimit old new → DevicesCounted before was first old → DevicesHaveCause was now old new → DevicesCounted before now first new
 counted_more before was now first old new grew more one two = record {
   later = omega (arith, one.later, two.later);
   few = counted before was now (devices first) (devices old) (devices new) one.later two.later one.few two.cause two.few;

@@ -11,7 +11,7 @@ use Rattle.vm_model.specs.Waiting.{Access, is_store}
 use Rattle.vm_legal.specs.Accesses.{Comes, Copies, Elsewhere, HasPlace, Nowhere, Raises, Waits, WaitsUnlocked, WantsFrame, page_of}
 use Rattle.vm_legal.specs.Debts.{IsPaid}
 use Rattle.vm_legal.specs.Licences.{created}
-use Rattle.vm_legal.specs.Prompt.{AReady, AnAnswer, AnUnlock, Awaits, IsExhausted, IsFull, IsSource, NoneInVain, Prompt, WaitsForPager}
+use Rattle.vm_legal.specs.Prompt.{AReady, AnAnswer, AnUnlock, Awaits, HostIsFull, IsExhausted, IsSource, NoneInVain, Prompt, WaitsForPager}
 use Rattle.vm_legal.specs.Stretches.{AllInner}
 
 -- the accesses that wait, and what they wait for
@@ -79,7 +79,7 @@ exhausted_line header host line h is = record {
   one = λ o p q r here there none nor. is.one o p q r here there (λ waits. none (unlocked_line header host o p line h waits)) (λ waits. nor (unlocked_line header host q r line h waits));
 }
 
-full_line : (header : Header) (host : ℕ) (line : ℕ) (h : List Event) → IsFull header host h → IsFull header host (event.Line line ∷ h)
+full_line : (header : Header) (host : ℕ) (line : ℕ) (h : List Event) → HostIsFull header host h → HostIsFull header host (event.Line line ∷ h)
 full_line header host line h is = record { none = is.none; why = elim (is.why) [ inl out ↦ inl out | inr exhausted ↦ inr (exhausted_line header host line h exhausted) ] }
 
 not_in_vain_line : (header : Header) (host : ℕ) (line : ℕ) (h : List Event) → NoneInVain header host h → NoneInVain header host (event.Line line ∷ h)
@@ -159,7 +159,7 @@ exhausted_code header host why h is = record {
   one = λ o p q r here there none nor. is.one o p q r here there (λ waits. none (unlocked_code header host o p why h waits)) (λ waits. nor (unlocked_code header host q r why h waits));
 }
 
-full_code : (header : Header) (host : ℕ) (why : Code) (h : List Event) → IsFull header host h → IsFull header host (event.Refused why ∷ h)
+full_code : (header : Header) (host : ℕ) (why : Code) (h : List Event) → HostIsFull header host h → HostIsFull header host (event.Refused why ∷ h)
 full_code header host why h is = record { none = is.none; why = elim (is.why) [ inl out ↦ inl out | inr exhausted ↦ inr (exhausted_code header host why h exhausted) ] }
 
 not_in_vain_code : (header : Header) (host : ℕ) (why : Code) (h : List Event) → NoneInVain header host h → NoneInVain header host (event.Refused why ∷ h)

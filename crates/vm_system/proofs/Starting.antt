@@ -5,14 +5,14 @@ use Rattle.std.specs.Prelude.{slice_get}
 use Rattle.vm_model.specs.declared.script.Header.{Header}
 use Rattle.vm_legal.specs.Outside.{Outside}
 use Rattle.vm_outside.specs.Areas.{Told}
-use Rattle.pg_slots.specs.Contents.{Content, Fits, Kept as Stored}
+use Rattle.pg_slots.specs.Contents.{Content, Kept as Stored, SlotsFit}
 use Rattle.pg_slots.specs.Slots.{SlotTable}
-use Rattle.pg_default.specs.Stands.{Stands as PagerStands, content_of}
+use Rattle.pg_default.specs.Stands.{PagerStands, content_of}
 use Rattle.pg_default.proofs.Others.{empty}
 use Rattle.pg_default.proofs.Standing.{start}
 use Rattle.vm_hosts.specs.Hosts.{AllQueued, AllRest}
 use Rattle.vm_system.specs.Posts.{Posts}
-use Rattle.vm_system.specs.Stands.{AllServe, AllTold, AreEmpty, AreNumbered, Kept, Stands}
+use Rattle.vm_system.specs.Stands.{AllServe, AllTold, AreEmpty, AreNumbered, PagingIsKept, SystemStands}
 use Rattle.vm_system.specs.declared.state.State.{State}
 use Rattle.vm_system.proofs.Letters.{orderly_none}
 
@@ -40,7 +40,7 @@ new_posts header s new = record {
 new_serve : (header : Header) (s : State) → IsNew header s → AllServe header s.pagers.items []
 new_serve header s new = record { numbered = new.numbered; stand = λ h pager at. subst (λ (z : SlotTable). PagerStands header h z []) (sym (new.empty h pager at)) (start header h) }
 
-pub new_stands : (header : Header) (outside : Outside) (s : State) → IsNew header s → Stands header outside s
+pub new_stands : (header : Header) (outside : Outside) (s : State) → IsNew header s → SystemStands header outside s
 new_stands header outside s new = record {
   rests = rw new.history new.rests;
   queues = rw new.history new.queues;
@@ -53,19 +53,19 @@ new_stands header outside s new = record {
 }
 
 -- an empty table fits where nothing was stored
-empty_fits : (header : Header) (h : ℕ) (pager : SlotTable) (areas : List ℕ → Told) → pager ≡ record { host = h; size = header.size; count = header.slots; rows = [] } → Fits areas pager (λ o p. None)
-empty_fits header h pager areas is = subst (λ (z : SlotTable). Fits areas z (λ o p. None)) (sym is) (record {
+empty_fits : (header : Header) (h : ℕ) (pager : SlotTable) (areas : List ℕ → Told) → pager ≡ record { host = h; size = header.size; count = header.slots; rows = [] } → SlotsFit areas pager (λ o p. None)
+empty_fits header h pager areas is = subst (λ (z : SlotTable). SlotsFit areas z (λ o p. None)) (sym is) (record {
   agrees = record { at = λ o p. tt };
   bytes = λ o p s bytes held none. absurd (let bad : None ≡ Some (Stored bytes) = none in cc);
 })
 
-pub new_kept : (header : Header) (outside : Outside) (areas : List ℕ → Told) (s : State) → IsNew header s → (outside.paging ≡ true → AllTold areas s.pagers.items) → Kept header outside areas s
+pub new_kept : (header : Header) (outside : Outside) (areas : List ℕ → Told) (s : State) → IsNew header s → (outside.paging ≡ true → AllTold areas s.pagers.items) → PagingIsKept header outside areas s
 new_kept header outside areas s new told =
     let nothing : (h : ℕ) → content_of header h [] ≡ (λ o p. None) = λ h i o p. empty header h o p i in
     record {
       pagers = rw new.history (new_serve header s new);
       told = told;
-      fits = λ on h pager at. rw new.history (subst (λ (z : Content). Fits areas pager z) (sym (nothing h)) (empty_fits header h pager areas (new.empty h pager at)));
+      fits = λ on h pager at. rw new.history (subst (λ (z : Content). SlotsFit areas pager z) (sym (nothing h)) (empty_fits header h pager areas (new.empty h pager at)));
     }
 
 -- so many pagers were made, to which nothing was returned

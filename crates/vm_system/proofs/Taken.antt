@@ -19,7 +19,7 @@ use Rattle.vm_model.specs.Local.{local}
 use Rattle.vm_model.specs.Server.{first}
 use Rattle.vm_legal.specs.Bytes.{OwnBytes}
 use Rattle.vm_legal.specs.Follows.{IsConsequence}
-use Rattle.vm_legal.specs.Frames.{FramesSuffice, Gives, changed, frames_held, frames_used, taken_down, taken_up, where_true}
+use Rattle.vm_legal.specs.Frames.{FramesSuffice, Gives, frames_after, frames_held, frames_used, taken_down, taken_up, where_true}
 use Rattle.vm_legal.specs.Licences.{AllLicensed, Licensed, MayTake, ReturnsOn, created}
 use Rattle.vm_legal.specs.Outside.{Outside}
 use Rattle.vm_legal.specs.Steps.{Letter}
@@ -123,18 +123,18 @@ serve_lined header pagers (Some line) past serve = serve_other header pagers (ev
 
 -- the frames
 
-gives_less : (test : Bool) (held : ℕ) → changed (where_true test Gives) held ≤ held
+gives_less : (test : Bool) (held : ℕ) → frames_after (where_true test Gives) held ≤ held
 gives_less true held = omega arith
 gives_less false held = omega arith
 
 keeps_same : (held : ℕ) → held ≤ held
 keeps_same held = omega arith
 
-up_less : (here : Bool) (m : Message) (held : ℕ) → changed (taken_up here m) held ≤ held
+up_less : (here : Bool) (m : Message) (held : ℕ) → frames_after (taken_up here m) held ≤ held
 up_less here (message.Return control page dirty keep bytes) held = gives_less _ held
 up_less here other held = keeps_same held
 
-down_less : (asked : ℕ → Bool) (m : Message) (held : ℕ) → changed (taken_down asked m) held ≤ held
+down_less : (asked : ℕ → Bool) (m : Message) (held : ℕ) → frames_after (taken_down asked m) held ≤ held
 down_less asked (message.Unavailable page) held = gives_less _ held
 down_less asked (message.Error page reason) held = gives_less _ held
 down_less asked other held = keeps_same held

@@ -15,16 +15,16 @@ use Rattle.vm_model.specs.Server.{first}
 use Rattle.vm_legal.proofs.Locks.{no_request}
 use Rattle.vm_legal.specs.Debts.{IsPaid}
 use Rattle.vm_legal.specs.Licences.{Licensed, created, lock_taken, up}
-use Rattle.vm_legal.specs.Steps.{Letter, taken}
+use Rattle.vm_legal.specs.Steps.{Letter, taken_letter}
 use Rattle.vm_outside.specs.Areas.{Told}
 use Rattle.vm_kernel.specs.Matches.{IsPlain}
 use Rattle.vm_kernel.specs.Taking.{EndsAll, IsErrorPaid, IsTempAnswer}
 use Rattle.vm_hosts.specs.Hosts.{HostTable}
-use Rattle.vm_hosts.specs.Steps.{Passed, Step}
+use Rattle.vm_hosts.specs.Steps.{HostsPart, Step}
 use Rattle.vm_legal.specs.Stretches.{AllInner}
 use Rattle.vm_legal.proofs.Inside.{taken_more}
 use Rattle.vm_system.specs.Posts.{CanTellAll, Posts}
-use Rattle.vm_system.specs.Stands.{AllServe, Kept}
+use Rattle.vm_system.specs.Stands.{AllServe, PagingIsKept}
 use Rattle.vm_system.specs.Steps.{devices}
 use Rattle.vm_system.specs.Takings.{May, Took}
 use Rattle.vm_system.specs.declared.state.State.{State}
@@ -49,7 +49,7 @@ down_licensed given line number host object control m s may head =
     taken_licensed given.header given.outside given.command (Down host object control) m given.past head may.may (front_settled given s front)
 
 pub can_down : (given : Step) (host : HostId) (object : ObjectId) (control : ℕ) (m : Message) (s : State) (hosts : HostTable) (events : List Event) → Front given s → first (queue (Down host object control) given.past) ≡ Some m
-    → Passed given.header given.outside given.command (event.Taken (Down host object control) m ∷ given.past) hosts events → CanTellAll given.header.size events (event.Taken (Down host object control) m ∷ given.past)
+    → HostsPart given.header given.outside given.command (event.Taken (Down host object control) m ∷ given.past) hosts events → CanTellAll given.header.size events (event.Taken (Down host object control) m ∷ given.past)
 can_down given host object control m s hosts events front head passed =
     let stretch = passed.follows.stretch in
     can_say given.header given.outside given.command (event.Taken (Down host object control) m ∷ given.past) events front.rests.plain
@@ -57,7 +57,7 @@ can_down given host object control m s hosts events front head passed =
 
 -- what a step took was no message to a pager
 not_up : (at : HostId) (object : ObjectId) (control : ℕ) (m : Message) (events past : List Event) (o : ℕ) (host : ℕ) (n : Message) → AllInner events
-    → taken (events ++ event.Taken (Down at object control) m ∷ past) ≡ Some (record { channel = up host o; message = n }) → ⊥
+    → taken_letter (events ++ event.Taken (Down at object control) m ∷ past) ≡ Some (record { channel = up host o; message = n }) → ⊥
 not_up at object control m events past o host n inner is =
     let both : Some (record { channel = Down at object control; message = m }) ≡ Some (record { channel = up host o; message = n }) = sym (taken_more events (event.Taken (Down at object control) m ∷ past) inner) ∙ is in
     channels (ap by both)
@@ -98,7 +98,7 @@ front_serves : (given : Step) (host : HostId) (object : ObjectId) (control : ℕ
 front_serves given host object control m s front = serve_other given.header s.pagers.items (event.Taken (Down host object control) m) given.past (λ h. tt) front.pagers
 
 pub took_down : (given : Step) (line : Option ℕ) (number : ChannelId) (host : HostId) (object : ObjectId) (control : ℕ) (m : Message) (s new : State) (events : List Event) → May given line number (Down host object control) s
-    → first (queue (Down host object control) given.past) ≡ Some m → Passed given.header given.outside given.command (event.Taken (Down host object control) m ∷ given.past) new.hosts events
+    → first (queue (Down host object control) given.past) ≡ Some m → HostsPart given.header given.outside given.command (event.Taken (Down host object control) m ∷ given.past) new.hosts events
     → IsErrorPaid given.header (events ++ event.Taken (Down host object control) m ∷ given.past) → EndsAll given.header (events ++ event.Taken (Down host object control) m ∷ given.past) → new.size ≡ s.size
     → new.pagers.items ≡ s.pagers.items → new.history.items ≡ events ++ event.Taken (Down host object control) m ∷ given.past → Posts new new.history.items → Took given new
 took_down given line number host object control m s new events may head passed failed ended size pagers items posts =
@@ -125,8 +125,8 @@ took_down given line number host object control m s new events may head passed f
 
 -- pagers and contents have no part in that
 pub kept_down : (given : Step) (line : Option ℕ) (number : ChannelId) (host : HostId) (object : ObjectId) (control : ℕ) (m : Message) (s new : State) (hosts : HostTable) (events : List Event) (areas : List ℕ → Told)
-    → May given line number (Down host object control) s → Passed given.header given.outside given.command (event.Taken (Down host object control) m ∷ given.past) hosts events → new.pagers.items ≡ s.pagers.items
-    → new.history.items ≡ events ++ event.Taken (Down host object control) m ∷ given.past → Kept given.header given.outside areas s → Kept given.header given.outside areas new
+    → May given line number (Down host object control) s → HostsPart given.header given.outside given.command (event.Taken (Down host object control) m ∷ given.past) hosts events → new.pagers.items ≡ s.pagers.items
+    → new.history.items ≡ events ++ event.Taken (Down host object control) m ∷ given.past → PagingIsKept given.header given.outside areas s → PagingIsKept given.header given.outside areas new
 kept_down given line number host object control m s new hosts events areas may passed pagers items kept =
     let channel = Down host object control in
     let front = front_of given line number channel s may in
@@ -134,7 +134,7 @@ kept_down given line number host object control m s new hosts events areas may p
     kept_behind given.header given.outside areas s new events (event.Taken channel m ∷ given.past) (front_serves given host object control m s front) (front_content given line number channel s may) stretch.said stretch.inner pagers items kept
 
 pub devices_down : (given : Step) (line : Option ℕ) (number : ChannelId) (host : HostId) (object : ObjectId) (control : ℕ) (m : Message) (s new : State) (hosts : HostTable) (events : List Event) → May given line number (Down host object control) s
-    → Passed given.header given.outside given.command (event.Taken (Down host object control) m ∷ given.past) hosts events → new.history.items ≡ events ++ event.Taken (Down host object control) m ∷ given.past
+    → HostsPart given.header given.outside given.command (event.Taken (Down host object control) m ∷ given.past) hosts events → new.history.items ≡ events ++ event.Taken (Down host object control) m ∷ given.past
     → devices new.history.items ≡ devices s.history.items
 devices_down given line number host object control m s new hosts events may passed items =
     ap devices items ∙ devices_said given.header events (event.Taken (Down host object control) m ∷ given.past) passed.follows.stretch.said ∙ ap devices may.past ∙ devices_lined line s.history.items

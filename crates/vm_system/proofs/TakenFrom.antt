@@ -11,13 +11,13 @@ use Rattle.vm_model.specs.Channels.{queue}
 use Rattle.vm_model.specs.Server.{first}
 use Rattle.vm_legal.proofs.Locks.{no_request}
 use Rattle.vm_legal.specs.Debts.{IsPaid}
-use Rattle.vm_legal.specs.Follows.{Follows, FollowsSoFar, IsGroup, IsRun, IsWhole, head, take_head}
+use Rattle.vm_legal.specs.Follows.{Follows, FollowsSoFar, IsGroup, IsRun, IsWholeGroup, head, take_head}
 use Rattle.vm_legal.specs.Frames.{FramesSuffice}
 use Rattle.vm_legal.specs.Legal.{Holds, IsAtRest, LegalFor}
 use Rattle.vm_legal.specs.Outside.{Outside}
 use Rattle.vm_legal.specs.Refusal.{refusal}
 use Rattle.vm_legal.proofs.Groups.{cut_of, open_of, so_far}
-use Rattle.vm_system.specs.Stands.{Stands}
+use Rattle.vm_system.specs.Stands.{SystemStands}
 use Rattle.vm_hosts.specs.Steps.{Step}
 use Rattle.vm_system.specs.Steps.{KeepsLegal, MayCut}
 use Rattle.vm_system.specs.Takings.{MayBeCut, TakesStep, Took}
@@ -45,7 +45,7 @@ follows_take header outside line channel run old new fine step follows =
     let headed : head header old (command.Take channel) ≡ Some (event.Taken channel step.m ∷ []) = ap (take_head channel) first_is in
     let run_is : IsRun header outside old numbered (event.Taken channel step.m ∷ []) stretch = record { more = step.more; is = ap (λ (z : Channel). step.more ++ event.Taken z step.m ∷ []) cause.1.0; follows = step.follows; licensed = step.licensed } in
     let group : IsGroup header outside old numbered stretch = rw (fine, headed) run_is in
-    let whole : IsWhole header old numbered stretch = rw fine tt in
+    let whole : IsWholeGroup header old numbered stretch = rw fine tt in
     (old, stretch, step_is (taking_of header outside line channel old) new step, group, whole, follows)
 
 -- a line owes nothing
@@ -61,7 +61,7 @@ paid_line header line past = record {
   slot = λ host object control page dirty keep bytes temporary is lacks. absurd (some_none (sym is));
 }
 
-up_to_line : (header : Header) (outside : Outside) (line : ℕ) (run : List Numbered) (s : State) → Stands header outside s → LegalFor header outside run s.history.items → HoldsUpTo header outside (event.Line line ∷ s.history.items)
+up_to_line : (header : Header) (outside : Outside) (line : ℕ) (run : List Numbered) (s : State) → SystemStands header outside s → LegalFor header outside run s.history.items → HoldsUpTo header outside (event.Line line ∷ s.history.items)
 up_to_line header outside line run s stands legal =
     let items = s.history.items in
     record {
@@ -74,7 +74,7 @@ up_to_line header outside line run s stands legal =
       paid = paid_line header line items;
     }
 
-pub keeps_taken : (header : Header) (outside : Outside) (line : ℕ) (channel : Channel) (s new : State) → Stands header outside s → refusal header s.history.items (command.Take channel) ≡ None
+pub keeps_taken : (header : Header) (outside : Outside) (line : ℕ) (channel : Channel) (s new : State) → SystemStands header outside s → refusal header s.history.items (command.Take channel) ≡ None
     → Took (taking_of header outside line channel s.history.items) new → KeepsLegal header outside (record { line = line; command = command.Take channel }) s.history.items new.history.items
 keeps_taken header outside line channel s new stands fine took run legal =
     let given = taking_of header outside line channel s.history.items in
@@ -90,7 +90,7 @@ keeps_taken header outside line channel s new stands fine took run legal =
       none = inr refl;
     }
 
-pub cuts_taken : (header : Header) (outside : Outside) (line : ℕ) (channel : Channel) (s : State) (new : List Event) → Stands header outside s → refusal header s.history.items (command.Take channel) ≡ None
+pub cuts_taken : (header : Header) (outside : Outside) (line : ℕ) (channel : Channel) (s : State) (new : List Event) → SystemStands header outside s → refusal header s.history.items (command.Take channel) ≡ None
     → MayBeCut (taking_of header outside line channel s.history.items) s.history.items new → MayCut header outside (record { line = line; command = command.Take channel }) s.history.items new
 cuts_taken header outside line channel s new stands fine (inl same) = inl same
 cuts_taken header outside line channel s new stands fine (inr step) = inr (λ run legal.

@@ -3,15 +3,15 @@ use Rattle.std.proofs.Common.{append_assoc, length-append, ◌≡◌, ◌≢◌,
 use Rattle.std.proofs.Math.ListN.{set, length-set}
 use Rattle.std.proofs.lemmas.Option.{same_Some, slice_get-get_or, slice_get_within}
 use Rattle.std.specs.Prelude.{get_or, slice_get}
-use Rattle.pg_slots.specs.Contents.{Carries, Content, Fits, IsTold, area_name}
+use Rattle.pg_slots.specs.Contents.{Carries, Content, IsTold, SlotsFit, area_name}
 use Rattle.pg_slots.specs.Slots.{KeepsShape, SlotTable}
 use Rattle.pg_default.proofs.Carrying.{carries}
 use Rattle.pg_default.proofs.Causes.{causes}
 use Rattle.pg_default.proofs.Debts.{paid}
 use Rattle.pg_default.proofs.Others.{others, others_carry}
 use Rattle.pg_default.proofs.Standing.{stands}
-use Rattle.pg_default.specs.Answers.{AnswerHasCause, Answered as Answers, IsToPager, LeavesAreas, ReturnsWhole, SuppliesStored, TellsFault, after_message}
-use Rattle.pg_default.specs.Stands.{Serves, Stands as PagerStands, content_of, is_elsewhere}
+use Rattle.pg_default.specs.Answers.{AnswerHasCause, IsToPager, LeavesAreas, PagerAnswer as Answers, ReturnsWhole, SuppliesStored, TellsFault, after_message}
+use Rattle.pg_default.specs.Stands.{PagerStands, Serves, content_of, is_elsewhere}
 use Rattle.vm_base.specs.Listing.{Listed}
 use Rattle.vm_base.specs.declared.failure.NoMemory.{NoMemory}
 use Rattle.vm_base.specs.declared.ids.ChannelId.{ChannelId}
@@ -40,9 +40,9 @@ use Rattle.vm_hosts.specs.Steps.{Going, Step}
 use Rattle.vm_legal.proofs.Stretched.{each_both, inner_both, licensed_both, moments_both, of_both}
 use Rattle.vm_system.specs.Orderly.{IsLetter}
 use Rattle.vm_system.specs.Posts.{CanTellAll, HasRoom, Posts, SameHosts}
-use Rattle.vm_system.specs.Stands.{AllServe, AreNumbered, Kept}
+use Rattle.vm_system.specs.Stands.{AllServe, AreNumbered, PagingIsKept}
 use Rattle.vm_system.specs.Steps.{DevicesHaveCause, devices, lined}
-use Rattle.vm_system.specs.Takings.{Answered, Followed, May, TakesStep, Took}
+use Rattle.vm_system.specs.Takings.{Followed, May, PagerHasAnswered, TakesStep, Took}
 use Rattle.vm_system.specs.declared.state.State.{State}
 use Rattle.vm_system.proofs.Answering.{Faults, faults, replies, reply_consequences, reply_frames, reply_inner, reply_nobodys, reply_own, told_after, word_up}
 use Rattle.vm_system.proofs.Apart.{about, apart_of, areas_others, fits_still, other_area, others_fit, others_stand, set_cases, told_still}
@@ -100,8 +100,8 @@ reply_serves given host object m s old new events reply = serves_of given host o
 
 -- where the areas hold what was stored
 pub reply_of : (given : Step) (line : Option ℕ) (number : ChannelId) (host : HostId) (object : ObjectId) (m : Message) (areas : List ℕ → Told) (s : State) (old new : SlotTable) (events : List Event) → May given line number (Up host object) s
-    → first (queue (Up host object) given.past) ≡ Some m → slice_get s.pagers.items host.0 ≡ Some old → Answers m object old new events → KeepsShape old new → Kept given.header given.outside areas s
-    → ((content : Content) → IsTold areas old → Fits areas old content → SuppliesStored object events content) → Reply given host object m s old new events
+    → first (queue (Up host object) given.past) ≡ Some m → slice_get s.pagers.items host.0 ≡ Some old → Answers m object old new events → KeepsShape old new → PagingIsKept given.header given.outside areas s
+    → ((content : Content) → IsTold areas old → SlotsFit areas old content → SuppliesStored object events content) → Reply given host object m s old new events
 reply_of given line number host object m areas s old new events may head at answered shape kept bytes =
     let front = front_of given line number (Up host object) s may in
     let same = front_content given line number (Up host object) s may host.0 in
@@ -113,7 +113,7 @@ reply_of given line number host object m areas s old new events may head at answ
       answered = answered;
       shape = shape;
       licensed = causes given.header given.outside given.command host.0 given.past object m old new events (serves_of given host object m s old new events front head at answered)
-          (λ on. bytes (content_of given.header host.0 given.past) (kept.told on host.0 old at) (subst (λ (z : Content). Fits areas old z) (sym same) (kept.fits on host.0 old at)));
+          (λ on. bytes (content_of given.header host.0 given.past) (kept.told on host.0 old at) (subst (λ (z : Content). SlotsFit areas old z) (sym same) (kept.fits on host.0 old at)));
     }
 
 reply_letter : (given : Step) (host : HostId) (object : ObjectId) (m : Message) (s : State) (old new : SlotTable) (events : List Event) → Reply given host object m s old new events
@@ -171,7 +171,7 @@ abbrev pub going : Step → HostId → ObjectId → Message → List Event → G
 going given host object m events = record { header = given.header; outside = given.outside; command = given.command; past = given.past; front = events ++ event.Taken (Up host object) m ∷ [] }
 
 pub answered_up : (given : Step) (host : HostId) (object : ObjectId) (m : Message) (s now : State) (old new : SlotTable) (events : List Event) → Reply given host object m s old new events → now.pagers.items ≡ set s.pagers.items host.0 new
-    → now.hosts ≡ s.hosts → now.size ≡ given.header.size → now.history.items ≡ events ++ event.Taken (Up host object) m ∷ given.past → Posts now now.history.items → Answered (going given host object m events) host (gives_frame m) now
+    → now.hosts ≡ s.hosts → now.size ≡ given.header.size → now.history.items ≡ events ++ event.Taken (Up host object) m ∷ given.past → Posts now now.history.items → PagerHasAnswered (going given host object m events) host (gives_frame m) now
 answered_up given host object m s now old new events reply pagers hosts size items posts =
     let header = given.header in
     let front = reply.front in
@@ -245,8 +245,8 @@ took_up given host object m s new old slots events reply followed =
 
 -- what was stored stands in the areas behind the answer
 pub kept_up : (given : Step) (line : Option ℕ) (number : ChannelId) (host : HostId) (object : ObjectId) (m : Message) (s now : State) (old slots : SlotTable) (before after : List ℕ → Told) (events : Listed Event) → May given line number (Up host object) s
-    → Reply given host object m s old slots events.items → Carries before after old slots (after_message m object (Ok events)) → LeavesAreas m object slots before after (Ok events) → Kept given.header given.outside before s
-    → now.pagers.items ≡ set s.pagers.items host.0 slots → now.history.items ≡ events.items ++ event.Taken (Up host object) m ∷ given.past → Kept given.header given.outside after now
+    → Reply given host object m s old slots events.items → Carries before after old slots (after_message m object (Ok events)) → LeavesAreas m object slots before after (Ok events) → PagingIsKept given.header given.outside before s
+    → now.pagers.items ≡ set s.pagers.items host.0 slots → now.history.items ≡ events.items ++ event.Taken (Up host object) m ∷ given.past → PagingIsKept given.header given.outside after now
 kept_up given line number host object m s now old slots before after events may reply carried leaves kept pagers items =
     kept_at given.header given.outside after now (set s.pagers.items host.0 slots) (events.items ++ event.Taken (Up host object) m ∷ given.past) pagers items (serve_up given host object m s old slots events.items reply)
     (λ on g pager at. told on g pager (set_cases s.pagers.items host.0 g slots pager few at))
@@ -266,13 +266,13 @@ kept_up given line number host object m s now old slots before after events may 
     told on g pager (inr apart) = told_still pager before after (still g pager apart.0 apart.1) (kept.told on g pager apart.1)
 
     fit : given.outside.paging ≡ true → (g : ℕ) (pager : SlotTable) → ((g ≡ host.0) × (slots ≡ pager)) ⊎ ((g ≢ host.0) × (slice_get s.pagers.items g ≡ Some pager))
-        → Fits after pager (content_of given.header g (events.items ++ event.Taken (Up host object) m ∷ given.past))
+        → SlotsFit after pager (content_of given.header g (events.items ++ event.Taken (Up host object) m ∷ given.past))
     fit on g pager (inl same) =
         let now : List Event = events.items ++ event.Taken (Up host object) m ∷ given.past in
         let over = carries given.header host.0 given.past object m old slots events before after (reply_serves given host object m s old slots events.items reply) carried in
-        let was = subst (λ (z : Content). Fits before old z) (sym (front_content given line number (Up host object) s may host.0)) (kept.fits on host.0 old reply.at) in
-        subst (λ (z : SlotTable). Fits after z (content_of given.header g now)) same.1
-        (subst (λ (z : ℕ). Fits after slots (content_of given.header z now)) (sym same.0) (over.fits (kept.told on host.0 old reply.at) was))
+        let was = subst (λ (z : Content). SlotsFit before old z) (sym (front_content given line number (Up host object) s may host.0)) (kept.fits on host.0 old reply.at) in
+        subst (λ (z : SlotTable). SlotsFit after z (content_of given.header g now)) same.1
+        (subst (λ (z : ℕ). SlotsFit after slots (content_of given.header z now)) (sym same.0) (over.fits (kept.told on host.0 old reply.at) was))
     fit on g pager (inr apart) =
         let header = given.header in
         let taken = event.Taken (Up host object) m in
@@ -280,7 +280,7 @@ kept_up given line number host object m s now old slots before after events may 
         let is = kept.told on g pager apart.1 in
         let own = apart_of header past (orderly_taken header (Up host object) m given.past reply.front.orderly reply.head) g in
         let over = others_carry header g pager taken given.past before (inr (λ same. apart.0 (sym same))) own in
-        let was = subst (λ (z : Content). Fits before pager z) (sym (front_content given line number (Up host object) s may g)) (kept.fits on g pager apart.1) in
+        let was = subst (λ (z : Content). SlotsFit before pager z) (sym (front_content given line number (Up host object) s may g)) (kept.fits on g pager apart.1) in
         fits_still pager (content_of header g (events.items ++ past)) before after (still g pager apart.0 apart.1) is
         (others_fit header g pager object before events.items past (about m object old slots events.items reply.answered) (away_from given host object m s old slots events.items reply g apart.0) own is (over.fits is was))
 
@@ -291,7 +291,7 @@ areas_failed (message.Return control page dirty keep bytes) object before after 
 areas_failed other object before after slots e leaves = leaves
 
 pub kept_failed : (header : Header) (outside : Outside) (object : ObjectId) (m : Message) (s now : State) (slots : SlotTable) (before after : List ℕ → Told) (e : NoMemory) → now.pagers.items ≡ s.pagers.items
-    → LeavesAreas m object slots before after (Err e) → now.history.items ≡ s.history.items → Kept header outside before s → Kept header outside after now
+    → LeavesAreas m object slots before after (Err e) → now.history.items ≡ s.history.items → PagingIsKept header outside before s → PagingIsKept header outside after now
 kept_failed header outside object m s now slots before after e pagers leaves items kept =
     let same = areas_failed m object before after slots e leaves in
     kept_at header outside after now s.pagers.items s.history.items pagers items kept.pagers

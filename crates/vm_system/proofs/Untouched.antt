@@ -15,7 +15,7 @@ use Rattle.vm_legal.specs.Stretches.{AllInner, IsInner}
 use Rattle.vm_model.specs.Moments.{before_last_line}
 use Rattle.vm_outside.specs.Arming.{Arming}
 use Rattle.vm_hosts.specs.Steps.{Step}
-use Rattle.vm_system.specs.Steps.{StopsAt, takes_up, took_up}
+use Rattle.vm_system.specs.Steps.{IsMemoryStop, takes_up, took_up}
 use Rattle.vm_system.specs.Takings.{MayBeCut, TakesStep}
 use Rattle.vm_system.proofs.Growth.{line_taken}
 use Rattle.vm_system.proofs.Stretched.{licensed_front}
@@ -59,16 +59,16 @@ not_up_from header outside line channel old new step none = not_up (taking_of he
 
 -- memory ended in a step: what a pager didn't take leaves all as it was
 pub stops_by : {B : Type 0} (front : List Event → List Event) (given : Step) (channel : Channel) (old new : List Event) (before after : Arming B) → MayTake given.command channel given.past → (TakesStep given new → front new ≡ old)
-    → (takes_up (command.Take channel) ≡ false → new ≡ old) → (new ≡ old → after.left ≡ before.left) → MayBeCut given old new → StopsAt front old new before after
+    → (takes_up (command.Take channel) ≡ false → new ≡ old) → (new ≡ old → after.left ≡ before.left) → MayBeCut given old new → IsMemoryStop front old new before after
 stops_by front given channel old new before after may at down unmoved (inl same) = inl (same, unmoved same)
 stops_by front given channel old new before after may at down unmoved (inr step) = by (takes_up (command.Take channel)) refl
   where
-    by : (b : Bool) → takes_up (command.Take channel) ≡ b → StopsAt front old new before after
+    by : (b : Bool) → takes_up (command.Take channel) ≡ b → IsMemoryStop front old new before after
     by false is = inl (down is, unmoved (down is))
     by true is = inr (at step, took_step given new step ∙ (ap (λ (z : Channel). takes_up (command.Take z)) (taken_on given channel new may step) ∙ is))
 
 pub stops_from : {B : Type 0} (header : Header) (outside : Outside) (line : ℕ) (channel : Channel) (old new : List Event) (before after : Arming B) → (takes_up (command.Take channel) ≡ false → new ≡ old)
-    → (new ≡ old → after.left ≡ before.left) → MayBeCut (taking_of header outside line channel old) old new → StopsAt before_last_line old new before after
+    → (new ≡ old → after.left ≡ before.left) → MayBeCut (taking_of header outside line channel old) old new → IsMemoryStop before_last_line old new before after
 stops_from header outside line channel old new before after down unmoved cut =
     let given = taking_of header outside line channel old in
     stops_by before_last_line given channel old new before after (refl, refl) (λ step. line_taken given line old new step refl) down unmoved cut

@@ -5,18 +5,18 @@ use Rattle.vm_model.specs.declared.script.Header.{Header}
 use Rattle.vm_model.specs.Moments.{before_last_line}
 use Rattle.vm_legal.specs.Outside.{Outside}
 use Rattle.vm_outside.specs.Areas.{Told}
-use Rattle.vm_system.specs.Stands.{Kept, Stands}
-use Rattle.vm_system.specs.Steps.{Grew, KeepsLegal, devices}
+use Rattle.vm_system.specs.Stands.{PagingIsKept, SystemStands}
+use Rattle.vm_system.specs.Steps.{GrowsWithinLimit, KeepsLegal, devices}
 use Rattle.vm_system.specs.declared.state.State.{State}
 
 -- the system stands for the history, which is longer by the step, and legal with one command more
 pub record Makes (header : Header) (outside : Outside) (numbered : Numbered) (old new : State) : Type 0 where
-  pub stands : Stands header outside new
+  pub stands : SystemStands header outside new
   pub legal : KeepsLegal header outside numbered old.history.items new.history.items
-  pub grew : Grew old.history.items new.history.items
+  pub grew : GrowsWithinLimit old.history.items new.history.items
   pub front : before_last_line new.history.items ≡ old.history.items
 
 -- no pager has a part in it: what was returned is kept, and no failure of a backing is told
 pub record Spares (header : Header) (outside : Outside) (old new : State) : Type 0 where
-  pub kept : (areas : List ℕ → Told) → Kept header outside areas old → Kept header outside areas new
+  pub kept : (areas : List ℕ → Told) → PagingIsKept header outside areas old → PagingIsKept header outside areas new
   pub devices : devices new.history.items ≡ devices old.history.items

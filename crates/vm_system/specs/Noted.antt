@@ -32,19 +32,19 @@ ByChannel [] = Unit {0}
 ByChannel (noted ∷ more) = IsAheadOf noted.channel more × ByChannel more
 
 -- how many channels come in front of one
-abbrev pub rank : Channel → List Noted → ℕ
-rank c [] = 0
-rank c (noted ∷ more) = if is_ahead noted.channel c then suc (rank c more) else 0
+abbrev pub channels_before : Channel → List Noted → ℕ
+channels_before c [] = 0
+channels_before c (noted ∷ more) = if is_ahead noted.channel c then suc (channels_before c more) else 0
 
 -- the number that is noted for a channel
-abbrev pub found : Channel → List Noted → Option ℕ
-found c [] = None
-found c (noted ∷ more) = if is_channel c noted.channel then Some noted.number.0 else found c more
+abbrev pub noted_number : Channel → List Noted → Option ℕ
+noted_number c [] = None
+noted_number c (noted ∷ more) = if is_channel c noted.channel then Some noted.number.0 else noted_number c more
 
 -- the channels that were made, each once, are noted with their numbers
 pub record AreNoted (made : List Channel) (order : List Noted) : Type 0 where
   pub sorted : ByChannel order
-  pub leads : (c : Channel) → found c order ≡ number_in c made
+  pub leads : (c : Channel) → noted_number c order ≡ number_in c made
   pub once : (n : ℕ) (c : Channel) → slice_get made n ≡ Some c → number_in c made ≡ Some n
   pub even : length order ≡ length made
   pub few : length made ≤ 2 ^ 32 - 1

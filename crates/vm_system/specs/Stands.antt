@@ -4,9 +4,9 @@ use Rattle.vm_model.specs.declared.script.Header.{Header}
 use Rattle.vm_model.specs.declared.event.Event.{Event}
 use Rattle.vm_legal.specs.Outside.{Outside}
 use Rattle.vm_outside.specs.Areas.{Told}
-use Rattle.pg_slots.specs.Contents.{Fits, IsTold}
+use Rattle.pg_slots.specs.Contents.{IsTold, SlotsFit}
 use Rattle.pg_slots.specs.Slots.{SlotTable}
-use Rattle.pg_default.specs.Stands.{Stands as PagerStands, content_of}
+use Rattle.pg_default.specs.Stands.{PagerStands, content_of}
 use Rattle.vm_hosts.specs.Hosts.{AllQueued, AllRest}
 use Rattle.vm_system.specs.Orderly.{IsOrderly}
 use Rattle.vm_system.specs.Posts.{Posts}
@@ -38,14 +38,14 @@ pub record Agrees (header : Header) (outside : Outside) (s : State) : Type 0 whe
   pub orderly : IsOrderly header s.history.items
 
 -- and so are the kernels, at a step's end
-pub record Stands (header : Header) (outside : Outside) (s : State) : Type 0 where
+pub record SystemStands (header : Header) (outside : Outside) (s : State) : Type 0 where
   pub rests : AllRest header s.hosts s.history.items
   pub queues : AllQueued header s.hosts s.history.items
   pub agrees : Agrees header outside s
 
 -- The pagers stand for the history; and where the paging areas tell, each page that was returned and not lost stands at its slot. This holds
 -- inside a step too.
-pub record Kept (header : Header) (outside : Outside) (areas : List ℕ → Told) (s : State) : Type 0 where
+pub record PagingIsKept (header : Header) (outside : Outside) (areas : List ℕ → Told) (s : State) : Type 0 where
   pub pagers : AllServe header s.pagers.items s.history.items
   pub told : outside.paging ≡ true → AllTold areas s.pagers.items
-  pub fits : outside.paging ≡ true → (h : ℕ) (pager : SlotTable) → slice_get s.pagers.items h ≡ Some pager → Fits areas pager (content_of header h s.history.items)
+  pub fits : outside.paging ≡ true → (h : ℕ) (pager : SlotTable) → slice_get s.pagers.items h ≡ Some pager → SlotsFit areas pager (content_of header h s.history.items)

@@ -7,6 +7,7 @@ use Rattle.vm_model.specs.declared.command.Command.TheVariants as command
 use Rattle.vm_model.specs.declared.command.Numbered.{Numbered}
 use Rattle.vm_model.specs.declared.message.Channel.TheVariants.{Up}
 use Rattle.vm_model.specs.declared.script.Header.{Header}
+use Rattle.vm_model.specs.Limits.{most_events}
 use Rattle.vm_model.specs.Moments.{BeforeSteps}
 use Rattle.vm_legal.specs.Follows.{FollowsCut, FollowsSoFar}
 use Rattle.vm_legal.specs.Refusal.{refusal}
@@ -17,10 +18,6 @@ use Rattle.vm_legal.specs.Steps.{takings}
 use Rattle.vm_kernel.specs.Built.{is_built as is_run}
 use Rattle.vm_outside.specs.Arming.{Arming}
 use Rattle.vm_outside.specs.Causes.{Rose}
-
--- no step begins once the history has so many events
-abbrev pub event_limit : ℕ
-event_limit = 200000
 
 -- what is told to calls: the script's header, and what is told of the outside
 pub record Setting : Type 0 where
@@ -93,16 +90,16 @@ pub record DevicesHaveCause (before now : ℕ) (old new : List Event) : Type 0 w
 
 -- a step may begin: the history has few enough events; the taking of a `take` begins with its line
 abbrev pub MayBegin : List Event → Type 0
-MayBegin past = (length past < event_limit) ⊎ ((line : ℕ) × (before : List Event) × (past ≡ event.Line line ∷ before) × (length before < event_limit))
+MayBegin past = (length past < most_events) ⊎ ((line : ℕ) × (before : List Event) × (past ≡ event.Line line ∷ before) × (length before < most_events))
 
 abbrev pub IsBelowLimit : List Event → Type 0
 IsBelowLimit history = BeforeSteps MayBegin history
 
 -- the new history has events more, and each step began where it might
-pub record Grew (old new : List Event) : Type 0 where
+pub record GrowsWithinLimit (old new : List Event) : Type 0 where
   pub more : List Event
   pub is : new ≡ more ++ old
-  pub limit : length old < event_limit → IsBelowLimit old → IsBelowLimit new
+  pub limit : length old < most_events → IsBelowLimit old → IsBelowLimit new
 
 -- a line, where the step begins with one
 abbrev pub lined : Option ℕ → List Event → List Event
@@ -137,8 +134,8 @@ pub record LeavesPaging {B : Type 0} (doing : Command) (old new : Arming B) : Ty
   pub same : arms_paging doing ≡ None → takes_up doing ≡ false → new ≡ old
 
 -- memory ended in a step, before which the front stands: nothing was told, and the paging area's arming has come no nearer; or a pager took a message
-abbrev pub StopsAt : {B : Type 0} → (List Event → List Event) → List Event → List Event → Arming B → Arming B → Type 0
-StopsAt front old new before after = ((new ≡ old) × (after.left ≡ before.left)) ⊎ ((front new ≡ old) × (took_up new ≡ true))
+abbrev pub IsMemoryStop : {B : Type 0} → (List Event → List Event) → List Event → List Event → Arming B → Arming B → Type 0
+IsMemoryStop front old new before after = ((new ≡ old) × (after.left ≡ before.left)) ⊎ ((front new ≡ old) × (took_up new ≡ true))
 
 -- the command is no host's
 abbrev pub is_idle : Command → Bool

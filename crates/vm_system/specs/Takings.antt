@@ -15,15 +15,15 @@ use Rattle.vm_legal.specs.Licences.{AllLicensed, MayTake}
 use Rattle.vm_legal.specs.Prompt.{Prompt}
 use Rattle.vm_legal.specs.Stretches.{AllInner, EachIn, EachOf, MomentsIn}
 use Rattle.vm_hosts.specs.Hosts.{AllRest}
-use Rattle.vm_hosts.specs.Steps.{Answers, Follows, Going, Step}
+use Rattle.vm_hosts.specs.Steps.{EventsFollow, Going, PagerStep, Step}
 use Rattle.vm_system.specs.Channels.{number_in}
-use Rattle.vm_system.specs.Stands.{Agrees, Stands}
+use Rattle.vm_system.specs.Stands.{Agrees, SystemStands}
 use Rattle.vm_system.specs.Steps.{lined}
 use Rattle.vm_system.specs.declared.state.State.{State}
 
 -- the channel with a number has a message, and the command may take it
 pub record May (given : Step) (line : Option ℕ) (number : ChannelId) (channel : Channel) (s : State) : Type 0 where
-  pub stands : Stands given.header given.outside s
+  pub stands : SystemStands given.header given.outside s
   pub past : given.past ≡ lined line s.history.items
   pub made : number_in channel s.channels.made ≡ Some number.0
   pub may : MayTake given.command channel given.past
@@ -43,7 +43,7 @@ pub record TakesStep (given : Step) (new : List Event) : Type 0 where
 
 -- such a step has ended
 pub record Took (given : Step) (new : State) : Type 0 where
-  pub stands : Stands given.header given.outside new
+  pub stands : SystemStands given.header given.outside new
   pub step : TakesStep given new.history.items
   pub prompt : Prompt given.header new.history.items
   pub paid : IsPaid given.header new.history.items
@@ -53,16 +53,16 @@ abbrev pub MayBeCut : Step → List Event → List Event → Type 0
 MayBeCut given old new = (new ≡ old) ⊎ TakesStep given new
 
 -- the pager of a host took a message and answered, and no kernel did anything yet
-pub record Answered (given : Going) (host : HostId) (washed : Bool) (s : State) : Type 0 where
+pub record PagerHasAnswered (given : Going) (host : HostId) (washed : Bool) (s : State) : Type 0 where
   pub is : s.history.items ≡ given.front ++ given.past
   pub rests : AllRest given.header s.hosts given.past
   pub agrees : Agrees given.header given.outside s
-  pub answers : Answers given.header given.outside given.command host washed given.past given.front
+  pub answers : PagerStep given.header given.outside given.command host washed given.past given.front
 
 -- the hosts went on behind that
 pub record Followed (given : Going) (new : State) : Type 0 where
-  pub stands : Stands given.header given.outside new
+  pub stands : SystemStands given.header given.outside new
   pub more : List Event
   pub is : new.history.items ≡ more ++ (given.front ++ given.past)
-  pub follows : Follows given.header given.outside given.command (given.front ++ given.past) more
+  pub follows : EventsFollow given.header given.outside given.command (given.front ++ given.past) more
   pub prompt : Prompt given.header new.history.items

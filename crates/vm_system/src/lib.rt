@@ -3,7 +3,6 @@
 
 mod channels;
 mod committing;
-mod limit;
 mod noted;
 mod refusing;
 mod running;

@@ -1,7 +1,7 @@
 // A channel with its number, and the search in a list of them.
 ghost use Rattle.std.specs.Prelude.{◌≡◌, ◌≤◌, length};
 ghost use Rattle.vm_model.specs.Channels.{is_channel};
-ghost use Rattle.vm_system.specs.Noted.{ByChannel, is_ahead, rank};
+ghost use Rattle.vm_system.specs.Noted.{ByChannel, channels_before, is_ahead};
 
 use vm_base::ChannelId;
 use vm_model::Channel;
@@ -49,7 +49,7 @@ pub fn is_same(channel: Channel, other: Channel) -> bool
 // The number of channels in front of one, in a list by rising channel.
 pub fn place(order: &[Noted], channel: Channel) -> usize
     requires { ByChannel order.now }
-    ensures value { result ≡ rank channel order.now }
+    ensures value { result ≡ channels_before channel order.now }
     ensures within { result ≤ length order.now }
 {
     order.partition_point(|noted| is_before(noted.channel, channel))

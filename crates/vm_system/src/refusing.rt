@@ -4,7 +4,7 @@ ghost use Rattle.vm_model.specs.Ranges.{InRange};
 ghost use Rattle.vm_legal.specs.Refusal.{refusal};
 ghost use Rattle.vm_kernel.specs.Built.{copies_entries};
 ghost use Rattle.vm_system.specs.Refusing.{channel_code};
-ghost use Rattle.vm_system.specs.Stands.{Stands};
+ghost use Rattle.vm_system.specs.Stands.{SystemStands};
 ghost use Rattle.vm_hosts.specs.Steps.{Step};
 ghost use Rattle.vm_system.specs.Steps.{is_built};
 
@@ -16,7 +16,7 @@ impl State {
     /// Why the command is refused now, if it is.
     pub fn refusal(&self, command: &Command) -> Option<Code>
         ghost given: { Step }
-        requires stands { Stands given.header given.outside self.now }
+        requires stands { SystemStands given.header given.outside self.now }
         requires past { given.past ≡ self.now.history.items }
         requires range { InRange given.header command.now }
         requires built { is_built command.now ≡ true }
@@ -32,7 +32,7 @@ impl State {
     /// Whether a fork that isn't refused would copy an entry of its task.
     pub fn copies_entries(&self, command: &Command) -> bool
         ghost given: { Step }
-        requires stands { Stands given.header given.outside self.now }
+        requires stands { SystemStands given.header given.outside self.now }
         requires past { given.past ≡ self.now.history.items }
         requires range { InRange given.header command.now }
         requires built { is_built command.now ≡ true }

@@ -10,7 +10,7 @@ ghost use Rattle.vm_kernel.specs.Built.{copies_entries, is_built as is_run};
 ghost use Rattle.vm_model.specs.declared.command.Command.TheVariants as command;
 ghost use Rattle.vm_system.specs.Posts.{CanTellAll, Posts, SameHosts};
 ghost use Rattle.vm_system.specs.Making.{Makes, Spares};
-ghost use Rattle.vm_system.specs.Stands.{Stands};
+ghost use Rattle.vm_system.specs.Stands.{SystemStands};
 ghost use Rattle.vm_system.specs.Steps.{Setting, is_idle};
 
 use crate::state::State;
@@ -22,7 +22,7 @@ impl State {
     pub fn begin(&mut self, line: u32, command: &Command) -> Result<(), NoMemory>
         ghost given: { Step }
         requires given { given ≡ record { header = given.header; outside = given.outside; command = command.now; past = event.Line line ∷ self.old.history.items } }
-        requires stands { Stands given.header given.outside self.old }
+        requires stands { SystemStands given.header given.outside self.old }
         requires range { InRange given.header command.now }
         requires run { is_run command.now ≡ true }
         requires enough { copies_entries given.header self.old.history.items command.now ≡ false }
@@ -39,7 +39,7 @@ impl State {
     pub fn pass(&mut self, line: u32, command: &Command) -> Result<(), NoMemory>
         ghost given: { Step }
         requires given { given ≡ record { header = given.header; outside = given.outside; command = command.now; past = event.Line line ∷ self.old.history.items } }
-        requires stands { Stands given.header given.outside self.old }
+        requires stands { SystemStands given.header given.outside self.old }
         requires idle { is_idle command.now ≡ true }
         ensures made { OnOk result (Makes given.header given.outside (record { line = line; command = command.now }) self.old self.new) }
         ensures spares { Spares given.header given.outside self.old self.new }
@@ -70,7 +70,7 @@ impl State {
     // A command that is refused.
     pub fn refuse(&mut self, line: u32, command: &Command, code: Code) -> Result<(), NoMemory>
         ghost given: { Setting }
-        requires stands { Stands given.header given.outside self.old }
+        requires stands { SystemStands given.header given.outside self.old }
         requires refused { refusal given.header self.old.history.items command.now ≡ Some code }
         ensures made { OnOk result (Makes given.header given.outside (record { line = line; command = command.now }) self.old self.new) }
         ensures spares { Spares given.header given.outside self.old self.new }
@@ -85,7 +85,7 @@ impl State {
     // A settle begins.
     pub fn settle(&mut self, line: u32, count: u32) -> Result<(), NoMemory>
         ghost given: { Setting }
-        requires stands { Stands given.header given.outside self.old }
+        requires stands { SystemStands given.header given.outside self.old }
         ensures line { OnOk result (self.new.history.items ≡ event.Line line ∷ self.old.history.items) }
         ensures made { OnOk result (Makes given.header given.outside (record { line = line; command = command.Settle count }) self.old self.new) }
         ensures spares { Spares given.header given.outside self.old self.new }

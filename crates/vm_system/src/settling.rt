@@ -1,11 +1,12 @@
 // A settle's takings.
 ghost use Rattle.std.specs.Prelude.{◌≡◌, ◌≢◌, ◌+◌, ◌<◌, ◌≤◌, [], IfOk, IsErrOf, OnOk, length};
+ghost use Rattle.vm_model.specs.Limits.{most_events};
 ghost use Rattle.vm_legal.specs.Steps.{takings};
 ghost use Rattle.vm_legal.specs.Undelivered.{undelivered};
 ghost use Rattle.vm_hosts.specs.Steps.{Step};
 ghost use Rattle.vm_system.specs.Settling.{DevicesCounted, HasLeft, StaysOpen};
-ghost use Rattle.vm_system.specs.Stands.{Kept, Stands};
-ghost use Rattle.vm_system.specs.Steps.{EndsCut, Grew, event_limit};
+ghost use Rattle.vm_system.specs.Stands.{PagingIsKept, SystemStands};
+ghost use Rattle.vm_system.specs.Steps.{EndsCut, GrowsWithinLimit};
 
 use crate::stop::SystemStop;
 use crate::system::System;
@@ -23,20 +24,20 @@ pub fn settle<F: Backing, P: Backing>(
     paging: &mut Armed<P>,
 ) -> Result<u32, SystemStop>
     ghost given: { Step }
-    requires stands { Stands given.header given.outside system.old }
-    requires kept { Kept given.header given.outside (P.area paging.old.inner) system.old }
+    requires stands { SystemStands given.header given.outside system.old }
+    requires kept { PagingIsKept given.header given.outside (P.area paging.old.inner) system.old }
     requires left { HasLeft given.command n system.old.history.items }
-    ensures stands { OnOk result (Stands given.header given.outside system.new) }
+    ensures stands { OnOk result (SystemStands given.header given.outside system.new) }
     ensures legal { OnOk result (StaysOpen given.header given.outside given.command system.old.history.items system.new.history.items) }
     ensures count { IfOk result (λ taken. takings system.new.history.items ≡ takings system.old.history.items + taken) }
     ensures few { IfOk result (λ taken. taken ≤ n) }
     ensures quiet { IfOk result (λ taken. taken < n → undelivered system.new.history.items ≡ []) }
-    ensures grew { Grew system.old.history.items system.new.history.items }
-    ensures full { IsErrOf result SystemStop.EventLimit → (event_limit ≤ length system.new.history.items) × (undelivered system.new.history.items ≢ []) }
+    ensures grew { GrowsWithinLimit system.old.history.items system.new.history.items }
+    ensures full { IsErrOf result SystemStop.EventLimit → (most_events ≤ length system.new.history.items) × (undelivered system.new.history.items ≢ []) }
     ensures left { IsErrOf result SystemStop.EventLimit → takings system.new.history.items < takings system.old.history.items + n }
-    ensures stood { IsErrOf result SystemStop.EventLimit → Stands given.header given.outside system.new × StaysOpen given.header given.outside given.command system.old.history.items system.new.history.items }
+    ensures stood { IsErrOf result SystemStop.EventLimit → SystemStands given.header given.outside system.new × StaysOpen given.header given.outside given.command system.old.history.items system.new.history.items }
     ensures memory { IsErrOf result SystemStop.NoMemory → EndsCut given.header given.outside given.command system.old.history.items system.new.history.items }
-    ensures kept { Kept given.header given.outside (P.area paging.new.inner) system.new }
+    ensures kept { PagingIsKept given.header given.outside (P.area paging.new.inner) system.new }
     ensures files { files.new ≡ files.old }
     ensures later { ⟦<Armed<P> as Backing>⟧.later paging.old paging.new }
     ensures devices { DevicesCounted (⟦<Armed<P> as Backing>⟧.faults paging.old) (⟦<Armed<P> as Backing>⟧.faults paging.new) system.old.history.items system.new.history.items }

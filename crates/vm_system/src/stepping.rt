@@ -8,8 +8,8 @@ ghost use Rattle.vm_model.specs.declared.command.Command.TheVariants as command;
 ghost use Rattle.vm_model.specs.declared.event.Event.TheVariants as event;
 ghost use Rattle.vm_hosts.specs.Steps.{Step};
 ghost use Rattle.vm_system.specs.Making.{Makes};
-ghost use Rattle.vm_system.specs.Stands.{Kept, Stands};
-ghost use Rattle.vm_system.specs.Steps.{DevicesHaveCause, Grew, LeavesFiles, LeavesPaging, MayCut, Setting, StopsAt, arms_paging, is_built, is_held_up, takes_up, took_up};
+ghost use Rattle.vm_system.specs.Stands.{PagingIsKept, SystemStands};
+ghost use Rattle.vm_system.specs.Steps.{DevicesHaveCause, GrowsWithinLimit, IsMemoryStop, LeavesFiles, LeavesPaging, MayCut, Setting, arms_paging, is_built, is_held_up, takes_up, took_up};
 
 use crate::state::State;
 use vm_base::NoMemory;
@@ -26,15 +26,15 @@ impl State {
         paging: &mut Armed<P>,
     ) -> Result<(), NoMemory>
         ghost given: { Setting }
-        requires stands { Stands given.header given.outside self.old }
-        requires kept { Kept given.header given.outside (P.area paging.old.inner) self.old }
+        requires stands { SystemStands given.header given.outside self.old }
+        requires kept { PagingIsKept given.header given.outside (P.area paging.old.inner) self.old }
         requires range { InRange given.header command.now }
         requires built { is_built command.now ≡ true }
         requires free { is_held_up given.header self.old.history.items command.now ≡ false }
         ensures made { OnOk result (Makes given.header given.outside (record { line = line; command = command.now }) self.old self.new) }
-        ensures grew { Grew self.old.history.items self.new.history.items }
+        ensures grew { GrowsWithinLimit self.old.history.items self.new.history.items }
         ensures memory { OnErr result (MayCut given.header given.outside (record { line = line; command = command.now }) self.old.history.items self.new.history.items) }
-        ensures kept { Kept given.header given.outside (P.area paging.new.inner) self.new }
+        ensures kept { PagingIsKept given.header given.outside (P.area paging.new.inner) self.new }
         ensures alone { OnOk result ((count : ℕ) → command.now ≡ Command.Settle count → self.new.history.items ≡ event.Line line ∷ self.old.history.items) }
         ensures files { OnOk result (LeavesFiles command.now files.old files.new) }
         ensures paging { OnOk result (LeavesPaging command.now paging.old paging.new) }
@@ -42,7 +42,7 @@ impl State {
         ensures later { arms_paging command.now ≡ None → ⟦<Armed<P> as Backing>⟧.later paging.old paging.new }
         ensures unarmed { OnErr result (files.new ≡ files.old) }
         ensures calm { OnErr result (takes_up command.now ≡ false → (self.new.history.items ≡ self.old.history.items) × (paging.new ≡ paging.old)) }
-        ensures stops { OnErr result (StopsAt before_last_line self.old.history.items self.new.history.items paging.old paging.new) }
+        ensures stops { OnErr result (IsMemoryStop before_last_line self.old.history.items self.new.history.items paging.old paging.new) }
         ensures devices { DevicesHaveCause (⟦<Armed<P> as Backing>⟧.faults paging.old) (⟦<Armed<P> as Backing>⟧.faults paging.new) self.old.history.items self.new.history.items }
     {
         if let Some(code) = self.refusal(command) {
@@ -74,18 +74,18 @@ impl State {
     ) -> Result<(), NoMemory>
         ghost given: { Step }
         requires given { given ≡ record { header = given.header; outside = given.outside; command = command.Take channel; past = event.Line line ∷ self.old.history.items } }
-        requires stands { Stands given.header given.outside self.old }
-        requires kept { Kept given.header given.outside (P.area paging.old.inner) self.old }
+        requires stands { SystemStands given.header given.outside self.old }
+        requires kept { PagingIsKept given.header given.outside (P.area paging.old.inner) self.old }
         requires accepted { refusal given.header self.old.history.items (command.Take channel) ≡ None }
         ensures made { OnOk result (Makes given.header given.outside (record { line = line; command = command.Take channel }) self.old self.new) }
-        ensures grew { Grew self.old.history.items self.new.history.items }
+        ensures grew { GrowsWithinLimit self.old.history.items self.new.history.items }
         ensures memory { OnErr result (MayCut given.header given.outside (record { line = line; command = command.Take channel }) self.old.history.items self.new.history.items) }
-        ensures kept { Kept given.header given.outside (P.area paging.new.inner) self.new }
+        ensures kept { PagingIsKept given.header given.outside (P.area paging.new.inner) self.new }
         ensures paging { takes_up (command.Take channel) ≡ false → paging.new ≡ paging.old }
         ensures unasked { OnOk result (took_up self.new.history.items ≡ false → paging.new ≡ paging.old) }
         ensures later { ⟦<Armed<P> as Backing>⟧.later paging.old paging.new }
         ensures calm { OnErr result (takes_up (command.Take channel) ≡ false → (self.new.history.items ≡ self.old.history.items) × (paging.new ≡ paging.old)) }
-        ensures stops { OnErr result (StopsAt before_last_line self.old.history.items self.new.history.items paging.old paging.new) }
+        ensures stops { OnErr result (IsMemoryStop before_last_line self.old.history.items self.new.history.items paging.old paging.new) }
         ensures devices { DevicesHaveCause (⟦<Armed<P> as Backing>⟧.faults paging.old) (⟦<Armed<P> as Backing>⟧.faults paging.new) self.old.history.items self.new.history.items }
     {
         let Some(number) = self.channels.number(channel) else {

@@ -1,6 +1,8 @@
 // The whole system.
-ghost use Rattle.std.specs.Prelude.{◌≡◌, ◌≢◌, ◌+◌, ◌≤◌, ◌<◌, ◌↔◌, ◌⊎◌, ◌∷◌, ℕ, List, [], true, false, None, Ok, Some, IfOk, IsErrOf, IsOkAnd, IsTrue, OnOk, OnErr, length};
+ghost use Rattle.std.specs.Prelude.{◌≡◌, ◌≢◌, ◌+◌, ◌≤◌, ◌<◌, ◌↔◌, ◌⊎◌, ◌∷◌, ℕ, List, [], true, false, None, Ok, Some, IfOk, IsErrOf, IsOkAnd, IsTrue, OnOk, OnErr, length, nat_le};
+ghost use Rattle.vm_base.specs.Limits.{most_slots};
 ghost use Rattle.vm_base.specs.declared.code.Code.{Code};
+ghost use Rattle.vm_model.specs.Limits.{most_events};
 ghost use Rattle.vm_model.specs.Ranges.{InRange};
 ghost use Rattle.vm_legal.specs.Refusal.{refusal};
 ghost use Rattle.vm_legal.specs.Outside.{Outside};
@@ -13,11 +15,10 @@ ghost use Rattle.vm_legal.specs.Steps.{before_step, takings};
 ghost use Rattle.vm_model.specs.Moments.{before_last_line};
 ghost use Rattle.vm_kernel.specs.Matches.{IsPlain};
 ghost use Rattle.vm_hosts.specs.Steps.{Step};
-ghost use Rattle.vm_system.specs.Stands.{AllTold, AreEmpty, AreNumbered, Kept, Stands};
-ghost use Rattle.vm_system.specs.Steps.{DevicesHaveCause, Grew, HasMore, KeepsLegal, KeepsOpen, LeavesFiles, LeavesPaging, MayCut, MayCutOpen, Setting, StopsAt, arms_paging, event_limit, is_built, is_held_up, takes_up, took_up};
+ghost use Rattle.vm_system.specs.Stands.{AllTold, AreEmpty, AreNumbered, PagingIsKept, SystemStands};
+ghost use Rattle.vm_system.specs.Steps.{DevicesHaveCause, GrowsWithinLimit, HasMore, IsMemoryStop, KeepsLegal, KeepsOpen, LeavesFiles, LeavesPaging, MayCut, MayCutOpen, Setting, arms_paging, is_built, is_held_up, takes_up, took_up};
 
 use crate::channels::Channels;
-use crate::limit::MOST_EVENTS;
 use crate::state::State;
 use crate::stop::SystemStop;
 use pg_default::DefaultPager;
@@ -25,6 +26,7 @@ use std::alloc::Global;
 use std::marker::Model;
 use vm_base::{Buffers, Code, HostId, NoMemory};
 use vm_hosts::Hosts;
+use vm_model::limits::MOST_EVENTS;
 use vm_model::{Command, Header, History};
 use vm_outside::{Armed, Backing};
 use vm_ports::Ports;
@@ -49,9 +51,9 @@ impl System {
     /// Nothing has happened yet; the hosts' frames are taken.
     pub fn new(alloc: Global, header: &Header) -> Result<System, NoMemory>
         requires plain { IsPlain header.now }
-        requires few { header.now.slots ≤ 65536 }
-        ensures stands { (outside : Outside) → IfOk result (λ system. Stands header.now outside system) }
-        ensures kept { (outside : Outside) → (areas : List ℕ → Told) → IfOk result (λ system. (outside.paging ≡ true → AllTold areas system.pagers.items) → Kept header.now outside areas system) }
+        requires few { header.now.slots ≤ most_slots }
+        ensures stands { (outside : Outside) → IfOk result (λ system. SystemStands header.now outside system) }
+        ensures kept { (outside : Outside) → (areas : List ℕ → Told) → IfOk result (λ system. (outside.paging ≡ true → AllTold areas system.pagers.items) → PagingIsKept header.now outside areas system) }
         ensures nothing { IfOk result (λ system. system.history.items ≡ []) }
         ensures pagers { IfOk result (λ system. AreNumbered header.now system.pagers.items) }
     {
@@ -73,7 +75,7 @@ impl System {
     /// Why a command is refused now, if it is. It takes no memory.
     pub fn refusal(&self, command: &Command) -> Option<Code>
         ghost given: { Setting }
-        requires stands { Stands given.header given.outside self.now }
+        requires stands { SystemStands given.header given.outside self.now }
         requires range { InRange given.header command.now }
         requires built { is_built command.now ≡ true }
         ensures { result ≡ refusal given.header self.now.history.items command.now }
@@ -84,7 +86,7 @@ impl System {
     /// Whether a command can't be run yet, though it isn't refused: a fork that would copy an entry.
     pub fn is_held_up(&self, command: &Command) -> bool
         ghost given: { Setting }
-        requires stands { Stands given.header given.outside self.now }
+        requires stands { SystemStands given.header given.outside self.now }
         requires range { InRange given.header command.now }
         requires built { is_built command.now ≡ true }
         ensures { result ≡ is_held_up given.header self.now.history.items command.now }
@@ -105,21 +107,21 @@ impl System {
         paging: &mut Armed<P>,
     ) -> Result<u32, SystemStop>
         ghost given: { Setting }
-        requires stands { Stands given.header given.outside self.old }
-        requires kept { Kept given.header given.outside (P.area paging.old.inner) self.old }
+        requires stands { SystemStands given.header given.outside self.old }
+        requires kept { PagingIsKept given.header given.outside (P.area paging.old.inner) self.old }
         requires range { InRange given.header command.now }
         requires built { is_built command.now ≡ true }
         requires free { is_held_up given.header self.old.history.items command.now ≡ false }
-        ensures stands { OnOk result (Stands given.header given.outside self.new) }
+        ensures stands { OnOk result (SystemStands given.header given.outside self.new) }
         ensures legal { OnOk result (KeepsLegal given.header given.outside (record { line = line; command = command.now }) self.old.history.items self.new.history.items) }
         ensures count { IfOk result (λ n. length self.new.history.items ≡ length self.old.history.items + n) }
-        ensures full { IsErrOf result SystemStop.EventLimit ↔ (event_limit ≤ length self.old.history.items) }
-        ensures below { OnOk result (length self.old.history.items < event_limit) }
-        ensures grew { Grew self.old.history.items self.new.history.items }
+        ensures full { IsErrOf result SystemStop.EventLimit ↔ (most_events ≤ length self.old.history.items) }
+        ensures below { OnOk result (length self.old.history.items < most_events) }
+        ensures grew { GrowsWithinLimit self.old.history.items self.new.history.items }
         ensures front { OnOk result (before_last_line self.new.history.items ≡ self.old.history.items) }
         ensures unchanged { IsErrOf result SystemStop.EventLimit → (self.new ≡ self.old) × (files.new ≡ files.old) × (paging.new ≡ paging.old) }
         ensures memory { IsErrOf result SystemStop.NoMemory → MayCut given.header given.outside (record { line = line; command = command.now }) self.old.history.items self.new.history.items }
-        ensures kept { Kept given.header given.outside (P.area paging.new.inner) self.new }
+        ensures kept { PagingIsKept given.header given.outside (P.area paging.new.inner) self.new }
         ensures alone { OnOk result ((count : ℕ) → command.now ≡ Command.Settle count → self.new.history.items ≡ event.Line line ∷ self.old.history.items) }
 
         // The backings; at an error the files are as they were, and so is all else unless the command takes a message that goes to a pager.
@@ -130,10 +132,10 @@ impl System {
         ensures later { arms_paging command.now ≡ None → ⟦<Armed<P> as Backing>⟧.later paging.old paging.new }
         ensures reached { ReachesOne paging.old paging.new }
         ensures calm { OnErr result (takes_up command.now ≡ false → (self.new.history.items ≡ self.old.history.items) × (paging.new ≡ paging.old)) }
-        ensures stops { OnErr result (StopsAt before_last_line self.old.history.items self.new.history.items paging.old paging.new) }
+        ensures stops { OnErr result (IsMemoryStop before_last_line self.old.history.items self.new.history.items paging.old paging.new) }
         ensures devices { DevicesHaveCause (⟦<Armed<P> as Backing>⟧.faults paging.old) (⟦<Armed<P> as Backing>⟧.faults paging.new) self.old.history.items self.new.history.items }
     {
-        if self.state.history.len() >= MOST_EVENTS {
+        if self.is_full() {
             return Err(SystemStop::EventLimit);
         }
         let before = self.state.history.len();
@@ -152,38 +154,45 @@ impl System {
         paging: &mut Armed<P>,
     ) -> Result<bool, SystemStop>
         ghost given: { Step }
-        requires stands { Stands given.header given.outside self.old }
-        requires kept { Kept given.header given.outside (P.area paging.old.inner) self.old }
+        requires stands { SystemStands given.header given.outside self.old }
+        requires kept { PagingIsKept given.header given.outside (P.area paging.old.inner) self.old }
         requires past { given.past ≡ self.old.history.items }
         requires more { HasMore given.command self.old.history.items }
-        ensures stands { OnOk result (Stands given.header given.outside self.new) }
+        ensures stands { OnOk result (SystemStands given.header given.outside self.new) }
         ensures legal { IfOk result (λ took. took ≡ true → KeepsOpen given.header given.outside given.command self.old.history.items self.new.history.items) }
         ensures quiet { IfOk result (λ took. took ≡ false → (undelivered self.old.history.items ≡ []) × (self.new ≡ self.old) × (paging.new ≡ paging.old)) }
         ensures some { IfOk result (λ took. took ≡ true → undelivered self.old.history.items ≢ []) }
         ensures calm { undelivered self.old.history.items ≡ [] → result ≡ Ok false }
         ensures count { IfOk result (λ took. took ≡ true → takings self.new.history.items ≡ takings self.old.history.items + 1) }
-        ensures below { IfOk result (λ took. took ≡ true → length self.old.history.items < event_limit) }
-        ensures grew { Grew self.old.history.items self.new.history.items }
+        ensures below { IfOk result (λ took. took ≡ true → length self.old.history.items < most_events) }
+        ensures grew { GrowsWithinLimit self.old.history.items self.new.history.items }
         ensures front { IfOk result (λ took. took ≡ true → before_step self.new.history.items ≡ self.old.history.items) }
         ensures files { files.new ≡ files.old }
         ensures unasked { IfOk result (λ took. took ≡ true → took_up self.new.history.items ≡ false → paging.new ≡ paging.old) }
-        ensures full { IsErrOf result SystemStop.EventLimit ↔ ((event_limit ≤ length self.old.history.items) × (undelivered self.old.history.items ≢ [])) }
+        ensures full { IsErrOf result SystemStop.EventLimit ↔ ((most_events ≤ length self.old.history.items) × (undelivered self.old.history.items ≢ [])) }
         ensures unchanged { IsErrOf result SystemStop.EventLimit → (self.new ≡ self.old) × (paging.new ≡ paging.old) }
         ensures memory { IsErrOf result SystemStop.NoMemory → MayCutOpen given.header given.outside given.command self.old.history.items self.new.history.items }
-        ensures kept { Kept given.header given.outside (P.area paging.new.inner) self.new }
+        ensures kept { PagingIsKept given.header given.outside (P.area paging.new.inner) self.new }
         ensures later { ⟦<Armed<P> as Backing>⟧.later paging.old paging.new }
         ensures reached { ReachesOne paging.old paging.new }
-        ensures stops { IsErrOf result SystemStop.NoMemory → StopsAt before_step self.old.history.items self.new.history.items paging.old paging.new }
+        ensures stops { IsErrOf result SystemStop.NoMemory → IsMemoryStop before_step self.old.history.items self.new.history.items paging.old paging.new }
         ensures devices { DevicesHaveCause (⟦<Armed<P> as Backing>⟧.faults paging.old) (⟦<Armed<P> as Backing>⟧.faults paging.new) self.old.history.items self.new.history.items }
     {
         let Some(number) = self.state.ports.oldest() else {
             return Ok(false);
         };
-        if self.state.history.len() >= MOST_EVENTS {
+        if self.is_full() {
             return Err(SystemStop::EventLimit);
         }
         self.state.take(None, number, paging)?;
         Ok(true)
+    }
+
+    // No step begins any more.
+    fn is_full(&self) -> bool
+        ensures { result ≡ nat_le most_events (length self.now.history.items) }
+    {
+        self.state.history.len() >= MOST_EVENTS
     }
 
     /// What happened.
@@ -202,7 +211,7 @@ impl System {
 
     /// Whether nothing is undelivered.
     pub fn quiet(&self) -> bool
-        ensures { (header : Header) (outside : Outside) → Stands header outside self.now → IsTrue result ↔ (undelivered self.now.history.items ≡ []) }
+        ensures { (header : Header) (outside : Outside) → SystemStands header outside self.now → IsTrue result ↔ (undelivered self.now.history.items ≡ []) }
     {
         self.state.ports.oldest().is_none()
     }
@@ -211,7 +220,7 @@ impl System {
 // The default pagers of the header's hosts.
 fn make_pagers(alloc: Global, header: &Header) -> Result<Vec<DefaultPager>, NoMemory>
     requires plain { IsPlain header.now }
-    requires few { header.now.slots ≤ 65536 }
+    requires few { header.now.slots ≤ most_slots }
     ensures numbered { IfOk result (λ pagers. AreNumbered header.now pagers.items) }
     ensures empty { IfOk result (λ pagers. AreEmpty header.now pagers.items) }
 {

@@ -5,11 +5,11 @@ ghost use Rattle.vm_model.specs.declared.message.Channel.{Channel};
 ghost use Rattle.vm_model.specs.declared.message.Channel.TheVariants as channels;
 ghost use Rattle.vm_model.specs.Channels.{queue};
 ghost use Rattle.vm_system.specs.Making.{Spares};
-ghost use Rattle.vm_system.specs.Stands.{Kept, Stands};
+ghost use Rattle.vm_system.specs.Stands.{PagingIsKept, SystemStands};
 ghost use Rattle.vm_legal.specs.Homes.{gives_frame};
 ghost use Rattle.vm_hosts.specs.Steps.{Going, Step};
 ghost use Rattle.vm_system.specs.Steps.{DevicesHaveCause, takes_up};
-ghost use Rattle.vm_system.specs.Takings.{Answered, Followed, May, MayBeCut, Took};
+ghost use Rattle.vm_system.specs.Takings.{Followed, May, MayBeCut, PagerHasAnswered, Took};
 
 use crate::state::State;
 use vm_base::{ChannelId, HostId, NoMemory, ObjectId};
@@ -36,10 +36,10 @@ impl State {
     ) -> Result<(), NoMemory>
         ghost given: { Step }
         requires may { (channel : Channel) × May given line number channel self.old }
-        requires kept { Kept given.header given.outside (P.area paging.old.inner) self.old }
+        requires kept { PagingIsKept given.header given.outside (P.area paging.old.inner) self.old }
         ensures took { OnOk result (Took given self.new) }
         ensures cut { OnErr result (MayBeCut given self.old.history.items self.new.history.items) }
-        ensures kept { Kept given.header given.outside (P.area paging.new.inner) self.new }
+        ensures kept { PagingIsKept given.header given.outside (P.area paging.new.inner) self.new }
         ensures devices { DevicesHaveCause (⟦<Armed<P> as Backing>⟧.faults paging.old) (⟦<Armed<P> as Backing>⟧.faults paging.new) self.old.history.items self.new.history.items }
         ensures paging { (channel : Channel) → slice_get self.old.channels.made number.0 ≡ Some channel → takes_up (command.Take channel) ≡ false → paging.new ≡ paging.old }
         ensures down { OnErr result ((channel : Channel) → slice_get self.old.channels.made number.0 ≡ Some channel → takes_up (command.Take channel) ≡ false → self.new.history.items ≡ self.old.history.items) }
@@ -96,10 +96,10 @@ impl State {
     ) -> Result<(), NoMemory>
         ghost given: { Step }
         requires may { May given line number (channels.Up host object) self.old }
-        requires kept { Kept given.header given.outside (P.area paging.old.inner) self.old }
+        requires kept { PagingIsKept given.header given.outside (P.area paging.old.inner) self.old }
         ensures took { OnOk result (Took given self.new) }
         ensures cut { OnErr result (MayBeCut given self.old.history.items self.new.history.items) }
-        ensures kept { Kept given.header given.outside (P.area paging.new.inner) self.new }
+        ensures kept { PagingIsKept given.header given.outside (P.area paging.new.inner) self.new }
         ensures devices { DevicesHaveCause (⟦<Armed<P> as Backing>⟧.faults paging.old) (⟦<Armed<P> as Backing>⟧.faults paging.new) self.old.history.items self.new.history.items }
         ensures unmoved { OnErr result (self.new.history.items ≡ self.old.history.items → paging.new.left ≡ paging.old.left) }
         ensures later { ⟦<Armed<P> as Backing>⟧.later paging.old paging.new }
@@ -120,7 +120,7 @@ impl State {
     fn follow(&mut self, host: HostId, fresh: u32, washed: bool) -> Result<(), NoMemory>
         ghost given: { Going }
         requires front { length given.front ≡ fresh }
-        requires answered { Answered given host washed self.old }
+        requires answered { PagerHasAnswered given host washed self.old }
         ensures followed { OnOk result (Followed given self.new) }
         ensures err { OnErr result (self.new.history.items ≡ self.old.history.items) }
         ensures pagers { self.new.pagers ≡ self.old.pagers }

@@ -100,6 +100,6 @@ IsRead (Err errors.NoMemory) read = Unit {0}
 IsRead (Err (errors.Bad line kind)) read = read ≡ Err (line, kind)
 
 -- the stop of a line, as a script has it
-abbrev pub StopsAt : ℕ → LineStop → ScriptError → Type 0
-StopsAt line (stops.Fault kind) error = error ≡ errors.Bad line kind
-StopsAt line stops.NoMemory error = error ≡ errors.NoMemory
+abbrev pub IsErrorOfLine : ℕ → LineStop → ScriptError → Type 0
+IsErrorOfLine line (stops.Fault kind) error = error ≡ errors.Bad line kind
+IsErrorOfLine line stops.NoMemory error = error ≡ errors.NoMemory

@@ -14,6 +14,6 @@ Gives (Ok x) read = read ≡ Ok x
 Gives (Err stop) read = Stops stop read
 
 -- the value that a call left behind
-abbrev pub Goes : {X : Type 0} → Result (Unit {0}) LineStop → X → Result X ScriptFault → Type 0
-Goes (Ok done) new read = read ≡ Ok new
-Goes (Err stop) new read = Stops stop read
+abbrev pub LeavesValue : {X : Type 0} → Result (Unit {0}) LineStop → X → Result X ScriptFault → Type 0
+LeavesValue (Ok done) new read = read ≡ Ok new
+LeavesValue (Err stop) new read = Stops stop read

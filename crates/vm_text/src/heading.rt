@@ -1,7 +1,7 @@
 // What the header lines of a script say.
 ghost use Rattle.std.specs.Prelude.{◌≡◌, [], None, nat_lt, length, reverse, IfOk};
 ghost use Rattle.vm_text.specs.Forms.{host_of, object_of, size_of, hosts_line, frames_line, page_line, slots_line, new_name, object_line, again, header_form, IsHeader};
-ghost use Rattle.vm_text.specs.Stops.{Goes};
+ghost use Rattle.vm_text.specs.Stops.{LeavesValue};
 ghost use Rattle.vm_text.specs.Words.{words_of};
 
 use crate::error::LineStop;
@@ -86,7 +86,7 @@ impl<'a> Heading<'a> {
     }
 
     fn hosts_line(&mut self, alloc: Global, line: &[u8]) -> Result<(), LineStop>
-        ensures { Goes result self.new (hosts_line self.old (words_of line.now)) }
+        ensures { LeavesValue result self.new (hosts_line self.old (words_of line.now)) }
     {
         let (hosts, frames) = two_words(line)?;
         let hosts = count_in(hosts, 1, MOST_HOSTS)?;
@@ -96,7 +96,7 @@ impl<'a> Heading<'a> {
     }
 
     fn frames_line(&mut self, line: &[u8]) -> Result<(), LineStop>
-        ensures { Goes result self.new (frames_line self.old (words_of line.now)) }
+        ensures { LeavesValue result self.new (frames_line self.old (words_of line.now)) }
     {
         let (host, frames) = two_words(line)?;
         let host = self.host_of(host)?;
@@ -106,7 +106,7 @@ impl<'a> Heading<'a> {
     }
 
     fn page_line(&mut self, line: &[u8]) -> Result<(), LineStop>
-        ensures { Goes result self.new (page_line self.old (words_of line.now)) }
+        ensures { LeavesValue result self.new (page_line self.old (words_of line.now)) }
     {
         let size = one_word(line)?;
         let size = page_size(size)?;
@@ -115,7 +115,7 @@ impl<'a> Heading<'a> {
     }
 
     fn slots_line(&mut self, line: &[u8]) -> Result<(), LineStop>
-        ensures { Goes result self.new (slots_line self.old (words_of line.now)) }
+        ensures { LeavesValue result self.new (slots_line self.old (words_of line.now)) }
     {
         let slots = one_word(line)?;
         let slots = count_in(slots, 0, MOST_SLOTS)?;
@@ -137,7 +137,7 @@ impl<'a> Heading<'a> {
     }
 
     fn object_line(&mut self, kind: ObjectKind, line: &'a [u8]) -> Result<(), LineStop>
-        ensures { Goes result self.new (object_line kind self.old (words_of line.now)) }
+        ensures { LeavesValue result self.new (object_line kind self.old (words_of line.now)) }
     {
         let (text, pages) = two_words(line)?;
         let name = self.new_name(text)?;
@@ -172,7 +172,7 @@ impl<'a> Heading<'a> {
         word: HeaderWord,
         line: &'a [u8],
     ) -> Result<(), LineStop>
-        ensures { Goes result self.new (header_form self.old word (words_of line.now)) }
+        ensures { LeavesValue result self.new (header_form self.old word (words_of line.now)) }
     {
         match word {
             HeaderWord::Hosts => self.hosts_line(alloc, line),

@@ -1,8 +1,8 @@
 // The lines of a script, one after the other.
 ghost use Rattle.std.specs.Prelude.{◌≡◌, ◌<◌, [], IfOk};
 ghost use Rattle.vm_model.specs.Ranges.{KeepsRanges};
-ghost use Rattle.vm_text.specs.Script.{nothing_read, header_line, command_line, line_read, lines_read, script_of, StopsAt, IsRead};
-ghost use Rattle.vm_text.specs.Stops.{Goes};
+ghost use Rattle.vm_text.specs.Script.{nothing_read, header_line, command_line, line_read, lines_read, script_of, IsErrorOfLine, IsRead};
+ghost use Rattle.vm_text.specs.Stops.{LeavesValue};
 ghost use Rattle.vm_text.specs.Words.{words_of, is_comment};
 
 use crate::commands::command_form;
@@ -47,7 +47,7 @@ impl<'a> Reading<'a> {
         word: HeaderWord,
         line: &'a [u8],
     ) -> Result<(), LineStop>
-        ensures { Goes result self.new (header_line self.old word (words_of line.now)) }
+        ensures { LeavesValue result self.new (header_line self.old word (words_of line.now)) }
     {
         if self.commands.len() > 0 || self.heading.again(word) {
             return Err(LineStop::Fault(ScriptFault::HeaderLate));
@@ -62,7 +62,7 @@ impl<'a> Reading<'a> {
         word: CommandWord,
         line: &[u8],
     ) -> Result<(), LineStop>
-        ensures { Goes result self.new (command_line number self.old word (words_of line.now)) }
+        ensures { LeavesValue result self.new (command_line number self.old word (words_of line.now)) }
     {
         if !self.heading.has_hosts() {
             return Err(LineStop::Fault(ScriptFault::NoHosts));
@@ -77,7 +77,7 @@ impl<'a> Reading<'a> {
 
     // Reads a line of this number.
     fn line(&mut self, alloc: Global, number: u32, line: &'a [u8]) -> Result<(), LineStop>
-        ensures { Goes result self.new (line_read number self.old (words_of line.now)) }
+        ensures { LeavesValue result self.new (line_read number self.old (words_of line.now)) }
     {
         let Some((word, rest)) = word_at(line) else {
             return Ok(());
@@ -128,7 +128,7 @@ fn is_comment(word: &[u8]) -> bool
 
 // The stop of a line, as a script has it.
 fn error_at(line: u32, stop: LineStop) -> ScriptError
-    ensures { StopsAt line stop result }
+    ensures { IsErrorOfLine line stop result }
 {
     match stop {
         LineStop::Fault(kind) => ScriptError::Bad { line, kind },

@@ -11,7 +11,7 @@ use Rattle.vm_model.specs.Ranges.{InRange}
 use Rattle.vm_legal.specs.Steps.{before_step, takings}
 use Rattle.vm_outside.specs.Arming.{Arming, ArmedLater}
 use Rattle.vm_outside.specs.Causes.{Rose, next_count, sum_count}
-use Rattle.vm_system.specs.Steps.{DevicesHaveCause, Grew, LeavesFiles, LeavesPaging, arms_paging, devices, takes_up, took_up}
+use Rattle.vm_system.specs.Steps.{DevicesHaveCause, GrowsWithinLimit, LeavesFiles, LeavesPaging, arms_paging, devices, takes_up, took_up}
 use Rattle.vm_system.proofs.Growth.{devices_grow}
 use Rattle.vm_top.specs.Arming.{FailuresCounted, FilesLeft, armings, arms_files, is_untouched, last_arming, ran_of}
 use Rattle.vm_top.specs.Running.{Arms, PagingRuns, Running}
@@ -120,7 +120,7 @@ counted_more before was now a b later cause few old = grind arith
 stays : (before was now a b : ℕ) → b ≤ a → (a ≡ b → now ≡ was) → (b ≡ 0 → was ≡ before) → a ≡ 0 → now ≡ before
 stays before was now a b grown spared none is = let none_b : b ≡ 0 = omega arith in let same : a ≡ b = omega arith in spared same ∙ none none_b
 
-pub failures_step : (before was now : ℕ) (old new : List Event) → Grew old new → DevicesHaveCause was now old new → FailuresCounted before was old → FailuresCounted before now new
+pub failures_step : (before was now : ℕ) (old new : List Event) → GrowsWithinLimit old new → DevicesHaveCause was now old new → FailuresCounted before was old → FailuresCounted before now new
 failures_step before was now old new grew step counted =
     record {
       few = counted_more before was now (devices new) (devices old) step.later step.cause step.few counted.few;

@@ -10,7 +10,7 @@ use Rattle.vm_legal.specs.Legal.{LegalSoFar}
 use Rattle.vm_legal.specs.Outside.{Outside}
 use Rattle.vm_legal.specs.Prompt.{NoneInVain}
 use Rattle.vm_legal.proofs.Groups.{open_of}
-use Rattle.vm_top.specs.Run.{IsFull, IsPart, IsWhole}
+use Rattle.vm_top.specs.Run.{IsOutOfEvents, IsPart, IsWholeRun}
 
 some_frames : (frames : Option ℕ) → IfSome frames (λ count. 0 ≤ count)
 some_frames None = tt
@@ -67,7 +67,7 @@ part_so_far script outside later run h part = record {
 }
 
 -- and so is a run of the whole script
-pub whole_so_far : (script : Script) (outside : Outside) (h : List Event) → IsWhole script outside h → LegalSoFar script outside h
+pub whole_so_far : (script : Script) (outside : Outside) (h : List Event) → IsWholeRun script outside h → LegalSoFar script outside h
 whole_so_far script outside h is = record {
   later = [];
   run = script.commands.items;
@@ -78,7 +78,7 @@ whole_so_far script outside h is = record {
 }
 
 -- and one that came to a full history, also where that is in a settle
-pub full_so_far : (script : Script) (outside : Outside) (h : List Event) → IsFull script outside h → LegalSoFar script outside h
+pub full_so_far : (script : Script) (outside : Outside) (h : List Event) → IsOutOfEvents script outside h → LegalSoFar script outside h
 full_so_far script outside h is = elim is.left [
   | inl left ↦ part_so_far script outside (left.later ++ left.next ∷ []) left.run h left.part
   | inr on ↦ record {

@@ -20,7 +20,7 @@ use Rattle.vm_top.specs.declared.words.Report.{Report}
 use Rattle.vm_top.specs.declared.words.Report.TheVariants as reports
 use Rattle.vm_top.specs.Ending.{EndsAs, HasEnded, Tells, WroteStuck, status_after}
 use Rattle.vm_top.specs.Reading.{ReadWhole}
-use Rattle.vm_top.specs.Run.{CutIn, IsFull, IsRunnable, IsStuck, IsWhole, report_text}
+use Rattle.vm_top.specs.Run.{CutIn, IsOutOfEvents, IsRunnable, IsStuck, IsWholeRun, report_text}
 use Rattle.vm_legal.specs.Legal.{LegalSoFar}
 use Rattle.vm_legal.specs.Outside.{Outside}
 use Rattle.vm_legal.proofs.Groups.{cut_of}
@@ -207,7 +207,7 @@ summary_failed report run outside h start after legal wrote =
     subst (λ z. WroteFailed z run outside h start after) (sym wrote.0) (legal, subst (λ z. WroteStart start after (report_text z h)) wrote.0 wrote.1)
 
 -- what was left of a whole run was written, or a write failed
-pub done_ends : (report : Report) (run : Script) (outside : Outside) (h : List Event) (start after : Option (List ℕ)) (wrote : Result (Unit {0}) WriteStop) → IsWhole run outside h
+pub done_ends : (report : Report) (run : Script) (outside : Outside) (h : List Event) (start after : Option (List ℕ)) (wrote : Result (Unit {0}) WriteStop) → IsWholeRun run outside h
     → OnOk wrote (Appends start after (report_text report h)) → (IsErrOf wrote stop.Failed → (report ≡ reports.Summary) × WroteStart start after (report_text report h))
     → (IsErrOf wrote stop.NoMemory → WroteStart start after (report_text report h)) → EndsAs report run outside h start after (status_after wrote status.Done)
 done_ends report run outside h start after (Ok done) whole written failed memory = (whole, written)
@@ -216,7 +216,7 @@ done_ends report run outside h start after (Err stop.Failed) whole written faile
 done_ends report run outside h start after (Err stop.NoMemory) whole written failed memory = inl (uncut run outside h (whole_so_far run outside h whole), memory refl)
 
 -- and of a run that came to a full history
-pub full_ends : (report : Report) (run : Script) (outside : Outside) (h : List Event) (start after : Option (List ℕ)) (wrote : Result (Unit {0}) WriteStop) → IsFull run outside h
+pub full_ends : (report : Report) (run : Script) (outside : Outside) (h : List Event) (start after : Option (List ℕ)) (wrote : Result (Unit {0}) WriteStop) → IsOutOfEvents run outside h
     → OnOk wrote (Appends start after (report_text report h)) → (IsErrOf wrote stop.Failed → (report ≡ reports.Summary) × WroteStart start after (report_text report h))
     → (IsErrOf wrote stop.NoMemory → WroteStart start after (report_text report h)) → EndsAs report run outside h start after (status_after wrote status.EventLimit)
 full_ends report run outside h start after (Ok done) full written failed memory = (full, written)

@@ -13,9 +13,9 @@ use Rattle.pg_slots.specs.Contents.{IsHeldAs, IsTold, Kept, area_name}
 use Rattle.pg_slots.specs.Slots.{SlotTable, held_at, slot_of}
 use Rattle.pg_slots.specs.declared.slot_row.Held.{Held}
 use Rattle.pg_slots.specs.declared.slot_row.Held.TheVariants as held
-use Rattle.pg_default.specs.Stands.{Stands, content_of, is_ended}
+use Rattle.pg_default.specs.Stands.{PagerStands, content_of, is_ended}
 use Rattle.vm_system.specs.Keeping.{HasPages, KeepsPages}
-use Rattle.vm_system.specs.Stands.{AllTold, AreNumbered, Kept as SystemKept}
+use Rattle.vm_system.specs.Stands.{AllTold, AreNumbered, PagingIsKept as SystemKept}
 use Rattle.vm_top.specs.Run.{only_host, outside_of}
 use Rattle.vm_system.specs.declared.state.State.{State}
 
@@ -30,7 +30,7 @@ no_slot : (has : Option Held) (s : ℕ) → has ≡ None → slot_of has ≡ Som
 no_slot has s none is = let bad : None ≡ Some s = sym (ap slot_of none) ∙ is in cc
 
 -- a page that has a slot is a temporary object's that hasn't ended
-stored_at : (slots : SlotTable) (header : Header) (host : ℕ) (h : List Event) (o p s : ℕ) (bytes : List ℕ) → Stands header host slots h → slot_of (held_at slots o p) ≡ Some s → last_return host o p h ≡ Some bytes → is_lost o p h ≡ false
+stored_at : (slots : SlotTable) (header : Header) (host : ℕ) (h : List Event) (o p s : ℕ) (bytes : List ℕ) → PagerStands header host slots h → slot_of (held_at slots o p) ≡ Some s → last_return host o p h ≡ Some bytes → is_lost o p h ≡ false
     → content_of header host h o p ≡ Some (Kept bytes)
 stored_at slots header host h o p s bytes stands slot returned fine = by_tests (nat_lt o (named header)) (is_ended host o h) refl refl
   where
@@ -43,7 +43,7 @@ stored_at slots header host h o p s bytes stands slot returned fine = by_tests (
 pub kept_pages : (header : Header) (host : ℕ) (outside : Outside) (areas : List ℕ → Told) (s : State) (pager : SlotTable) → slice_get s.pagers.items host ≡ Some pager → SystemKept header outside areas s → KeepsPages header host outside areas s.history.items
 kept_pages header host outside areas s pager found kept = record { at = λ paging. by (areas (area_name host)) refl paging }
   where
-    stands : Stands header host pager s.history.items
+    stands : PagerStands header host pager s.history.items
     stands = kept.pagers.stand host pager found
 
     tells : outside.paging ≡ true → IsSome (areas (area_name host))

@@ -2,6 +2,7 @@
 use Rattle.std.proofs.Common.{◌≡◌, ℕ, ◌-◌, ◌<◌, ◌≤◌, ◌⊎◌, inl, inr, List, [], ◌∷◌, ◌++◌, length, take, true, false, Option, Some, None, ap, sym, ◌∙◌, subst}
 use Rattle.std.specs.Prelude.{◌≢◌}
 use Rattle.std.specs.Io.KnownBytes.{Appends}
+use Rattle.vm_model.specs.Limits.{most_events}
 use Rattle.vm_model.specs.declared.event.Event.{Event}
 use Rattle.vm_model.specs.declared.command.Command.TheVariants as command
 use Rattle.vm_model.specs.declared.command.Numbered.{Numbered}
@@ -15,10 +16,10 @@ use Rattle.vm_legal.specs.Steps.{before_step, takings}
 use Rattle.vm_legal.specs.Undelivered.{undelivered}
 use Rattle.vm_outside.specs.Arming.{Arming, ArmedLater}
 use Rattle.vm_system.proofs.Settled.{may_be_cut}
-use Rattle.vm_system.specs.Steps.{DevicesHaveCause, Grew, HasMore, KeepsOpen, LegalCut, LegalOpen, MayCutOpen, StopsAt, TakesMore, event_limit, settles, took_up}
+use Rattle.vm_system.specs.Steps.{DevicesHaveCause, GrowsWithinLimit, HasMore, IsMemoryStop, KeepsOpen, LegalCut, LegalOpen, MayCutOpen, TakesMore, settles, took_up}
 use Rattle.vm_top.specs.Arming.{FilesLeft, is_untouched, ran_of}
-use Rattle.vm_top.specs.Run.{CutIn, RanAs, front_of, shown, unbuilt_line}
-use Rattle.vm_top.specs.Running.{Arms, PagingRuns, Running, Runs, Settles, Stops, Taking, Turned}
+use Rattle.vm_top.specs.Run.{CutIn, RanAs, front_of, text_so_far, unbuilt_line}
+use Rattle.vm_top.specs.Running.{Arms, IsBetweenCommands, PagingRuns, Running, Settles, Stops, Taking, Turned}
 use Rattle.vm_top.specs.Writing.{WroteBeyond, oldest}
 use Rattle.vm_top.specs.declared.run.RunEnd.{RunEnd}
 use Rattle.vm_top.specs.declared.run.RunEnd.TheVariants as ends
@@ -36,9 +37,9 @@ settle_at given line = record { line = line; command = given.command }
 -- what the taking of a message does, where it is made
 pub record Took {F P : Type 0} (given : Taking F P) (old new : List Event) (f0 f1 : Arming F) (p0 p1 : Arming P) (e0 e1 : ℕ) : Type 0 where
   pub legal : KeepsOpen given.running.script.header given.running.outside given.command old new
-  pub grew : Grew old new
+  pub grew : GrowsWithinLimit old new
   pub front : before_step new ≡ old
-  pub below : length old < event_limit
+  pub below : length old < most_events
   pub files : f1 ≡ f0
   pub later : ArmedLater p0.left p0.reached p1.left p1.reached
   pub unasked : took_up new ≡ false → p1 ≡ p0
@@ -77,7 +78,7 @@ held report given old new was f0 f1 p0 p1 e0 e1 settles took =
 
 -- the settle goes on, where the taking was shown
 pub settles_on : {F P : Type 0} (report : Report) (given : Taking F P) (line : ℕ) (run : List Numbered) (old new : List Event) (now : Option (List ℕ)) (f1 : Arming F) (p1 : Arming P) (e1 : ℕ)
-    → Held given line run old new f1 p1 e1 → Appends given.running.start now (shown report new) → Settles report given new now f1 p1 e1
+    → Held given line run old new f1 p1 e1 → Appends given.running.start now (text_so_far report new) → Settles report given new now f1 p1 e1
 settles_on report given line run old new now f1 p1 e1 step wrote = record {
   keeps = record { built = step.built; below = step.left.below; written = wrote; arms = step.left.arms; failed = step.left.failed };
   line = line;
@@ -112,7 +113,7 @@ take_failed report given line run old new now f1 p1 e1 more front step wrote =
 
 -- memory ended behind the taking
 take_unshown : {F P : Type 0} (report : Report) (given : Taking F P) (line : ℕ) (run : List Numbered) (old new : List Event) (now : Option (List ℕ)) (f1 : Arming F) (p1 : Arming P) (e1 : ℕ)
-    → Grew old new → Held given line run old new f1 p1 e1 → Appends given.running.start now (shown report old) → RanAs report given.running.script given.running.outside new ends.NoMemory given.running.start now
+    → GrowsWithinLimit old new → Held given line run old new f1 p1 e1 → Appends given.running.start now (text_so_far report old) → RanAs report given.running.script given.running.outside new ends.NoMemory given.running.start now
 take_unshown report given line run old new now f1 p1 e1 grew step wrote = (
   record {
     later = behind given new;
@@ -125,8 +126,8 @@ take_unshown report given line run old new now f1 p1 e1 grew step wrote = (
 
 -- how the run stops behind a taking: a write failed, or memory ended
 pub held_stops : {F P : Type 0} (report : Report) (given : Taking F P) (line : ℕ) (run : List Numbered) (old new : List Event) (now : Option (List ℕ)) (f1 : Arming F) (p1 : Arming P) (e1 : ℕ) (how : RunEnd)
-    → HasMore given.command old → before_step new ≡ old → Grew old new → Held given line run old new f1 p1 e1
-    → (how ≡ ends.Failed → (report ≡ reports.History) × WroteBeyond given.running.start now (text old) (text new)) → (how ≡ ends.NoMemory → Appends given.running.start now (shown report old))
+    → HasMore given.command old → before_step new ≡ old → GrowsWithinLimit old new → Held given line run old new f1 p1 e1
+    → (how ≡ ends.Failed → (report ≡ reports.History) × WroteBeyond given.running.start now (text old) (text new)) → (how ≡ ends.NoMemory → Appends given.running.start now (text_so_far report old))
     → (how ≡ ends.Failed) ⊎ (how ≡ ends.NoMemory) → Stops report given.running new now f1 p1 e1 how
 held_stops report given line run old new now f1 p1 e1 how more front grew step failed none (inl is) =
     subst (Stops report given.running new now f1 p1 e1) (sym is)
@@ -137,8 +138,8 @@ held_stops report given line run old new now f1 p1 e1 how more front grew step f
 
 -- memory ended in the taking
 pub take_stops : {F P : Type 0} (report : Report) (given : Taking F P) (old new : List Event) (now : Option (List ℕ)) (f0 f1 : Arming F) (p0 p1 : Arming P) (e0 e1 : ℕ)
-    → Settles report given old now f0 p0 e0 → Grew old new → length old < event_limit → MayCutOpen given.running.script.header given.running.outside given.command old new → f1 ≡ f0
-    → ArmedLater p0.left p0.reached p1.left p1.reached → StopsAt before_step old new p0 p1 → DevicesHaveCause e0 e1 old new → Stops report given.running new now f1 p1 e1 ends.NoMemory
+    → Settles report given old now f0 p0 e0 → GrowsWithinLimit old new → length old < most_events → MayCutOpen given.running.script.header given.running.outside given.command old new → f1 ≡ f0
+    → ArmedLater p0.left p0.reached p1.left p1.reached → IsMemoryStop before_step old new p0 p1 → DevicesHaveCause e0 e1 old new → Stops report given.running new now f1 p1 e1 ends.NoMemory
 take_stops report given old new now f0 f1 p0 p1 e0 e1 settles grew below may files later stops devices = record {
   ran = (by_way may, shown_grown report given.running.start now old new grew settles.keeps.written);
   below = grew.limit below settles.keeps.below;
@@ -149,7 +150,7 @@ take_stops report given old new now f0 f1 p0 p1 e0 e1 settles grew below may fil
     ran : count_of is_line new ≡ count_of is_line old → ran_of given.running.script new ≡ ran_of given.running.script old
     ran lines = ap (λ z. oldest z given.running.script.commands.items) lines
 
-    by_stop : StopsAt before_step old new p0 p1 → Arms given.running new f1 p1
+    by_stop : IsMemoryStop before_step old new p0 p1 → Arms given.running new f1 p1
     by_stop (inl same) =
         arms_later given.running old new f0 f1 p0 p1 (ran (ap (count_of is_line) same.0)) files later (λ un. (same.1, subst (λ z. is_untouched (ran_of given.running.script old) z ≡ true) same.0 un)) settles.keeps.arms
     by_stop (inr took) =
@@ -172,7 +173,7 @@ take_stops report given old new now f0 f1 p0 p1 e0 e1 settles grew below may fil
 
 -- the history is full, and something is there to take
 pub take_full : {F P : Type 0} (report : Report) (given : Taking F P) (h : List Event) (now : Option (List ℕ)) (f : Arming F) (p : Arming P) (e : ℕ)
-    → Settles report given h now f p e → HasMore given.command h → event_limit ≤ length h → undelivered h ≢ [] → Stops report given.running h now f p e ends.EventLimit
+    → Settles report given h now f p e → HasMore given.command h → most_events ≤ length h → undelivered h ≢ [] → Stops report given.running h now f p e ends.EventLimit
 take_full report given h now f p e settles more full some = record {
   ran = (
     record {
@@ -215,7 +216,7 @@ settled header outside line count run h end legal = record { follows = whole_of 
 
 -- a settle has ended
 pub settle_runs : {F P : Type 0} (report : Report) (given : Taking F P) (count : ℕ) (h : List Event) (now : Option (List ℕ)) (f : Arming F) (p : Arming P) (e : ℕ) → given.command ≡ command.Settle count
-    → Settles report given h now f p e → (takings h ≡ count) ⊎ (undelivered h ≡ []) → Runs report given.running h now f p e
+    → Settles report given h now f p e → (takings h ≡ count) ⊎ (undelivered h ≡ []) → IsBetweenCommands report given.running h now f p e
 settle_runs report given count h now f p e is settles end =
     let header = given.running.script.header in
     let outside = given.running.outside in

@@ -3,6 +3,7 @@ use Rattle.std.proofs.Common.{◌≡◌, ℕ, ◌+◌, ◌-◌, ◌<◌, ◌≤�
 use Rattle.std.specs.Prelude.{IsErrOf}
 use Rattle.std.specs.Io.KnownBytes.{Appends}
 use Rattle.std.proofs.KnownBytes.{Appends-nil}
+use Rattle.vm_model.specs.Limits.{most_events}
 use Rattle.vm_model.specs.declared.event.Event.{Event}
 use Rattle.vm_model.specs.declared.command.Command.{Command}
 use Rattle.vm_model.specs.declared.command.Command.TheVariants as command
@@ -19,12 +20,12 @@ use Rattle.vm_legal.specs.Steps.{takings}
 use Rattle.vm_legal.proofs.Groups.{cut_of as follows_cut, open_of}
 use Rattle.vm_outside.specs.Arming.{Arming, ArmedLater}
 use Rattle.vm_system.proofs.Settled.{may_be_cut}
-use Rattle.vm_system.specs.Steps.{DevicesHaveCause, Grew, IsNext, KeepsLegal, LeavesFiles, LeavesPaging, LegalCut, LegalOpen, MayCut, IsBelowLimit, StopsAt, arms_paging, event_limit, is_built, is_held_up, settles, takes_up, took_up}
+use Rattle.vm_system.specs.Steps.{DevicesHaveCause, GrowsWithinLimit, IsNext, KeepsLegal, LeavesFiles, LeavesPaging, LegalCut, LegalOpen, MayCut, IsBelowLimit, IsMemoryStop, arms_paging, is_built, is_held_up, settles, takes_up, took_up}
 use Rattle.vm_system.specs.declared.stop.SystemStop.{SystemStop}
 use Rattle.vm_system.specs.declared.stop.SystemStop.TheVariants as stops
 use Rattle.vm_top.specs.Arming.{FailuresCounted, is_untouched, ran_of}
-use Rattle.vm_top.specs.Run.{CutIn, IsPart, IsRunnable, RanAs, front_of, shown, unbuilt_line}
-use Rattle.vm_top.specs.Running.{Arms, IsNextOf, Running, Runs, Stops, Turned}
+use Rattle.vm_top.specs.Run.{CutIn, IsPart, IsRunnable, RanAs, front_of, text_so_far, unbuilt_line}
+use Rattle.vm_top.specs.Running.{Arms, IsBetweenCommands, IsNextOf, Running, Stops, Turned}
 use Rattle.vm_top.specs.Writing.{WroteBeyond, WroteStart, oldest}
 use Rattle.vm_top.specs.declared.run.RunEnd.{RunEnd}
 use Rattle.vm_top.specs.declared.run.RunEnd.TheVariants as ends
@@ -38,7 +39,7 @@ use Rattle.vm_top.proofs.Writings.{front_start, oldest_step, start_all}
 -- what a command's step does, where it is made
 pub record Stepped {F P : Type 0} (header : Header) (outside : Outside) (n : Numbered) (old new : List Event) (f0 f1 : Arming F) (p0 p1 : Arming P) (e0 e1 : ℕ) : Type 0 where
   pub legal : KeepsLegal header outside n old new
-  pub grew : Grew old new
+  pub grew : GrowsWithinLimit old new
   pub front : before_last_line new ≡ old
   pub files : LeavesFiles n.command f0 f1
   pub paging : LeavesPaging n.command p0 p1
@@ -69,7 +70,7 @@ pub record Made {F P : Type 0} (given : Running F P) (n : Numbered) (old new : L
   pub left : Left given new f1 p1 e1
 
 pub made : {F P : Type 0} (report : Report) (given : Running F P) (n : Numbered) (old new : List Event) (was : Option (List ℕ)) (f0 f1 : Arming F) (p0 p1 : Arming P) (e0 e1 : ℕ)
-    → Runs report given old was f0 p0 e0 → IsNextOf given.script n old → is_built n.command ≡ true → InRange given.script.header n.command → length old < event_limit
+    → IsBetweenCommands report given old was f0 p0 e0 → IsNextOf given.script n old → is_built n.command ≡ true → InRange given.script.header n.command → length old < most_events
     → Stepped given.script.header given.outside n old new f0 f1 p0 p1 e0 e1 → Made given n old new f1 p1 e1
 made {F = F} {P = P} report given n old new was f0 f1 p0 p1 e0 e1 runs follows built range below step =
     let run = ran_of given.script old in
@@ -103,7 +104,7 @@ text_grown (e ∷ more) old =
     let front = text_grown more old in
     (front.0 ++ line_of e, ap (λ z. z ++ line_of e) front.1 ∙ append_assoc (text old) front.0 (line_of e))
 
-pub shown_grown : (report : Report) (start now : Option (List ℕ)) (old new : List Event) → Grew old new → Appends start now (shown report old) → WroteStart start now (shown report new)
+pub shown_grown : (report : Report) (start now : Option (List ℕ)) (old new : List Event) → GrowsWithinLimit old new → Appends start now (text_so_far report old) → WroteStart start now (text_so_far report new)
 shown_grown reports.History start now old new grew wrote =
     let grown = text_grown grew.more old in
     subst (WroteStart start now) (sym (ap text grew.is ∙ grown.1)) (front_start start now (text old) grown.0 wrote)
@@ -137,7 +138,7 @@ turn_failed report given n old new now f1 p1 e1 follows front step wrote = (
 
 -- memory ended behind a whole step
 pub turn_unshown : {F P : Type 0} (report : Report) (given : Running F P) (n : Numbered) (old new : List Event) (now : Option (List ℕ)) (f1 : Arming F) (p1 : Arming P) (e1 : ℕ)
-    → IsNextOf given.script n old → Grew old new → Made given n old new f1 p1 e1 → Appends given.start now (shown report old)
+    → IsNextOf given.script n old → GrowsWithinLimit old new → Made given n old new f1 p1 e1 → Appends given.start now (text_so_far report old)
     → RanAs report given.script given.outside new ends.NoMemory given.start now
 turn_unshown report given n old new now f1 p1 e1 follows grew step wrote = (
   record {
@@ -151,7 +152,7 @@ turn_unshown report given n old new now f1 p1 e1 follows grew step wrote = (
 
 -- memory ended in the step
 pub turn_cut : {F P : Type 0} (report : Report) (given : Running F P) (n : Numbered) (old new : List Event) (now : Option (List ℕ))
-    → IsNextOf given.script n old → Grew old new → LegalFor given.script.header given.outside (ran_of given.script old) old → MayCut given.script.header given.outside n old new → Appends given.start now (shown report old)
+    → IsNextOf given.script n old → GrowsWithinLimit old new → LegalFor given.script.header given.outside (ran_of given.script old) old → MayCut given.script.header given.outside n old new → Appends given.start now (text_so_far report old)
     → RanAs report given.script given.outside new ends.NoMemory given.start now
 turn_cut report given n old new now follows grew legal may wrote = (by_way may, shown_grown report given.start now old new grew wrote)
   where
@@ -171,8 +172,8 @@ turn_cut report given n old new now follows grew legal may wrote = (by_way may, 
 
 -- how a turn stops behind its step: a write failed, or memory ended
 pub shown_stops : {F P : Type 0} (report : Report) (given : Running F P) (n : Numbered) (old new : List Event) (now : Option (List ℕ)) (f1 : Arming F) (p1 : Arming P) (e1 : ℕ) (how : RunEnd)
-    → IsNextOf given.script n old → before_last_line new ≡ old → Grew old new → Made given n old new f1 p1 e1
-    → (how ≡ ends.Failed → (report ≡ reports.History) × WroteBeyond given.start now (text old) (text new)) → (how ≡ ends.NoMemory → Appends given.start now (shown report old))
+    → IsNextOf given.script n old → before_last_line new ≡ old → GrowsWithinLimit old new → Made given n old new f1 p1 e1
+    → (how ≡ ends.Failed → (report ≡ reports.History) × WroteBeyond given.start now (text old) (text new)) → (how ≡ ends.NoMemory → Appends given.start now (text_so_far report old))
     → (how ≡ ends.Failed) ⊎ (how ≡ ends.NoMemory) → Stops report given new now f1 p1 e1 how
 shown_stops report given n old new now f1 p1 e1 how follows front grew step failed none (inl is) =
     subst (Stops report given new now f1 p1 e1) (sym is) (record { ran = turn_failed report given n old new now f1 p1 e1 follows front step (failed is); below = step.left.below; arms = step.left.arms; failed = step.left.failed })
@@ -184,7 +185,7 @@ pub record Halted {F P : Type 0} (n : Numbered) (old new : List Event) (f0 f1 : 
   pub unarmed : f1 ≡ f0
   pub later : arms_paging n.command ≡ None → ArmedLater p0.left p0.reached p1.left p1.reached
   pub calm : takes_up n.command ≡ false → (new ≡ old) × (p1 ≡ p0)
-  pub stops : StopsAt before_last_line old new p0 p1
+  pub stops : IsMemoryStop before_last_line old new p0 p1
 
 arms_halted : {F P : Type 0} (given : Running F P) (n : Numbered) (old new : List Event) (f0 f1 : Arming F) (p0 p1 : Arming P) → IsNextOf given.script n old → LegalFor given.script.header given.outside (ran_of given.script old) old
     → MayCut given.script.header given.outside n old new → Halted n old new f0 f1 p0 p1 → Arms given old f0 p0 → Arms given new f1 p1
@@ -198,7 +199,7 @@ arms_halted given n old new f0 f1 p0 p1 follows legal may halted was = by (takes
         let made = cut.follows in
         ap (λ z. oldest z given.script.commands.items) (lines_more new old made.1 made.0 n.line front made.2) ∙ follows
 
-    at : takes_up n.command ≡ true → ArmedLater p0.left p0.reached p1.left p1.reached → StopsAt before_last_line old new p0 p1 → MayCut given.script.header given.outside n old new → Arms given new f1 p1
+    at : takes_up n.command ≡ true → ArmedLater p0.left p0.reached p1.left p1.reached → IsMemoryStop before_last_line old new p0 p1 → MayCut given.script.header given.outside n old new → Arms given new f1 p1
     at up later (inl same) cut = arms_later given old new f0 f1 p0 p1 (same_ran same.0) halted.unarmed later (λ un. (same.1, subst (λ z. is_untouched (ran_of given.script old) z ≡ true) same.0 un)) was
     at up later (inr took) (inl same) = arms_later given old new f0 f1 p0 p1 (same_ran same) halted.unarmed later (λ un. absurd (untouched_up (ran_of given.script old) new took.1 un)) was
     at up later (inr took) (inr cut) = arms_up given n old new f0 f1 p0 p1 (here took.0 (cut (ran_of given.script old) legal)) up halted.unarmed later took.1 was
@@ -209,7 +210,7 @@ arms_halted given n old new f0 f1 p0 p1 follows legal may halted was = by (takes
 
 -- how a turn stops in its step
 pub step_stops : {F P : Type 0} (report : Report) (given : Running F P) (n : Numbered) (old new : List Event) (now : Option (List ℕ)) (f0 f1 : Arming F) (p0 p1 : Arming P) (e0 e1 : ℕ)
-    → Runs report given old now f0 p0 e0 → IsNextOf given.script n old → Grew old new → length old < event_limit → MayCut given.script.header given.outside n old new → Halted n old new f0 f1 p0 p1 → DevicesHaveCause e0 e1 old new
+    → IsBetweenCommands report given old now f0 p0 e0 → IsNextOf given.script n old → GrowsWithinLimit old new → length old < most_events → MayCut given.script.header given.outside n old new → Halted n old new f0 f1 p0 p1 → DevicesHaveCause e0 e1 old new
     → Stops report given new now f1 p1 e1 ends.NoMemory
 step_stops report given n old new now f0 f1 p0 p1 e0 e1 runs follows grew below may halted devices = record {
   ran = turn_cut report given n old new now follows grew runs.legal may runs.keeps.written;
@@ -220,7 +221,7 @@ step_stops report given n old new now f0 f1 p0 p1 e0 e1 runs follows grew below 
 
 -- behind the step, where it was shown
 pub turned : {F P : Type 0} (report : Report) (given : Running F P) (n : Numbered) (old new : List Event) (now : Option (List ℕ)) (f1 : Arming F) (p1 : Arming P) (e1 : ℕ) → Made given n old new f1 p1 e1
-    → Appends given.start now (shown report new) → Turned report given n new now f1 p1 e1
+    → Appends given.start now (text_so_far report new) → Turned report given n new now f1 p1 e1
 turned report given n old new now f1 p1 e1 step wrote = record {
   keeps = record { built = step.built; below = step.left.below; written = wrote; arms = step.left.arms; failed = step.left.failed };
   run = ran_of given.script old;
@@ -235,7 +236,7 @@ step_ends stops.EventLimit got end full none is = inl (refl, sym is ∙ full ref
 step_ends stops.NoMemory got end full none is = inr (refl, sym is ∙ none refl)
 
 -- the commands in front of the next one were run
-part_of : {F P : Type 0} (report : Report) (given : Running F P) (n : Numbered) (h : List Event) (now : Option (List ℕ)) (f : Arming F) (p : Arming P) (e : ℕ) → Runs report given h now f p e → IsNextOf given.script n h
+part_of : {F P : Type 0} (report : Report) (given : Running F P) (n : Numbered) (h : List Event) (now : Option (List ℕ)) (f : Arming F) (p : Arming P) (e : ℕ) → IsBetweenCommands report given h now f p e → IsNextOf given.script n h
     → IsPart given.script given.outside (left_of given h ++ n ∷ []) (ran_of given.script h) h
 part_of report given n h now f p e runs follows = record {
   order = order_left given.script.commands.items (count_of is_line h) n follows;
@@ -244,7 +245,7 @@ part_of report given n h now f p e runs follows = record {
 }
 
 -- the next command isn't built
-pub unbuilt_stops : {F P : Type 0} (report : Report) (given : Running F P) (n : Numbered) (h : List Event) (now : Option (List ℕ)) (f : Arming F) (p : Arming P) (e : ℕ) → Runs report given h now f p e → IsNextOf given.script n h
+pub unbuilt_stops : {F P : Type 0} (report : Report) (given : Running F P) (n : Numbered) (h : List Event) (now : Option (List ℕ)) (f : Arming F) (p : Arming P) (e : ℕ) → IsBetweenCommands report given h now f p e → IsNextOf given.script n h
     → is_built n.command ≡ false → Stops report given h now f p e (ends.NotBuilt n.line)
 unbuilt_stops report given n h now f p e runs follows unbuilt = record {
   ran = (
@@ -263,8 +264,8 @@ unbuilt_stops report given n h now f p e runs follows unbuilt = record {
 }
 
 -- it is held up
-pub held_up_stops : {F P : Type 0} (report : Report) (given : Running F P) (n : Numbered) (h : List Event) (now : Option (List ℕ)) (f : Arming F) (p : Arming P) (e : ℕ) → Runs report given h now f p e → IsNextOf given.script n h
-    → is_built n.command ≡ true → length h < event_limit → is_held_up given.script.header h n.command ≡ true → Stops report given h now f p e (ends.NotBuilt n.line)
+pub held_up_stops : {F P : Type 0} (report : Report) (given : Running F P) (n : Numbered) (h : List Event) (now : Option (List ℕ)) (f : Arming F) (p : Arming P) (e : ℕ) → IsBetweenCommands report given h now f p e → IsNextOf given.script n h
+    → is_built n.command ≡ true → length h < most_events → is_held_up given.script.header h n.command ≡ true → Stops report given h now f p e (ends.NotBuilt n.line)
 held_up_stops report given n h now f p e runs follows built below held = record {
   ran = (
     record {
@@ -282,8 +283,8 @@ held_up_stops report given n h now f p e runs follows built below held = record 
 }
 
 -- the history is full
-pub full_stops : {F P : Type 0} (report : Report) (given : Running F P) (n : Numbered) (h : List Event) (now : Option (List ℕ)) (f : Arming F) (p : Arming P) (e : ℕ) → Runs report given h now f p e → IsNextOf given.script n h
-    → is_built n.command ≡ true → event_limit ≤ length h → Stops report given h now f p e ends.EventLimit
+pub full_stops : {F P : Type 0} (report : Report) (given : Running F P) (n : Numbered) (h : List Event) (now : Option (List ℕ)) (f : Arming F) (p : Arming P) (e : ℕ) → IsBetweenCommands report given h now f p e → IsNextOf given.script n h
+    → is_built n.command ≡ true → most_events ≤ length h → Stops report given h now f p e ends.EventLimit
 full_stops report given n h now f p e runs follows built full = record {
   ran = (
     record {
@@ -305,7 +306,7 @@ full_stops report given n h now f p e runs follows built full = record {
 
 -- a command other than a settle is whole behind its step
 pub turned_runs : {F P : Type 0} (report : Report) (given : Running F P) (n : Numbered) (h : List Event) (now : Option (List ℕ)) (f : Arming F) (p : Arming P) (e : ℕ) → Turned report given n h now f p e → settles n.command ≡ None
-    → Runs report given h now f p e
+    → IsBetweenCommands report given h now f p e
 turned_runs report given n h now f p e turned other = record {
   keeps = turned.keeps;
   legal = subst (λ z. LegalFor given.script.header given.outside z h) (sym turned.here) (turned.next.whole other);
@@ -328,7 +329,7 @@ pub range_of : (given script : Script) (i : ℕ) (n : Numbered) → given ≡ sc
 range_of given script i n same runs found = subst (λ z. InRange z.header n.command) (sym same) (range_at script i n runs found)
 
 -- all commands have a line
-pub all_stops : {F P : Type 0} (report : Report) (given : Running F P) (h : List Event) (now : Option (List ℕ)) (f : Arming F) (p : Arming P) (e : ℕ) → Runs report given h now f p e
+pub all_stops : {F P : Type 0} (report : Report) (given : Running F P) (h : List Event) (now : Option (List ℕ)) (f : Arming F) (p : Arming P) (e : ℕ) → IsBetweenCommands report given h now f p e
     → length given.script.commands.items ≤ count_of is_line h → Stops report given h now f p e ends.Done
 all_stops report given h now f p e runs all =
     let whole = oldest_all given.script.commands.items (count_of is_line h) all in
@@ -346,12 +347,12 @@ all_stops report given h now f p e runs all =
     }
 
 -- of no events nothing is shown
-shown_none : (written : Option (List ℕ)) (report : Report) → Appends written written (shown report [])
+shown_none : (written : Option (List ℕ)) (report : Report) → Appends written written (text_so_far report [])
 shown_none written reports.History = Appends-nil written
 shown_none written reports.Summary = Appends-nil written
 
 -- a run begins with nothing
-start_run : {F P : Type 0} (report : Report) (given : Running F P) → given.files.left ≡ 0 → given.paging.left ≡ 0 → Runs report given [] given.start given.files given.paging given.faults
+start_run : {F P : Type 0} (report : Report) (given : Running F P) → given.files.left ≡ 0 → given.paging.left ≡ 0 → IsBetweenCommands report given [] given.start given.files given.paging given.faults
 start_run report given files paging =
     let none = oldest_none given.script.commands.items in
     record {
@@ -367,8 +368,8 @@ start_run report given files paging =
       legal = subst (λ z. LegalFor given.script.header given.outside z []) (sym none) (legal_start given.script.header given.outside);
     }
 
-pub start_runs : {F P : Type 0} (report : Report) (given : Running F P) (h : List Event) → h ≡ [] → given.files.left ≡ 0 → given.paging.left ≡ 0 → Runs report given h given.start given.files given.paging given.faults
-start_runs report given h nothing files paging = subst (λ z. Runs report given z given.start given.files given.paging given.faults) (sym nothing) (start_run report given files paging)
+pub start_runs : {F P : Type 0} (report : Report) (given : Running F P) (h : List Event) → h ≡ [] → given.files.left ≡ 0 → given.paging.left ≡ 0 → IsBetweenCommands report given h given.start given.files given.paging given.faults
+start_runs report given h nothing files paging = subst (λ z. IsBetweenCommands report given z given.start given.files given.paging given.faults) (sym nothing) (start_run report given files paging)
 
 -- nothing was run
 pub nothing_ran : (report : Report) (script : Script) (outside : Outside) (h : List Event) (written : Option (List ℕ)) → h ≡ [] → RanAs report script outside h ends.NoMemory written written
@@ -380,5 +381,5 @@ nothing_ran report script outside h written nothing =
         order = sym (append-nil script.commands.items);
         legal = cut_whole script.header outside [] [] (legal_start script.header outside);
       },
-      start_all written written (shown report []) (shown_none written report),
+      start_all written written (text_so_far report []) (shown_none written report),
     )

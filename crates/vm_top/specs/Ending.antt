@@ -6,7 +6,7 @@ use Rattle.vm_base.specs.declared.failure.WriteStop.TheVariants as stop
 use Rattle.vm_model.specs.declared.event.Event.{Event}
 use Rattle.vm_model.specs.declared.script.Script.{Script}
 use Rattle.vm_legal.specs.Outside.{Outside}
-use Rattle.vm_top.specs.Run.{CutIn, IsFull, IsStuck, IsWhole, report_text}
+use Rattle.vm_top.specs.Run.{CutIn, IsOutOfEvents, IsStuck, IsWholeRun, report_text}
 use Rattle.vm_top.specs.Top.{WroteFailed, stopped_text}
 use Rattle.vm_top.specs.Writing.{WroteStart}
 use Rattle.vm_top.specs.declared.top.Status.{Status}
@@ -32,9 +32,9 @@ WroteStuck run outside history before after =
 -- a script was run, and that is the status
 abbrev pub EndsAs : Report → Script → Outside → List Event → Option (List ℕ) → Option (List ℕ) → Status → Type 0
 EndsAs report run outside history before after Done =
-    IsWhole run outside history × Appends before after (report_text report history)
+    IsWholeRun run outside history × Appends before after (report_text report history)
 EndsAs report run outside history before after EventLimit =
-    IsFull run outside history × Appends before after (report_text report history)
+    IsOutOfEvents run outside history × Appends before after (report_text report history)
 EndsAs report run outside history before after (NotBuilt line) =
     IsStuck run outside line history × Appends before after (stopped_text history line)
 EndsAs report run outside history before after OutputFault =

@@ -3,6 +3,7 @@ use Rattle.std.specs.Prelude.{ℕ, ◌≡◌, ◌≢◌, ◌⊎◌, ◌<◌, ◌
 use Rattle.std.specs.Io.KnownBytes.{Appends}
 use Rattle.std.specs.List.{All}
 use Rattle.vm_base.specs.Limits.{most_slots}
+use Rattle.vm_model.specs.Limits.{most_events}
 use Rattle.vm_model.specs.declared.event.Event.{Event}
 use Rattle.vm_model.specs.declared.command.Command.{Command}
 use Rattle.vm_model.specs.declared.command.Command.TheVariants as command
@@ -20,7 +21,7 @@ use Rattle.vm_legal.specs.Undelivered.{undelivered}
 use Rattle.vm_outside.specs.Areas.{Told}
 use Rattle.pg_slots.specs.Contents.{area_name}
 use Rattle.vm_kernel.specs.Matches.{IsPlain}
-use Rattle.vm_system.specs.Steps.{HasMore, LegalCut, LegalOpen, event_limit, is_built, is_held_up}
+use Rattle.vm_system.specs.Steps.{HasMore, LegalCut, LegalOpen, is_built, is_held_up}
 use Rattle.vm_top.specs.Writing.{WroteStart, WroteBeyond}
 use Rattle.vm_top.specs.declared.run.RunEnd.{RunEnd}
 use Rattle.vm_top.specs.declared.run.RunEnd.TheVariants as end
@@ -57,7 +58,7 @@ pub record IsPart (script : Script) (outside : Outside) (later run : List Number
   pub legal : LegalFor script.header outside run history
 
 -- the whole script was run
-pub record IsWhole (script : Script) (outside : Outside) (history : List Event) : Type 0 where
+pub record IsWholeRun (script : Script) (outside : Outside) (history : List Event) : Type 0 where
   pub built : unbuilt_line script.commands.items ≡ None
   pub legal : Legal script outside history
 
@@ -81,14 +82,14 @@ pub record SettlesOn (script : Script) (outside : Outside) (history : List Event
   pub some : undelivered history ≢ []
 
 -- a step is left, but none may begin
-pub record IsFull (script : Script) (outside : Outside) (history : List Event) : Type 0 where
-  pub full : event_limit ≤ length history
+pub record IsOutOfEvents (script : Script) (outside : Outside) (history : List Event) : Type 0 where
+  pub full : most_events ≤ length history
   pub left : IsLeft script outside history ⊎ SettlesOn script outside history
 
 -- the command behind those that were run is built so far, but can't be run now
 pub record IsHeldUp (header : Header) (line : ℕ) (next : Numbered) (run : List Numbered) (history : List Event) : Type 0 where
   pub built : unbuilt_line (next ∷ run) ≡ None
-  pub below : length history < event_limit
+  pub below : length history < most_events
   pub here : next.line ≡ line
   pub held : is_held_up header history next.command ≡ true
 
@@ -122,9 +123,9 @@ pub record CutIn (script : Script) (outside : Outside) (history : List Event) : 
   pub legal : LegalCut script.header outside run history
 
 -- what is written of a history while it grows
-abbrev pub shown : Report → List Event → List ℕ
-shown History history = text history
-shown Summary history = []
+abbrev pub text_so_far : Report → List Event → List ℕ
+text_so_far History history = text history
+text_so_far Summary history = []
 
 -- what is written of a whole history
 abbrev pub report_text : Report → List Event → List ℕ
@@ -136,12 +137,12 @@ report_text Summary history = summary_text history
 -- is full; or a command isn't built
 abbrev pub RanAs : Report → Script → Outside → List Event → RunEnd → Option (List ℕ) → Option (List ℕ) → Type 0
 RanAs report script outside history end.Done before after =
-    IsWhole script outside history × Appends before after (shown report history)
+    IsWholeRun script outside history × Appends before after (text_so_far report history)
 RanAs report script outside history end.Failed before after =
     (report ≡ History) × FailedIn script outside history before after
 RanAs report script outside history end.NoMemory before after =
-    CutIn script outside history × WroteStart before after (shown report history)
+    CutIn script outside history × WroteStart before after (text_so_far report history)
 RanAs report script outside history end.EventLimit before after =
-    IsFull script outside history × Appends before after (shown report history)
+    IsOutOfEvents script outside history × Appends before after (text_so_far report history)
 RanAs report script outside history (end.NotBuilt line) before after =
-    IsStuck script outside line history × Appends before after (shown report history)
+    IsStuck script outside line history × Appends before after (text_so_far report history)

@@ -12,7 +12,7 @@ use Rattle.vm_outside.specs.Arming.{Arming}
 use Rattle.vm_outside.specs.Causes.{next_count}
 use Rattle.vm_system.specs.Steps.{IsBelowLimit, IsNext, LegalOpen}
 use Rattle.vm_top.specs.Arming.{FailuresCounted, FilesLeft, PagingLeft, ran_of}
-use Rattle.vm_top.specs.Run.{RanAs, shown, unbuilt_line}
+use Rattle.vm_top.specs.Run.{RanAs, text_so_far, unbuilt_line}
 use Rattle.vm_top.specs.Writing.{oldest}
 use Rattle.vm_top.specs.declared.run.RunEnd.{RunEnd}
 use Rattle.vm_top.specs.declared.words.Report.{Report}
@@ -52,12 +52,12 @@ pub record Arms {F P : Type 0} (given : Running F P) (history : List Event) (f :
 pub record Keeps {F P : Type 0} (report : Report) (given : Running F P) (history : List Event) (now : Option (List ℕ)) (f : Arming F) (p : Arming P) (faults : ℕ) : Type 0 where
   pub built : unbuilt_line (ran_of given.script history) ≡ None
   pub below : IsBelowLimit history
-  pub written : Appends given.start now (shown report history)
+  pub written : Appends given.start now (text_so_far report history)
   pub arms : Arms given history f p
   pub failed : FailuresCounted given.faults faults history
 
 -- what holds between two commands
-pub record Runs {F P : Type 0} (report : Report) (given : Running F P) (history : List Event) (now : Option (List ℕ)) (f : Arming F) (p : Arming P) (faults : ℕ) : Type 0 where
+pub record IsBetweenCommands {F P : Type 0} (report : Report) (given : Running F P) (history : List Event) (now : Option (List ℕ)) (f : Arming F) (p : Arming P) (faults : ℕ) : Type 0 where
   pub keeps : Keeps report given history now f p faults
   pub legal : LegalFor given.script.header given.outside (ran_of given.script history) history
 

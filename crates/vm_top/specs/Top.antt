@@ -17,7 +17,7 @@ use Rattle.vm_outside.specs.Arming.{Arming}
 use Rattle.pg_slots.specs.Contents.{area_name}
 use Rattle.vm_system.specs.Keeping.{KeepsPages}
 use Rattle.vm_top.specs.Arming.{FilesLeft, PagingLeft, ran_of}
-use Rattle.vm_top.specs.Run.{CutIn, FailedIn, IsFull, IsStuck, IsWhole, only_host, report_text}
+use Rattle.vm_top.specs.Run.{CutIn, FailedIn, IsOutOfEvents, IsStuck, IsWholeRun, only_host, report_text}
 use Rattle.vm_top.specs.Writing.{WroteStart}
 use Rattle.vm_top.specs.declared.words.Report.{Report}
 use Rattle.vm_top.specs.declared.words.Report.TheVariants.{History, Summary}
@@ -81,7 +81,7 @@ pub record IsDone (told : Option (List ℕ)) (outside : Outside) (report : Repor
   pub run : Script
   pub held : IsHeld told run script
   pub header : IsHeaderBuilt told run
-  pub whole : IsWhole run outside history
+  pub whole : IsWholeRun run outside history
   pub written : Appends before after (report_text report history)
 
 -- the history is full while a step is left: it is legal as far as it goes, and its report was written and nothing else
@@ -89,7 +89,7 @@ pub record IsEventLimit (told : Option (List ℕ)) (outside : Outside) (report :
   pub run : Script
   pub held : IsHeld told run script
   pub header : IsHeaderBuilt told run
-  pub full : IsFull run outside history
+  pub full : IsOutOfEvents run outside history
   pub written : Appends before after (report_text report history)
 
 -- this line isn't built: one of the header, and nothing was run; or that of the first such command, and those in front

@@ -4,7 +4,7 @@ ghost use Rattle.std.specs.Io.KnownBytes.{Appends};
 ghost use Rattle.std.specs.declared.option.Option.{Option};
 ghost use Rattle.vm_model.specs.Text.{text, field};
 ghost use Rattle.vm_outside.specs.Causes.{Rose};
-ghost use Rattle.vm_top.specs.Run.{report_text, shown};
+ghost use Rattle.vm_top.specs.Run.{report_text, text_so_far};
 ghost use Rattle.vm_top.specs.Top.{bad_text, fault_name, not_built_text, stopped_text};
 ghost use Rattle.vm_top.specs.Writing.{oldest, WroteBeyond, WroteStart};
 
@@ -120,7 +120,7 @@ fn stop_text(
     history: &History,
     line: u32,
 ) -> Result<Vec<u8>, NoMemory>
-    ensures { IfOk result (λ bytes. shown report history.now.items ++ bytes.items
+    ensures { IfOk result (λ bytes. text_so_far report history.now.items ++ bytes.items
         ≡ stopped_text history.now.items line) }
 {
     let from = match report {
@@ -141,12 +141,12 @@ pub fn write_report<K: Sink>(
 ) -> Result<(), WriteStop>
     ensures later { K.faults out.old ≤ K.faults out.new }
     ensures cause { IsErrOf result WriteStop.Failed → Rose (K.faults out.old) (K.faults out.new) }
-    ensures written { (start : Option (List ℕ)) → Appends start (K.written out.old) (shown report history.now.items)
+    ensures written { (start : Option (List ℕ)) → Appends start (K.written out.old) (text_so_far report history.now.items)
         → OnOk result (Appends start (K.written out.new) (report_text report history.now.items)) }
-    ensures failed { (start : Option (List ℕ)) → Appends start (K.written out.old) (shown report history.now.items)
+    ensures failed { (start : Option (List ℕ)) → Appends start (K.written out.old) (text_so_far report history.now.items)
         → IsErrOf result WriteStop.Failed
         → (report ≡ Report.Summary) × WroteStart start (K.written out.new) (report_text report history.now.items) }
-    ensures memory { (start : Option (List ℕ)) → Appends start (K.written out.old) (shown report history.now.items)
+    ensures memory { (start : Option (List ℕ)) → Appends start (K.written out.old) (text_so_far report history.now.items)
         → IsErrOf result WriteStop.NoMemory
         → WroteStart start (K.written out.new) (report_text report history.now.items) }
 {
@@ -171,9 +171,9 @@ pub fn write_stop<K: Sink>(
 ) -> Result<(), WriteStop>
     ensures later { K.faults out.old ≤ K.faults out.new }
     ensures cause { IsErrOf result WriteStop.Failed → Rose (K.faults out.old) (K.faults out.new) }
-    ensures written { (start : Option (List ℕ)) → Appends start (K.written out.old) (shown report history.now.items)
+    ensures written { (start : Option (List ℕ)) → Appends start (K.written out.old) (text_so_far report history.now.items)
         → OnOk result (Appends start (K.written out.new) (stopped_text history.now.items line)) }
-    ensures start { (start : Option (List ℕ)) → Appends start (K.written out.old) (shown report history.now.items)
+    ensures start { (start : Option (List ℕ)) → Appends start (K.written out.old) (text_so_far report history.now.items)
         → WroteStart start (K.written out.new) (stopped_text history.now.items line) }
 {
     let Ok(bytes) = stop_text(alloc, report, history, line) else {

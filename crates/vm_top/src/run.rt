@@ -2,6 +2,7 @@
 ghost use Rattle.std.specs.Prelude.{◌≡◌, ◌≢◌, ◌+◌, ◌⊎◌, ◌<◌, ◌≤◌, [], true, false, List, ℕ, length, IfOk, OnOk, IsErrOf};
 ghost use Rattle.std.specs.Io.KnownBytes.{Appends};
 ghost use Rattle.std.specs.declared.option.Option.{Option};
+ghost use Rattle.vm_model.specs.Limits.{most_events};
 ghost use Rattle.vm_model.specs.Ranges.{InRange};
 ghost use Rattle.vm_model.specs.Summary.{count_of, is_line};
 ghost use Rattle.vm_model.specs.Text.{text};
@@ -9,11 +10,11 @@ ghost use Rattle.vm_legal.specs.Steps.{takings};
 ghost use Rattle.vm_legal.specs.Undelivered.{undelivered};
 ghost use Rattle.vm_outside.specs.Causes.{Rose};
 ghost use Rattle.vm_system.specs.Keeping.{KeepsPages};
-ghost use Rattle.vm_system.specs.Stands.{Kept, Stands};
-ghost use Rattle.vm_system.specs.Steps.{HasMore, IsBelowLimit, event_limit, is_built, is_held_up};
+ghost use Rattle.vm_system.specs.Stands.{PagingIsKept, SystemStands};
+ghost use Rattle.vm_system.specs.Steps.{HasMore, IsBelowLimit, is_built, is_held_up};
 ghost use Rattle.vm_top.specs.Arming.{FailuresBounded, FailuresCounted, FilesLeft, PagingLeft, ran_of};
-ghost use Rattle.vm_top.specs.Run.{IsRunnable, RanAs, only_host, outside_of, shown};
-ghost use Rattle.vm_top.specs.Running.{IsNextOf, Running, Runs, Settles, Stops, Taking, Turned};
+ghost use Rattle.vm_top.specs.Run.{IsRunnable, RanAs, only_host, outside_of, text_so_far};
+ghost use Rattle.vm_top.specs.Running.{IsBetweenCommands, IsNextOf, Running, Settles, Stops, Taking, Turned};
 ghost use Rattle.vm_top.specs.Writing.{WroteBeyond, oldest};
 
 use crate::render::write_step;
@@ -94,15 +95,15 @@ fn show<K: Sink>(
     ensures later { K.faults out.old ≤ K.faults out.new }
     ensures cause { IsErrOf result RunEnd.Failed → Rose (K.faults out.old) (K.faults out.new) }
     ensures written { (start : Option (List ℕ))
-        → Appends start (K.written out.old) (shown report (oldest from system.now.history.items))
-        → OnOk result (Appends start (K.written out.new) (shown report system.now.history.items)) }
+        → Appends start (K.written out.old) (text_so_far report (oldest from system.now.history.items))
+        → OnOk result (Appends start (K.written out.new) (text_so_far report system.now.history.items)) }
     ensures failed { (start : Option (List ℕ))
-        → Appends start (K.written out.old) (shown report (oldest from system.now.history.items))
+        → Appends start (K.written out.old) (text_so_far report (oldest from system.now.history.items))
         → IsErrOf result RunEnd.Failed → (report ≡ Report.History) × WroteBeyond start (K.written out.new) (text (oldest from system.now.history.items)) (text system.now.history.items) }
     ensures memory { (start : Option (List ℕ))
-        → Appends start (K.written out.old) (shown report (oldest from system.now.history.items))
+        → Appends start (K.written out.old) (text_so_far report (oldest from system.now.history.items))
         → IsErrOf result RunEnd.NoMemory
-        → Appends start (K.written out.new) (shown report (oldest from system.now.history.items)) }
+        → Appends start (K.written out.new) (text_so_far report (oldest from system.now.history.items)) }
     ensures ends { (end : RunEnd) → IsErrOf result end → (end ≡ RunEnd.Failed) ⊎ (end ≡ RunEnd.NoMemory) }
 {
     match report {
@@ -126,16 +127,16 @@ fn turn<K: Sink, F: Backing, P: Backing>(
     paging: &mut Armed<P>,
 ) -> Result<(), RunEnd>
     ghost given: { Running F P }
-    requires stands { Stands given.script.header given.outside system.old }
-    requires kept { Kept given.script.header given.outside (P.area paging.old.inner) system.old }
+    requires stands { SystemStands given.script.header given.outside system.old }
+    requires kept { PagingIsKept given.script.header given.outside (P.area paging.old.inner) system.old }
     requires range { InRange given.script.header numbered.now.command }
     requires built { is_built numbered.now.command ≡ true }
     requires free { is_held_up given.script.header system.old.history.items numbered.now.command ≡ false }
-    requires below { length system.old.history.items < event_limit }
-    requires runs { Runs report given system.old.history.items (K.written out.old) files.old paging.old (⟦<Armed<P> as Backing>⟧.faults paging.old) }
+    requires below { length system.old.history.items < most_events }
+    requires runs { IsBetweenCommands report given system.old.history.items (K.written out.old) files.old paging.old (⟦<Armed<P> as Backing>⟧.faults paging.old) }
     requires next { IsNextOf given.script numbered.now system.old.history.items }
-    ensures stands { OnOk result (Stands given.script.header given.outside system.new) }
-    ensures kept { Kept given.script.header given.outside (P.area paging.new.inner) system.new }
+    ensures stands { OnOk result (SystemStands given.script.header given.outside system.new) }
+    ensures kept { PagingIsKept given.script.header given.outside (P.area paging.new.inner) system.new }
     ensures turned { OnOk result (Turned report given numbered.now system.new.history.items (K.written out.new) files.new paging.new (⟦<Armed<P> as Backing>⟧.faults paging.new)) }
     ensures lines { OnOk result (count_of is_line system.new.history.items
         ≡ count_of is_line system.old.history.items + 1) }
@@ -161,12 +162,12 @@ fn take_one<K: Sink, F: Backing, P: Backing>(
     paging: &mut Armed<P>,
 ) -> Result<bool, RunEnd>
     ghost given: { Taking F P }
-    requires stands { Stands given.running.script.header given.running.outside system.old }
-    requires kept { Kept given.running.script.header given.running.outside (P.area paging.old.inner) system.old }
+    requires stands { SystemStands given.running.script.header given.running.outside system.old }
+    requires kept { PagingIsKept given.running.script.header given.running.outside (P.area paging.old.inner) system.old }
     requires settles { Settles report given system.old.history.items (K.written out.old) files.old paging.old (⟦<Armed<P> as Backing>⟧.faults paging.old) }
     requires more { HasMore given.command system.old.history.items }
-    ensures stands { OnOk result (Stands given.running.script.header given.running.outside system.new) }
-    ensures kept { Kept given.running.script.header given.running.outside (P.area paging.new.inner) system.new }
+    ensures stands { OnOk result (SystemStands given.running.script.header given.running.outside system.new) }
+    ensures kept { PagingIsKept given.running.script.header given.running.outside (P.area paging.new.inner) system.new }
     ensures settles { OnOk result (Settles report given system.new.history.items (K.written out.new) files.new paging.new (⟦<Armed<P> as Backing>⟧.faults paging.new)) }
     ensures more { IfOk result (λ took. took ≡ true
         → takings system.new.history.items ≡ takings system.old.history.items + 1) }
@@ -199,14 +200,14 @@ fn settle<K: Sink, F: Backing, P: Backing>(
     paging: &mut Armed<P>,
 ) -> Result<(), RunEnd>
     ghost given: { Taking F P }
-    requires stands { Stands given.running.script.header given.running.outside system.old }
-    requires kept { Kept given.running.script.header given.running.outside (P.area paging.old.inner) system.old }
+    requires stands { SystemStands given.running.script.header given.running.outside system.old }
+    requires kept { PagingIsKept given.running.script.header given.running.outside (P.area paging.old.inner) system.old }
     requires settles { Settles report given system.old.history.items (K.written out.old) files.old paging.old (⟦<Armed<P> as Backing>⟧.faults paging.old) }
     requires command { given.command ≡ Command.Settle count }
     requires none { takings system.old.history.items ≡ 0 }
-    ensures stands { OnOk result (Stands given.running.script.header given.running.outside system.new) }
-    ensures kept { Kept given.running.script.header given.running.outside (P.area paging.new.inner) system.new }
-    ensures runs { OnOk result (Runs report given.running system.new.history.items (K.written out.new) files.new paging.new (⟦<Armed<P> as Backing>⟧.faults paging.new)) }
+    ensures stands { OnOk result (SystemStands given.running.script.header given.running.outside system.new) }
+    ensures kept { PagingIsKept given.running.script.header given.running.outside (P.area paging.new.inner) system.new }
+    ensures runs { OnOk result (IsBetweenCommands report given.running system.new.history.items (K.written out.new) files.new paging.new (⟦<Armed<P> as Backing>⟧.faults paging.new)) }
     ensures lines { OnOk result (count_of is_line system.new.history.items
         ≡ count_of is_line system.old.history.items) }
     ensures stops { (end : RunEnd) → IsErrOf result end → Stops report given.running system.new.history.items (K.written out.new) files.new paging.new (⟦<Armed<P> as Backing>⟧.faults paging.new) end }
@@ -273,11 +274,11 @@ fn run_all<K: Sink, F: Backing, P: Backing>(
     ghost given: { Running F P }
     requires script { given.script ≡ script.now }
     requires run { IsRunnable script.now }
-    requires stands { Stands given.script.header given.outside system.old }
-    requires kept { Kept given.script.header given.outside (P.area paging.old.inner) system.old }
-    requires runs { Runs report given system.old.history.items (K.written out.old) files.old paging.old (⟦<Armed<P> as Backing>⟧.faults paging.old) }
+    requires stands { SystemStands given.script.header given.outside system.old }
+    requires kept { PagingIsKept given.script.header given.outside (P.area paging.old.inner) system.old }
+    requires runs { IsBetweenCommands report given system.old.history.items (K.written out.old) files.old paging.old (⟦<Armed<P> as Backing>⟧.faults paging.old) }
     requires none { system.old.history.items ≡ [] }
-    ensures kept { Kept given.script.header given.outside (P.area paging.new.inner) system.new }
+    ensures kept { PagingIsKept given.script.header given.outside (P.area paging.new.inner) system.new }
     ensures stops { Stops report given system.new.history.items (K.written out.new) files.new paging.new (⟦<Armed<P> as Backing>⟧.faults paging.new) result }
     ensures later { K.faults out.old ≤ K.faults out.new }
     ensures cause { result ≡ RunEnd.Failed → Rose (K.faults out.old) (K.faults out.new) }
@@ -302,14 +303,14 @@ fn run_one<K: Sink, F: Backing, P: Backing>(
     paging: &mut Armed<P>,
 ) -> Result<(), RunEnd>
     ghost given: { Running F P }
-    requires stands { Stands given.script.header given.outside system.old }
-    requires kept { Kept given.script.header given.outside (P.area paging.old.inner) system.old }
+    requires stands { SystemStands given.script.header given.outside system.old }
+    requires kept { PagingIsKept given.script.header given.outside (P.area paging.old.inner) system.old }
     requires range { InRange given.script.header numbered.now.command }
-    requires runs { Runs report given system.old.history.items (K.written out.old) files.old paging.old (⟦<Armed<P> as Backing>⟧.faults paging.old) }
+    requires runs { IsBetweenCommands report given system.old.history.items (K.written out.old) files.old paging.old (⟦<Armed<P> as Backing>⟧.faults paging.old) }
     requires next { IsNextOf given.script numbered.now system.old.history.items }
-    ensures stands { OnOk result (Stands given.script.header given.outside system.new) }
-    ensures kept { Kept given.script.header given.outside (P.area paging.new.inner) system.new }
-    ensures runs { OnOk result (Runs report given system.new.history.items (K.written out.new) files.new paging.new (⟦<Armed<P> as Backing>⟧.faults paging.new)) }
+    ensures stands { OnOk result (SystemStands given.script.header given.outside system.new) }
+    ensures kept { PagingIsKept given.script.header given.outside (P.area paging.new.inner) system.new }
+    ensures runs { OnOk result (IsBetweenCommands report given system.new.history.items (K.written out.new) files.new paging.new (⟦<Armed<P> as Backing>⟧.faults paging.new)) }
     ensures lines { OnOk result (count_of is_line system.new.history.items
         ≡ count_of is_line system.old.history.items + 1) }
     ensures stops { (end : RunEnd) → IsErrOf result end → Stops report given system.new.history.items (K.written out.new) files.new paging.new (⟦<Armed<P> as Backing>⟧.faults paging.new) end }

@@ -13,7 +13,7 @@ use Rattle.vm_waits.proofs.Lines.{length_others, listed_others, listed_push, onc
 use Rattle.vm_waits.proofs.Lines as line
 use Rattle.vm_waits.proofs.Places.{by_task_closed, by_task_inserted, by_task_removed, found_closed, found_inserted, found_removed, known}
 use Rattle.vm_waits.proofs.Rows.{Keeps, counted_push, counted_turned, counted_without, counted_woken, entry_map, entry_push, entry_spot, entry_task, entry_without, length_without, none_passes, once_map, once_push, once_without, oldest_none, oldest_some, row_at, spot_map, spot_none, spot_push, spot_without, turned_keeps, woken_keeps}
-use Rattle.vm_waits.specs.Kept.{AreFound, AreQueued, closed, closer, found, rank, spot}
+use Rattle.vm_waits.specs.Kept.{AreFound, AreQueued, closed, closer, noted_place, places_before, spot}
 use Rattle.vm_waits.specs.Waits.{EachOnce, PutsEntry, Waked, counted, entry, first, is_again, is_frame, is_listed, oldest, one, others, queued, turned, waits_for_frame, with_on, without, woken, woken_page, woken_ready}
 use Rattle.vm_waits.specs.declared.place.Place.{Place}
 use Rattle.vm_waits.specs.declared.waiting.On.{On}
@@ -42,18 +42,18 @@ holds_there None x P is some = absurd some
 holds_there (Some y) x P is some = let same = same_Some y x is in rw (← same) some
 
 -- what the places tell is what the rows have
-pub spot_got : (rows : List Waiting) (places : List Place) (t at : ℕ) → AreFound rows places → Some at ≡ found t places → spot t rows ≡ Some at
+pub spot_got : (rows : List Waiting) (places : List Place) (t at : ℕ) → AreFound rows places → Some at ≡ noted_place t places → spot t rows ≡ Some at
 spot_got rows places t at kept is = sym (kept.leads t) ∙ sym is
 
-pub none_got : (rows : List Waiting) (places : List Place) (t : ℕ) → AreFound rows places → None ≡ found t places → entry rows t ≡ None
+pub none_got : (rows : List Waiting) (places : List Place) (t : ℕ) → AreFound rows places → None ≡ noted_place t places → entry rows t ≡ None
 none_got rows places t kept none = entry_spot rows t ∙ ap (row_at rows) (sym (kept.leads t) ∙ sym none)
 
 -- an access begins
-pub found_begun : (rows : List Waiting) (places : List Place) (w : Waiting) (i : ℕ) → AreFound rows places → entry rows w.task.0 ≡ None → i ≡ rank w.task.0 places → i ≤ length places
+pub found_begun : (rows : List Waiting) (places : List Place) (w : Waiting) (i : ℕ) → AreFound rows places → entry rows w.task.0 ≡ None → i ≡ places_before w.task.0 places → i ≤ length places
     → AreFound (rows ++ w ∷ []) (insert places i (record { task = w.task; at = length rows }))
 found_begun rows places w i kept absent place within =
     let new : Place = record { task = w.task; at = length rows } in
-    let none : found w.task.0 places ≡ None = kept.leads w.task.0 ∙ spot_none rows w.task.0 absent in
+    let none : noted_place w.task.0 places ≡ None = kept.leads w.task.0 ∙ spot_none rows w.task.0 absent in
     let long = length-insert places i new within in
     record {
       once = once_push rows w kept.once absent;
@@ -147,16 +147,16 @@ some_spot : (rows : List Waiting) (t : ℕ) (was : Waiting) (o : Option ℕ) →
 some_spot rows t was None spots is = absurd (none-some was (sym (entry_spot rows t ∙ ap (row_at rows) spots) ∙ is))
 some_spot rows t was (Some at) spots is = refl
 
-pub some_found : (rows : List Waiting) (places : List Place) (t : ℕ) (was : Waiting) → AreFound rows places → entry rows t ≡ Some was → IsSome (found t places)
+pub some_found : (rows : List Waiting) (places : List Place) (t : ℕ) (was : Waiting) → AreFound rows places → entry rows t ≡ Some was → IsSome (noted_place t places)
 some_found rows places t was kept is = rw (kept.leads t) (some_spot rows t was (spot t rows) refl is)
 
 -- the place at a task's rank leads to its row
-pub spot_known : (t i : ℕ) (rows : List Waiting) (places : List Place) (was : Waiting) (d : Place) → AreFound rows places → entry rows t ≡ Some was → i ≡ rank t places → d ≡ get_or places i d → spot t rows ≡ Some d.at
+pub spot_known : (t i : ℕ) (rows : List Waiting) (places : List Place) (was : Waiting) (d : Place) → AreFound rows places → entry rows t ≡ Some was → i ≡ places_before t places → d ≡ get_or places i d → spot t rows ≡ Some d.at
 spot_known t i rows places was d kept is place read =
     let stands = known t i places kept.sorted place (some_found rows places t was kept is) in
     sym (kept.leads t) ∙ stands.is d ∙ ap (λ (z : Place). Some z.at) (sym read)
 
-pub within_known : (t i : ℕ) (rows : List Waiting) (places : List Place) (was : Waiting) → AreFound rows places → entry rows t ≡ Some was → i ≡ rank t places → i < length places
+pub within_known : (t i : ℕ) (rows : List Waiting) (places : List Place) (was : Waiting) → AreFound rows places → entry rows t ≡ Some was → i ≡ places_before t places → i < length places
 within_known t i rows places was kept is place = (known t i places kept.sorted place (some_found rows places t was kept is)).within
 
 -- a row is taken out
@@ -164,7 +164,7 @@ gone : (test : Bool) (at : ℕ) (o : Option ℕ) → option_map (closer at) (if 
 gone true at o = refl
 gone false at o = refl
 
-pub found_without : (t at i : ℕ) (rows : List Waiting) (places : List Place) (was : Waiting) (d : Place) → AreFound rows places → entry rows t ≡ Some was → i ≡ rank t places → at ≡ (get_or places i d).at → AreFound (without t rows) (map (closed at) (remove places i))
+pub found_without : (t at i : ℕ) (rows : List Waiting) (places : List Place) (was : Waiting) (d : Place) → AreFound rows places → entry rows t ≡ Some was → i ≡ places_before t places → at ≡ (get_or places i d).at → AreFound (without t rows) (map (closed at) (remove places i))
 found_without t at i rows places was d kept is place read =
     let stands = known t i places kept.sorted place (some_found rows places t was kept is) in
     let spots : spot t rows ≡ Some at = sym (kept.leads t) ∙ stands.is d ∙ ap Some (sym read) in

@@ -11,14 +11,14 @@ ByTask from [] = Unit {0}
 ByTask from (place ∷ places) = (from ≤ place.task.0) × ByTask (suc place.task.0) places
 
 -- how many places of lower tasks there are
-abbrev pub rank : ℕ → List Place → ℕ
-rank t [] = 0
-rank t (place ∷ places) = if nat_lt place.task.0 t then suc (rank t places) else 0
+abbrev pub places_before : ℕ → List Place → ℕ
+places_before t [] = 0
+places_before t (place ∷ places) = if nat_lt place.task.0 t then suc (places_before t places) else 0
 
 -- what the places tell of a task
-abbrev pub found : ℕ → List Place → Option ℕ
-found t [] = None
-found t (place ∷ places) = if place.task.0 == t then Some place.at else found t places
+abbrev pub noted_place : ℕ → List Place → Option ℕ
+noted_place t [] = None
+noted_place t (place ∷ places) = if place.task.0 == t then Some place.at else noted_place t places
 
 -- where a task's row stands
 abbrev pub spot : ℕ → List Waiting → Option ℕ
@@ -41,7 +41,7 @@ EachListedOnce (task ∷ tasks) = (is_listed task.0 tasks ≡ false) × EachList
 pub record AreFound (rows : List Waiting) (places : List Place) : Type 0 where
   pub once : EachOnce rows
   pub sorted : ByTask 0 places
-  pub leads : (t : ℕ) → found t places ≡ spot t rows
+  pub leads : (t : ℕ) → noted_place t places ≡ spot t rows
   pub even : length places ≡ length rows
 
 -- the queue has the tasks that wait for a frame

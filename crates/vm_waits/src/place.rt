@@ -1,6 +1,6 @@
 // Where the row of a task stands, found without looking at the rows.
 ghost use Rattle.std.specs.Prelude.{◌≡◌, ◌≤◌, length, map, vec_capacity, IsSome, Some};
-ghost use Rattle.vm_waits.specs.Kept.{ByTask, closed, found, rank};
+ghost use Rattle.vm_waits.specs.Kept.{ByTask, closed, noted_place, places_before};
 
 use vm_base::TaskId;
 
@@ -14,7 +14,7 @@ pub struct Place {
 /// The number of places of lower tasks, in a list by rising task.
 pub fn find(places: &[Place], task: TaskId) -> usize
     requires { ByTask 0 places.now }
-    ensures value { result ≡ rank task.0 places.now }
+    ensures value { result ≡ places_before task.0 places.now }
     ensures within { result ≤ length places.now }
 {
     places.partition_point(|place| place.task.0 < task.0)
@@ -23,7 +23,7 @@ pub fn find(places: &[Place], task: TaskId) -> usize
 /// Where a task's row stands; None where it has none.
 pub fn place_of(places: &[Place], task: TaskId) -> Option<usize>
     requires { ByTask 0 places.now }
-    ensures { result ≡ found task.0 places.now }
+    ensures { result ≡ noted_place task.0 places.now }
 {
     let i = find(places, task);
     let Some(place) = places.get(i) else {
@@ -39,8 +39,8 @@ pub fn place_of(places: &[Place], task: TaskId) -> Option<usize>
 /// Where the row of a task stands that has one.
 pub fn known_place(places: &[Place], task: TaskId) -> usize
     requires sorted { ByTask 0 places.now }
-    requires there { IsSome (found task.0 places.now) }
-    ensures { found task.0 places.now ≡ Some result }
+    requires there { IsSome (noted_place task.0 places.now) }
+    ensures { noted_place task.0 places.now ≡ Some result }
 {
     let i = find(places, task);
     places[i].at

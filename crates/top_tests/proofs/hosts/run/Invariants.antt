@@ -1,4 +1,4 @@
-use Rattle.vm_system.specs.Stands.{Kept, Stands}
+use Rattle.vm_system.specs.Stands.{PagingIsKept, SystemStands}
 use Rattle.top_tests.proofs.hosts.run.Given as goal
 
 abbrev pub ghost-is_held_up : goal.ghost-is_held_up
@@ -9,6 +9,6 @@ ghost-step g a = g.given
 
 abbrev pub invariant-commands : goal.invariant-commands
 invariant-commands g l = record {
-  stands : Stands g.given.header g.given.outside l.system;
-  kept : Kept g.given.header g.given.outside (g.P.Backing.area l.paging.inner) l.system;
+  stands : SystemStands g.given.header g.given.outside l.system;
+  kept : PagingIsKept g.given.header g.given.outside (g.P.Backing.area l.paging.inner) l.system;
 }

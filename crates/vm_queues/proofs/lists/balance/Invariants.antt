@@ -1,11 +1,11 @@
 use Rattle.std.proofs.Common.{◌≡◌}
-use Rattle.vm_queues.specs.Kept.{AreKept, seen}
+use Rattle.vm_queues.specs.Kept.{ArePageLists, seen}
 use Rattle.vm_queues.specs.Queues.{balanced, shortage}
 use Rattle.vm_queues.proofs.lists.balance.Given as goal
 
 abbrev pub invariant-balance : goal.invariant-balance
 invariant-balance l = record {
-  kept : AreKept l.lists;
+  kept : ArePageLists l.lists;
   balanced : balanced (seen l.lists) ≡ balanced (seen l.fn.lists);
 }
 

@@ -1,11 +1,11 @@
 use Rattle.std.proofs.Common.{◌≡◌, length}
-use Rattle.vm_queues.specs.Kept.{AreKept, seen}
+use Rattle.vm_queues.specs.Kept.{ArePageLists, seen}
 use Rattle.vm_queues.specs.Queues.{needs_none, referenced_front, spared}
 use Rattle.vm_queues.proofs.lists.spare.Given as goal
 
 abbrev pub invariant-spare : goal.invariant-spare
 invariant-spare l = record {
-  kept : AreKept l.lists;
+  kept : ArePageLists l.lists;
   balanced : needs_none (seen l.lists);
   spared : spared (seen l.lists) ≡ spared (seen l.fn.lists);
 }

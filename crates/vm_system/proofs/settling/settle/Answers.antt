@@ -2,8 +2,8 @@ use Rattle.std.proofs.Common.{◌≡◌, ap, arith, subst, sym, ◌∙◌}
 use Rattle.vm_legal.specs.Steps.{takings}
 use Rattle.vm_outside.specs.Arming.{armed_later_more}
 use Rattle.vm_system.specs.Settling.{StaysOpen}
-use Rattle.vm_system.specs.Stands.{Stands}
-use Rattle.vm_system.specs.Steps.{Grew}
+use Rattle.vm_system.specs.Stands.{SystemStands}
+use Rattle.vm_system.specs.Steps.{GrowsWithinLimit}
 use Rattle.vm_system.specs.declared.state.State.{State}
 use Rattle.vm_system.specs.declared.stop.SystemStop.TheVariants.{EventLimit, NoMemory}
 use Rattle.vm_system.proofs.Growth.{grew_more}
@@ -18,7 +18,7 @@ returns-in-Ok-false-clause-legal g c =
 pub returns-in-Err-clause-stood : goal.returns-in-Err-clause-stood
 returns-in-Err-clause-stood g c = λ full.
     let same = (c.in-Err.ensures.unchanged (other_err c.in-Err.stop EventLimit full)).0 in
-    subst (λ (z : State). Stands g.given.header g.given.outside z × StaysOpen g.given.header g.given.outside g.given.command c.args.system.now.history.items z.history.items) (sym same)
+    subst (λ (z : State). SystemStands g.given.header g.given.outside z × StaysOpen g.given.header g.given.outside g.given.command c.args.system.now.history.items z.history.items) (sym same)
     (c.all.invariant.stands, c.all.invariant.legal)
 
 pub returns-in-Err-clause-memory : goal.returns-in-Err-clause-memory
@@ -50,7 +50,7 @@ all-preserved g c =
 pub returns-in-Ok-false-clause-grew : goal.returns-in-Ok-false-clause-grew
 returns-in-Ok-false-clause-grew g c =
     let same = (c.in-Ok-false.ensures.quiet c.in-Ok-false.field-0-test).1 in
-    subst (λ (z : State). Grew c.args.system.now.history.items z.history.items) (sym same) c.all.invariant.grew
+    subst (λ (z : State). GrowsWithinLimit c.args.system.now.history.items z.history.items) (sym same) c.all.invariant.grew
 
 pub returns-in-Err-clause-grew : goal.returns-in-Err-clause-grew
 returns-in-Err-clause-grew g c =

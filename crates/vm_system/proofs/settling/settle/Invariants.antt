@@ -3,18 +3,18 @@ use Rattle.vm_legal.specs.Steps.{takings}
 use Rattle.vm_outside.specs.Arming.{ArmedLater}
 use Rattle.vm_outside.specs.Causes.{sum_count}
 use Rattle.vm_system.specs.Settling.{DevicesCounted, StaysOpen}
-use Rattle.vm_system.specs.Stands.{Kept, Stands}
-use Rattle.vm_system.specs.Steps.{Grew}
+use Rattle.vm_system.specs.Stands.{PagingIsKept, SystemStands}
+use Rattle.vm_system.specs.Steps.{GrowsWithinLimit}
 use Rattle.vm_system.proofs.settling.settle.Given as goal
 
 abbrev pub invariant-all : goal.invariant-all
 invariant-all g l = record {
-  stands : Stands g.given.header g.given.outside l.system;
-  kept : Kept g.given.header g.given.outside (g.P.Backing.area l.paging.inner) l.system;
+  stands : SystemStands g.given.header g.given.outside l.system;
+  kept : PagingIsKept g.given.header g.given.outside (g.P.Backing.area l.paging.inner) l.system;
   legal : StaysOpen g.given.header g.given.outside g.given.command l.fn.system.history.items l.system.history.items;
   count : takings l.system.history.items ≡ takings l.fn.system.history.items + l.taken;
   files : l.files ≡ l.fn.files;
-  grew : Grew l.fn.system.history.items l.system.history.items;
+  grew : GrowsWithinLimit l.fn.system.history.items l.system.history.items;
   devices : DevicesCounted (sum_count (g.P.Backing.faults l.fn.paging.inner) l.fn.paging.reached) (sum_count (g.P.Backing.faults l.paging.inner) l.paging.reached) l.fn.system.history.items l.system.history.items;
   later : g.P.Backing.later l.fn.paging.inner l.paging.inner × ArmedLater l.fn.paging.left l.fn.paging.reached l.paging.left l.paging.reached;
 }

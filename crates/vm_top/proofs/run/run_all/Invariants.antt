@@ -1,8 +1,8 @@
 use Rattle.std.proofs.Common.{◌≡◌, ◌≤◌}
 use Rattle.vm_model.specs.Summary.{count_of, is_line}
 use Rattle.vm_outside.specs.Causes.{sum_count}
-use Rattle.vm_system.specs.Stands.{Kept, Stands}
-use Rattle.vm_top.specs.Running.{Runs}
+use Rattle.vm_system.specs.Stands.{PagingIsKept, SystemStands}
+use Rattle.vm_top.specs.Running.{IsBetweenCommands}
 use Rattle.vm_top.proofs.run.run_all.Given as goal
 
 abbrev pub ghost-run_one : goal.ghost-run_one
@@ -10,9 +10,9 @@ ghost-run_one g a = g.given
 
 abbrev pub invariant-commands : goal.invariant-commands
 invariant-commands g l = record {
-  stands : Stands g.given.script.header g.given.outside l.system;
-  kept : Kept g.given.script.header g.given.outside (g.P.Backing.area l.paging.inner) l.system;
-  runs : Runs l.report g.given l.system.history.items (g.K.Sink.written l.out) l.files l.paging (sum_count (g.P.Backing.faults l.paging.inner) l.paging.reached);
+  stands : SystemStands g.given.script.header g.given.outside l.system;
+  kept : PagingIsKept g.given.script.header g.given.outside (g.P.Backing.area l.paging.inner) l.system;
+  runs : IsBetweenCommands l.report g.given l.system.history.items (g.K.Sink.written l.out) l.files l.paging (sum_count (g.P.Backing.faults l.paging.inner) l.paging.reached);
   lines : count_of is_line l.system.history.items ≡ l.i;
   later : g.K.Sink.faults l.fn.out ≤ g.K.Sink.faults l.out;
 }

@@ -1,6 +1,6 @@
 use Rattle.std.proofs.Common.{◌≡◌, ◌<◌, ◌≤◌, ◌∙◌, length, refl, subst, sym, ap, Err}
 use Rattle.vm_outside.specs.Causes.{sum_count}
-use Rattle.vm_system.specs.Steps.{event_limit}
+use Rattle.vm_model.specs.Limits.{most_events}
 use Rattle.vm_top.specs.Running.{Stops}
 use Rattle.vm_top.specs.declared.run.RunEnd.TheVariants as ends
 use Rattle.vm_top.proofs.Settling.{turned_none, turned_settles}
@@ -17,7 +17,7 @@ pub returns-then-len-ge-MOST_EVENTS-clause-stops : goal.returns-then-len-ge-MOST
 returns-then-len-ge-MOST_EVENTS-clause-stops g c = λ end is.
     let same : ends.EventLimit ≡ end = same_end is in
     let size : c.len.result ≡ length c.args.system.now.history.items = c.len.ensures ∙ ap (λ z. length z.items) c.history.ensures in
-    let full : event_limit ≤ length c.args.system.now.history.items = subst (λ z. event_limit ≤ z) size c.if-len-ge-MOST_EVENTS.true in
+    let full : most_events ≤ length c.args.system.now.history.items = subst (λ z. most_events ≤ z) size c.if-len-ge-MOST_EVENTS.true in
     subst (Stops c.args.report g.given c.args.system.now.history.items (g.K.Sink.written c.args.out.now) c.args.files.now c.args.paging.now (sum_count (g.P.Backing.faults c.args.paging.now.inner) c.args.paging.now.reached)) same
     (full_stops c.args.report g.given c.args.numbered.now c.args.system.now.history.items (g.K.Sink.written c.args.out.now) c.args.files.now c.args.paging.now (sum_count (g.P.Backing.faults c.args.paging.now.inner) c.args.paging.now.reached) c.requires.1.1.1.1.1.1.0 c.requires.1.1.1.1.1.1.1 (sym c.is_built.ensures ∙ c.if-not-is_built.false) full)
 
@@ -25,7 +25,7 @@ pub returns-then-is_held_up-clause-stops : goal.returns-then-is_held_up-clause-s
 returns-then-is_held_up-clause-stops g c = λ end is.
     let same : ends.NotBuilt c.args.numbered.now.line ≡ end = same_end is in
     let size : c.len.result ≡ length c.args.system.now.history.items = c.len.ensures ∙ ap (λ z. length z.items) c.history.ensures in
-    let below : length c.args.system.now.history.items < event_limit = subst (λ z. z < event_limit) size c.if-len-ge-MOST_EVENTS.false in
+    let below : length c.args.system.now.history.items < most_events = subst (λ z. z < most_events) size c.if-len-ge-MOST_EVENTS.false in
     subst (Stops c.args.report g.given c.args.system.now.history.items (g.K.Sink.written c.args.out.now) c.args.files.now c.args.paging.now (sum_count (g.P.Backing.faults c.args.paging.now.inner) c.args.paging.now.reached)) same
     (held_up_stops c.args.report g.given c.args.numbered.now c.args.system.now.history.items (g.K.Sink.written c.args.out.now) c.args.files.now c.args.paging.now (sum_count (g.P.Backing.faults c.args.paging.now.inner) c.args.paging.now.reached) c.requires.1.1.1.1.1.1.0 c.requires.1.1.1.1.1.1.1 (sym c.is_built.ensures ∙ c.if-not-is_built.false) below (sym c.is_held_up.ensures ∙ c.if-is_held_up.true))
 

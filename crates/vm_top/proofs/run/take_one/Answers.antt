@@ -3,7 +3,7 @@ use Rattle.std.specs.Io.KnownBytes.{Appends}
 use Rattle.vm_model.specs.Text.{text}
 use Rattle.vm_outside.specs.Causes.{sum_count}
 use Rattle.vm_legal.specs.Undelivered.{undelivered}
-use Rattle.vm_top.specs.Run.{shown}
+use Rattle.vm_top.specs.Run.{text_so_far}
 use Rattle.vm_top.specs.Running.{Stops}
 use Rattle.vm_top.specs.Writing.{WroteBeyond, oldest}
 use Rattle.vm_top.specs.declared.run.RunEnd.TheVariants as ends
@@ -34,14 +34,14 @@ returns-in_err-show-in-Ok-true-clause-stops g c = λ end is.
     } in
     let done = held c.args.report g.given old new (g.K.Sink.written c.args.out.now) c.args.files.now c.take_oldest.new.files c.args.paging.now c.take_oldest.new.paging e0 e1 settles took in
     let from : oldest c.len-from.result new ≡ old = oldest_before new all.grew.more old c.len-from.result (c.len-from.ensures ∙ ap (λ z. length z.items) c.history.ensures) all.grew.is in
-    let wrote : Appends g.given.running.start (g.K.Sink.written c.args.out.now) (shown c.args.report (oldest c.len-from.result new)) =
-    subst (λ z. Appends g.given.running.start (g.K.Sink.written c.args.out.now) (shown c.args.report z)) (sym from) settles.keeps.written in
+    let wrote : Appends g.given.running.start (g.K.Sink.written c.args.out.now) (text_so_far c.args.report (oldest c.len-from.result new)) =
+    subst (λ z. Appends g.given.running.start (g.K.Sink.written c.args.out.now) (text_so_far c.args.report z)) (sym from) settles.keeps.written in
     let same : end ≡ c.in_err-show-in-Ok-true.field-0.0 = rw is at c.from_residual.ensures.1 in
     let show : c.show.result ≡ Err end = c.in_err-show-in-Ok-true.was ∙ ap Err (sym same) in
     held_stops c.args.report g.given settles.line settles.run old new (g.K.Sink.written c.show.new.out) c.take_oldest.new.files c.take_oldest.new.paging e1 end
     c.requires.1.1.1.1.1.1 took.front took.grew done
     (λ failed. let told = c.show.ensures.failed g.given.running.start wrote (show ∙ ap Err failed) in (told.0, subst (λ z. WroteBeyond g.given.running.start (g.K.Sink.written c.show.new.out) (text z) (text new)) from told.1))
-    (λ none. subst (λ z. Appends g.given.running.start (g.K.Sink.written c.show.new.out) (shown c.args.report z)) from (c.show.ensures.memory g.given.running.start wrote (show ∙ ap Err none)))
+    (λ none. subst (λ z. Appends g.given.running.start (g.K.Sink.written c.show.new.out) (text_so_far c.args.report z)) from (c.show.ensures.memory g.given.running.start wrote (show ∙ ap Err none)))
     (c.show.ensures.ends end show)
 
 pub returns-in_ok-show-in-Ok-true-clause-settles : goal.returns-in_ok-show-in-Ok-true-clause-settles
@@ -65,8 +65,8 @@ returns-in_ok-show-in-Ok-true-clause-settles g c =
     } in
     let done = held c.args.report g.given old new (g.K.Sink.written c.args.out.now) c.args.files.now c.take_oldest.new.files c.args.paging.now c.take_oldest.new.paging e0 e1 settles took in
     let from : oldest c.len-from.result new ≡ old = oldest_before new all.grew.more old c.len-from.result (c.len-from.ensures ∙ ap (λ z. length z.items) c.history.ensures) all.grew.is in
-    let wrote : Appends g.given.running.start (g.K.Sink.written c.args.out.now) (shown c.args.report (oldest c.len-from.result new)) =
-    subst (λ z. Appends g.given.running.start (g.K.Sink.written c.args.out.now) (shown c.args.report z)) (sym from) settles.keeps.written in
+    let wrote : Appends g.given.running.start (g.K.Sink.written c.args.out.now) (text_so_far c.args.report (oldest c.len-from.result new)) =
+    subst (λ z. Appends g.given.running.start (g.K.Sink.written c.args.out.now) (text_so_far c.args.report z)) (sym from) settles.keeps.written in
     settles_on c.args.report g.given settles.line settles.run old new (g.K.Sink.written c.show.new.out) c.take_oldest.new.files c.take_oldest.new.paging e1 done (c.in_ok-show-in-Ok-true.ensures.written g.given.running.start wrote)
 
 pub returns-in_ok-show-in-Ok-true-clause-more : goal.returns-in_ok-show-in-Ok-true-clause-more

@@ -1,9 +1,9 @@
 use Rattle.std.proofs.Common.{◌≡◌, ◌<◌, ◌≤◌, ◌∙◌, arith, inl, inr, subst, sym, ap, length, Err}
 use Rattle.std.specs.Io.KnownBytes.{Appends}
+use Rattle.vm_model.specs.Limits.{most_events}
 use Rattle.vm_model.specs.Text.{text}
 use Rattle.vm_outside.specs.Causes.{sum_count}
-use Rattle.vm_system.specs.Steps.{event_limit}
-use Rattle.vm_top.specs.Run.{shown}
+use Rattle.vm_top.specs.Run.{text_so_far}
 use Rattle.vm_top.specs.Running.{Stops}
 use Rattle.vm_top.specs.Writing.{WroteBeyond, oldest}
 use Rattle.vm_top.proofs.Turns.{Halted, Stepped, made, same_end, shown_stops, step_ends, step_stops, turned}
@@ -17,7 +17,7 @@ returns-in-Err-clause-stops g c = λ end is.
     let e0 = sum_count (g.P.Backing.faults c.args.paging.now.inner) c.args.paging.now.reached in
     let e1 = sum_count (g.P.Backing.faults c.step.new.paging.inner) c.step.new.paging.reached in
     let step = c.step.ensures in
-    let below : length old < event_limit = c.requires.1.1.1.1.1.1.1.1.0 in
+    let below : length old < most_events = c.requires.1.1.1.1.1.1.1.1.0 in
     let same : c.end_of.result ≡ end = same_end is in
     let halted : Halted c.args.numbered.now old new c.args.files.now c.step.new.files c.args.paging.now c.step.new.paging = record {
       unarmed = c.in-Err.ensures.unarmed;
@@ -26,7 +26,7 @@ returns-in-Err-clause-stops g c = λ end is.
       stops = c.in-Err.ensures.stops;
     } in
     let stop : Stops c.args.report g.given new (g.K.Sink.written c.args.out.now) c.step.new.files c.step.new.paging e1 end = elim (step_ends c.in-Err.stop c.end_of.result end c.end_of.ensures.full c.end_of.ensures.none same) [
-      | inl full ↦ let over : event_limit ≤ length old = step.full.0 (c.in-Err.is ∙ ap Err full.0) in absurd (omega arith)
+      | inl full ↦ let over : most_events ≤ length old = step.full.0 (c.in-Err.is ∙ ap Err full.0) in absurd (omega arith)
       | inr none ↦
           subst (Stops c.args.report g.given new (g.K.Sink.written c.args.out.now) c.step.new.files c.step.new.paging e1) (sym none.1)
           (step_stops c.args.report g.given c.args.numbered.now old new (g.K.Sink.written c.args.out.now) c.args.files.now c.step.new.files c.args.paging.now c.step.new.paging e0 e1
@@ -55,13 +55,13 @@ returns-in_err-show-clause-stops g c = λ end is.
     let done = made c.args.report g.given c.args.numbered.now old new (g.K.Sink.written c.args.out.now) c.args.files.now c.step.new.files c.args.paging.now c.step.new.paging e0 e1
     runs c.requires.1.1.1.1.1.1.1.1.1.1 c.requires.1.1.1.1.1.1.0 c.requires.1.1.1.1.1.0 c.requires.1.1.1.1.1.1.1.1.0 stepped in
     let from : oldest c.len-from.result new ≡ old = oldest_before new step.grew.more old c.len-from.result (c.len-from.ensures ∙ ap (λ z. length z.items) c.history.ensures) step.grew.is in
-    let wrote : Appends g.given.start (g.K.Sink.written c.args.out.now) (shown c.args.report (oldest c.len-from.result new)) = subst (λ z. Appends g.given.start (g.K.Sink.written c.args.out.now) (shown c.args.report z)) (sym from) runs.keeps.written in
+    let wrote : Appends g.given.start (g.K.Sink.written c.args.out.now) (text_so_far c.args.report (oldest c.len-from.result new)) = subst (λ z. Appends g.given.start (g.K.Sink.written c.args.out.now) (text_so_far c.args.report z)) (sym from) runs.keeps.written in
     let same : end ≡ c.in_err-show.field-0.0 = rw is at c.from_residual.ensures.1 in
     let show : c.show.result ≡ Err end = c.in_err-show.was ∙ ap Err (sym same) in
     shown_stops c.args.report g.given c.args.numbered.now old new (g.K.Sink.written c.show.new.out) c.step.new.files c.step.new.paging e1 end
     c.requires.1.1.1.1.1.1.1.1.1.1 step.front step.grew done
     (λ failed. let told = c.show.ensures.failed g.given.start wrote (show ∙ ap Err failed) in (told.0, subst (λ z. WroteBeyond g.given.start (g.K.Sink.written c.show.new.out) (text z) (text new)) from told.1))
-    (λ none. subst (λ z. Appends g.given.start (g.K.Sink.written c.show.new.out) (shown c.args.report z)) from (c.show.ensures.memory g.given.start wrote (show ∙ ap Err none)))
+    (λ none. subst (λ z. Appends g.given.start (g.K.Sink.written c.show.new.out) (text_so_far c.args.report z)) from (c.show.ensures.memory g.given.start wrote (show ∙ ap Err none)))
     (c.show.ensures.ends end show)
 
 pub returns-clause-turned : goal.returns-clause-turned
@@ -85,7 +85,7 @@ returns-clause-turned g c =
     let done = made c.args.report g.given c.args.numbered.now old new (g.K.Sink.written c.args.out.now) c.args.files.now c.step.new.files c.args.paging.now c.step.new.paging e0 e1
     runs c.requires.1.1.1.1.1.1.1.1.1.1 c.requires.1.1.1.1.1.1.0 c.requires.1.1.1.1.1.0 c.requires.1.1.1.1.1.1.1.1.0 stepped in
     let from : oldest c.len-from.result new ≡ old = oldest_before new step.grew.more old c.len-from.result (c.len-from.ensures ∙ ap (λ z. length z.items) c.history.ensures) step.grew.is in
-    let wrote : Appends g.given.start (g.K.Sink.written c.args.out.now) (shown c.args.report (oldest c.len-from.result new)) = subst (λ z. Appends g.given.start (g.K.Sink.written c.args.out.now) (shown c.args.report z)) (sym from) runs.keeps.written in
+    let wrote : Appends g.given.start (g.K.Sink.written c.args.out.now) (text_so_far c.args.report (oldest c.len-from.result new)) = subst (λ z. Appends g.given.start (g.K.Sink.written c.args.out.now) (text_so_far c.args.report z)) (sym from) runs.keeps.written in
     turned c.args.report g.given c.args.numbered.now old new (g.K.Sink.written c.show.new.out) c.step.new.files c.step.new.paging e1 done (c.in_ok-show.ensures.written g.given.start wrote)
 
 pub returns-clause-lines : goal.returns-clause-lines

@@ -6,7 +6,7 @@ use Rattle.sms_proto.specs.declared.letter.Order.{Order}
 use Rattle.sms_proto.specs.declared.letter.Order.TheVariants as order
 use Rattle.sms_proto.specs.Adds.{ServerDoes}
 use Rattle.sms_proto.specs.Letters.{order_sent}
-use Rattle.sms_proto.specs.Kernels.{IsWhole}
+use Rattle.sms_proto.specs.Kernels.{IsWholeOrder}
 use Rattle.sms_proto.specs.Worlds.{Present, StandsAt, IsSupplied}
 use Rattle.sms_proto.proofs.Adding.{added}
 use Rattle.sms_proto.proofs.Answering.{supplied_long, answer_whole, reply_within, answering_sent, set_places}
@@ -33,7 +33,7 @@ post-requires-clause-whole c =
     let within : c.host_of-host.result.0 < length c.args.self.now.kernels.items = subst (λ (h : HostId). h.0 < length c.args.self.now.kernels.items) (sym c.host_of-host.ensures) (reply_within _ _ _ _ _ _ c.requires.answering) in
     let is : slice_get c.args.self.now.kernels.items c.host_of-host.result.0 ≡ Some c.index_mut.result.now = slice_get_read c.args.self.now.kernels.items _ c.host_of-host.result.0 c.index_mut.result.now refl within c.index_mut.ensures.value in
     let p : Present c.args.self.now.size c.host_of-host.result.0 c.args.self.now.events.items c.index_mut.result.now = subst (λ o. StandsAt c.args.self.now.size c.host_of-host.result.0 c.args.self.now.events.items o) is (c.requires.answering.each c.host_of-host.result.0) in
-    subst (λ (n : ℕ). IsWhole n c.order_of-order.result) (sym p.same_size) (subst (λ (o : Order). IsWhole c.args.self.now.size o) (sym c.order_of-order.ensures) (answer_whole _ _ _ _ _ _ c.requires.answering))
+    subst (λ (n : ℕ). IsWholeOrder n c.order_of-order.result) (sym p.same_size) (subst (λ (o : Order). IsWholeOrder c.args.self.now.size o) (sym c.order_of-order.ensures) (answer_whole _ _ _ _ _ _ c.requires.answering))
 
 pub post-requires-clause-fits : goal.post-requires-clause-fits
 post-requires-clause-fits c =
@@ -51,7 +51,7 @@ returns-clause-answering c =
     c.in_ok-post.ensures.fits c.post.ensures.page c.post.ensures.heard
 
 pub returns-clause-spare : goal.returns-clause-spare
-returns-clause-spare c = c.message_of.ensures.long c.args.self.now.size (subst (λ (o : Order). IsWhole c.args.self.now.size o) (sym c.order_of-order.ensures) (answer_whole _ _ _ _ _ _ c.requires.answering)) c.requires.spare
+returns-clause-spare c = c.message_of.ensures.long c.args.self.now.size (subst (λ (o : Order). IsWholeOrder c.args.self.now.size o) (sym c.order_of-order.ensures) (answer_whole _ _ _ _ _ _ c.requires.answering)) c.requires.spare
 
 pub returns-clause-places : goal.returns-clause-places
 returns-clause-places c =

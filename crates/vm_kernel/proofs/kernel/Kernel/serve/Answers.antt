@@ -1,6 +1,6 @@
 use Rattle.std.proofs.Common.{subst}
 use Rattle.vm_kernel.specs.Plays.{Plays, paging}
-use Rattle.vm_kernel.specs.Turns.{KeepsOthers, Leaves}
+use Rattle.vm_kernel.specs.Turns.{KeepsOthers, LeavesInTurn}
 use Rattle.vm_kernel.specs.declared.parts.Parts.{Parts}
 use Rattle.vm_kernel.proofs.Growing.{on_ok}
 use Rattle.vm_kernel.proofs.Served.{served_ok}
@@ -17,7 +17,7 @@ returns-clause-plays g c =
 
 pub returns-clause-leaves : goal.returns-clause-leaves
 returns-clause-leaves g c =
-    on_ok c.go_on.result _ _ (subst (λ (z : Parts). Leaves z.waits.queue c.go_on.new.self.waits c.args.log.now.items c.go_on.new.log.items) c.self.view_is) c.go_on.ensures.leaves
+    on_ok c.go_on.result _ _ (subst (λ (z : Parts). LeavesInTurn z.waits.queue c.go_on.new.self.waits c.args.log.now.items c.go_on.new.log.items) c.self.view_is) c.go_on.ensures.leaves
 
 pub returns-clause-others : goal.returns-clause-others
 returns-clause-others g c = on_ok c.go_on.result _ _ (subst (λ (z : Parts). KeepsOthers z.waits.queue z.waits.rows c.go_on.new.self.waits.rows) c.self.view_is) c.go_on.ensures.others

@@ -1,7 +1,7 @@
 use Rattle.std.proofs.Common.{◌≡◌, ◌++◌, ◌⊎◌, true, length}
 use Rattle.vm_legal.specs.Steps.{fails_access, since}
 use Rattle.vm_supply.specs.declared.woken.Woken.TheVariants as woken
-use Rattle.vm_kernel.specs.Begun.{Goes}
+use Rattle.vm_kernel.specs.Begun.{LegalEvents}
 use Rattle.vm_kernel.specs.Plays.{Plays, paging}
 use Rattle.vm_kernel.specs.Matches.{Works}
 use Rattle.vm_kernel.specs.Taking.{FailsNow, IsAnswered}
@@ -16,7 +16,7 @@ invariant-all g l = record {
   fails : FailsNow g.given.header g.given.host (woken.Fails l.key) (l.log.items ++ g.given.past);
   answered : IsAnswered (woken.Fails l.key) l.self.memory.resident;
   before : EndsBefore l.key l.self.waits.rows (l.log.items ++ g.given.past);
-  goes : Goes g.given.header g.given.host g.given.outside g.given.command g.given.past l.fn.log.items l.log.items;
+  goes : LegalEvents g.given.header g.given.host g.given.outside g.given.command g.given.past l.fn.log.items l.log.items;
   plays : Plays g.given.header g.given.past l.fn.log.items (paging l.fn.self) l.log.items (paging l.self);
   each : EndsOr l.key l.fn.self.waits.rows l.self.waits.rows (l.log.items ++ g.given.past);
   some : (since (fails_access l.key.object.0 l.key.page.0) (l.log.items ++ g.given.past) ≡ true) ⊎ Asker l.self.waits.rows l.key.object.0 l.key.page.0;

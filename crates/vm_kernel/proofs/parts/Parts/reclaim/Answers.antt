@@ -1,6 +1,6 @@
 use Rattle.std.specs.Prelude.{◌++◌}
 use Rattle.std.proofs.Common.{[], ap, refl, subst, ◌∙◌}
-use Rattle.vm_pageout.specs.Reclaims.{Reclaims}
+use Rattle.vm_pageout.specs.Reclaims.{ReclaimEffects}
 use Rattle.vm_queues.specs.Queues.{KeepsPages, Queues}
 use Rattle.vm_queues.proofs.Queued.{queued_victim}
 use Rattle.vm_kernel.specs.Plays.{paging}
@@ -52,4 +52,4 @@ returns-clause-plays g c =
     let k2 = record k { memory = c.reclaim.new.parts; laundry = c.reclaim.new.laundry } in
     reclaim_plays g.given.header g.given.host g.given.past c.args.ids.now c.in_ok-answer.answer k k2 c.args.log.now.items c.reclaim.new.log.items c.requires.0
     (subst (λ (z : Queues). KeepsPages k.memory.queues z) c.victim.ensures.queues c.victim.ensures.pages)
-    (subst (λ (z : Queues). Reclaims c.in_ok-answer.answer k.host [] (record k.memory { queues = z }) k2.memory k.laundry k2.laundry c.args.log.now.items c.reclaim.new.log.items) c.victim.ensures.queues c.in_ok-answer.ensures.ok)
+    (subst (λ (z : Queues). ReclaimEffects c.in_ok-answer.answer k.host [] (record k.memory { queues = z }) k2.memory k.laundry k2.laundry c.args.log.now.items c.reclaim.new.log.items) c.victim.ensures.queues c.in_ok-answer.ensures.ok)

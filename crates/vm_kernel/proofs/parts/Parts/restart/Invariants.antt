@@ -1,4 +1,4 @@
-use Rattle.vm_kernel.specs.Begun.{Goes}
+use Rattle.vm_kernel.specs.Begun.{LegalEvents}
 use Rattle.vm_kernel.specs.Plays.{Plays, paging}
 use Rattle.vm_legal.specs.Accesses.{FindsPage}
 use Rattle.vm_kernel.specs.Matches.{Works}
@@ -18,7 +18,7 @@ ghost-attempt g a = g.given
 abbrev pub invariant-again : goal.invariant-again
 invariant-again g l = record {
   works : Works g.given.header g.given.host l.self l.ids woken.Nobody (l.log.items ++ g.given.past);
-  goes : Goes g.given.header g.given.host g.given.outside g.given.command g.given.past l.fn.log.items l.log.items;
+  goes : LegalEvents g.given.header g.given.host g.given.outside g.given.command g.given.past l.fn.log.items l.log.items;
   plays : Plays g.given.header g.given.past l.fn.log.items (paging l.fn.self) l.log.items (paging l.self);
   first : (task : ℕ) → IsNext task l.fn.self.waits.rows → FindsPage g.given.header task (l.fn.log.items ++ g.given.past) → FirstOf task l.fn.self.waits.rows l.self.waits.rows l.fn.log.items l.log.items;
   restarts : EachOf RunsNone l.fn.log.items → Restarting g.given.header g.given.host g.given.past l.fn.self.waits.queue l.self.waits l.log.items;

@@ -37,18 +37,6 @@ returns-in-Fork-clause-restarts g c = on_ok c.fork.result _ _ (restarts_quiet g.
 pub returns-in-Exit-clause-restarts : goal.returns-in-Exit-clause-restarts
 returns-in-Exit-clause-restarts g c = on_ok c.exit.result _ _ (restarts_quiet g.given.header g.given.host c.exit.new.self.waits.rows g.given.past c.args.self.now.waits.queue c.exit.new.self.waits.queue c.args.log.now.items c.exit.new.log.items c.requires.0.nothing) c.exit.ensures.quiet
 
-pub returns-in-Allocate-clause-restarts : goal.returns-in-Allocate-clause-restarts
-returns-in-Allocate-clause-restarts g c = on_ok c.allocate.result _ _ (restarts_quiet g.given.header g.given.host c.allocate.new.self.waits.rows g.given.past c.args.self.now.waits.queue c.allocate.new.self.waits.queue c.args.log.now.items c.allocate.new.log.items c.requires.0.nothing) c.allocate.ensures.quiet
-
-pub returns-in-Deallocate-clause-restarts : goal.returns-in-Deallocate-clause-restarts
-returns-in-Deallocate-clause-restarts g c = on_ok c.deallocate.result _ _ (restarts_quiet g.given.header g.given.host c.deallocate.new.self.waits.rows g.given.past c.args.self.now.waits.queue c.deallocate.new.self.waits.queue c.args.log.now.items c.deallocate.new.log.items c.requires.0.nothing) c.deallocate.ensures.quiet
-
-pub returns-in-Protect-clause-restarts : goal.returns-in-Protect-clause-restarts
-returns-in-Protect-clause-restarts g c = on_ok c.protect.result _ _ (restarts_quiet g.given.header g.given.host c.protect.new.self.waits.rows g.given.past c.args.self.now.waits.queue c.protect.new.self.waits.queue c.args.log.now.items c.protect.new.log.items c.requires.0.nothing) c.protect.ensures.quiet
-
-pub returns-in-Inherit-clause-restarts : goal.returns-in-Inherit-clause-restarts
-returns-in-Inherit-clause-restarts g c = on_ok c.inherit.result _ _ (restarts_quiet g.given.header g.given.host c.inherit.new.self.waits.rows g.given.past c.args.self.now.waits.queue c.inherit.new.self.waits.queue c.args.log.now.items c.inherit.new.log.items c.requires.0.nothing) c.inherit.ensures.quiet
-
 pub returns-in-Pageout-clause-restarts : goal.returns-in-Pageout-clause-restarts
 returns-in-Pageout-clause-restarts g c = on_ok c.pageout.result _ _ (restarts_quiet g.given.header g.given.host c.pageout.new.self.waits.rows g.given.past c.args.self.now.waits.queue c.pageout.new.self.waits.queue c.args.log.now.items c.pageout.new.log.items c.requires.0.nothing) c.pageout.ensures.quiet
 

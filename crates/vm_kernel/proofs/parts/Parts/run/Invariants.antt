@@ -8,15 +8,6 @@ ghost-make_task g a = g.given
 abbrev pub ghost-fork : goal.ghost-fork
 ghost-fork g a = g.given
 
-abbrev pub ghost-allocate : goal.ghost-allocate
-ghost-allocate g a = g.given
-
-abbrev pub ghost-protect : goal.ghost-protect
-ghost-protect g a = g.given
-
-abbrev pub ghost-inherit : goal.ghost-inherit
-ghost-inherit g a = g.given
-
 abbrev pub ghost-wire : goal.ghost-wire
 ghost-wire g a = g.given
 
@@ -26,9 +17,6 @@ ghost-unwire g a = g.given
 abbrev pub ghost-exit : goal.ghost-exit
 ghost-exit g a = record { header = g.given.header; host = g.given.host; outside = g.given.outside; past = g.given.past; command = command.Exit a.task }
 
-abbrev pub ghost-deallocate : goal.ghost-deallocate
-ghost-deallocate g a = record { header = g.given.header; host = g.given.host; outside = g.given.outside; past = g.given.past; command = command.Deallocate a.task a.address a.bytes }
-
 abbrev pub ghost-load : goal.ghost-load
 ghost-load g a = record { header = g.given.header; host = g.given.host; outside = g.given.outside; past = g.given.past; command = command.Load a.task a.address a.size }
 
@@ -37,3 +25,6 @@ ghost-store g a = record { header = g.given.header; host = g.given.host; outside
 
 abbrev pub ghost-pageout : goal.ghost-pageout
 ghost-pageout g a = record { header = g.given.header; host = g.given.host; outside = g.given.outside; past = g.given.past; command = command.Pageout (host_id g.given.host) a.count }
+
+abbrev pub ghost-change_entries : goal.ghost-change_entries
+ghost-change_entries g a = g.given

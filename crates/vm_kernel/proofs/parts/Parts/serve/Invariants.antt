@@ -1,7 +1,7 @@
 use Rattle.vm_kernel.specs.Plays.{Plays, paging}
 use Rattle.std.proofs.Common.{◌+◌, ◌*◌, ◌++◌}
 use Rattle.vm_frames.specs.Frames.{claimed, frame_count}
-use Rattle.vm_kernel.specs.Begun.{Goes}
+use Rattle.vm_kernel.specs.Begun.{LegalEvents}
 use Rattle.vm_kernel.specs.Matches.{Rests}
 use Rattle.vm_kernel.specs.Turns.{KeepsOthers}
 use Rattle.vm_waits.specs.Waits.{queued}
@@ -17,7 +17,7 @@ ghost-stops g a = g.given
 abbrev pub invariant-serve : goal.invariant-serve
 invariant-serve g l = record {
   rests : Rests g.given.header g.given.host l.self l.ids (l.log.items ++ g.given.past);
-  goes : Goes g.given.header g.given.host g.given.outside g.given.command g.given.past l.fn.log.items l.log.items;
+  goes : LegalEvents g.given.header g.given.host g.given.outside g.given.command g.given.past l.fn.log.items l.log.items;
   plays : Plays g.given.header g.given.past l.fn.log.items (paging l.fn.self) l.log.items (paging l.self);
   others : KeepsOthers l.fn.self.waits.queue l.fn.self.waits.rows l.self.waits.rows;
   serving : Serving l.fn.self.waits l.self.waits l.fn.log.items l.log.items;

@@ -1,6 +1,6 @@
 use Rattle.std.proofs.Common.{◌++◌, List, [], ap, subst}
 use Rattle.vm_model.specs.declared.event.Event.{Event}
-use Rattle.vm_kernel.specs.Begun.{Goes}
+use Rattle.vm_kernel.specs.Begun.{LegalEvents}
 use Rattle.vm_waits.specs.Waits.{WaitTable}
 use Rattle.vm_kernel.specs.Taking.{HasEnded}
 use Rattle.vm_kernel.specs.Plays.{Plays, paging}
@@ -12,8 +12,8 @@ use Rattle.vm_kernel.proofs.parts.Parts.take.Given as given
 use Rattle.vm_kernel.proofs.parts.Parts.take.Goals as goal
 
 -- what waking adds
-woken_goes : (g : given.Over) (c : goal.After-restart g) → Goes g.given.header g.given.host g.given.outside g.given.command (g.given.front ++ g.given.past) [] c.wake.new.log.items
-woken_goes g c = subst (λ (z : List Event). Goes g.given.header g.given.host g.given.outside g.given.command (g.given.front ++ g.given.past) z c.wake.new.log.items) c.in_ok-woken.ensures.nothing c.in_ok-wake.ensures.goes
+woken_goes : (g : given.Over) (c : goal.After-restart g) → LegalEvents g.given.header g.given.host g.given.outside g.given.command (g.given.front ++ g.given.past) [] c.wake.new.log.items
+woken_goes g c = subst (λ (z : List Event). LegalEvents g.given.header g.given.host g.given.outside g.given.command (g.given.front ++ g.given.past) z c.wake.new.log.items) c.in_ok-woken.ensures.nothing c.in_ok-wake.ensures.goes
 
 pub returns-clause-goes : goal.returns-clause-goes
 returns-clause-goes g c = on_ok c.restart.result _ _ (λ goes. goes_both g.given.header g.given.host g.given.outside g.given.command (g.given.front ++ g.given.past) [] c.wake.new.log.items c.restart.new.log.items (woken_goes g c) goes) c.restart.ensures.goes

@@ -2,7 +2,7 @@ use Rattle.std.proofs.Common.{ℕ, ap, sym, ◌∙◌, refl, arith, length, repl
 use Rattle.std.proofs.lemmas.List.{length-replicate}
 use Rattle.vm_frames.specs.Lending.{with_page}
 use Rattle.vm_parts.specs.declared.parts.HostParts.{HostParts}
-use Rattle.vm_parts.specs.Changes.{Fills, clean_row, filled}
+use Rattle.vm_parts.specs.Changes.{FillsPage, clean_row, filled}
 use Rattle.vm_parts.proofs.Changing.{holds, rows_changed}
 use Rattle.vm_parts.proofs.Fitting.{fit_changed}
 use Rattle.vm_parts.proofs.Rows.{if_found}
@@ -37,6 +37,6 @@ returns-clause-fills c =
     let found = sym c.get.ensures ∙ c.in-Some.is in
     let new : HostParts = record { frames = with_page k.frames was.frame.0 c.fill.new.self; resident = c.set.new.self; queues = c.add.new.self; objects = k.objects; buffers = k.buffers } in
     let is = c.fill.ensures ∙ ap (λ z. filled z c.args.bytes.now) (ap length c.bytes_mut.ensures.value ∙ (holds k _ _ was c.requires.fit found).sized) in
-    if_found _ was (λ r. Fills c.args.key r c.args.lock c.args.precious (filled k.buffers.size c.args.bytes.now) k new) found
-    (subst (λ (z : List ℕ). Fills c.args.key was c.args.lock c.args.precious z k new) is
+    if_found _ was (λ r. FillsPage c.args.key r c.args.lock c.args.precious (filled k.buffers.size c.args.bytes.now) k new) found
+    (subst (λ (z : List ℕ). FillsPage c.args.key was c.args.lock c.args.precious z k new) is
     (rows_changed c.args.key was (clean_row was.frame c.args.lock c.args.precious) c.fill.new.self _ k new c.requires.fit found refl c.set.ensures.rows c.set.ensures.frames refl c.add.ensures.queues c.add.ensures.pages))

@@ -2,7 +2,7 @@ use Rattle.std.proofs.Common.{◌≡◌, ◌++◌, ◌∷◌, [], ◌∙◌, Non
 use Rattle.std.specs.List.{insert}
 use Rattle.vm_system.proofs.Noting.{noted_more}
 use Rattle.vm_system.specs.Channels.{number_in}
-use Rattle.vm_system.specs.Noted.{rank}
+use Rattle.vm_system.specs.Noted.{channels_before}
 use Rattle.vm_system.proofs.channels.Channels.add.Goals as goal
 
 pub invariant_of-self : goal.invariant_of-self
@@ -13,5 +13,5 @@ invariant_of-self c =
     let room = rw (← c.self.view_is) at c.requires.room in
     let made : c.push.new.self.items ≡ old.made.items ++ channel ∷ [] = rw c.in-Ok.is at c.push.ensures.items in
     let order : c.insert.new.self.items ≡ insert old.order.items c.place-at.result (record { channel = channel; number = record { 0 = c.len.result } }) = rw c.in-Ok-insert.is at c.insert.ensures.items in
-    let place : c.place-at.result ≡ rank channel old.order.items = c.place-at.ensures.value ∙ ap (rank channel) c.deref.ensures.value in
+    let place : c.place-at.result ≡ channels_before channel old.order.items = c.place-at.ensures.value ∙ ap (channels_before channel) c.deref.ensures.value in
     rw (made, order) (noted_more old.made.items old.order.items channel (record { 0 = c.len.result }) c.place-at.result c.self.invariant none (c.len.ensures ∙ old.made.ok.0) place (omega (arith, room)))

@@ -1,6 +1,6 @@
 use Rattle.std.proofs.Common.{◌∙◌, ap, ◌++◌, List}
 use Rattle.vm_model.specs.declared.event.Event.{Event}
-use Rattle.vm_hosts.specs.Steps.{Passed}
+use Rattle.vm_hosts.specs.Steps.{HostsPart}
 use Rattle.vm_system.proofs.Beginning.{same_hosts, spares_same}
 use Rattle.vm_system.proofs.Following.{can_follow, followed, kept_followed, same_pagers}
 use Rattle.vm_system.proofs.state.State.follow.Goals as goal
@@ -19,7 +19,7 @@ returns-clause-followed g c =
     let both = same_hosts _ _ _ c.in_ok-reserve.ensures.hosts c.commit.ensures.hosts in
     let events = c.in_ok-events.events.items in
     let new = c.commit.new.self in
-    let passed : Passed given.header given.outside given.command (given.front ++ given.past) new.hosts events = rw both.hosts c.in_ok-events.ensures.passed in
+    let passed : HostsPart given.header given.outside given.command (given.front ++ given.past) new.hosts events = rw both.hosts c.in_ok-events.ensures.passed in
     followed given c.args.host c.args.washed c.args.self.now new events c.requires.1 passed both.size (same_pagers _ _ both)
     (c.commit.ensures.history ∙ ap (λ (z : List Event). events ++ z) c.in_ok-reserve.ensures.history) c.commit.ensures.posts
 

@@ -5,7 +5,7 @@ use Rattle.vm_model.specs.declared.event.Event.TheVariants as event
 use Rattle.vm_model.specs.declared.message.Channel.{Channel}
 use Rattle.vm_model.specs.declared.message.Channel.TheVariants.{Down}
 use Rattle.vm_model.specs.Channels.{queue}
-use Rattle.vm_hosts.specs.Steps.{Passed}
+use Rattle.vm_hosts.specs.Steps.{HostsPart}
 use Rattle.vm_system.specs.Posts.{HasRoom}
 use Rattle.vm_system.proofs.Beginning.{same_hosts, spares_same}
 use Rattle.vm_system.proofs.Following.{same_pagers}
@@ -68,7 +68,7 @@ returns-clause-took g c =
     let told = first_told given c.args.line c.args.number channel m s c.reserve.new.self c.take_first.new.self c.requires head c.reserve.ensures.history c.reserve.ensures.made c.take_first.ensures.history in
     let all = same_hosts _ _ _ (same_hosts _ _ _ c.reserve.ensures.hosts c.take_first.ensures.hosts) c.commit.ensures.hosts in
     let events = c.in_ok-events.events.items in
-    let passed : Passed given.header given.outside given.command (event.Taken channel m ∷ given.past) new.hosts events = rw all.hosts c.in_ok-events.ensures.passed in
+    let passed : HostsPart given.header given.outside given.command (event.Taken channel m ∷ given.past) new.hosts events = rw all.hosts c.in_ok-events.ensures.passed in
     took_down given c.args.line c.args.number c.args.host c.args.object c.args.control m s new events c.requires head passed c.in_ok-events.ensures.failed c.in_ok-events.ensures.ended all.size (same_pagers _ _ all)
     (c.commit.ensures.history ∙ ap (λ (z : List Event). events ++ z) told) c.commit.ensures.posts
 

@@ -9,7 +9,7 @@ use Rattle.vm_model.specs.Channels.{queue}
 use Rattle.pg_slots.specs.Slots.{SlotTable}
 use Rattle.vm_hosts.specs.Steps.{Going}
 use Rattle.vm_system.specs.Steps.{devices}
-use Rattle.vm_system.specs.Takings.{Answered, Followed}
+use Rattle.vm_system.specs.Takings.{Followed, PagerHasAnswered}
 use Rattle.vm_system.proofs.Beginning.{same_hosts}
 use Rattle.vm_system.proofs.Following.{kept_same, same_pagers}
 use Rattle.vm_system.proofs.Growth.{not_same}
@@ -157,7 +157,7 @@ follow-requires g c =
     let count : n ≡ length events + 1 = ap (λ (z : ℕ). z + 1) c.len-fresh.ensures in
     let front : take n now.history.items ≡ events ++ event.Taken channel m ∷ [] = front_is n events (event.Taken channel m) given.past now.history.items count items in
     let going : List Event → Going = λ z. record { header = given.header; outside = given.outside; command = given.command; past = given.past; front = z } in
-    let done : Answered (going (take n now.history.items)) c.args.host c.gives_frame-washed.result now =
+    let done : PagerHasAnswered (going (take n now.history.items)) c.args.host c.gives_frame-washed.result now =
     rw (front, c.gives_frame-washed.ensures) (answered_up given c.args.host c.args.object m t now old slots events reply pagers both.hosts (both.size ∙ any.stands.agrees.size) items c.commit.ensures.posts) in
     (front_length n now.history.items events (event.Taken channel m) front count, done)
 

@@ -1,7 +1,7 @@
 use Rattle.std.proofs.Common.{◌+◌, None, ◌≡◌, ◌∙◌, sym, ap, subst}
 use Rattle.vm_legal.specs.Steps.{before_step, takings}
-use Rattle.vm_system.specs.Stands.{Stands}
-use Rattle.vm_system.specs.Steps.{Grew, HasMore, MayCutOpen, StopsAt}
+use Rattle.vm_system.specs.Stands.{SystemStands}
+use Rattle.vm_system.specs.Steps.{GrowsWithinLimit, HasMore, IsMemoryStop, MayCutOpen}
 use Rattle.vm_system.specs.declared.state.State.{State}
 use Rattle.vm_system.proofs.Following.{kept_same}
 use Rattle.vm_system.proofs.Growth.{grew_cut, grew_taken, step_taken, takings_taken}
@@ -15,7 +15,7 @@ take-requires g c κs within =
     let given = g.given in
     let s = c.self.inside.state in
     let view : c.args.self.now ≡ s = sym c.self.view_is in
-    let stands : Stands given.header given.outside s = subst (λ (z : State). Stands given.header given.outside z) view c.requires.1.1.0 in
+    let stands : SystemStands given.header given.outside s = subst (λ (z : State). SystemStands given.header given.outside z) view c.requires.1.1.0 in
     let kept = kept_same given.header given.outside (g.P.Backing.area c.args.paging.now.inner) c.args.self.now s (ap (λ (z : State). z.pagers.items) (sym view)) (ap (λ (z : State). z.history.items) (sym view)) c.requires.1.1.1.0 in
     let past = c.requires.1.1.1.1.0 ∙ ap (λ (z : State). z.history.items) view in
     let more : HasMore given.command s.history.items = subst (λ (z : State). HasMore given.command z.history.items) view c.requires.1.1.1.1.1 in
@@ -26,7 +26,7 @@ returns-in_err-take-clause-memory g c =
     let given = g.given in
     let s = c.self.inside.state in
     let view : c.args.self.now ≡ s = sym c.self.view_is in
-    let stands : Stands given.header given.outside s = subst (λ (z : State). Stands given.header given.outside z) view c.requires.1.1.0 in
+    let stands : SystemStands given.header given.outside s = subst (λ (z : State). SystemStands given.header given.outside z) view c.requires.1.1.0 in
     let past = c.requires.1.1.1.1.0 ∙ ap (λ (z : State). z.history.items) view in
     let more : HasMore given.command s.history.items = subst (λ (z : State). HasMore given.command z.history.items) view c.requires.1.1.1.1.1 in
     λ none. subst (λ (z : State). MayCutOpen given.header given.outside given.command z.history.items c.take.new.self.history.items) (sym view)
@@ -45,7 +45,7 @@ returns-in_err-take-clause-grew g c =
     let s = c.self.inside.state in
     let view : c.args.self.now ≡ s = sym c.self.view_is in
     let past = c.requires.1.1.1.1.0 ∙ ap (λ (z : State). z.history.items) view in
-    subst (λ (z : State). Grew z.history.items c.take.new.self.history.items) (sym view) (grew_cut given None s.history.items c.take.new.self.history.items c.in_err-take.ensures.cut past)
+    subst (λ (z : State). GrowsWithinLimit z.history.items c.take.new.self.history.items) (sym view) (grew_cut given None s.history.items c.take.new.self.history.items c.in_err-take.ensures.cut past)
 
 pub returns-clause-grew : goal.returns-clause-grew
 returns-clause-grew g c = grew_taken g.given None c.args.self.now.history.items c.take.new.self.history.items c.in_ok-take.ensures.took.step c.requires.1.1.1.1.0
@@ -61,7 +61,7 @@ returns-clause-unasked g c =
     let given = g.given in
     let s = c.self.inside.state in
     let view : c.args.self.now ≡ s = sym c.self.view_is in
-    let stands : Stands given.header given.outside s = subst (λ (z : State). Stands given.header given.outside z) view c.requires.1.1.0 in
+    let stands : SystemStands given.header given.outside s = subst (λ (z : State). SystemStands given.header given.outside z) view c.requires.1.1.0 in
     let past = c.requires.1.1.1.1.0 ∙ ap (λ (z : State). z.history.items) view in
     let more : HasMore given.command s.history.items = subst (λ (z : State). HasMore given.command z.history.items) view c.requires.1.1.1.1.1 in
     let may = may_settle given c.in-Some.number s stands past more (sym c.oldest.ensures.oldest ∙ c.in-Some.is) in
@@ -73,11 +73,11 @@ returns-in_err-take-clause-stops g c =
     let s = c.self.inside.state in
     let new = c.take.new.self.history.items in
     let view : c.args.self.now ≡ s = sym c.self.view_is in
-    let stands : Stands given.header given.outside s = subst (λ (z : State). Stands given.header given.outside z) view c.requires.1.1.0 in
+    let stands : SystemStands given.header given.outside s = subst (λ (z : State). SystemStands given.header given.outside z) view c.requires.1.1.0 in
     let past = c.requires.1.1.1.1.0 ∙ ap (λ (z : State). z.history.items) view in
     let more : HasMore given.command s.history.items = subst (λ (z : State). HasMore given.command z.history.items) view c.requires.1.1.1.1.1 in
     let may = may_settle given c.in-Some.number s stands past more (sym c.oldest.ensures.oldest ∙ c.in-Some.is) in
     let made = number_read may.0 s.channels.made c.in-Some.number.0 may.1.made in
     let e = c.in_err-take.ensures in
-    λ none. subst (λ (z : State). StopsAt before_step z.history.items new c.args.paging.now c.take.new.paging) (sym view)
+    λ none. subst (λ (z : State). IsMemoryStop before_step z.history.items new c.args.paging.now c.take.new.paging) (sym view)
     (stops_by before_step given may.0 s.history.items new c.args.paging.now c.take.new.paging may.1.may (λ step. step_taken given new step ∙ past) (e.down may.0 made) e.unmoved e.cut)

@@ -2,7 +2,7 @@ use Rattle.std.proofs.Common.{◌≡◌, ◌<◌, ◌++◌, ◌∷◌, [], ◌�
 use Rattle.std.specs.List.{insert}
 use Rattle.vm_waits.proofs.Rows.{counted_push, entry_push}
 use Rattle.vm_waits.proofs.Tables.{found_begun, lined_begun}
-use Rattle.vm_waits.specs.Kept.{rank}
+use Rattle.vm_waits.specs.Kept.{places_before}
 use Rattle.vm_waits.specs.Waits.{entry, is_again, is_frame}
 use Rattle.vm_waits.specs.declared.waiting.On.TheVariants as on
 use Rattle.vm_waits.specs.declared.waiting.Waiting.{Waiting}
@@ -18,7 +18,7 @@ invariant_of-self c =
     let rows : c.push.new.self.items ≡ old.rows.items ++ w ∷ [] = rw (c.push.ensures.succeeds (omega (arith, fits.rows, room, old.rows.ok.0))) at c.push.ensures.items in
     let at : c.len-at.result ≡ length old.rows.items = c.len-at.ensures ∙ old.rows.ok.0 in
     let places : c.insert.new.self.items ≡ insert old.places.items c.find-i.result (record { task = c.args.task; at = length old.rows.items }) = rw (c.insert.ensures.succeeds (omega (arith, fits.places, room, old.places.ok.0, c.self.invariant.0.even)), at) at c.insert.ensures.items in
-    let place : c.find-i.result ≡ rank c.args.task.0 old.places.items = c.find-i.ensures.value ∙ ap (rank c.args.task.0) c.deref.ensures.value in
+    let place : c.find-i.result ≡ places_before c.args.task.0 old.places.items = c.find-i.ensures.value ∙ ap (places_before c.args.task.0) c.deref.ensures.value in
     let within = ap length c.deref.ensures.value in
     let long = length-append old.rows.items (w ∷ []) in
     rw (rows, places) (

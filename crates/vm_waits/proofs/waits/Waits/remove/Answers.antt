@@ -2,7 +2,7 @@ use Rattle.std.proofs.Common.{◌≡◌, ◌∙◌, Some, map, refl, ap, arith}
 use Rattle.std.specs.List.{remove}
 use Rattle.vm_waits.proofs.Rows.{counted_without, entry_without, length_without, remove_without, spot_within}
 use Rattle.vm_waits.proofs.Tables.{found_without, if_some, lined_without, spot_known, there, within_known}
-use Rattle.vm_waits.specs.Kept.{closed, rank, spot}
+use Rattle.vm_waits.specs.Kept.{closed, places_before, spot}
 use Rattle.vm_waits.specs.Waits.{entry, is_again, is_frame, without}
 use Rattle.vm_waits.specs.declared.place.Place.{Place}
 use Rattle.vm_waits.proofs.waits.Waits.remove.Goals as goal
@@ -11,14 +11,14 @@ pub remove-place-requires : goal.remove-place-requires
 remove-place-requires c =
     let old = c.self.inside in
     let was = there (entry old.rows.items c.args.task.0) (rw (← c.self.view_is) at c.requires) in
-    let place : c.find-i.result ≡ rank c.args.task.0 old.places.items = c.find-i.ensures.value ∙ ap (rank c.args.task.0) c.deref.ensures.value in
+    let place : c.find-i.result ≡ places_before c.args.task.0 old.places.items = c.find-i.ensures.value ∙ ap (places_before c.args.task.0) c.deref.ensures.value in
     omega (arith, within_known c.args.task.0 c.find-i.result old.rows.items old.places.items was.it c.self.invariant.0 was.is place, old.places.ok.0)
 
 pub remove-requires : goal.remove-requires
 remove-requires c =
     let old = c.self.inside in
     let was = there (entry old.rows.items c.args.task.0) (rw (← c.self.view_is) at c.requires) in
-    let place : c.find-i.result ≡ rank c.args.task.0 old.places.items = c.find-i.ensures.value ∙ ap (rank c.args.task.0) c.deref.ensures.value in
+    let place : c.find-i.result ≡ places_before c.args.task.0 old.places.items = c.find-i.ensures.value ∙ ap (places_before c.args.task.0) c.deref.ensures.value in
     let spots : spot c.args.task.0 old.rows.items ≡ Some c.remove-place.result.at = spot_known c.args.task.0 c.find-i.result old.rows.items old.places.items was.it c.remove-place.result c.self.invariant.0 was.is place c.remove-place.ensures.value in
     omega (arith, spot_within old.rows.items c.args.task.0 c.remove-place.result.at spots, old.rows.ok.0)
 
@@ -26,7 +26,7 @@ pub invariant_of-self : goal.invariant_of-self
 invariant_of-self c =
     let old = c.self.inside in
     let was = there (entry old.rows.items c.args.task.0) (rw (← c.self.view_is) at c.requires) in
-    let place : c.find-i.result ≡ rank c.args.task.0 old.places.items = c.find-i.ensures.value ∙ ap (rank c.args.task.0) c.deref.ensures.value in
+    let place : c.find-i.result ≡ places_before c.args.task.0 old.places.items = c.find-i.ensures.value ∙ ap (places_before c.args.task.0) c.deref.ensures.value in
     let spots : spot c.args.task.0 old.rows.items ≡ Some c.remove-place.result.at = spot_known c.args.task.0 c.find-i.result old.rows.items old.places.items was.it c.remove-place.result c.self.invariant.0 was.is place c.remove-place.ensures.value in
     let rows : c.remove.new.self.items ≡ without c.args.task.0 old.rows.items = c.remove.ensures.items ∙ remove_without c.args.task.0 c.remove-place.result.at old.rows.items c.self.invariant.0.once spots in
     let places : c.close_gap.new.places.items ≡ map (closed c.remove-place.result.at) (remove old.places.items c.find-i.result) = c.close_gap.ensures.items ∙ ap (map (closed c.remove-place.result.at)) c.remove-place.ensures.items in
@@ -48,7 +48,7 @@ pub returns-clause-rows : goal.returns-clause-rows
 returns-clause-rows c =
     let old = c.self.inside in
     let was = there (entry old.rows.items c.args.task.0) (rw (← c.self.view_is) at c.requires) in
-    let place : c.find-i.result ≡ rank c.args.task.0 old.places.items = c.find-i.ensures.value ∙ ap (rank c.args.task.0) c.deref.ensures.value in
+    let place : c.find-i.result ≡ places_before c.args.task.0 old.places.items = c.find-i.ensures.value ∙ ap (places_before c.args.task.0) c.deref.ensures.value in
     let spots : spot c.args.task.0 old.rows.items ≡ Some c.remove-place.result.at = spot_known c.args.task.0 c.find-i.result old.rows.items old.places.items was.it c.remove-place.result c.self.invariant.0 was.is place c.remove-place.ensures.value in
     let rows : c.remove.new.self.items ≡ without c.args.task.0 old.rows.items = c.remove.ensures.items ∙ remove_without c.args.task.0 c.remove-place.result.at old.rows.items c.self.invariant.0.once spots in
     rw (rows, ← c.self.view_is) refl
@@ -57,7 +57,7 @@ pub returns-clause-entry : goal.returns-clause-entry
 returns-clause-entry c =
     let old = c.self.inside in
     let was = there (entry old.rows.items c.args.task.0) (rw (← c.self.view_is) at c.requires) in
-    let place : c.find-i.result ≡ rank c.args.task.0 old.places.items = c.find-i.ensures.value ∙ ap (rank c.args.task.0) c.deref.ensures.value in
+    let place : c.find-i.result ≡ places_before c.args.task.0 old.places.items = c.find-i.ensures.value ∙ ap (places_before c.args.task.0) c.deref.ensures.value in
     let spots : spot c.args.task.0 old.rows.items ≡ Some c.remove-place.result.at = spot_known c.args.task.0 c.find-i.result old.rows.items old.places.items was.it c.remove-place.result c.self.invariant.0 was.is place c.remove-place.ensures.value in
     let rows : c.remove.new.self.items ≡ without c.args.task.0 old.rows.items = c.remove.ensures.items ∙ remove_without c.args.task.0 c.remove-place.result.at old.rows.items c.self.invariant.0.once spots in
     rw (rows, ← c.self.view_is) record { at = entry_without c.args.task.0 old.rows.items }
@@ -66,7 +66,7 @@ pub returns-clause-again : goal.returns-clause-again
 returns-clause-again c =
     let old = c.self.inside in
     let was = there (entry old.rows.items c.args.task.0) (rw (← c.self.view_is) at c.requires) in
-    let place : c.find-i.result ≡ rank c.args.task.0 old.places.items = c.find-i.ensures.value ∙ ap (rank c.args.task.0) c.deref.ensures.value in
+    let place : c.find-i.result ≡ places_before c.args.task.0 old.places.items = c.find-i.ensures.value ∙ ap (places_before c.args.task.0) c.deref.ensures.value in
     let spots : spot c.args.task.0 old.rows.items ≡ Some c.remove-place.result.at = spot_known c.args.task.0 c.find-i.result old.rows.items old.places.items was.it c.remove-place.result c.self.invariant.0 was.is place c.remove-place.ensures.value in
     let rows : c.remove.new.self.items ≡ without c.args.task.0 old.rows.items = c.remove.ensures.items ∙ remove_without c.args.task.0 c.remove-place.result.at old.rows.items c.self.invariant.0.once spots in
     rw (rows, ← c.self.view_is) (if_some (entry old.rows.items c.args.task.0) _ (λ one is. counted_without is_again c.args.task.0 old.rows.items one c.self.invariant.0.once is))
@@ -75,7 +75,7 @@ pub returns-clause-queued : goal.returns-clause-queued
 returns-clause-queued c =
     let old = c.self.inside in
     let was = there (entry old.rows.items c.args.task.0) (rw (← c.self.view_is) at c.requires) in
-    let place : c.find-i.result ≡ rank c.args.task.0 old.places.items = c.find-i.ensures.value ∙ ap (rank c.args.task.0) c.deref.ensures.value in
+    let place : c.find-i.result ≡ places_before c.args.task.0 old.places.items = c.find-i.ensures.value ∙ ap (places_before c.args.task.0) c.deref.ensures.value in
     let spots : spot c.args.task.0 old.rows.items ≡ Some c.remove-place.result.at = spot_known c.args.task.0 c.find-i.result old.rows.items old.places.items was.it c.remove-place.result c.self.invariant.0 was.is place c.remove-place.ensures.value in
     let rows : c.remove.new.self.items ≡ without c.args.task.0 old.rows.items = c.remove.ensures.items ∙ remove_without c.args.task.0 c.remove-place.result.at old.rows.items c.self.invariant.0.once spots in
     rw (rows, ← c.self.view_is) (if_some (entry old.rows.items c.args.task.0) _ (λ one is. counted_without is_frame c.args.task.0 old.rows.items one c.self.invariant.0.once is))
