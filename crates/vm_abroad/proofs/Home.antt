@@ -13,7 +13,7 @@ use Rattle.vm_model.specs.Regions.{next_region}
 use Rattle.vm_model.specs.Tasks.{host_of}
 use Rattle.vm_legal.specs.Licences.{HasCause}
 use Rattle.vm_legal.specs.Outside.{Outside}
-use Rattle.vm_abroad.specs.Home.{first_of, home_of}
+use Rattle.vm_abroad.specs.Home.{AreHomeless, first_of, home_of}
 use Rattle.vm_abroad.proofs.Sounds.{unlike}
 
 -- the first host stays
@@ -38,8 +38,7 @@ home_entered h task address bytes region offset prot inherit past none lives =
     ∙ (ap (λ z. first_of z (host_of task.0 past)) none ∙ lives)
 
 -- an entry is on a region that was made
-pub homeless_next : (header : Header) (outside : Outside) (e : Event) (past : List Event) → HasCause header outside e past → ((r : ℕ) → next_region header past ≤ r → home_of r past ≡ None)
-    → (r : ℕ) → next_region header (e ∷ past) ≤ r → home_of r (e ∷ past) ≡ None
+pub homeless_next : (header : Header) (outside : Outside) (e : Event) (past : List Event) → HasCause header outside e past → AreHomeless header past → AreHomeless header (e ∷ past)
 homeless_next header outside (event.Entered task address bytes region offset prot inherit) past cause homeless r high =
     let made = cause.1.made in
     let apart : (region.0 == r) ≡ false = unlike region.0 r (λ same. omega (arith, same, made, high)) in

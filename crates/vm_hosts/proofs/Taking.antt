@@ -16,6 +16,7 @@ use Rattle.vm_legal.specs.Steps.{before_step, fails_access, fails_task}
 use Rattle.vm_legal.specs.Stretches.{AllInner, MomentsIn}
 use Rattle.vm_legal.proofs.Inside.{before_more, error_more, since_more}
 use Rattle.vm_shadow.specs.declared.ids.Ids.{Ids}
+use Rattle.vm_kernel.proofs.Failing.{paid_more}
 use Rattle.vm_kernel.specs.Begun.{LegalEvents, Passed}
 use Rattle.vm_kernel.specs.Matches.{Rests}
 use Rattle.vm_kernel.specs.Taking.{EndsAll, IsErrorPaid}
@@ -66,9 +67,6 @@ passed_on header outside doing past events hosts new follows went =
     record { ended = went.ended; follows = subst (EventsFollow header outside doing past) (sym went.is) (follows_both header outside doing past events went.more follows went.follows) }
 
 -- what an error owes stays paid
-
-paid_more : (header : Header) (more past : List Event) → AllInner more → IsErrorPaid header past → IsErrorPaid header (more ++ past)
-paid_more header more past inner paid = λ host object page is. since_more (fails_access object page) more past inner (paid host object page (sym (error_more header.size more past inner) ∙ is))
 
 ends_more : (header : Header) (more past : List Event) → AllInner more → EndsAll header past → EndsAll header (more ++ past)
 ends_more header more past inner ends = λ host object page is task stops frees.

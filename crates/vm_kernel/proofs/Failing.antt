@@ -267,7 +267,7 @@ ends_all key first rows past was none t w found waits = elim (was t w found wait
 
 -- the error that a step took is paid, and that stays so
 
-paid_more : (header : Header) (more past : List Event) → AllInner more → IsErrorPaid header past → IsErrorPaid header (more ++ past)
+pub paid_more : (header : Header) (more past : List Event) → AllInner more → IsErrorPaid header past → IsErrorPaid header (more ++ past)
 paid_more header more past inner paid = λ host object page is. since_more (fails_access object page) more past inner (paid host object page (sym (error_more header.size more past inner) ∙ is))
 
 pub paid_goes : (header : Header) (h : ℕ) (outside : Outside) (doing : Command) (past old new : List Event) → LegalEvents header h outside doing past old new → IsErrorPaid header (old ++ past) → IsErrorPaid header (new ++ past)

@@ -60,7 +60,7 @@ use Rattle.vm_parts.proofs.Rows.{claimed_inside, if_true}
 use Rattle.vm_legal.proofs.LockNames.{unnamed}
 use Rattle.vm_kernel.proofs.Own.{named_host, own_host}
 use Rattle.vm_kernel.proofs.Mine.{mine_of, own_named}
-use Rattle.vm_abroad.specs.Home.{home_of}
+use Rattle.vm_abroad.specs.Home.{AreHomeless, home_of}
 
 -- all but what a reclaim changes is as it was, and what it changes fits
 pub record Beside (k k2 : Parts) : Type 0 where
@@ -221,7 +221,7 @@ record Before (header : Header) (h : ℕ) (k : Parts) (ids : Ids) (past : List E
   regions : HasRegions k.chains k.memory.objects ids (λ r. region_of header r past) (λ o. backing_of header o past) (next_region header past) (next_object header past)
   pages : HasPages k.memory.frames k.memory.resident k.memory.objects k.chains (λ o p. local header.size h (place_of o p) past)
   uses : HasUse k.maps (λ r. in_use header h r past) (made_tasks past) (λ t r. holds header.size t r past) (next_region header past)
-  homeless : (r : ℕ) → next_region header past ≤ r → home_of r past ≡ None
+  homeless : AreHomeless header past
   laundry : HasLaundry k.memory.frames k.memory.resident k.laundry (returns_out h past)
   frames : HasFrames (slice_get (reverse header.frames.items) h) k.memory.frames (frames_held header.size h past) (frames_wired h past)
   waits : HasWaits k woken.Nobody past

@@ -1,12 +1,12 @@
 -- What other hosts do leaves what a kernel stands for.
-use Rattle.std.specs.Prelude.{ℕ, ◌≡◌, ◌≤◌, false, List, None}
+use Rattle.std.specs.Prelude.{ℕ, ◌≡◌, false, List}
 use Rattle.vm_model.specs.declared.event.Event.{Event}
 use Rattle.vm_model.specs.declared.event.Event.TheVariants as event
 use Rattle.vm_model.specs.declared.message.Channel.TheVariants.{Up, Down}
 use Rattle.vm_model.specs.declared.script.Header.{Header}
 use Rattle.vm_model.specs.Regions.{backing_of, next_object, next_region, region_of}
 use Rattle.vm_legal.specs.Homes.{gives_frame}
-use Rattle.vm_abroad.specs.Home.{home_of}
+use Rattle.vm_abroad.specs.Home.{AreHomeless}
 use Rattle.vm_shadow.specs.declared.ids.Ids.{Ids}
 use Rattle.vm_kernel.specs.Matches.{IsOverOwn, IsSettled}
 
@@ -19,7 +19,7 @@ pub record IsCommon (header : Header) (ids : Ids) (past : List Event) : Type 0 w
   pub tops : (r : ℕ) → IsOverOwn (region_of header r past) r
   pub unbacked : (o : ℕ) → (backing_of header o past).backed ≡ false
   pub settled : IsSettled past
-  pub homeless : (r : ℕ) → next_region header past ≤ r → home_of r past ≡ None
+  pub homeless : AreHomeless header past
 
 -- an event of no host: a line, a refusal, what a pager says or its device does, and the taking of a message that gives no frame back
 abbrev pub IsNobodys : Event → Type 0

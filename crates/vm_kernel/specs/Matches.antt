@@ -20,7 +20,7 @@ use Rattle.vm_legal.specs.Frames.{frames_held, frames_wired, returns_out}
 use Rattle.vm_legal.specs.Licences.{created}
 use Rattle.vm_legal.specs.Living.{tasks as made_tasks}
 use Rattle.vm_legal.specs.Used.{in_use}
-use Rattle.vm_abroad.specs.Home.{home_of}
+use Rattle.vm_abroad.specs.Home.{AreHomeless, home_of}
 use Rattle.vm_abroad.specs.Whose.{IsShut}
 use Rattle.vm_frames.specs.Frames.{FrameTable, claimed, frame_count, is_claimed}
 use Rattle.vm_pageout.specs.Laundry.{LaundryList}
@@ -186,7 +186,7 @@ pub record Matches (header : Header) (h : ℕ) (k : Parts) (ids : Ids) (gone : L
   pub pages : HasPages k.memory.frames k.memory.resident k.memory.objects k.chains (λ o p. local header.size h (place_of o p) past)
   pub uses : HasUse k.maps (λ r. in_use header h r past) (made_tasks past) (λ task r. holds header.size task r past) (next_region header past)
   pub controls : HasControls h k.memory.objects (λ o. last_control h o past) (λ o. live_control h o past) (λ o. is_ready h o past) (λ o. home_of o past)
-  pub homeless : (r : ℕ) → next_region header past ≤ r → home_of r past ≡ None
+  pub homeless : AreHomeless header past
   pub settled : IsSettled past
   pub laundry : HasLaundry k.memory.frames k.memory.resident k.laundry (returns_out h past)
   pub frames : HasFrames (slice_get (reverse header.frames.items) h) k.memory.frames (frames_held header.size h past) (frames_wired h past)

@@ -12,6 +12,7 @@ use Rattle.vm_model.specs.declared.script.Header.{Header}
 use Rattle.vm_legal.specs.Outside.{Outside}
 use Rattle.vm_legal.specs.Refusal.{refusal}
 use Rattle.vm_outside.specs.Arming.{Arming}
+use Rattle.vm_hosts.proofs.Stretches.{stretch_none}
 use Rattle.vm_hosts.specs.Hosts.{AllQueued, AllRest, HostTable}
 use Rattle.vm_hosts.specs.Steps.{Stretch}
 use Rattle.vm_system.specs.Orderly.{IsOrderly}
@@ -111,14 +112,11 @@ makes_refused header outside numbered why old new stands refused same posts grow
     (queued_refused header outside numbered.command old.hosts why past rests (queued_lined header outside numbered.command old.hosts numbered.line h stands.rests stands.queues))
     (legal_refused header outside numbered why h stands.rests.plain refused) same posts grown
 
-pub tells_none : (header : Header) (outside : Outside) (doing : Command) (past : List Event) → Stretch header outside doing past []
-tells_none header outside doing past = record { licensed = tt; own_bytes = tt; frames = tt; inner = tt; said = tt }
-
 pub makes_lined : (header : Header) (outside : Outside) (line count : ℕ) (old new : State) → SystemStands header outside old → SameHosts old new → Posts new new.history.items
     → new.history.items ≡ event.Line line ∷ old.history.items → Makes header outside (record { line = line; command = command.Settle count }) old new
 makes_lined header outside line count old new stands same posts grown =
     let h = old.history.items in
-    makes_told header outside (record { line = line; command = command.Settle count }) [] old.hosts old new stands (tells_none header outside (command.Settle count) (event.Line line ∷ h))
+    makes_told header outside (record { line = line; command = command.Settle count }) [] old.hosts old new stands (stretch_none header outside (command.Settle count) (event.Line line ∷ h))
     (all_lined header outside (command.Settle count) old.hosts line h stands.rests) (queued_lined header outside (command.Settle count) old.hosts line h stands.rests stands.queues) (legal_settle header outside line count h stands.rests.plain) same posts grown
 
 -- parts that are as they were are so behind two calls
