@@ -1,7 +1,7 @@
 -- What the slots and the backing fit, they fit behind an answer as the history says.
 use Rattle.std.proofs.Common.{ℕ, ◌≡◌, ◌≤◌, ◌==◌, ◌&&◌, ◌||◌, nat_lt, Bool, true, false, List, ◌++◌, Option, Some, None, Ok, refl, sym, ◌∙◌, ap, subst, arith, if◌then◌else◌}
 use Rattle.std.proofs.lemmas.Bool.Decides.{nat_tests}
-use Rattle.pg_slots.specs.Contents.{Agrees, Carries, Content, IsHeldAs, Kept, Lost, Stored, after_put, same_content, without}
+use Rattle.pg_slots.specs.Contents.{AgreesWithContent, CarriesContent, Content, IsHeldAs, Kept, Lost, Stored, after_put, content_without, same_content}
 use Rattle.pg_slots.specs.Slots.{SlotTable, held_at}
 use Rattle.pg_slots.specs.declared.answers.Put.{Put as PutAnswer}
 use Rattle.pg_slots.specs.declared.answers.Put.TheVariants as put
@@ -18,7 +18,7 @@ use Rattle.vm_model.specs.Named.{named}
 use Rattle.vm_legal.specs.Pagers.{is_lost, last_return}
 use Rattle.vm_outside.specs.Areas.{Told}
 use Rattle.pg_default.specs.Answers.{PagerAnswer, after_message, became, device_failed, told_of}
-use Rattle.pg_default.specs.Stands.{CarriesOver, Serves, content_of, is_ended, stored_of, taking}
+use Rattle.pg_default.specs.Stands.{CarriesOver, PagerServes, content_of, is_ended, stored_of, taking}
 use Rattle.pg_default.proofs.Rows.{itself}
 use Rattle.pg_default.proofs.Facts.{IsQuiet, Put, Same, put_kept, put_lost, same_taken}
 use Rattle.pg_default.proofs.Standing.{leaves_all, nothing_new, on_sent, requested_same, tells_failed, tells_no_slot}
@@ -26,10 +26,10 @@ use Rattle.pg_default.proofs.Standing.{leaves_all, nothing_new, on_sent, request
 abbrev pub SameContent : Content → Content → Type 0
 SameContent was now = (q r : ℕ) → now q r ≡ was q r
 
-agrees_same : (slots : SlotTable) (was now : Content) → SameContent was now → Agrees slots was → Agrees slots now
+agrees_same : (slots : SlotTable) (was now : Content) → SameContent was now → AgreesWithContent slots was → AgreesWithContent slots now
 agrees_same slots was now same agrees = record { at = λ q r. subst (λ (x : Option Stored). IsHeldAs slots.count slots.size (held_at slots q r) x) (sym (same q r)) (agrees.at q r) }
 
-pub carries_same : (before after : List ℕ → Told) (old new : SlotTable) (change : Content → Content) (was now : Content) → SameContent (change was) now → Carries before after old new change → CarriesOver before after old new was now
+pub carries_same : (before after : List ℕ → Told) (old new : SlotTable) (change : Content → Content) (was now : Content) → SameContent (change was) now → CarriesContent before after old new change → CarriesOver before after old new was now
 carries_same before after old new change was now same carries = record {
   agrees = λ agrees. agrees_same new (change was) now same (carries.agrees was agrees);
   fits = λ told fits.
@@ -67,7 +67,7 @@ content_put header host o p bytes lost stored past now temporary unended put is 
         rw (put.ended q, last, gone) refl
 
 content_end : (header : Header) (host : ℕ) (object : ObjectId) (control : ℕ) (past : List Event)
-    → SameContent (without object.0 (content_of header host past)) (content_of header host (taking host object (message.Terminate control) past))
+    → SameContent (content_without object.0 (content_of header host past)) (content_of header host (taking host object (message.Terminate control) past))
 content_end header host object control past q r = rw (itself host) (by (nat_lt q (named header)) (object.0 == q) (is_ended host q past))
   where
     by : (a b c : Bool) → (if a || (b || c) then None else stored_of (if b then last_return host q r past else last_return host q r past) (is_lost q r past)) ≡ (if b then None else (if a || c then None else stored_of (last_return host q r past) (is_lost q r past)))
@@ -86,15 +86,15 @@ returned header host past object control page dirty keep bytes put.Failed tempor
     content_put header host object.0 page.0 bytes true Lost past _ temporary unended (put_lost header host object.0 page.0 control dirty keep bytes (device_failed Write object page) past temporary (tells_failed object page)) refl
 
 pub carries : (header : Header) (host : ℕ) (past : List Event) (object : ObjectId) (m : Message) (old new : SlotTable) (events : Listed Event) (before after : List ℕ → Told)
-    → Serves header host past object m old new events.items → Carries before after old new (after_message m object (Ok events))
+    → PagerServes header host past object m old new events.items → CarriesContent before after old new (after_message m object (Ok events))
     → CarriesOver before after old new (content_of header host past) (content_of header host (events.items ++ taking host object m past))
 carries header host past object m old new events before after serves change = by m serves.answered change
   where
-    quiet : (m : Message) → IsQuiet m → Same header host (taking host object m past) (events.items ++ taking host object m past) → Carries before after old new same_content
+    quiet : (m : Message) → IsQuiet m → Same header host (taking host object m past) (events.items ++ taking host object m past) → CarriesContent before after old new same_content
         → CarriesOver before after old new (content_of header host past) (content_of header host (events.items ++ taking host object m past))
     quiet m is on c = carries_same before after old new same_content _ _ (content_same header host past _ (both_same header host past (taking host object m past) _ (same_taken header host object.0 m past is) on)) c
 
-    by : (m : Message) → PagerAnswer m object old new events.items → Carries before after old new (after_message m object (Ok events))
+    by : (m : Message) → PagerAnswer m object old new events.items → CarriesContent before after old new (after_message m object (Ok events))
         → CarriesOver before after old new (content_of header host past) (content_of header host (events.items ++ taking host object m past))
     by (message.Init control size) a c = quiet _ tt (leaves_all header host events.items _ _ a.1 (on_sent header host old.host object control _ _)) c
     by (message.Create control size) a c = quiet _ tt (leaves_all header host events.items _ _ a.1 (on_sent header host old.host object control _ _)) c
@@ -107,8 +107,8 @@ carries header host past object m old new events before after serves change = by
         (subst (λ (es : List Event). SameContent (after_put (Ok (became events.items)) object.0 page.0 bytes (content_of header host past)) (content_of header host (es ++ taking host object (message.Return control page dirty keep bytes) past))) (sym a.told)
         (returned header host past object control page dirty keep bytes (became events.items) serves.temporary serves.unended)) c
     by (message.Terminate control) a c =
-        carries_same before after old new (without object.0) _ _
-        (subst (λ (es : List Event). SameContent (without object.0 (content_of header host past)) (content_of header host (es ++ taking host object (message.Terminate control) past))) (sym a.1) (content_end header host object control past)) c
+        carries_same before after old new (content_without object.0) _ _
+        (subst (λ (es : List Event). SameContent (content_without object.0 (content_of header host past)) (content_of header host (es ++ taking host object (message.Terminate control) past))) (sym a.1) (content_end header host object control past)) c
     by (message.Ready cache strategy) a c = elim a [ ]
     by (message.Supply page lock precious bytes) a c = elim a [ ]
     by (message.Unavailable page) a c = elim a [ ]

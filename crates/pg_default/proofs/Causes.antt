@@ -3,7 +3,7 @@ use Rattle.std.proofs.Common.{ℕ, ◌≡◌, ◌≤◌, ◌==◌, ◌&&◌, ◌
 use Rattle.std.proofs.lemmas.Bool.{false≢true}
 use Rattle.std.proofs.lemmas.Bool.Decides.{nat_tests}
 use Rattle.pg_slots.specs.Contents.{Kept, Lost, Stored}
-use Rattle.pg_slots.specs.Slots.{HasNoSlot, PutEffects, SlotTable, held_at, slot_of as slot_held}
+use Rattle.pg_slots.specs.Slots.{HasNoSlot, PutEffects, SlotTable, held_at, held_slot as slot_held}
 use Rattle.pg_slots.specs.declared.answers.Put.{Put as PutAnswer}
 use Rattle.pg_slots.specs.declared.answers.Put.TheVariants as put
 use Rattle.pg_slots.specs.declared.slot_row.Held.{Held}
@@ -22,7 +22,7 @@ use Rattle.vm_legal.specs.Licences.{AllLicensed, MaySendDown, PagerSends, pager_
 use Rattle.vm_legal.specs.Outside.{Outside, is_file, kind_of, start_page}
 use Rattle.vm_legal.specs.Pagers.{is_lost, last_return, newer, slot_at as slot_of_page, slot_of}
 use Rattle.pg_default.specs.Answers.{PagerAnswer, RequestAnswer, SuppliesStored, became, device_failed, error, sent_to, supply, told_of}
-use Rattle.pg_default.specs.Stands.{IsHeldOf, PagerStands, Serves, content_of, is_ended, stored_of, taking}
+use Rattle.pg_default.specs.Stands.{IsHeldOf, PagerServes, PagerStands, content_of, is_ended, stored_of, taking}
 use Rattle.pg_default.proofs.Rows.{itself}
 use Rattle.pg_default.proofs.Facts.{own_slots, same_taken}
 use Rattle.pg_default.proofs.Standing.{goes_to, no_free}
@@ -204,7 +204,7 @@ ready_create header outside doing host past object control size temporary =
     ((sends header outside doing host object control (message.Ready false 3) (taking host object (message.Create control size) past) temporary (size, refl, refl, inl (refl, refl)), tt), tt)
 
 pub causes : (header : Header) (outside : Outside) (doing : Command) (host : ℕ) (past : List Event) (object : ObjectId) (m : Message) (old new : SlotTable) (events : List Event)
-    → Serves header host past object m old new events → (outside.paging ≡ true → SuppliesStored object events (content_of header host past)) → AllLicensed header outside doing events (taking host object m past)
+    → PagerServes header host past object m old new events → (outside.paging ≡ true → SuppliesStored object events (content_of header host past)) → AllLicensed header outside doing events (taking host object m past)
 causes header outside doing host past object m old new events serves stored = by m serves.answered
   where
     at : (control : ℕ) (reply : Message) → events ≡ sent_to old.host object control reply ∷ [] → events ≡ sent_to host object control reply ∷ []

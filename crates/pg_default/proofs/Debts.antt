@@ -22,7 +22,7 @@ use Rattle.vm_legal.specs.Licences.{created, up}
 use Rattle.vm_legal.specs.Pagers.{LacksSlot}
 use Rattle.vm_legal.specs.Steps.{Letter, absence_taken, answers, before_step, error_taken, lacks_slot, readies, since, taken_letter}
 use Rattle.pg_default.specs.Answers.{PagerAnswer, RequestAnswer, became, error, sent_to, told_of}
-use Rattle.pg_default.specs.Stands.{PagerStands, Serves, taking}
+use Rattle.pg_default.specs.Stands.{PagerServes, PagerStands, taking}
 use Rattle.pg_default.proofs.Rows.{itself}
 use Rattle.pg_default.proofs.Standing.{is_full}
 
@@ -150,7 +150,7 @@ returned header host past object control page dirty keep bytes old is s told = b
     by put.NoSlot told = paid_of header host object.0 (message.Return control page dirty keep bytes) _ (record { created = refl; took = refl; no_error = refl; no_absence = refl; ready = λ e. never e; answered = λ p e. never e; lacking = λ p e lacks. one_test object.0 page.0 p _ e })
 
 pub paid : (header : Header) (host : ℕ) (past : List Event) (object : ObjectId) (m : Message) (old new : SlotTable) (events : List Event)
-    → Serves header host past object m old new events → IsPaid header (events ++ taking host object m past)
+    → PagerServes header host past object m old new events → IsPaid header (events ++ taking host object m past)
 paid header host past object m old new events serves = by m serves.answered
   where
     by : (m : Message) → PagerAnswer m object old new events → IsPaid header (events ++ taking host object m past)

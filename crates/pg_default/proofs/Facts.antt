@@ -9,7 +9,7 @@ use Rattle.vm_model.specs.declared.script.Header.{Header}
 use Rattle.vm_model.specs.Named.{named}
 use Rattle.vm_legal.specs.Licences.{up}
 use Rattle.vm_legal.specs.Pagers.{is_lost, last_return, newer, slot_of, slots, slots_after, slotted}
-use Rattle.pg_default.specs.Stands.{is_elsewhere, is_ended}
+use Rattle.pg_default.specs.Stands.{is_ended, is_heard_elsewhere}
 use Rattle.pg_default.proofs.Rows.{itself, same_if}
 
 own_host : (header : Header) (host o : ℕ) → named header ≤ o → (host == host && not (nat_lt o (named header))) ≡ true
@@ -20,14 +20,14 @@ pub own_slots : (header : Header) (host o : ℕ) (m : Message) (past : List Even
 own_slots header host o m past temporary = rw (own_host header host o temporary) refl
 
 -- the host itself is no other host
-pub own_away : (host o q : ℕ) (past : List Event) → ((not (host == host) && o == q) || is_elsewhere host q past) ≡ is_elsewhere host q past
+pub own_away : (host o q : ℕ) (past : List Event) → ((not (host == host) && o == q) || is_heard_elsewhere host q past) ≡ is_heard_elsewhere host q past
 own_away host o q past = rw (itself host) refl
 
 -- nothing of this is other than before
 pub record Same (header : Header) (host : ℕ) (past now : List Event) : Type 0 where
   pub rows : slots header host now ≡ slots header host past
   pub ended : (q : ℕ) → is_ended host q now ≡ is_ended host q past
-  pub away : (q : ℕ) → is_elsewhere host q now ≡ is_elsewhere host q past
+  pub away : (q : ℕ) → is_heard_elsewhere host q now ≡ is_heard_elsewhere host q past
   pub last : (q r : ℕ) → last_return host q r now ≡ last_return host q r past
   pub lost : (q r : ℕ) → is_lost q r now ≡ is_lost q r past
 
@@ -62,7 +62,7 @@ same_taken header host o (message.Destroy reason) past quiet = elim quiet [ ]
 pub record Put (header : Header) (host o p : ℕ) (bytes : List ℕ) (lost : Bool) (past now : List Event) : Type 0 where
   pub rows : slots header host now ≡ slotted header.slots o p (slot_of o p (slots header host past)) (slots header host past)
   pub ended : (q : ℕ) → is_ended host q now ≡ is_ended host q past
-  pub away : (q : ℕ) → is_elsewhere host q now ≡ is_elsewhere host q past
+  pub away : (q : ℕ) → is_heard_elsewhere host q now ≡ is_heard_elsewhere host q past
   pub last : (q r : ℕ) → last_return host q r now ≡ (if o == q && p == r then Some bytes else last_return host q r past)
   pub gone : (q r : ℕ) → is_lost q r now ≡ (if o == q && p == r then lost else is_lost q r past)
 
@@ -83,7 +83,7 @@ lost_put false was = refl
 pub record TellsLost (o p : ℕ) (e : Event) : Type 0 where
   pub rows : (header : Header) (host : ℕ) (past : List Event) → slots header host (e ∷ past) ≡ slots header host past
   pub ended : (host q : ℕ) (past : List Event) → is_ended host q (e ∷ past) ≡ is_ended host q past
-  pub away : (host q : ℕ) (past : List Event) → is_elsewhere host q (e ∷ past) ≡ is_elsewhere host q past
+  pub away : (host q : ℕ) (past : List Event) → is_heard_elsewhere host q (e ∷ past) ≡ is_heard_elsewhere host q past
   pub last : (host q r : ℕ) (past : List Event) → last_return host q r (e ∷ past) ≡ last_return host q r past
   pub lost : (q r : ℕ) (past : List Event) → is_lost q r (e ∷ past) ≡ ((o == q && p == r) || is_lost q r past)
 

@@ -16,7 +16,7 @@ use Rattle.vm_model.specs.declared.script.Header.{Header}
 use Rattle.vm_model.specs.Named.{named}
 use Rattle.vm_legal.specs.Pagers.{is_lost, last_return, slot_of, slots}
 use Rattle.vm_legal.specs.Steps.{is_read}
-use Rattle.pg_default.specs.Stands.{CarriesOver, IsApart, IsForeign, IsOther, PagerStands, content_of, is_elsewhere, is_ended, stored_of}
+use Rattle.pg_default.specs.Stands.{CarriesOver, IsApart, IsForeign, IsOther, PagerStands, content_of, is_ended, is_heard_elsewhere, stored_of}
 use Rattle.pg_default.proofs.Carrying.{SameContent, carries_same}
 use Rattle.pg_default.proofs.Leaving.{carried_same}
 use Rattle.pg_default.proofs.Rows.{same_if}
@@ -26,9 +26,9 @@ use Rattle.pg_default.proofs.Standing.{held_same}
 record Leaves (header : Header) (host : ℕ) (past now : List Event) : Type 0 where
   rows : slots header host now ≡ slots header host past
   ended : (q : ℕ) → named header ≤ q → is_ended host q now ≡ is_ended host q past
-  away : (q : ℕ) → is_elsewhere host q now ≡ false → is_elsewhere host q past ≡ false
+  away : (q : ℕ) → is_heard_elsewhere host q now ≡ false → is_heard_elsewhere host q past ≡ false
   last : (q r : ℕ) → named header ≤ q → last_return host q r now ≡ last_return host q r past
-  lost : (q r : ℕ) → named header ≤ q → is_elsewhere host q now ≡ false → is_lost q r now ≡ is_lost q r past
+  lost : (q r : ℕ) → named header ≤ q → is_heard_elsewhere host q now ≡ false → is_lost q r now ≡ is_lost q r past
 
 leaves_stands : (header : Header) (host : ℕ) (table : SlotTable) (past now : List Event) → Leaves header host past now → PagerStands header host table past → PagerStands header host table now
 leaves_stands header host table past now l s = record {
@@ -82,18 +82,18 @@ taken_leaves : (header : Header) (host : ℕ) (at : HostId) (object : ObjectId) 
 taken_leaves header host at object m past is = record {
   rows = rw (no_row header host at.0 object.0 is) refl;
   ended = λ q high. ended_taken host q at object m past (apart_taken header host at.0 object.0 q is high);
-  away = λ q own. or_no (not (at.0 == host) && object.0 == q) (is_elsewhere host q past) own;
+  away = λ q own. or_no (not (at.0 == host) && object.0 == q) (is_heard_elsewhere host q past) own;
   last = λ q r high. rw (apart_taken header host at.0 object.0 q is high) refl;
-  lost = λ q r high own. lost_taken q r at object m past (no_object header host at.0 object.0 q is high (first_no (not (at.0 == host) && object.0 == q) (is_elsewhere host q past) own));
+  lost = λ q r high own. lost_taken q r at object m past (no_object header host at.0 object.0 q is high (first_no (not (at.0 == host) && object.0 == q) (is_heard_elsewhere host q past) own));
 }
 
 -- a foreign object is none of the host's own
-foreign : (header : Header) (host o q : ℕ) (past : List Event) → IsForeign header host o past → named header ≤ q → is_elsewhere host q past ≡ false → (o == q) ≡ false
+foreign : (header : Header) (host o q : ℕ) (past : List Event) → IsForeign header host o past → named header ≤ q → is_heard_elsewhere host q past ≡ false → (o == q) ≡ false
 foreign header host o q past (inl low) high own = grind (arith, nat_tests, low, high)
 foreign header host o q past (inr away) high own = by (o == q) refl
   where
     by : (b : Bool) → (o == q) ≡ b → (o == q) ≡ false
-    by true is = let same : o ≡ q = grind (arith, nat_tests, is) in absurd (false≢true (sym own ∙ subst (λ (k : ℕ). is_elsewhere host k past ≡ true) same away))
+    by true is = let same : o ≡ q = grind (arith, nat_tests, is) in absurd (false≢true (sym own ∙ subst (λ (k : ℕ). is_heard_elsewhere host k past ≡ true) same away))
     by false is = is
 
 and_no : (a b : Bool) → (a && (false && b)) ≡ false
@@ -124,7 +124,7 @@ others header host table e past is s = leaves_stands header host table past (e �
 content_stays : (header : Header) (host : ℕ) (past now : List Event) → Leaves header host past now → IsApart header host now → SameContent (content_of header host past) (content_of header host now)
 content_stays header host past now l apart q r = by (nat_lt q (named header)) refl
   where
-    stays : named header ≤ q → (b : Bool) → is_elsewhere host q now ≡ b → stored_of (last_return host q r now) (is_lost q r now) ≡ stored_of (last_return host q r past) (is_lost q r past)
+    stays : named header ≤ q → (b : Bool) → is_heard_elsewhere host q now ≡ b → stored_of (last_return host q r now) (is_lost q r now) ≡ stored_of (last_return host q r past) (is_lost q r past)
     stays high true away =
         let none : last_return host q r now ≡ None = apart q r high away in
         let never : last_return host q r past ≡ None = sym (l.last q r high) ∙ none in
@@ -133,7 +133,7 @@ content_stays header host past now l apart q r = by (nat_lt q (named header)) re
 
     by : (b : Bool) → nat_lt q (named header) ≡ b → (if b || is_ended host q now then None else stored_of (last_return host q r now) (is_lost q r now)) ≡ (if b || is_ended host q past then None else stored_of (last_return host q r past) (is_lost q r past))
     by true low = refl
-    by false is = let high : named header ≤ q = grind (arith, nat_tests, is) in rw (l.ended q high, stays high (is_elsewhere host q now) refl) refl
+    by false is = let high : named header ≤ q = grind (arith, nat_tests, is) in rw (l.ended q high, stays high (is_heard_elsewhere host q now) refl) refl
 
 pub others_carry : (header : Header) (host : ℕ) (table : SlotTable) (e : Event) (past : List Event) (areas : List ℕ → Told) → IsOther header host e past → IsApart header host (e ∷ past)
     → CarriesOver areas areas table table (content_of header host past) (content_of header host (e ∷ past))

@@ -4,7 +4,7 @@ use Rattle.std.proofs.lemmas.Bool.{false≢true}
 use Rattle.std.specs.Prelude.{MatchOption}
 use Rattle.std.proofs.lemmas.Bool.Decides.{nat_tests}
 use Rattle.std.proofs.lemmas.Option.{none-some}
-use Rattle.pg_slots.specs.Slots.{DropsHeld, GoesTo, HasNoSlot, IsLowestFree, IsTaken, PutEffects, PutsHeld, SlotTable, SlotsAreFull, held_at, slot_at, slot_of as slot_held}
+use Rattle.pg_slots.specs.Slots.{DropsHeld, GoesTo, HasNoSlot, IsLowestFree, IsSlotTaken, PutEffects, PutsHeld, SlotTable, SlotsAreFull, held_at, held_slot as slot_held, slot_in_table}
 use Rattle.pg_slots.specs.declared.answers.Put.{Put as PutAnswer}
 use Rattle.pg_slots.specs.declared.answers.Put.TheVariants as put
 use Rattle.pg_slots.specs.declared.slot_row.Held.{Held}
@@ -20,7 +20,7 @@ use Rattle.vm_model.specs.declared.script.Header.{Header}
 use Rattle.vm_model.specs.Named.{named}
 use Rattle.vm_legal.specs.Pagers.{Slotted, first_free, is_lost, is_taken, last_return, slot_of, slots, slotted}
 use Rattle.pg_default.specs.Answers.{PagerAnswer, RequestAnswer, became, device_failed, sent_to, told_of}
-use Rattle.pg_default.specs.Stands.{IsHeldOf, PagerStands, Serves, is_elsewhere, is_ended, taking}
+use Rattle.pg_default.specs.Stands.{IsHeldOf, PagerServes, PagerStands, is_ended, is_heard_elsewhere, taking}
 use Rattle.pg_default.proofs.Rows.{first_is, full_is, full_of, itself, of_taken, once_slots, slot_other, slot_without, taken_of}
 use Rattle.pg_default.proofs.Facts.{IsQuiet, Put, Same, TellsLost, own_away, own_slots, put_kept, put_lost, same_taken}
 
@@ -42,10 +42,10 @@ stands_same header host old new past now same kept s = subst (λ (t : SlotTable)
 })
 
 -- a slot is a page's in the table where it is in the history
-pub taken_there : (header : Header) (host : ℕ) (table : SlotTable) (past : List Event) (s : ℕ) → PagerStands header host table past → IsTaken table s → is_taken s (slots header host past) ≡ true
+pub taken_there : (header : Header) (host : ℕ) (table : SlotTable) (past : List Event) (s : ℕ) → PagerStands header host table past → IsSlotTaken table s → is_taken s (slots header host past) ≡ true
 taken_there header host table past s stands w = of_taken (slots header host past) w.object w.page s (sym (stands.slot w.object w.page) ∙ w.at)
 
-pub taken_here : (header : Header) (host : ℕ) (table : SlotTable) (past : List Event) (s : ℕ) → PagerStands header host table past → is_taken s (slots header host past) ≡ true → IsTaken table s
+pub taken_here : (header : Header) (host : ℕ) (table : SlotTable) (past : List Event) (s : ℕ) → PagerStands header host table past → is_taken s (slots header host past) ≡ true → IsSlotTaken table s
 taken_here header host table past s stands is =
     let w = taken_of (slots header host past) s (once_slots header host past) is in
     record { object = w.object; page = w.page; at = stands.slot w.object w.page ∙ w.at }
@@ -69,12 +69,12 @@ is_full header host table past stands none t less =
 -- the slot that a put of a page goes to is the one that the history gives it
 pub goes_to : (header : Header) (host : ℕ) (table : SlotTable) (past : List Event) (o p s : ℕ) → PagerStands header host table past → GoesTo table o p s
     → slot_of o p (slotted header.slots o p (slot_of o p (slots header host past)) (slots header host past)) ≡ Some s
-goes_to header host table past o p s stands goes = by (slot_at table o p) (slot_of o p (slots header host past)) refl refl goes
+goes_to header host table past o p s stands goes = by (slot_in_table table o p) (slot_of o p (slots header host past)) refl refl goes
   where
     own : (rows : List Slotted) → slot_of o p (record { object = o; page = p; slot = s } ∷ rows) ≡ Some s
     own rows = rw (itself o, itself p) refl
 
-    by : (x y : Option ℕ) → slot_at table o p ≡ x → slot_of o p (slots header host past) ≡ y → MatchOption x (IsLowestFree table s) (λ k. s ≡ k) → slot_of o p (slotted header.slots o p y (slots header host past)) ≡ Some s
+    by : (x y : Option ℕ) → slot_in_table table o p ≡ x → slot_of o p (slots header host past) ≡ y → MatchOption x (IsLowestFree table s) (λ k. s ≡ k) → slot_of o p (slotted header.slots o p y (slots header host past)) ≡ Some s
     by None None one two low = rw (free_slot header host table past s stands low) (own (slots header host past))
     by (Some k) (Some n) one two same = sym (stands.slot o p) ∙ one ∙ ap Some (sym same)
     by None (Some n) one two low = absurd (none-some n (sym one ∙ stands.slot o p ∙ two))
@@ -111,7 +111,7 @@ stands_put header host o p has bytes lost old new past now temporary unended s f
     other : (q r : ℕ) → (o == q && p == r) ≡ false → held_at new q r ≡ held_at old q r
     other q r is = rw is at (puts.at q r)
 
-    slot_if : (q r : ℕ) (b : Bool) → (o == q && p == r) ≡ b → slot_at new q r ≡ slot_of q r (slots header host now)
+    slot_if : (q r : ℕ) (b : Bool) → (o == q && p == r) ≡ b → slot_in_table new q r ≡ slot_of q r (slots header host now)
     slot_if q r true is = ap slot_held (there q r is) ∙ sym (subst (λ (k : ℕ). slot_of k r (slots header host now) ≡ slot_held (Some has)) (object_is q r is)
         (subst (λ (k : ℕ). slot_of o k (slots header host now) ≡ slot_held (Some has)) (page_is q r is) (ap (slot_of o p) facts.rows ∙ slot_is)))
     slot_if q r false is = ap slot_held (other q r is) ∙ s.slot q r ∙ sym (ap (slot_of q r) facts.rows ∙ slot_other header.slots o p q r (slot_of o p (slots header host past)) (slots header host past) is)
@@ -124,7 +124,7 @@ stands_put header host o p has bytes lost old new past now temporary unended s f
     ended_if q r ended true is = absurd (false≢true (sym unended ∙ subst (λ (k : ℕ). is_ended host k past ≡ true) (sym (object_is q r is)) ended))
     ended_if q r ended false is = other q r is ∙ s.ended q r ended
 
-    returned_if : (q r : ℕ) → named header ≤ q → is_ended host q past ≡ false → is_elsewhere host q past ≡ false → (b : Bool) → (o == q && p == r) ≡ b → IsHeldOf (held_at new q r) (last_return host q r now) (is_lost q r now)
+    returned_if : (q r : ℕ) → named header ≤ q → is_ended host q past ≡ false → is_heard_elsewhere host q past ≡ false → (b : Bool) → (o == q && p == r) ≡ b → IsHeldOf (held_at new q r) (last_return host q r now) (is_lost q r now)
     returned_if q r high alive own true is = held_same _ _ _ _ _ _ (there q r is) (rw is at (facts.last q r)) (rw is at (facts.gone q r)) holds
     returned_if q r high alive own false is = held_same _ _ _ _ _ _ (other q r is) (rw is at (facts.last q r)) (rw is at (facts.gone q r)) (s.returned q r high alive own)
 
@@ -159,7 +159,7 @@ stands_end header host object control old new past temporary s drops = record {
   returned = λ q r high is own. returned_if q r high (sym (own_away host object.0 q past) ∙ own) (object.0 == q) refl is;
 }
   where
-    slot_if : (q r : ℕ) (b : Bool) → (object.0 == q) ≡ b → slot_at new q r ≡ slot_of q r (slots header host (taking host object (message.Terminate control) past))
+    slot_if : (q r : ℕ) (b : Bool) → (object.0 == q) ≡ b → slot_in_table new q r ≡ slot_of q r (slots header host (taking host object (message.Terminate control) past))
     slot_if q r b is = ap slot_held (rw is at (drops.at q r)) ∙ by b ∙ sym (ap (slot_of q r) (own_slots header host object.0 (message.Terminate control) past temporary) ∙ rw is at (slot_without object.0 q r (slots header host past)))
       where
         by : (b : Bool) → slot_held (if b then None else held_at old q r) ≡ (if b then None else slot_of q r (slots header host past))
@@ -174,7 +174,7 @@ stands_end header host object control old new past temporary s drops = record {
     ended_if q r true is e = rw is at (drops.at q r)
     ended_if q r false is e = rw is at (drops.at q r) ∙ s.ended q r (rw (itself host, is) at e)
 
-    returned_if : (q r : ℕ) → named header ≤ q → is_elsewhere host q past ≡ false → (b : Bool) → (object.0 == q) ≡ b → ((host == host && object.0 == q) || is_ended host q past) ≡ false
+    returned_if : (q r : ℕ) → named header ≤ q → is_heard_elsewhere host q past ≡ false → (b : Bool) → (object.0 == q) ≡ b → ((host == host && object.0 == q) || is_ended host q past) ≡ false
         → IsHeldOf (held_at new q r) (last_return host q r (taking host object (message.Terminate control) past)) (is_lost q r past)
     returned_if q r high own true is e = absurd (false≢true (sym (rw (itself host, is) at e)))
     returned_if q r high own false is e = held_same _ _ _ _ _ _ (rw is at (drops.at q r)) (rw (itself host, is) refl) refl (s.returned q r high (rw (itself host, is) at e) own)
@@ -205,7 +205,7 @@ requested_same header host size at object control page (Some (held.Kept s)) even
 requested_same header host size at object control page (Some (held.Kept s)) events past (inr is) = leaves_all header host events _ past is (on_unread header host at object control _ page past)
 
 pub stands : (header : Header) (host : ℕ) (past : List Event) (object : ObjectId) (m : Message) (old new : SlotTable) (events : List Event)
-    → Serves header host past object m old new events → PagerStands header host new (events ++ taking host object m past)
+    → PagerServes header host past object m old new events → PagerStands header host new (events ++ taking host object m past)
 stands header host past object m old new events serves = by m serves.answered
   where
     by : (m : Message) → PagerAnswer m object old new events → PagerStands header host new (events ++ taking host object m past)

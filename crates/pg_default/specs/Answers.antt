@@ -1,7 +1,7 @@
 -- What the default pager answers to each message, and what it leaves.
 use Rattle.std.specs.Prelude.{ℕ, ◌≡◌, ◌≤◌, ◌⊎◌, ◌↔◌, List, [], ◌∷◌, length, false, Option, Some, None, IfOk, OnErr, Result, Ok, Err}
-use Rattle.pg_slots.specs.Contents.{Content, Kept, PutTold, after_put, same_content, without}
-use Rattle.pg_slots.specs.Slots.{DropsHeld, HasNoSlot, PutEffects, SlotTable, held_at, slot_at}
+use Rattle.pg_slots.specs.Contents.{Content, Kept, PutTold, after_put, content_without, same_content}
+use Rattle.pg_slots.specs.Slots.{DropsHeld, HasNoSlot, PutEffects, SlotTable, held_at, slot_in_table}
 use Rattle.pg_slots.specs.declared.answers.Put.{Put}
 use Rattle.pg_slots.specs.declared.answers.Put.TheVariants as put
 use Rattle.pg_slots.specs.declared.slot_row.Held.{Held}
@@ -19,7 +19,7 @@ use Rattle.vm_model.specs.declared.message.Channel.TheVariants.{Down}
 use Rattle.vm_model.specs.declared.message.Message.{Message}
 use Rattle.vm_model.specs.declared.message.Message.TheVariants as message
 use Rattle.vm_outside.specs.Areas.{SameAreas, Told}
-use Rattle.vm_outside.specs.Causes.{Rose}
+use Rattle.vm_outside.specs.Causes.{CountRises}
 
 -- a message from a kernel to a pager
 abbrev pub IsToPager : Message → Type 0
@@ -110,7 +110,7 @@ PagerAnswer m object old new events = ⊥
 abbrev pub after_message : Message → ObjectId → Result (Listed Event) NoMemory → Content → Content
 after_message (message.Return control page dirty keep bytes) object (Ok events) =
     after_put (Ok (became events.items)) object.0 page.0 bytes
-after_message (message.Terminate control) object (Ok events) = without object.0
+after_message (message.Terminate control) object (Ok events) = content_without object.0
 after_message m object result = same_content
 
 -- a supply has the bytes that were stored of its page
@@ -123,7 +123,7 @@ SuppliesStored object events content = Unit {0}
 abbrev pub LeavesAreas : Message → ObjectId → SlotTable → (List ℕ → Told) → (List ℕ → Told)
     → Result (Listed Event) NoMemory → Type 0
 LeavesAreas (message.Return control page dirty keep bytes) object slots before after (Ok events) =
-    PutTold (Ok (became events.items)) before after slots (slot_at slots object.0 page.0) bytes
+    PutTold (Ok (became events.items)) before after slots (slot_in_table slots object.0 page.0) bytes
 LeavesAreas m object slots before after result = SameAreas before after
 
 -- nothing is kept of the page
@@ -151,7 +151,7 @@ TellsFault (e ∷ past) = TellsFault past
 -- memory leaves the count
 pub record AnswerHasCause (before now : ℕ) (result : Result (Listed Event) NoMemory) : Type 0 where
   pub later : before ≤ now
-  pub failed : IfOk result (λ events. TellsFault events.items → Rose before now)
+  pub failed : IfOk result (λ events. TellsFault events.items → CountRises before now)
   pub spared : IfOk result (λ events. (TellsFault events.items → ⊥) → now ≡ before)
   pub same : OnErr result (now ≡ before)
 

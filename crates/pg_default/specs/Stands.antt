@@ -1,7 +1,7 @@
 -- When the slots of a pager stand for a history on its host, and what of each page that history has stored.
 use Rattle.std.specs.Prelude.{ℕ, ◌≡◌, ◌≢◌, ◌<◌, ◌≤◌, ◌⊎◌, ◌==◌, ◌&&◌, ◌||◌, not, nat_lt, Bool, true, false, List, [], ◌∷◌, Option, Some, None, if◌then◌else◌}
-use Rattle.pg_slots.specs.Contents.{Agrees, Content, IsTold, Kept, Lost, SlotsFit, Stored}
-use Rattle.pg_slots.specs.Slots.{SlotTable, held_at, slot_at}
+use Rattle.pg_slots.specs.Contents.{AgreesWithContent, Content, IsAreaTold, Kept, Lost, SlotsFit, Stored}
+use Rattle.pg_slots.specs.Slots.{SlotTable, held_at, slot_in_table}
 use Rattle.pg_slots.specs.declared.slot_row.Held.{Held}
 use Rattle.pg_slots.specs.declared.slot_row.Held.TheVariants as held
 use Rattle.vm_base.specs.declared.ids.ObjectId.{ObjectId}
@@ -25,11 +25,11 @@ is_ended host o (event.Taken (Up at object) (message.Terminate control) ∷ past
 is_ended host o (e ∷ past) = is_ended host o past
 
 -- the pager of another host took a message about the object
-abbrev pub is_elsewhere : ℕ → ℕ → List Event → Bool
-is_elsewhere host o [] = false
-is_elsewhere host o (event.Taken (Up at object) m ∷ past) =
-    (not (at.0 == host) && object.0 == o) || is_elsewhere host o past
-is_elsewhere host o (e ∷ past) = is_elsewhere host o past
+abbrev pub is_heard_elsewhere : ℕ → ℕ → List Event → Bool
+is_heard_elsewhere host o [] = false
+is_heard_elsewhere host o (event.Taken (Up at object) m ∷ past) =
+    (not (at.0 == host) && object.0 == o) || is_heard_elsewhere host o past
+is_heard_elsewhere host o (e ∷ past) = is_heard_elsewhere host o past
 
 -- what is held of a page, by its last return and whether that was lost
 abbrev pub IsHeldOf : Option Held → Option (List ℕ) → Bool → Type 0
@@ -46,10 +46,10 @@ pub record PagerStands (header : Header) (host : ℕ) (slots : SlotTable) (past 
   pub host_is : slots.host ≡ host
   pub size : slots.size ≡ header.size
   pub count : slots.count ≡ header.slots
-  pub slot : (o p : ℕ) → slot_at slots o p ≡ slot_of_page header host o p past
+  pub slot : (o p : ℕ) → slot_in_table slots o p ≡ slot_of_page header host o p past
   pub declared : (o p : ℕ) → o < named header → held_at slots o p ≡ None
   pub ended : (o p : ℕ) → is_ended host o past ≡ true → held_at slots o p ≡ None
-  pub returned : (o p : ℕ) → named header ≤ o → is_ended host o past ≡ false → is_elsewhere host o past ≡ false
+  pub returned : (o p : ℕ) → named header ≤ o → is_ended host o past ≡ false → is_heard_elsewhere host o past ≡ false
       → IsHeldOf (held_at slots o p) (last_return host o p past) (is_lost o p past)
 
 abbrev pub stored_of : Option (List ℕ) → Bool → Option Stored
@@ -67,21 +67,21 @@ taking host object m past = event.Taken (up host object.0) m ∷ past
 
 -- a pager whose slots stand for a history answers a message about a temporary object of its host, of which it
 -- didn't take the end before
-pub record Serves (header : Header) (host : ℕ) (past : List Event) (object : ObjectId) (m : Message) (old new : SlotTable) (events : List Event) : Type 0 where
+pub record PagerServes (header : Header) (host : ℕ) (past : List Event) (object : ObjectId) (m : Message) (old new : SlotTable) (events : List Event) : Type 0 where
   pub temporary : named header ≤ object.0
   pub unended : is_ended host object.0 past ≡ false
-  pub own : is_elsewhere host object.0 past ≡ false
+  pub own : is_heard_elsewhere host object.0 past ≡ false
   pub stands : PagerStands header host old past
   pub answered : PagerAnswer m object old new events
 
 -- slots and backing fit one content, where they fitted another before
 pub record CarriesOver (before after : List ℕ → Told) (old new : SlotTable) (was now : Content) : Type 0 where
-  pub agrees : Agrees old was → Agrees new now
-  pub fits : IsTold before old → SlotsFit before old was → SlotsFit after new now
+  pub agrees : AgreesWithContent old was → AgreesWithContent new now
+  pub fits : IsAreaTold before old → SlotsFit before old was → SlotsFit after new now
 
 -- the object is declared, or another host's
 abbrev pub IsForeign : Header → ℕ → ℕ → List Event → Type 0
-IsForeign header host o past = (o < named header) ⊎ (is_elsewhere host o past ≡ true)
+IsForeign header host o past = (o < named header) ⊎ (is_heard_elsewhere host o past ≡ true)
 
 -- an event in which the pager of the host has no part, as far as temporary objects go
 abbrev pub IsOther : Header → ℕ → Event → List Event → Type 0
@@ -93,4 +93,4 @@ IsOther header host other past = Unit {0}
 -- what other hosts' pagers took messages about was never returned to this one
 abbrev pub IsApart : Header → ℕ → List Event → Type 0
 IsApart header host past =
-    (o p : ℕ) → named header ≤ o → is_elsewhere host o past ≡ true → last_return host o p past ≡ None
+    (o p : ℕ) → named header ≤ o → is_heard_elsewhere host o past ≡ true → last_return host o p past ≡ None

@@ -1,8 +1,8 @@
 // That what a default pager answers is a step of a legal history.
 ghost use Rattle.std.specs.Prelude.{ℕ, ◌≡◌, ◌++◌, true, List, [], ◌∷◌, None, Ok};
 ghost use Rattle.pg_default.specs.Answers.{SuppliesStored, after_message};
-ghost use Rattle.pg_default.specs.Stands.{CarriesOver, IsApart, IsOther, PagerStands, Serves, content_of, taking};
-ghost use Rattle.pg_slots.specs.Contents.{Carries};
+ghost use Rattle.pg_default.specs.Stands.{CarriesOver, IsApart, IsOther, PagerServes, PagerStands, content_of, taking};
+ghost use Rattle.pg_slots.specs.Contents.{CarriesContent};
 ghost use Rattle.pg_slots.specs.Slots.{SlotTable};
 ghost use Rattle.vm_base.specs.Listing.{Listed};
 ghost use Rattle.vm_base.specs.declared.ids.ObjectId.{ObjectId};
@@ -28,7 +28,7 @@ pub fn answers_are_legal()
     ensures start { (header : Header) (host : ℕ)
         → PagerStands header host (record { host = host; size = header.size; count = header.slots; rows = [] }) [] }
     ensures stands { (header : Header) (host : ℕ) (past : List Event) (object : ObjectId) (m : Message) (old new : SlotTable) (events : List Event)
-        → Serves header host past object m old new events
+        → PagerServes header host past object m old new events
         → PagerStands header host new (events ++ taking host object m past) }
 
     ensures others { (header : Header) (host : ℕ) (slots : SlotTable) (e : Event) (past : List Event)
@@ -36,14 +36,14 @@ pub fn answers_are_legal()
 
     // Where the paging area tells, a supply must have the bytes that were stored.
     ensures causes { (header : Header) (outside : Outside) (doing : Command) (host : ℕ) (past : List Event) (object : ObjectId) (m : Message) (old new : SlotTable) (events : List Event)
-        → Serves header host past object m old new events
+        → PagerServes header host past object m old new events
         → (outside.paging ≡ true → SuppliesStored object events (content_of header host past))
         → AllLicensed header outside doing events (taking host object m past) }
     ensures paid { (header : Header) (host : ℕ) (past : List Event) (object : ObjectId) (m : Message) (old new : SlotTable) (events : List Event)
-        → Serves header host past object m old new events → IsPaid header (events ++ taking host object m past) }
+        → PagerServes header host past object m old new events → IsPaid header (events ++ taking host object m past) }
     ensures carries { (header : Header) (host : ℕ) (past : List Event) (object : ObjectId) (m : Message) (old new : SlotTable) (events : Listed Event) (before after : List ℕ → Told)
-        → Serves header host past object m old new events.items
-        → Carries before after old new (after_message m object (Ok events))
+        → PagerServes header host past object m old new events.items
+        → CarriesContent before after old new (after_message m object (Ok events))
         → CarriesOver before after old new (content_of header host past) (content_of header host (events.items ++ taking host object m past)) }
     ensures others_carry { (header : Header) (host : ℕ) (slots : SlotTable) (e : Event) (past : List Event) (areas : List ℕ → Told) → IsOther header host e past → IsApart header host (e ∷ past)
         → CarriesOver areas areas slots slots (content_of header host past) (content_of header host (e ∷ past)) }

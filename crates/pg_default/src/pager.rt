@@ -1,7 +1,7 @@
 // The default pager of a host.
 ghost use Rattle.std.specs.Prelude.{ℕ, ◌≡◌, ◌<◌, ◌≤◌, [], List, None, IfOk, OnErr, false, length};
 ghost use Rattle.pg_default.specs.Answers.{AnswerHasCause, EndsInReply, IsToPager, LeavesAreas, LeavesBacking, PagerAnswer, ReturnsWhole, SuppliesStored, after_message};
-ghost use Rattle.pg_slots.specs.Contents.{Carries, Content, IsTold, SlotsFit};
+ghost use Rattle.pg_slots.specs.Contents.{CarriesContent, Content, IsAreaTold, SlotsFit};
 ghost use Rattle.pg_slots.specs.Slots.{KeepsShape};
 ghost use Rattle.vm_base.specs.Limits.{most_hosts, most_slots};
 ghost use Rattle.vm_outside.specs.Areas.{Told};
@@ -72,8 +72,8 @@ impl DefaultPager {
         ensures err { OnErr result (self.new ≡ self.old) }
 
         // What the backing tells.
-        ensures fits { Carries (P.area paging.old) (P.area paging.new) self.old self.new (after_message message.now object result) }
-        ensures bytes { IfOk result (λ events. (content : Content) → IsTold (P.area paging.old) self.old
+        ensures fits { CarriesContent (P.area paging.old) (P.area paging.new) self.old self.new (after_message message.now object result) }
+        ensures bytes { IfOk result (λ events. (content : Content) → IsAreaTold (P.area paging.old) self.old
             → SlotsFit (P.area paging.old) self.old content → SuppliesStored object events.items content) }
         ensures told { LeavesAreas message.now object self.new (P.area paging.old) (P.area paging.new) result }
         ensures cause { AnswerHasCause (P.faults paging.old) (P.faults paging.new) result }

@@ -5,7 +5,7 @@ use Rattle.std.proofs.lemmas.Option.{none-some, same_Some}
 use Rattle.std.specs.Prelude.{MatchOption}
 use Rattle.pg_slots.proofs.Marks.{MayHave, length_marks, marked_inside, marks_dropped, marks_lost, marks_put}
 use Rattle.pg_slots.specs.Kept.{AllMarked, AreMarked, AreSlotRows, DropsRows, FreesSlots, IsUnmarked, PutsRow, slot_among}
-use Rattle.pg_slots.specs.Slots.{GoesTo, HasNoSlot, IsLowestFree, SlotTable, slot_of}
+use Rattle.pg_slots.specs.Slots.{GoesTo, HasNoSlot, IsLowestFree, SlotTable, held_slot}
 use Rattle.pg_slots.specs.declared.slot_row.Held.{Held}
 use Rattle.pg_slots.specs.declared.slot_row.Held.TheVariants.{Lost}
 use Rattle.pg_slots.specs.declared.slot_row.SlotRow.{SlotRow}
@@ -58,7 +58,7 @@ gets_read host size rows taken key s (Some t) marks is same =
 pub gets : (host size : ℕ) (rows : List SlotRow) (taken : List Bool) (slots : SlotTable) (key : PageKey) (s : ℕ) → shown host size rows taken ≡ slots → AreMarked rows taken → GoesTo slots key.object.0 key.page.0 s → Gets rows taken key s
 gets host size rows taken slots key s view marks goes = gets_read host size rows taken key s (slot_among key.object.0 key.page.0 rows) marks refl (rw (← view) at goes)
 
-pub kept_put : (host : ℕ) (key : PageKey) (held : Held) (s : ℕ) (old between new : List SlotRow) (taken left : List Bool) → between ≡ old → PutsRow key.object.0 key.page.0 held between new → slot_of (Some held) ≡ Some s → left ≡ set taken s true → Gets old taken key s
+pub kept_put : (host : ℕ) (key : PageKey) (held : Held) (s : ℕ) (old between new : List SlotRow) (taken left : List Bool) → between ≡ old → PutsRow key.object.0 key.page.0 held between new → held_slot (Some held) ≡ Some s → left ≡ set taken s true → Gets old taken key s
     → AreSlotRows host old taken → AreSlotRows host new left
 kept_put host key held s old between new taken left same puts slot is get kept = rw is (record {
   host_low = kept.host_low;

@@ -5,9 +5,9 @@ use Rattle.std.proofs.lemmas.Option.{same_Some}
 use Rattle.std.specs.Result.{is_err}
 use Rattle.std.specs.Prelude.{IsSome, unwrap_or}
 use Rattle.pg_slots.proofs.Choices.{Gets, shown}
-use Rattle.pg_slots.specs.Contents.{Agrees, Carries, Content, IsHeldAs, IsTold, Kept, Lost, SlotsFit, Stored, area_name, same_content, with_stored}
+use Rattle.pg_slots.specs.Contents.{AgreesWithContent, CarriesContent, Content, IsAreaTold, IsHeldAs, Kept, Lost, SlotsFit, Stored, area_name, same_content, with_stored}
 use Rattle.pg_slots.specs.Kept.{PutsRow}
-use Rattle.pg_slots.specs.Slots.{PutsHeld, SlotTable, held_among, held_at, slot_of}
+use Rattle.pg_slots.specs.Slots.{PutsHeld, SlotTable, held_among, held_at, held_slot}
 use Rattle.pg_slots.specs.declared.slot_row.Held.{Held}
 use Rattle.pg_slots.specs.declared.slot_row.Held.TheVariants as held
 use Rattle.pg_slots.specs.declared.slot_row.SlotRow.{SlotRow}
@@ -75,7 +75,7 @@ written_here before after name size s bytes wrote whole was now told tells =
 same_held : (c d m n : ℕ) (h k : Option Held) (x y : Option Stored) → d ≡ c → n ≡ m → k ≡ h → y ≡ x → IsHeldAs c m h x → IsHeldAs d n k y
 same_held c d m n h k x y one two three four is = rw (one, two, three, four) is
 
-agrees_put : (old new : SlotTable) (o p : ℕ) (has : Held) (stored : Stored) (content : Content) → PutsHeld o p has old new → IsHeldAs old.count old.size (Some has) (Some stored) → Agrees old content → Agrees new (with_stored o p stored content)
+agrees_put : (old new : SlotTable) (o p : ℕ) (has : Held) (stored : Stored) (content : Content) → PutsHeld o p has old new → IsHeldAs old.count old.size (Some has) (Some stored) → AgreesWithContent old content → AgreesWithContent new (with_stored o p stored content)
 agrees_put old new o p has stored content puts is agrees = record {
   at = λ q r. ⊎_elim
       (λ (here : (o == q && p == r) ≡ true).
@@ -94,7 +94,7 @@ abbrev pub ReadsPut : (List ℕ → Told) → (List ℕ → Told) → SlotTable 
 ReadsPut before after old has stored =
     (t : ℕ) (bytes : List ℕ) → has ≡ held.Kept t → stored ≡ Kept bytes → (was now : Option (List ℕ)) → before (area_name old.host) ≡ Some was → after (area_name old.host) ≡ Some now → read_at (unwrap_or now []) (t * old.size) old.size ≡ bytes
 
-has_put : (before after : List ℕ → Told) (old new : SlotTable) (o p : ℕ) (has : Held) (stored : Stored) (content : Content) → PutsHeld o p has old new → OthersAlike before after old o p → ReadsPut before after old has stored → IsTold before old → SlotsFit before old content
+has_put : (before after : List ℕ → Told) (old new : SlotTable) (o p : ℕ) (has : Held) (stored : Stored) (content : Content) → PutsHeld o p has old new → OthersAlike before after old o p → ReadsPut before after old has stored → IsAreaTold before old → SlotsFit before old content
     → (q r t : ℕ) (bytes : List ℕ) → held_at new q r ≡ Some (held.Kept t) → with_stored o p stored content q r ≡ Some (Kept bytes) → (now : Option (List ℕ)) → after (area_name old.host) ≡ Some now → read_at (unwrap_or now []) (t * old.size) old.size ≡ bytes
 has_put before after old new o p has stored content puts others here told fits q r t bytes holds is now tells =
     let first = there (before (area_name old.host)) told in
@@ -107,7 +107,7 @@ has_put before after old new o p has stored content puts others here told fits q
     (cases_Bool (o == q && p == r))
 
 carried_put : (before after : List ℕ → Told) (old new : SlotTable) (o p : ℕ) (has : Held) (stored : Stored) → PutsHeld o p has old new → IsHeldAs old.count old.size (Some has) (Some stored) → OthersAlike before after old o p → ReadsPut before after old has stored
-    → Carries before after old new (with_stored o p stored)
+    → CarriesContent before after old new (with_stored o p stored)
 carried_put before after old new o p has stored puts is others here = record {
   agrees = λ content agrees. agrees_put old new o p has stored content puts is agrees;
   fits = λ content told fits. record {
@@ -121,7 +121,7 @@ puts_held : (host size : ℕ) (old new : List SlotRow) (taken left : List Bool) 
 puts_held host size old new taken left o p has puts same = record { host = refl; size = refl; count = same; at = puts.at }
 
 pub carried_lost : (areas : List ℕ → Told) (host size : ℕ) (old between new : List SlotRow) (taken : List Bool) (slots : SlotTable) (key : PageKey) → shown host size old taken ≡ slots → between ≡ old → PutsRow key.object.0 key.page.0 held.Lost between new
-    → Carries areas areas slots (shown host size new taken) (with_stored key.object.0 key.page.0 Lost)
+    → CarriesContent areas areas slots (shown host size new taken) (with_stored key.object.0 key.page.0 Lost)
 carried_lost areas host size old between new taken slots key view same puts =
     rw (← view) (carried_put areas areas (shown host size old taken) (shown host size new taken) key.object.0 key.page.0 held.Lost Lost
     (puts_held host size old new taken taken key.object.0 key.page.0 held.Lost (rw same at puts) refl) tt
@@ -130,11 +130,11 @@ carried_lost areas host size old between new taken slots key view same puts =
 
 -- the slot of a page is not that of another
 differs : (old : List SlotRow) (taken : List Bool) (key : PageKey) (s q r t : ℕ) → Gets old taken key s → (key.object.0 == q && key.page.0 == r) ≡ false → held_among q r old ≡ Some (held.Kept t) → s ≢ t
-differs old taken key s q r t get apart was same = false≢true (sym apart ∙ get.may.only q r (ap slot_of was ∙ ap Some (sym same)))
+differs old taken key s q r t get apart was same = false≢true (sym apart ∙ get.may.only q r (ap held_slot was ∙ ap Some (sym same)))
 
 pub carried_kept : (before after : List ℕ → Told) (host size : ℕ) (old between new : List SlotRow) (taken left : List Bool) (slots : SlotTable) (key : PageKey) (s : ℕ) (bytes : List ℕ) → shown host size old taken ≡ slots → between ≡ old
     → PutsRow key.object.0 key.page.0 (held.Kept s) between new → length left ≡ length taken → Gets old taken key s → length bytes ≡ slots.size → WriteTold before after (area_name host) (s * size) bytes (Ok tt)
-    → Carries before after slots (shown host size new left) (with_stored key.object.0 key.page.0 (Kept bytes))
+    → CarriesContent before after slots (shown host size new left) (with_stored key.object.0 key.page.0 (Kept bytes))
 carried_kept before after host size old between new taken left slots key s bytes view same puts count get whole wrote =
     let fits : length bytes ≡ size = whole ∙ ap (λ (z : SlotTable). z.size) (sym view) in
     rw (← view) (carried_put before after (shown host size old taken) (shown host size new left) key.object.0 key.page.0 (held.Kept s) (Kept bytes)
@@ -147,7 +147,7 @@ carried_kept before after host size old between new taken left slots key s bytes
 
 pub carried_torn : (before after : List ℕ → Told) (host size : ℕ) (old between new : List SlotRow) (taken left : List Bool) (slots : SlotTable) (key : PageKey) (s : ℕ) (bytes : List ℕ) → shown host size old taken ≡ slots → between ≡ old
     → PutsRow key.object.0 key.page.0 (held.Torn s) between new → length left ≡ length taken → Gets old taken key s → length bytes ≡ slots.size → WriteTold before after (area_name host) (s * size) bytes (Err stop.Failed)
-    → Carries before after slots (shown host size new left) (with_stored key.object.0 key.page.0 Lost)
+    → CarriesContent before after slots (shown host size new left) (with_stored key.object.0 key.page.0 Lost)
 carried_torn before after host size old between new taken left slots key s bytes view same puts count get whole wrote =
     let fits : length bytes ≡ size = whole ∙ ap (λ (z : SlotTable). z.size) (sym view) in
     rw (← view) (carried_put before after (shown host size old taken) (shown host size new left) key.object.0 key.page.0 (held.Torn s) Lost
@@ -155,7 +155,7 @@ carried_torn before after host size old between new taken left slots key s bytes
     (λ q r t apart was. alike_torn before after (area_name host) size s t bytes wrote fits (differs old taken key s q r t get apart was))
     (λ t kept one two. absurd (cc two)))
 
-pub carried_same : (before after : List ℕ → Told) (slots : SlotTable) → SameAreas before after → Carries before after slots slots same_content
+pub carried_same : (before after : List ℕ → Told) (slots : SlotTable) → SameAreas before after → CarriesContent before after slots slots same_content
 carried_same before after slots same = record {
   agrees = λ content agrees. agrees;
   fits = λ content told fits. record {
@@ -178,7 +178,7 @@ kept_of count size s (Some Lost) is = absurd is
 
 -- a page that is read has the bytes that were stored of it
 pub given : (before after : List ℕ → Told) (slots : SlotTable) (o p s : ℕ) (buffer page : List ℕ) (content : Content) → held_at slots o p ≡ Some (held.Kept s) → ReadTold before after (area_name slots.host) (s * slots.size) buffer (Ok tt) → length buffer ≡ slots.size → page ≡ buffer
-    → IsTold before slots → SlotsFit before slots content → content o p ≡ Some (Kept page)
+    → IsAreaTold before slots → SlotsFit before slots content → content o p ≡ Some (Kept page)
 given before after slots o p s buffer page content has read whole same told fits =
     let first = there (before (area_name slots.host)) told in
     let kept = kept_of slots.count slots.size s (content o p) (rw has at (fits.agrees.at o p)) in

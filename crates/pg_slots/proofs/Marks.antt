@@ -4,8 +4,8 @@ use Rattle.std.proofs.lemmas.Bool.{cases_Bool, cases_eq, false≢true}
 use Rattle.std.proofs.lemmas.Bool.Decides.{nat_tests}
 use Rattle.std.proofs.lemmas.Option.{none-some, same_Some}
 use Rattle.pg_slots.proofs.Places.{none_among}
-use Rattle.pg_slots.specs.Kept.{AreMarked, ByKey, DropsRows, FreesSlots, HasRow, PutsRow, freed, freed_row, is_marked, slot_among, unmarked}
-use Rattle.pg_slots.specs.Slots.{slot_of}
+use Rattle.pg_slots.specs.Kept.{AreMarked, ByKey, DropsRows, FreesSlots, HasRow, PutsRow, freed, freed_row, is_slot_marked, slot_among, unmarked}
+use Rattle.pg_slots.specs.Slots.{held_slot}
 use Rattle.pg_slots.specs.declared.slot_row.Held.{Held}
 use Rattle.pg_slots.specs.declared.slot_row.Held.TheVariants.{Lost}
 use Rattle.pg_slots.specs.declared.slot_row.SlotRow.{SlotRow}
@@ -14,25 +14,25 @@ use Rattle.vm_base.specs.Keys.{is_page}
 use Rattle.vm_base.specs.declared.ids.PageKey.{PageKey}
 
 -- what a mark that is set leaves
-mark_same : (taken : List Bool) (s : ℕ) (mark : Bool) → s < length taken → is_marked (set taken s mark) s ≡ mark
+mark_same : (taken : List Bool) (s : ℕ) (mark : Bool) → s < length taken → is_slot_marked (set taken s mark) s ≡ mark
 mark_same [] s mark less = absurd (omega arith)
 mark_same (x ∷ xs) zero mark less = refl
 mark_same (x ∷ xs) (suc s) mark less = mark_same xs s mark (omega arith)
 
-mark_other : (taken : List Bool) (s t : ℕ) (mark : Bool) → s ≢ t → is_marked (set taken s mark) t ≡ is_marked taken t
+mark_other : (taken : List Bool) (s t : ℕ) (mark : Bool) → s ≢ t → is_slot_marked (set taken s mark) t ≡ is_slot_marked taken t
 mark_other [] s t mark differ = refl
 mark_other (x ∷ xs) zero zero mark differ = absurd (differ refl)
 mark_other (x ∷ xs) zero (suc t) mark differ = refl
 mark_other (x ∷ xs) (suc s) zero mark differ = refl
 mark_other (x ∷ xs) (suc s) (suc t) mark differ = mark_other xs s t mark (λ e. differ (ap suc e))
 
-pub marked_inside : (taken : List Bool) (s : ℕ) → is_marked taken s ≡ true → s < length taken
+pub marked_inside : (taken : List Bool) (s : ℕ) → is_slot_marked taken s ≡ true → s < length taken
 marked_inside [] s is = absurd (false≢true is)
 marked_inside (x ∷ xs) zero is = omega arith
 marked_inside (x ∷ xs) (suc s) is = let less = marked_inside xs s is in omega arith
 
 -- a mark that is taken is gone
-mark_gone : (taken : List Bool) (s : ℕ) → is_marked (set taken s false) s ≡ false
+mark_gone : (taken : List Bool) (s : ℕ) → is_slot_marked (set taken s false) s ≡ false
 mark_gone [] s = refl
 mark_gone (x ∷ xs) zero = refl
 mark_gone (x ∷ xs) (suc s) = mark_gone xs s
@@ -42,7 +42,7 @@ length_marks [] s mark = refl
 length_marks (x ∷ xs) zero mark = refl
 length_marks (x ∷ xs) (suc s) mark = ap suc (length_marks xs s mark)
 
-mark_kept : (taken : List Bool) (s t : ℕ) → is_marked taken t ≡ true → is_marked (set taken s true) t ≡ true
+mark_kept : (taken : List Bool) (s t : ℕ) → is_slot_marked taken t ≡ true → is_slot_marked (set taken s true) t ≡ true
 mark_kept taken s t is =
     ⊎_elim
     (λ (same : s ≡ t). rw same (mark_same taken t true (marked_inside taken t is)))
@@ -50,14 +50,14 @@ mark_kept taken s t is =
     (cases_eq s t)
 
 -- the slots after a row was put
-slot_here : (key : PageKey) (held : Held) (old new : List SlotRow) (o p : ℕ) → PutsRow key.object.0 key.page.0 held old new → is_page key o p ≡ true → slot_among o p new ≡ slot_of (Some held)
-slot_here key held old new o p puts here = ap slot_of (rw here at (puts.at o p))
+slot_here : (key : PageKey) (held : Held) (old new : List SlotRow) (o p : ℕ) → PutsRow key.object.0 key.page.0 held old new → is_page key o p ≡ true → slot_among o p new ≡ held_slot (Some held)
+slot_here key held old new o p puts here = ap held_slot (rw here at (puts.at o p))
 
 slot_apart : (key : PageKey) (held : Held) (old new : List SlotRow) (o p : ℕ) → PutsRow key.object.0 key.page.0 held old new → is_page key o p ≡ false → slot_among o p new ≡ slot_among o p old
-slot_apart key held old new o p puts apart = ap slot_of (rw apart at (puts.at o p))
+slot_apart key held old new o p puts apart = ap held_slot (rw apart at (puts.at o p))
 
 -- the slot of the page that was put
-pub slot_put : (key : PageKey) (held : Held) (old new : List SlotRow) (s t : ℕ) → PutsRow key.object.0 key.page.0 held old new → slot_of (Some held) ≡ Some s → slot_among key.object.0 key.page.0 new ≡ Some t → s ≡ t
+pub slot_put : (key : PageKey) (held : Held) (old new : List SlotRow) (s t : ℕ) → PutsRow key.object.0 key.page.0 held old new → held_slot (Some held) ≡ Some s → slot_among key.object.0 key.page.0 new ≡ Some t → s ≡ t
 slot_put key held old new s t puts slot has = same_Some s t (sym slot ∙ (sym (slot_here key held old new key.object.0 key.page.0 puts (itself key)) ∙ has))
 
 -- a page may have this slot: no other page has it, and the page has no other
@@ -65,8 +65,8 @@ pub record MayHave (rows : List SlotRow) (key : PageKey) (s : ℕ) : Type 0 wher
   pub only : (o p : ℕ) → slot_among o p rows ≡ Some s → is_page key o p ≡ true
   pub own : (t : ℕ) → slot_among key.object.0 key.page.0 rows ≡ Some t → t ≡ s
 
-owned_put : (key : PageKey) (held : Held) (s : ℕ) (old new : List SlotRow) (taken : List Bool) → PutsRow key.object.0 key.page.0 held old new → slot_of (Some held) ≡ Some s → MayHave old key s → AreMarked old taken
-    → (t : ℕ) → is_marked (set taken s true) t ≡ true → HasRow new t
+owned_put : (key : PageKey) (held : Held) (s : ℕ) (old new : List SlotRow) (taken : List Bool) → PutsRow key.object.0 key.page.0 held old new → held_slot (Some held) ≡ Some s → MayHave old key s → AreMarked old taken
+    → (t : ℕ) → is_slot_marked (set taken s true) t ≡ true → HasRow new t
 owned_put key held s old new taken puts slot may marks t is =
     ⊎_elim
     (λ (same : s ≡ t). record { object = key.object.0; page = key.page.0; at = slot_here key held old new key.object.0 key.page.0 puts (itself key) ∙ (slot ∙ ap Some same) })
@@ -80,7 +80,7 @@ owned_put key held s old new taken puts slot may marks t is =
     (cases_Bool (is_page key row.object row.page)))
     (cases_eq s t)
 
-apart_put : (key : PageKey) (held : Held) (s : ℕ) (old new : List SlotRow) (taken : List Bool) → PutsRow key.object.0 key.page.0 held old new → slot_of (Some held) ≡ Some s → MayHave old key s → AreMarked old taken
+apart_put : (key : PageKey) (held : Held) (s : ℕ) (old new : List SlotRow) (taken : List Bool) → PutsRow key.object.0 key.page.0 held old new → held_slot (Some held) ≡ Some s → MayHave old key s → AreMarked old taken
     → (o p q r t : ℕ) → slot_among o p new ≡ Some t → slot_among q r new ≡ Some t → (o ≡ q) × (p ≡ r)
 apart_put key held s old new taken puts slot may marks o p q r t one two =
     ⊎_elim
@@ -102,7 +102,7 @@ apart_put key held s old new taken puts slot may marks o p q r t one two =
     (cases_Bool (is_page key q r)))
     (cases_Bool (is_page key o p))
 
-pub marks_put : (key : PageKey) (held : Held) (s : ℕ) (old new : List SlotRow) (taken : List Bool) → PutsRow key.object.0 key.page.0 held old new → slot_of (Some held) ≡ Some s → s < length taken → MayHave old key s → AreMarked old taken → AreMarked new (set taken s true)
+pub marks_put : (key : PageKey) (held : Held) (s : ℕ) (old new : List SlotRow) (taken : List Bool) → PutsRow key.object.0 key.page.0 held old new → held_slot (Some held) ≡ Some s → s < length taken → MayHave old key s → AreMarked old taken → AreMarked new (set taken s true)
 marks_put key held s old new taken puts slot less may marks = record {
   marked = λ o p t is. ⊎_elim
       (λ (here : is_page key o p ≡ true).
@@ -137,7 +137,7 @@ length_unmarked (Some s) taken = length_marks taken s false
 length_freed_row : (object : ℕ) (row : SlotRow) (taken : List Bool) → length (freed_row object row taken) ≡ length taken
 length_freed_row object row taken =
     ⊎_elim
-    (λ (yes : (row.key.object.0 == object) ≡ true). rw yes (length_unmarked (slot_of (Some row.held)) taken))
+    (λ (yes : (row.key.object.0 == object) ≡ true). rw yes (length_unmarked (held_slot (Some row.held)) taken))
     (λ (no : (row.key.object.0 == object) ≡ false). rw no refl)
     (cases_Bool (row.key.object.0 == object))
 
@@ -145,7 +145,7 @@ length_freed : (object : ℕ) (rows : List SlotRow) (taken : List Bool) → leng
 length_freed object [] taken = refl
 length_freed object (x ∷ xs) taken = length_freed object xs (freed_row object x taken) ∙ length_freed_row object x taken
 
-unmarked_left : (slot : Option ℕ) (taken : List Bool) (s : ℕ) → is_marked (unmarked slot taken) s ≡ true → is_marked taken s ≡ true
+unmarked_left : (slot : Option ℕ) (taken : List Bool) (s : ℕ) → is_slot_marked (unmarked slot taken) s ≡ true → is_slot_marked taken s ≡ true
 unmarked_left None taken s is = is
 unmarked_left (Some t) taken s is =
     ⊎_elim
@@ -153,18 +153,18 @@ unmarked_left (Some t) taken s is =
     (λ (differ : t ≡ s → ⊥). sym (mark_other taken t s false differ) ∙ is)
     (cases_eq t s)
 
-row_left : (object : ℕ) (row : SlotRow) (taken : List Bool) (s : ℕ) → is_marked (freed_row object row taken) s ≡ true → is_marked taken s ≡ true
+row_left : (object : ℕ) (row : SlotRow) (taken : List Bool) (s : ℕ) → is_slot_marked (freed_row object row taken) s ≡ true → is_slot_marked taken s ≡ true
 row_left object row taken s is =
     ⊎_elim
-    (λ (same : (row.key.object.0 == object) ≡ true). unmarked_left (slot_of (Some row.held)) taken s (rw same at is))
+    (λ (same : (row.key.object.0 == object) ≡ true). unmarked_left (held_slot (Some row.held)) taken s (rw same at is))
     (λ (other : (row.key.object.0 == object) ≡ false). rw other at is)
     (cases_Bool (row.key.object.0 == object))
 
-freed_left : (object : ℕ) (rows : List SlotRow) (taken : List Bool) (s : ℕ) → is_marked (freed object rows taken) s ≡ true → is_marked taken s ≡ true
+freed_left : (object : ℕ) (rows : List SlotRow) (taken : List Bool) (s : ℕ) → is_slot_marked (freed object rows taken) s ≡ true → is_slot_marked taken s ≡ true
 freed_left object [] taken s is = is
 freed_left object (x ∷ xs) taken s is = row_left object x taken s (freed_left object xs (freed_row object x taken) s is)
 
-unmarked_kept : (slot : Option ℕ) (taken : List Bool) (s : ℕ) → (slot ≡ Some s → ⊥) → is_marked taken s ≡ true → is_marked (unmarked slot taken) s ≡ true
+unmarked_kept : (slot : Option ℕ) (taken : List Bool) (s : ℕ) → (slot ≡ Some s → ⊥) → is_slot_marked taken s ≡ true → is_slot_marked (unmarked slot taken) s ≡ true
 unmarked_kept None taken s other is = is
 unmarked_kept (Some t) taken s other is = mark_other taken t s false (λ e. other (ap Some e)) ∙ is
 
@@ -172,16 +172,16 @@ unmarked_kept (Some t) taken s other is = mark_other taken t s false (λ e. othe
 own_page : (row : SlotRow) (object : ℕ) → (row.key.object.0 == object) ≡ true → is_page row.key object row.key.page.0 ≡ true
 own_page row object same = grind (arith, nat_tests)
 
-row_kept : (object : ℕ) (x : SlotRow) (xs : List SlotRow) (taken : List Bool) (s : ℕ) → ((p : ℕ) → slot_among object p (x ∷ xs) ≡ Some s → ⊥) → is_marked taken s ≡ true → is_marked (freed_row object x taken) s ≡ true
+row_kept : (object : ℕ) (x : SlotRow) (xs : List SlotRow) (taken : List Bool) (s : ℕ) → ((p : ℕ) → slot_among object p (x ∷ xs) ≡ Some s → ⊥) → is_slot_marked taken s ≡ true → is_slot_marked (freed_row object x taken) s ≡ true
 row_kept object x xs taken s other is =
     ⊎_elim
     (λ (same : (x.key.object.0 == object) ≡ true).
     let here = own_page x object same in
-    rw same (unmarked_kept (slot_of (Some x.held)) taken s (λ e. other x.key.page.0 (rw here e)) is))
+    rw same (unmarked_kept (held_slot (Some x.held)) taken s (λ e. other x.key.page.0 (rw here e)) is))
     (λ (apart : (x.key.object.0 == object) ≡ false). rw apart is)
     (cases_Bool (x.key.object.0 == object))
 
-freed_kept : (object low from : ℕ) (rows : List SlotRow) (taken : List Bool) (s : ℕ) → ByKey low from rows → ((p : ℕ) → slot_among object p rows ≡ Some s → ⊥) → is_marked taken s ≡ true → is_marked (freed object rows taken) s ≡ true
+freed_kept : (object low from : ℕ) (rows : List SlotRow) (taken : List Bool) (s : ℕ) → ByKey low from rows → ((p : ℕ) → slot_among object p rows ≡ Some s → ⊥) → is_slot_marked taken s ≡ true → is_slot_marked (freed object rows taken) s ≡ true
 freed_kept object low from [] taken s by_key other is = is
 freed_kept object low from (x ∷ xs) taken s by_key other is =
     let rest : (p : ℕ) → slot_among object p xs ≡ Some s → ⊥
@@ -189,20 +189,20 @@ freed_kept object low from (x ∷ xs) taken s by_key other is =
     (λ (here : is_page x.key object p ≡ true).
     let read = page_read x.key object p here in
     let none = none_among x.key.object.0 (suc x.key.page.0) object p xs by_key.1 (record { above = omega (arith, read.object); inside = λ le. omega (arith, read.page) }) in
-    none-some s (sym (ap slot_of none) ∙ has))
+    none-some s (sym (ap held_slot none) ∙ has))
     (λ (apart : is_page x.key object p ≡ false). other p (rw apart has))
     (cases_Bool (is_page x.key object p)) in
     freed_kept object x.key.object.0 (suc x.key.page.0) xs (freed_row object x taken) s by_key.1 rest (row_kept object x xs taken s other is)
 
 -- the row's slot has no mark afterwards
-row_gone : (object p : ℕ) (row : SlotRow) (taken : List Bool) (s : ℕ) → is_page row.key object p ≡ true → slot_of (Some row.held) ≡ Some s → is_marked (freed_row object row taken) s ≡ false
+row_gone : (object p : ℕ) (row : SlotRow) (taken : List Bool) (s : ℕ) → is_page row.key object p ≡ true → held_slot (Some row.held) ≡ Some s → is_slot_marked (freed_row object row taken) s ≡ false
 row_gone object p row taken s here slot =
     let read = page_read row.key object p here in
     let e = read.object in
     let same : (row.key.object.0 == object) ≡ true = grind (arith, nat_tests) in
     rw (same, slot) (mark_gone taken s)
 
-freed_gone : (object : ℕ) (rows : List SlotRow) (taken : List Bool) (p s : ℕ) → is_marked (freed object rows taken) s ≡ true → slot_among object p rows ≡ Some s → ⊥
+freed_gone : (object : ℕ) (rows : List SlotRow) (taken : List Bool) (p s : ℕ) → is_slot_marked (freed object rows taken) s ≡ true → slot_among object p rows ≡ Some s → ⊥
 freed_gone object [] taken p s is has = none-some s has
 freed_gone object (x ∷ xs) taken p s is has =
     ⊎_elim
@@ -223,12 +223,12 @@ frees object rows taken by_key = record {
 slot_gone : (object : ℕ) (old new : List SlotRow) (o p s : ℕ) → DropsRows object old new → slot_among o p new ≡ Some s → (object == o) ≡ false
 slot_gone object old new o p s drops is =
     ⊎_elim
-    (λ (here : (object == o) ≡ true). absurd (none-some s (sym (ap slot_of (rw here at (drops.at o p))) ∙ is)))
+    (λ (here : (object == o) ≡ true). absurd (none-some s (sym (ap held_slot (rw here at (drops.at o p))) ∙ is)))
     (λ (apart : (object == o) ≡ false). apart)
     (cases_Bool (object == o))
 
 slot_stays : (object : ℕ) (old new : List SlotRow) (o p : ℕ) → DropsRows object old new → (object == o) ≡ false → slot_among o p new ≡ slot_among o p old
-slot_stays object old new o p drops apart = ap slot_of (rw apart at (drops.at o p))
+slot_stays object old new o p drops apart = ap held_slot (rw apart at (drops.at o p))
 
 -- the slot of a row that stays
 slot_was : (object : ℕ) (old new : List SlotRow) (o p s : ℕ) → DropsRows object old new → slot_among o p new ≡ Some s → slot_among o p old ≡ Some s

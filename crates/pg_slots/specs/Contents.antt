@@ -10,7 +10,7 @@ use Rattle.pg_slots.specs.declared.slot_row.Held.TheVariants as held
 use Rattle.vm_base.specs.declared.failure.NoMemory.{NoMemory}
 use Rattle.vm_base.specs.declared.failure.WriteStop.TheVariants as stop
 use Rattle.vm_outside.specs.Areas.{SameAreas, Told, WriteTold, read_at}
-use Rattle.vm_outside.specs.Causes.{Rose}
+use Rattle.vm_outside.specs.Causes.{CountRises}
 
 -- what was stored of a page: its bytes, or that they were lost
 pub data Stored : Type 0 where
@@ -34,7 +34,7 @@ IsHeldAs count size (Some held.Lost) (Some Lost) = Unit {0}
 IsHeldAs count size has stored = ⊥
 
 -- of each page the slots hold what was stored: never, lost or kept
-pub record Agrees (slots : SlotTable) (content : Content) : Type 0 where
+pub record AgreesWithContent (slots : SlotTable) (content : Content) : Type 0 where
   pub at : (o p : ℕ) → IsHeldAs slots.count slots.size (held_at slots o p) (content o p)
 
 -- where the host's area is told, it has these bytes at a slot
@@ -45,19 +45,19 @@ HasAt told slots s bytes =
 
 -- slots and backing fit a content: they agree, and each kept page has its bytes at its slot
 pub record SlotsFit (told : List ℕ → Told) (slots : SlotTable) (content : Content) : Type 0 where
-  pub agrees : Agrees slots content
+  pub agrees : AgreesWithContent slots content
   pub bytes : (o p s : ℕ) (bytes : List ℕ) → held_at slots o p ≡ Some (held.Kept s) → content o p ≡ Some (Kept bytes)
       → HasAt told slots s bytes
 
 -- the host's area is told
-abbrev pub IsTold : (List ℕ → Told) → SlotTable → Type 0
-IsTold told slots = IsSome (told (area_name slots.host))
+abbrev pub IsAreaTold : (List ℕ → Told) → SlotTable → Type 0
+IsAreaTold told slots = IsSome (told (area_name slots.host))
 
 -- each content that slots and backing fit before a call they fit after it, as the call changes it; where the area
 -- is not told, they agree
-pub record Carries (before after : List ℕ → Told) (old new : SlotTable) (change : Content → Content) : Type 0 where
-  pub agrees : (content : Content) → Agrees old content → Agrees new (change content)
-  pub fits : (content : Content) → IsTold before old → SlotsFit before old content → SlotsFit after new (change content)
+pub record CarriesContent (before after : List ℕ → Told) (old new : SlotTable) (change : Content → Content) : Type 0 where
+  pub agrees : (content : Content) → AgreesWithContent old content → AgreesWithContent new (change content)
+  pub fits : (content : Content) → IsAreaTold before old → SlotsFit before old content → SlotsFit after new (change content)
 
 abbrev pub same_content : Content → Content
 same_content content = content
@@ -74,8 +74,8 @@ after_put (Ok put.Failed) object page bytes = with_stored object page Lost
 after_put (Err e) object page bytes = same_content
 
 -- a content with nothing of an object
-abbrev pub without : ℕ → Content → Content
-without object content = λ o p. if object == o then None else content o p
+abbrev pub content_without : ℕ → Content → Content
+content_without object content = λ o p. if object == o then None else content o p
 
 -- what a put leaves in the areas: its page's bytes at its slot, or after a fault anything there, and all else as before
 abbrev pub PutTold : Result Put NoMemory → (List ℕ → Told) → (List ℕ → Told) → SlotTable → Option ℕ → List ℕ → Type 0
@@ -89,7 +89,7 @@ PutTold (Err e) before after slots slot bytes = SameAreas before after
 -- a put fails only where the count of faults rose, and any other answer leaves the count, want of memory too
 pub record PutHasCause (before now : ℕ) (result : Result Put NoMemory) : Type 0 where
   pub later : before ≤ now
-  pub failed : result ≡ Ok put.Failed → Rose before now
+  pub failed : result ≡ Ok put.Failed → CountRises before now
   pub spared : result ≢ Ok put.Failed → now ≡ before
   pub same : OnErr result (now ≡ before)
 
@@ -123,5 +123,5 @@ GivesStored answer stored = Unit {0}
 -- a get fails only where the count of faults rose, and any other answer leaves the count
 pub record GetHasCause (before now : ℕ) (result : Result Got NoMemory) : Type 0 where
   pub later : before ≤ now
-  pub failed : result ≡ Ok got.Failed → Rose before now
+  pub failed : result ≡ Ok got.Failed → CountRises before now
   pub spared : result ≢ Ok got.Failed → now ≡ before

@@ -1,6 +1,6 @@
 -- How the slots are kept: the pages that were put by rising key, and a mark for each slot that one of them has.
 use Rattle.std.specs.Prelude.{ℕ, suc, ◌≡◌, ◌≤◌, ◌<◌, ◌==◌, ◌&&◌, Bool, true, false, List, [], ◌∷◌, Option, Some, None, if◌then◌else◌, get_or, length, set}
-use Rattle.pg_slots.specs.Slots.{held_among, slot_of}
+use Rattle.pg_slots.specs.Slots.{held_among, held_slot}
 use Rattle.pg_slots.specs.declared.slot_row.Held.{Held}
 use Rattle.pg_slots.specs.declared.slot_row.SlotRow.{SlotRow}
 use Rattle.vm_base.specs.Limits.{most_hosts, most_slots}
@@ -40,7 +40,7 @@ unmarked (Some s) taken = set taken s false
 
 -- the marks without that of the row's slot, if it is a row of the object
 abbrev pub freed_row : ℕ → SlotRow → List Bool → List Bool
-freed_row object row taken = if row.key.object.0 == object then unmarked (slot_of (Some row.held)) taken else taken
+freed_row object row taken = if row.key.object.0 == object then unmarked (held_slot (Some row.held)) taken else taken
 
 -- the marks without those of the slots of an object's rows
 abbrev pub freed : ℕ → List SlotRow → List Bool → List Bool
@@ -49,10 +49,10 @@ freed object (row ∷ rows) taken = freed object rows (freed_row object row take
 
 -- the slot of a page, among rows
 abbrev pub slot_among : ℕ → ℕ → List SlotRow → Option ℕ
-slot_among object page rows = slot_of (held_among object page rows)
+slot_among object page rows = held_slot (held_among object page rows)
 
-abbrev pub is_marked : List Bool → ℕ → Bool
-is_marked taken s = get_or taken s false
+abbrev pub is_slot_marked : List Bool → ℕ → Bool
+is_slot_marked taken s = get_or taken s false
 
 -- some row has the slot
 pub record HasRow (rows : List SlotRow) (s : ℕ) : Type 0 where
@@ -62,8 +62,8 @@ pub record HasRow (rows : List SlotRow) (s : ℕ) : Type 0 where
 
 -- the marks are those of the slots that rows have, and no two rows have the same slot
 pub record AreMarked (rows : List SlotRow) (taken : List Bool) : Type 0 where
-  pub marked : (o p s : ℕ) → slot_among o p rows ≡ Some s → is_marked taken s ≡ true
-  pub owned : (s : ℕ) → is_marked taken s ≡ true → HasRow rows s
+  pub marked : (o p s : ℕ) → slot_among o p rows ≡ Some s → is_slot_marked taken s ≡ true
+  pub owned : (s : ℕ) → is_slot_marked taken s ≡ true → HasRow rows s
   pub apart : (o p q r s : ℕ) → slot_among o p rows ≡ Some s → slot_among q r rows ≡ Some s → (o ≡ q) × (p ≡ r)
 
 pub record AreSlotRows (host : ℕ) (rows : List SlotRow) (taken : List Bool) : Type 0 where
@@ -74,17 +74,17 @@ pub record AreSlotRows (host : ℕ) (rows : List SlotRow) (taken : List Bool) : 
 -- an object's rows gave up the marks of their slots; all others are as they were
 pub record FreesSlots (object : ℕ) (rows : List SlotRow) (old new : List Bool) : Type 0 where
   pub count : length new ≡ length old
-  pub left : (s : ℕ) → is_marked new s ≡ true → is_marked old s ≡ true
-  pub freed : (p s : ℕ) → is_marked new s ≡ true → slot_among object p rows ≡ Some s → ⊥
-  pub kept : (s : ℕ) → is_marked old s ≡ true → ((p : ℕ) → slot_among object p rows ≡ Some s → ⊥)
-      → is_marked new s ≡ true
+  pub left : (s : ℕ) → is_slot_marked new s ≡ true → is_slot_marked old s ≡ true
+  pub freed : (p s : ℕ) → is_slot_marked new s ≡ true → slot_among object p rows ≡ Some s → ⊥
+  pub kept : (s : ℕ) → is_slot_marked old s ≡ true → ((p : ℕ) → slot_among object p rows ≡ Some s → ⊥)
+      → is_slot_marked new s ≡ true
 
 -- the lowest slot without a mark
 pub record IsUnmarked (taken : List Bool) (s : ℕ) : Type 0 where
   pub inside : s < length taken
-  pub free : is_marked taken s ≡ false
-  pub lowest : (t : ℕ) → t < s → is_marked taken t ≡ true
+  pub free : is_slot_marked taken s ≡ false
+  pub lowest : (t : ℕ) → t < s → is_slot_marked taken t ≡ true
 
 -- each slot has a mark
 abbrev pub AllMarked : List Bool → Type 0
-AllMarked taken = (s : ℕ) → s < length taken → is_marked taken s ≡ true
+AllMarked taken = (s : ℕ) → s < length taken → is_slot_marked taken s ≡ true

@@ -23,39 +23,39 @@ held_among object page (row ∷ rows) = if is_page row.key object page then Some
 abbrev pub held_at : SlotTable → ℕ → ℕ → Option Held
 held_at slots object page = held_among object page slots.rows
 
-abbrev pub slot_of : Option Held → Option ℕ
-slot_of None = None
-slot_of (Some (Kept slot)) = Some slot
-slot_of (Some (Torn slot)) = Some slot
-slot_of (Some Lost) = None
+abbrev pub held_slot : Option Held → Option ℕ
+held_slot None = None
+held_slot (Some (Kept slot)) = Some slot
+held_slot (Some (Torn slot)) = Some slot
+held_slot (Some Lost) = None
 
 -- the slot of a page, where it has one
-abbrev pub slot_at : SlotTable → ℕ → ℕ → Option ℕ
-slot_at slots object page = slot_of (held_at slots object page)
+abbrev pub slot_in_table : SlotTable → ℕ → ℕ → Option ℕ
+slot_in_table slots object page = held_slot (held_at slots object page)
 
 -- the slot is some page's
-pub record IsTaken (slots : SlotTable) (s : ℕ) : Type 0 where
+pub record IsSlotTaken (slots : SlotTable) (s : ℕ) : Type 0 where
   pub object : ℕ
   pub page : ℕ
-  pub at : slot_at slots object page ≡ Some s
+  pub at : slot_in_table slots object page ≡ Some s
 
 -- each slot is some page's
 abbrev pub SlotsAreFull : SlotTable → Type 0
-SlotsAreFull slots = (s : ℕ) → s < slots.count → IsTaken slots s
+SlotsAreFull slots = (s : ℕ) → s < slots.count → IsSlotTaken slots s
 
 -- the lowest slot that is no page's
 pub record IsLowestFree (slots : SlotTable) (s : ℕ) : Type 0 where
   pub inside : s < slots.count
-  pub free : IsTaken slots s → ⊥
-  pub lowest : (t : ℕ) → t < s → IsTaken slots t
+  pub free : IsSlotTaken slots s → ⊥
+  pub lowest : (t : ℕ) → t < s → IsSlotTaken slots t
 
 -- the slot that a put of a page goes to: its own, or else the lowest free one
 abbrev pub GoesTo : SlotTable → ℕ → ℕ → ℕ → Type 0
-GoesTo slots object page s = MatchOption (slot_at slots object page) (IsLowestFree slots s) (λ own. s ≡ own)
+GoesTo slots object page s = MatchOption (slot_in_table slots object page) (IsLowestFree slots s) (λ own. s ≡ own)
 
 -- the page has no slot, and each slot is another page's
 abbrev pub HasNoSlot : SlotTable → ℕ → ℕ → Type 0
-HasNoSlot slots object page = (slot_at slots object page ≡ None) × SlotsAreFull slots
+HasNoSlot slots object page = (slot_in_table slots object page ≡ None) × SlotsAreFull slots
 
 -- the host, the page size and the number of slots are as before
 pub record KeepsShape (old new : SlotTable) : Type 0 where

@@ -1,7 +1,7 @@
 // The pages that were put, with what is held of each.
 ghost use Rattle.std.specs.Prelude.{ℕ, ◌≡◌, ◌<◌, [], None, OnErr, OnOk};
 ghost use Rattle.pg_slots.specs.Kept.{DropsRows, FreesSlots, PutsRow};
-ghost use Rattle.pg_slots.specs.Slots.{held_among, slot_of};
+ghost use Rattle.pg_slots.specs.Slots.{held_among, held_slot};
 
 use crate::slot_row::{Held, SlotRow, find, free_rows, slot_in, stands_at};
 use std::alloc::Global;
@@ -58,7 +58,7 @@ impl Rows {
 
     /// The slot that a page has.
     pub fn slot(&self, key: PageKey) -> Option<u32>
-        ensures { result ≡ slot_of (held_among key.object.0 key.page.0 self.now.rows) }
+        ensures { result ≡ held_slot (held_among key.object.0 key.page.0 self.now.rows) }
     {
         match self.held(key) {
             Some(held) => slot_in(held),

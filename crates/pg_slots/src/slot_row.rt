@@ -1,7 +1,7 @@
 // A page with what is held of it, and the search in a list of them.
 ghost use Rattle.std.specs.Prelude.{◌≡◌, ◌≤◌, ◌<◌, Some, length, slice_get};
 ghost use Rattle.pg_slots.specs.Kept.{ByKey, freed, freed_row, is_page_at, slot_rows_before};
-ghost use Rattle.pg_slots.specs.Slots.{slot_of};
+ghost use Rattle.pg_slots.specs.Slots.{held_slot};
 ghost use Rattle.vm_base.specs.Keys.{is_before};
 
 use vm_base::{ObjectId, PageKey};
@@ -26,7 +26,7 @@ pub struct SlotRow {
 
 /// The slot that a page has.
 pub fn slot_in(held: Held) -> Option<u32>
-    ensures { result ≡ slot_of (Some held) }
+    ensures { result ≡ held_slot (Some held) }
 {
     match held {
         Held::Kept { slot } | Held::Torn { slot } => Some(slot),

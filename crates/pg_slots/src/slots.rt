@@ -1,8 +1,8 @@
 // The slots.
 ghost use Rattle.std.specs.Prelude.{ℕ, ◌≡◌, ◌*◌, ◌<◌, ◌≤◌, ◌↔◌, [], List, None, Some, IfOk, MatchOption, OnErr, length, set, true};
-ghost use Rattle.pg_slots.specs.Contents.{Agrees, AnswersHeld, Carries, Content, GetHasCause, GivesStored, IsGetAnswer, IsTold, IsWholePage, PutHasCause, PutTold, SlotsFit, after_put, area_name, same_content, without};
+ghost use Rattle.pg_slots.specs.Contents.{AgreesWithContent, AnswersHeld, CarriesContent, Content, GetHasCause, GivesStored, IsAreaTold, IsGetAnswer, IsWholePage, PutHasCause, PutTold, SlotsFit, after_put, area_name, content_without, same_content};
 ghost use Rattle.pg_slots.specs.Kept.{AllMarked, IsUnmarked, PutsRow};
-ghost use Rattle.pg_slots.specs.Slots.{DropsHeld, GoesTo, HasNoSlot, KeepsShape, PutEffects, held_at, slot_at};
+ghost use Rattle.pg_slots.specs.Slots.{DropsHeld, GoesTo, HasNoSlot, KeepsShape, PutEffects, held_at, slot_in_table};
 ghost use Rattle.vm_base.specs.Limits.{most_hosts, most_slots};
 ghost use Rattle.vm_outside.specs.Areas.{SameAreas, Told};
 
@@ -83,8 +83,8 @@ impl Slots {
         ensures err { OnErr result (self.new ≡ self.old) }
 
         // What the backing tells.
-        ensures fits { Carries (P.area paging.old) (P.area paging.new) self.old self.new (after_put result key.object.0 key.page.0 bytes.now) }
-        ensures told { PutTold result (P.area paging.old) (P.area paging.new) self.new (slot_at self.new key.object.0 key.page.0) bytes.now }
+        ensures fits { CarriesContent (P.area paging.old) (P.area paging.new) self.old self.new (after_put result key.object.0 key.page.0 bytes.now) }
+        ensures told { PutTold result (P.area paging.old) (P.area paging.new) self.new (slot_in_table self.new key.object.0 key.page.0) bytes.now }
         ensures cause { PutHasCause (P.faults paging.old) (P.faults paging.new) result }
         ensures later { P.later paging.old paging.new }
         ensures unmoved { OnErr result (P.armed paging.new ≡ P.armed paging.old) }
@@ -115,14 +115,14 @@ impl Slots {
     /// and calls it at most once; it answers `Failed` exactly where that call failed.
     pub fn get<P: Backing>(&self, key: PageKey, paging: &mut P) -> Result<Got, NoMemory>
         ensures held { IfOk result (λ got. AnswersHeld got (held_at self.now key.object.0 key.page.0)) }
-        ensures answers { IfOk result (λ got. (content : Content) → Agrees self.now content
+        ensures answers { IfOk result (λ got. (content : Content) → AgreesWithContent self.now content
             → IsGetAnswer got (content key.object.0 key.page.0)) }
         ensures whole { IfOk result (IsWholePage self.now.size) }
-        ensures bytes { IfOk result (λ got. (content : Content) → IsTold (P.area paging.old) self.now
+        ensures bytes { IfOk result (λ got. (content : Content) → IsAreaTold (P.area paging.old) self.now
             → SlotsFit (P.area paging.old) self.now content → GivesStored got (content key.object.0 key.page.0)) }
 
         // What the backing tells.
-        ensures fits { Carries (P.area paging.old) (P.area paging.new) self.now self.now same_content }
+        ensures fits { CarriesContent (P.area paging.old) (P.area paging.new) self.now self.now same_content }
         ensures told { SameAreas (P.area paging.old) (P.area paging.new) }
         ensures cause { GetHasCause (P.faults paging.old) (P.faults paging.new) result }
         ensures later { P.later paging.old paging.new }
@@ -152,7 +152,7 @@ impl Slots {
     pub fn drop_object(&mut self, object: ObjectId)
         ensures held { DropsHeld object.0 self.old self.new }
         ensures fits { (told : List ℕ → Told) (content : Content) → SlotsFit told self.old content
-            → SlotsFit told self.new (without object.0 content) }
+            → SlotsFit told self.new (content_without object.0 content) }
     {
         self.rows.free(object, &mut self.taken);
         self.rows.drop_object(object);

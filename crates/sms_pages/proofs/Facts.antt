@@ -9,7 +9,7 @@ use Rattle.vm_model.specs.Words.{Act, ActEffect, SentDown, DownWord, effect_on, 
 use Rattle.vm_model.specs.Side.{Side, side, side_after}
 use Rattle.vm_model.specs.Server.{Wanting, trimmed_line}
 use Rattle.vm_model.specs.Server.{NoUpgrade}
-use Rattle.sms_pages.specs.Stands.{counted}
+use Rattle.sms_pages.specs.Stands.{count_wanting}
 use Rattle.vm_model.proofs.Others.{others_holds}
 
 own_effect : (k : ℕ) (e : ActEffect) → effect_on k (record { host = k; effect = e }) ≡ e
@@ -61,23 +61,23 @@ heard_kept heard k control word past same g = same g ∙ grind (arith, nat_tests
 lost_step : (h x a b : ℕ) (w : Wanting) (cs ns : List Wanting) → x ≢ 1 → (w.host ≢ h → b ≡ a) → (w.host ≡ h → b ≡ x) → trimmed_line h x cs ≡ ns → trimmed_line h x (if (if w.upgrade then a == 1 else true) then w ∷ cs else cs) ≡ (if (if w.upgrade then b == 1 else true) then w ∷ ns else ns)
 lost_step h x a b w cs ns less other own is = grind (arith, nat_tests)
 
-pub counted_lost : (h x : ℕ) (holds new : List ℕ) (ws : List Wanting) → x ≢ 1 → ((g : ℕ) → g ≢ h → slice_index new g ≡ slice_index holds g) → slice_index new h ≡ x → trimmed_line h x (counted holds ws) ≡ counted new ws
+pub counted_lost : (h x : ℕ) (holds new : List ℕ) (ws : List Wanting) → x ≢ 1 → ((g : ℕ) → g ≢ h → slice_index new g ≡ slice_index holds g) → slice_index new h ≡ x → trimmed_line h x (count_wanting holds ws) ≡ count_wanting new ws
 counted_lost h x holds new [] less other own = refl
-counted_lost h x holds new (w ∷ ws) less other own = lost_step h x (slice_index holds w.host) (slice_index new w.host) w (counted holds ws) (counted new ws) less (other w.host) (λ is. ap (λ (k : ℕ). slice_index new k) is ∙ own) (counted_lost h x holds new ws less other own)
+counted_lost h x holds new (w ∷ ws) less other own = lost_step h x (slice_index holds w.host) (slice_index new w.host) w (count_wanting holds ws) (count_wanting new ws) less (other w.host) (λ is. ap (λ (k : ℕ). slice_index new k) is ∙ own) (counted_lost h x holds new ws less other own)
 
 none_step : (h x a b : ℕ) (w : Wanting) (cs ns : List Wanting) → (w.upgrade ≡ true → w.host ≢ h) → (w.host ≢ h → b ≡ a) → trimmed_line h x cs ≡ ns → trimmed_line h x (if (if w.upgrade then a == 1 else true) then w ∷ cs else cs) ≡ (if (if w.upgrade then b == 1 else true) then w ∷ ns else ns)
 none_step h x a b w cs ns none other is = grind (arith, nat_tests)
 
-pub counted_none : (h x : ℕ) (holds new : List ℕ) (ws : List Wanting) → NoUpgrade h ws → ((g : ℕ) → g ≢ h → slice_index new g ≡ slice_index holds g) → trimmed_line h x (counted holds ws) ≡ counted new ws
+pub counted_none : (h x : ℕ) (holds new : List ℕ) (ws : List Wanting) → NoUpgrade h ws → ((g : ℕ) → g ≢ h → slice_index new g ≡ slice_index holds g) → trimmed_line h x (count_wanting holds ws) ≡ count_wanting new ws
 counted_none h x holds new [] none other = refl
-counted_none h x holds new (w ∷ ws) none other = none_step h x (slice_index holds w.host) (slice_index new w.host) w (counted holds ws) (counted new ws) none.0 (other w.host) (counted_none h x holds new ws none.1 other)
+counted_none h x holds new (w ∷ ws) none other = none_step h x (slice_index holds w.host) (slice_index new w.host) w (count_wanting holds ws) (count_wanting new ws) none.0 (other w.host) (counted_none h x holds new ws none.1 other)
 
 same_step : (h x a : ℕ) (w : Wanting) (cs : List Wanting) → (w.host ≡ h → a ≡ x) → trimmed_line h x cs ≡ cs → trimmed_line h x (if (if w.upgrade then a == 1 else true) then w ∷ cs else cs) ≡ (if (if w.upgrade then a == 1 else true) then w ∷ cs else cs)
 same_step h x a w cs own is = grind (arith, nat_tests)
 
-pub counted_same : (h x : ℕ) (holds : List ℕ) (ws : List Wanting) → slice_index holds h ≡ x → trimmed_line h x (counted holds ws) ≡ counted holds ws
+pub counted_same : (h x : ℕ) (holds : List ℕ) (ws : List Wanting) → slice_index holds h ≡ x → trimmed_line h x (count_wanting holds ws) ≡ count_wanting holds ws
 counted_same h x holds [] own = refl
-counted_same h x holds (w ∷ ws) own = same_step h x (slice_index holds w.host) w (counted holds ws) (λ is. ap (λ (k : ℕ). slice_index holds k) is ∙ own) (counted_same h x holds ws own)
+counted_same h x holds (w ∷ ws) own = same_step h x (slice_index holds w.host) w (count_wanting holds ws) (λ is. ap (λ (k : ℕ). slice_index holds k) is ∙ own) (counted_same h x holds ws own)
 
 -- who is not awaited
 

@@ -7,22 +7,22 @@ use Rattle.std.proofs.lemmas.List.{get_or-set_same, get_or-set_other, get_or_pas
 use native.Mathlib.Decide.{ℕ_discrete}
 use Rattle.vm_model.specs.Words.{Act, SentDown, Supplying, Locking}
 use Rattle.vm_model.specs.Side.{Side, side, right_of, kind_of}
-use Rattle.vm_model.specs.Server.{Wanting, wants_write, first, line, trimmed_line, without}
-use Rattle.vm_model.specs.PageLicences.{Licensed, SupplyRow, UpgradeRow, RecallRow, OthersHold}
+use Rattle.vm_model.specs.Server.{Wanting, wants_write, first, line, trimmed_line, without_request}
+use Rattle.vm_model.specs.PageLicences.{ActsLicensed, SupplyRow, UpgradeRow, RecallRow, OthersHold}
 use Rattle.sms_pages.specs.declared.reply.Reply.{Reply}
 use Rattle.sms_pages.specs.declared.reply.Reply.TheVariants.{Supply, Flush, CleanLock, Unlock}
 use Rattle.sms_pages.specs.declared.holding.Turn.{Turn}
 use Rattle.sms_pages.specs.declared.holding.Turn.TheVariants.{Leaves, Recalls, Waits, Grants}
-use Rattle.sms_pages.specs.Directory.{is_recalled, any_recalled, leaves, turn, recall, recall_kind, recalls, recalled, grant, granted, Directory, Outcome, served, IsServed}
+use Rattle.sms_pages.specs.Directory.{is_recalled, any_recalled, leaves, turn, recall, recall_kind, recalls, recalled, grant, granted, Directory, Outcome, served, IsServedDirectory}
 use Rattle.vm_model.specs.Server.{NoUpgrade, NoRequest}
-use Rattle.sms_pages.specs.Stands.{counted, DirectoryStands, StandsFor, lock_number, reply_act, reply_acts, Hears, ServingFollows, IsAnswered}
+use Rattle.sms_pages.specs.Stands.{count_wanting, DirectoryStands, StandsFor, lock_number, reply_act, reply_acts, Hears, ServingFollows, RepliesHaveCause}
 use Rattle.vm_model.specs.Coherence.{SomebodyIsAwaited}
 use Rattle.sms_pages.proofs.Facts.{own_side, holds_set, awaits_set, holds_kept, awaits_kept, heard_kept, counted_none, counted_same, all_none}
 use Rattle.sms_pages.proofs.Recalls.{recalled_above}
 
 -- what is known so far: each reply that was sent had its cause, and the lists stand for the history with them
 pub record State (size : ℕ) (heard : ℕ → ℕ) (bytes : List ℕ) (holds awaits : List ℕ) (wants : List Wanting) (past : List Act) : Type 0 where
-  pub licensed : Licensed size past
+  pub licensed : ActsLicensed size past
   pub stands : DirectoryStands size holds awaits bytes wants past
   pub hears : Hears heard past
 
@@ -42,13 +42,13 @@ turn_grants false false false is = absurd (cc)
 
 -- who leaves doesn't count, and who stays is the first of the line
 
-not_counted : (w : Wanting) (holds : List ℕ) (ws : List Wanting) → leaves w holds ≡ true → counted holds (w ∷ ws) ≡ counted holds ws
-not_counted w holds ws is = one w (slice_index holds w.host) (counted holds ws) is where
+not_counted : (w : Wanting) (holds : List ℕ) (ws : List Wanting) → leaves w holds ≡ true → count_wanting holds (w ∷ ws) ≡ count_wanting holds ws
+not_counted w holds ws is = one w (slice_index holds w.host) (count_wanting holds ws) is where
   one : (w : Wanting) (a : ℕ) (cs : List Wanting) → (w.upgrade && not (a == 1)) ≡ true → (if (if w.upgrade then a == 1 else true) then w ∷ cs else cs) ≡ cs
   one w a cs is = grind (arith, nat_tests)
 
-is_counted : (w : Wanting) (holds : List ℕ) (ws : List Wanting) → leaves w holds ≡ false → counted holds (w ∷ ws) ≡ w ∷ counted holds ws
-is_counted w holds ws is = one w (slice_index holds w.host) (counted holds ws) is where
+is_counted : (w : Wanting) (holds : List ℕ) (ws : List Wanting) → leaves w holds ≡ false → count_wanting holds (w ∷ ws) ≡ w ∷ count_wanting holds ws
+is_counted w holds ws is = one w (slice_index holds w.host) (count_wanting holds ws) is where
   one : (w : Wanting) (a : ℕ) (cs : List Wanting) → (w.upgrade && not (a == 1)) ≡ false → (if (if w.upgrade then a == 1 else true) then w ∷ cs else cs) ≡ w ∷ cs
   one w a cs is = grind (arith, nat_tests)
 
@@ -122,7 +122,7 @@ after_supply size lock heard bytes holds awaits w ws past s stays none free requ
       stands = record {
         same_holds = same_holds;
         same_awaits = awaits_kept w.host (SentDown (heard w.host) (Supplying lock false bytes)) awaits past refl s.stands.same_awaits;
-        same_line = ap (λ (l : List Wanting). trimmed_line w.host (side w.host (act ∷ past)).holds (without w.host l)) front ∙ (ap (λ (l : List Wanting). trimmed_line w.host (side w.host (act ∷ past)).holds l) (front_gone w (counted holds ws) request) ∙ counted_none w.host (side w.host (act ∷ past)).holds holds (slice_set holds w.host (granted w)) ws s.stands.in_turn.1 (λ g apart. get_or-set_other holds w.host g (granted w) 0 apart));
+        same_line = ap (λ (l : List Wanting). trimmed_line w.host (side w.host (act ∷ past)).holds (without_request w.host l)) front ∙ (ap (λ (l : List Wanting). trimmed_line w.host (side w.host (act ∷ past)).holds l) (front_gone w (count_wanting holds ws) request) ∙ counted_none w.host (side w.host (act ∷ past)).holds holds (slice_set holds w.host (granted w)) ws s.stands.in_turn.1 (λ g apart. get_or-set_other holds w.host g (granted w) 0 apart));
         same_bytes = s.stands.same_bytes;
         eight_hold = length-set holds w.host (granted w) ∙ s.stands.eight_hold;
         eight_await = s.stands.eight_await;
@@ -139,10 +139,10 @@ after_supply size lock heard bytes holds awaits w ws past s stays none free requ
       inside : w.host < length holds
       inside = omega (arith, s.stands.eight_hold, s.stands.in_turn.0)
 
-      front : line past ≡ w ∷ counted holds ws
+      front : line past ≡ w ∷ count_wanting holds ws
       front = s.stands.same_line ∙ is_counted w holds ws stays
 
-      front_gone : (w : Wanting) (cs : List Wanting) → w.upgrade ≡ false → without w.host (w ∷ cs) ≡ cs
+      front_gone : (w : Wanting) (cs : List Wanting) → w.upgrade ≡ false → without_request w.host (w ∷ cs) ≡ cs
       front_gone w cs request = grind (arith, nat_tests)
 
       room : (w : Wanting) → w.upgrade ≡ false → room_for (wants_write w) ≡ room_for (w.access == 3)
@@ -168,7 +168,7 @@ after_unlock size heard bytes holds awaits w ws past s stays none free up =
       stands = record {
         same_holds = same_holds;
         same_awaits = awaits_kept w.host (SentDown (heard w.host) (Locking 1 0 false 0 false)) awaits past refl s.stands.same_awaits;
-        same_line = ap (λ (l : List Wanting). trimmed_line w.host (side w.host (act ∷ past)).holds l) front ∙ (front_gone w (side w.host (act ∷ past)).holds (counted holds ws) up writes ∙ counted_none w.host (side w.host (act ∷ past)).holds holds (slice_set holds w.host (granted w)) ws s.stands.in_turn.1 (λ g apart. get_or-set_other holds w.host g (granted w) 0 apart));
+        same_line = ap (λ (l : List Wanting). trimmed_line w.host (side w.host (act ∷ past)).holds l) front ∙ (front_gone w (side w.host (act ∷ past)).holds (count_wanting holds ws) up writes ∙ counted_none w.host (side w.host (act ∷ past)).holds holds (slice_set holds w.host (granted w)) ws s.stands.in_turn.1 (λ g apart. get_or-set_other holds w.host g (granted w) 0 apart));
         same_bytes = s.stands.same_bytes;
         eight_hold = length-set holds w.host (granted w) ∙ s.stands.eight_hold;
         eight_await = s.stands.eight_await;
@@ -188,7 +188,7 @@ after_unlock size heard bytes holds awaits w ws past s stays none free up =
       reads : 0 < slice_index holds w.host
       reads = omega (arith, upgrade_reads w holds stays up)
 
-      front : line past ≡ w ∷ counted holds ws
+      front : line past ≡ w ∷ count_wanting holds ws
       front = s.stands.same_line ∙ is_counted w holds ws stays
 
       front_gone : (w : Wanting) (x : ℕ) (cs : List Wanting) → w.upgrade ≡ true → x ≡ 2 → trimmed_line w.host x (w ∷ cs) ≡ trimmed_line w.host x cs
@@ -239,7 +239,7 @@ after_recall size n lock kind flush heard bytes holds awaits w ws past s stays l
       };
       hears = heard_kept heard n (heard n) (Locking 1 1 flush lock true) past s.hears;
     } where
-      front : line past ≡ w ∷ counted holds ws
+      front : line past ≡ w ∷ count_wanting holds ws
       front = s.stands.same_line ∙ is_counted w holds ws stays
 
       answers : RecallRow n flush lock (side n past).holds (first (line past))
@@ -335,7 +335,7 @@ served_follows size heard bytes holds awaits (w ∷ ws) sent past s =
           let r = after_recalls size heard bytes holds awaits w ws (reply_acts heard sent ++ past) 8 s (turn_stays (leaves w holds) (any_recalled w holds awaits 8) (list_all (λ kind. kind == 0) awaits) Recalls (λ e. absurd (cc)) is) (omega arith) in
           let e = acts_append heard (recalls w holds awaits 8) sent past in
           record {
-            licensed = subst (λ (l : List Act). Licensed size l) (sym e) r.licensed;
+            licensed = subst (λ (l : List Act). ActsLicensed size l) (sym e) r.licensed;
             stands = subst (λ (l : List Act). DirectoryStands size holds (recalled w holds awaits 8) bytes (w ∷ ws) l) (sym e) r.stands;
           }
       by_turn Waits is on given = record { licensed = s.licensed; stands = s.stands }
@@ -399,12 +399,12 @@ served_awaited sent holds awaits bytes (w ∷ ws) eight =
 
 -- the law of serving
 
-some_counted : (holds : List ℕ) (wants : List Wanting) → counted holds wants ≢ [] → wants ≢ []
+some_counted : (holds : List ℕ) (wants : List Wanting) → count_wanting holds wants ≢ [] → wants ≢ []
 some_counted holds [] some is = some refl
 some_counted holds (w ∷ ws) some is = absurd (cc)
 
 pub serving : (size : ℕ) (heard : ℕ → ℕ) (changed after : Directory) (replies : List Reply) (past : List Act)
-    → Licensed size past → StandsFor size changed past → Hears heard past → IsServed changed after replies → IsAnswered size heard after replies past
+    → ActsLicensed size past → StandsFor size changed past → Hears heard past → IsServedDirectory changed after replies → RepliesHaveCause size heard after replies past
 serving size heard changed after replies past licensed stands hears is =
     record {
       licensed = f.licensed;

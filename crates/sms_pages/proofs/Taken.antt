@@ -7,9 +7,9 @@ use native.Mathlib.Decide.{ℕ_discrete}
 use Rattle.vm_model.specs.Words.{Act, ActEffect, TakenUp, Asking, Unlocking, Returning, Doing, Ending}
 use Rattle.vm_model.specs.Side.{Side, side, side_after, after_done}
 use Rattle.vm_model.specs.Server.{Wanting, line, trimmed_line, joined, kept}
-use Rattle.sms_pages.specs.Directory.{Directory, requested, unlocked, saved, finished, left_by, ended, IsNew}
+use Rattle.sms_pages.specs.Directory.{Directory, requested, unlock_heard, saved, finished, left_by, ended, IsNewDirectory}
 use Rattle.vm_model.specs.Server.{NoUpgrade, NoRequest}
-use Rattle.sms_pages.specs.Stands.{counts, counted, InTurn, DirectoryStands, StandsFor, taking_act}
+use Rattle.sms_pages.specs.Stands.{counts, count_wanting, LineIsInTurn, DirectoryStands, StandsFor, taking_act}
 use Rattle.sms_pages.proofs.Facts.{own_side, holds_set, awaits_set, holds_kept, awaits_kept, counted_lost, counted_none, counted_same, all_none}
 
 -- what joins at the end
@@ -20,9 +20,9 @@ trimmed_append h x (w ∷ ws) vs = one h x w (trimmed_line h x ws) (trimmed_line
   one : (h x : ℕ) (w : Wanting) (ts us vs : List Wanting) → us ≡ ts ++ vs → (if (if w.host == h then (if w.upgrade then x == 1 else true) else true) then w ∷ us else us) ≡ (if (if w.host == h then (if w.upgrade then x == 1 else true) else true) then w ∷ ts else ts) ++ vs
   one h x w ts us vs is = grind (arith, nat_tests)
 
-counted_append : (holds : List ℕ) (ws vs : List Wanting) → counted holds (ws ++ vs) ≡ counted holds ws ++ counted holds vs
+counted_append : (holds : List ℕ) (ws vs : List Wanting) → count_wanting holds (ws ++ vs) ≡ count_wanting holds ws ++ count_wanting holds vs
 counted_append holds [] vs = refl
-counted_append holds (w ∷ ws) vs = one (counts holds w) w (counted holds ws) (counted holds (ws ++ vs)) (counted holds vs) (counted_append holds ws vs) where
+counted_append holds (w ∷ ws) vs = one (counts holds w) w (count_wanting holds ws) (count_wanting holds (ws ++ vs)) (count_wanting holds vs) (counted_append holds ws vs) where
   one : (b : Bool) (w : Wanting) (ts us vs : List Wanting) → us ≡ ts ++ vs → (if b then w ∷ us else us) ≡ (if b then w ∷ ts else ts) ++ vs
   one true w ts us vs is = ap (λ (l : List Wanting). w ∷ l) is
   one false w ts us vs is = is
@@ -39,13 +39,13 @@ apart_from : (g h : ℕ) → g ≢ h → h ≢ g
 apart_from g h apart is = apart (sym is)
 
 -- a request of a host that has none in the line
-request_in_turn : (h access : ℕ) (ws : List Wanting) → h < 8 → InTurn ws → NoRequest h ws → InTurn (ws ++ record { host = h; upgrade = false; access = access } ∷ [])
+request_in_turn : (h access : ℕ) (ws : List Wanting) → h < 8 → LineIsInTurn ws → NoRequest h ws → LineIsInTurn (ws ++ record { host = h; upgrade = false; access = access } ∷ [])
 request_in_turn h access [] lt turns none = (lt, tt, (λ request. tt), tt)
 request_in_turn h access (w ∷ ws) lt turns none =
     (turns.0, no_upgrade_end w.host ws record { host = h; upgrade = false; access = access } turns.1 (λ up. absurd (cc)), (λ request. no_request_end w.host ws record { host = h; upgrade = false; access = access } (turns.2 request) (λ other. apart_from w.host h (none.0 request))), request_in_turn h access ws lt turns.3 none.1)
 
 -- an upgrade of a host that has nothing in the line
-upgrade_in_turn : (h access : ℕ) (ws : List Wanting) → h < 8 → InTurn ws → NoRequest h ws → NoUpgrade h ws → InTurn (ws ++ record { host = h; upgrade = true; access = access } ∷ [])
+upgrade_in_turn : (h access : ℕ) (ws : List Wanting) → h < 8 → LineIsInTurn ws → NoRequest h ws → NoUpgrade h ws → LineIsInTurn (ws ++ record { host = h; upgrade = true; access = access } ∷ [])
 upgrade_in_turn h access [] lt turns none alone = (lt, tt, (λ request. tt), tt)
 upgrade_in_turn h access (w ∷ ws) lt turns none alone =
     (turns.0, no_upgrade_end w.host ws record { host = h; upgrade = true; access = access } turns.1 (λ up is. elim_upgrade w h none.0 alone.0 is), (λ request. no_request_end w.host ws record { host = h; upgrade = true; access = access } (turns.2 request) (λ other. absurd (cc))), upgrade_in_turn h access ws lt turns.3 none.1 alone.1) where
@@ -64,14 +64,14 @@ lowered holds h v lt le small g = elim (ℕ_discrete g h) [
   | no apart ↦ let e : slice_index (slice_set holds h v) g ≡ slice_index holds g = set_apart holds h v g apart in omega arith
 ]
 
-counted_equal : (holds new : List ℕ) (ws : List Wanting) → ((g : ℕ) → slice_index holds g ≡ slice_index new g) → counted holds ws ≡ counted new ws
+counted_equal : (holds new : List ℕ) (ws : List Wanting) → ((g : ℕ) → slice_index holds g ≡ slice_index new g) → count_wanting holds ws ≡ count_wanting new ws
 counted_equal holds new [] same = refl
-counted_equal holds new (w ∷ ws) same = one w (slice_index holds w.host) (slice_index new w.host) (counted holds ws) (counted new ws) (same w.host) (counted_equal holds new ws same) where
+counted_equal holds new (w ∷ ws) same = one w (slice_index holds w.host) (slice_index new w.host) (count_wanting holds ws) (count_wanting new ws) (same w.host) (counted_equal holds new ws same) where
   one : (w : Wanting) (a b : ℕ) (cs ns : List Wanting) → a ≡ b → cs ≡ ns → (if (if w.upgrade then a == 1 else true) then w ∷ cs else cs) ≡ (if (if w.upgrade then b == 1 else true) then w ∷ ns else ns)
   one w a b cs ns is same = grind (arith, nat_tests)
 
 -- what counts of the line, once the host holds v and no more than before
-trims : (size h v : ℕ) (holds awaits bytes : List ℕ) (wants : List Wanting) (past : List Act) → DirectoryStands size holds awaits bytes wants past → h < length holds → v ≤ slice_index holds h → trimmed_line h v (counted holds wants) ≡ counted (slice_set holds h v) wants
+trims : (size h v : ℕ) (holds awaits bytes : List ℕ) (wants : List Wanting) (past : List Act) → DirectoryStands size holds awaits bytes wants past → h < length holds → v ≤ slice_index holds h → trimmed_line h v (count_wanting holds wants) ≡ count_wanting (slice_set holds h v) wants
 trims size h v holds awaits bytes wants past s inside le = elim (ℕ_discrete v 1) [
   | yes one ↦ elim (ℕ_discrete (slice_index holds h) 1) [
     | yes read ↦ counted_same h v holds wants (read ∙ sym one) ∙ counted_equal holds (slice_set holds h v) wants (λ g. elim (ℕ_discrete g h) [
@@ -93,7 +93,7 @@ after_lowered size h v e holds awaits new_awaits bytes new_bytes wants past s lt
     record {
       same_holds = holds_set h e v holds past inside own s.same_holds;
       same_awaits = new_same;
-      same_line = ap (λ (l : List Wanting). trimmed_line h (side h (act ∷ past)).holds l) (none_joins ∙ s.same_line) ∙ subst (λ (x : ℕ). trimmed_line h x (counted holds wants) ≡ counted (slice_set holds h v) wants) (sym now) (trims size h v holds awaits bytes wants past s inside le);
+      same_line = ap (λ (l : List Wanting). trimmed_line h (side h (act ∷ past)).holds l) (none_joins ∙ s.same_line) ∙ subst (λ (x : ℕ). trimmed_line h x (count_wanting holds wants) ≡ count_wanting (slice_set holds h v) wants) (sym now) (trims size h v holds awaits bytes wants past s inside le);
       same_bytes = saved;
       eight_hold = length-set holds h v ∙ s.eight_hold;
       eight_await = eight;
@@ -118,7 +118,7 @@ after_request size h control access d past s lt none =
     record {
       same_holds = holds_set h e 0 d.holds past inside refl s.same_holds;
       same_awaits = awaits_kept h e d.awaits past refl s.same_awaits;
-      same_line = ap (λ (l : List Wanting). trimmed_line h (side h (act ∷ past)).holds (l ++ r ∷ [])) s.same_line ∙ subst (λ (x : ℕ). trimmed_line h x (counted d.holds d.line ++ r ∷ []) ≡ counted (slice_set d.holds h 0) (d.line ++ r ∷ [])) (sym now) joins;
+      same_line = ap (λ (l : List Wanting). trimmed_line h (side h (act ∷ past)).holds (l ++ r ∷ [])) s.same_line ∙ subst (λ (x : ℕ). trimmed_line h x (count_wanting d.holds d.line ++ r ∷ []) ≡ count_wanting (slice_set d.holds h 0) (d.line ++ r ∷ [])) (sym now) joins;
       same_bytes = s.same_bytes;
       eight_hold = length-set d.holds h 0 ∙ s.eight_hold;
       eight_await = s.eight_await;
@@ -145,8 +145,8 @@ after_request size h control access d past s lt none =
       stay_one : (h x : ℕ) (r : Wanting) → r.upgrade ≡ false → trimmed_line h x (r ∷ []) ≡ r ∷ []
       stay_one h x r request = grind (arith, nat_tests)
 
-      joins : trimmed_line h 0 (counted d.holds d.line ++ r ∷ []) ≡ counted (slice_set d.holds h 0) (d.line ++ r ∷ [])
-      joins = trimmed_append h 0 (counted d.holds d.line) (r ∷ []) ∙ (ap (λ (l : List Wanting). l ++ trimmed_line h 0 (r ∷ [])) (trims size h 0 d.holds d.awaits d.bytes d.line past s inside (omega arith)) ∙ (ap (λ (l : List Wanting). counted (slice_set d.holds h 0) d.line ++ l) (stay_one h 0 r refl) ∙ sym (counted_append (slice_set d.holds h 0) d.line (r ∷ []))))
+      joins : trimmed_line h 0 (count_wanting d.holds d.line ++ r ∷ []) ≡ count_wanting (slice_set d.holds h 0) (d.line ++ r ∷ [])
+      joins = trimmed_append h 0 (count_wanting d.holds d.line) (r ∷ []) ∙ (ap (λ (l : List Wanting). l ++ trimmed_line h 0 (r ∷ [])) (trims size h 0 d.holds d.awaits d.bytes d.line past s inside (omega arith)) ∙ (ap (λ (l : List Wanting). count_wanting (slice_set d.holds h 0) d.line ++ l) (stay_one h 0 r refl) ∙ sym (counted_append (slice_set d.holds h 0) d.line (r ∷ []))))
 
       gone : (g : ℕ) → h ≡ g → 0 < slice_index (slice_set d.holds h 0) g → ⊥
       gone g is some = let none_now : slice_index (slice_set d.holds h 0) g ≡ 0 = subst (λ (k : ℕ). slice_index (slice_set d.holds h 0) k ≡ 0) is (get_or-set_same d.holds h 0 0 inside) in omega arith
@@ -185,8 +185,8 @@ after_upgrade size h access d past s lt none reads free =
       one_counts : (a : ℕ) (v : Wanting) → a ≡ 1 → (if (if v.upgrade then a == 1 else true) then v ∷ [] else []) ≡ v ∷ []
       one_counts a v one = grind (arith, nat_tests)
 
-      counts_too : counted d.holds (d.line ++ u ∷ []) ≡ counted d.holds d.line ++ u ∷ []
-      counts_too = counted_append d.holds d.line (u ∷ []) ∙ ap (λ (l : List Wanting). counted d.holds d.line ++ l) (one_counts (slice_index d.holds h) u reads)
+      counts_too : count_wanting d.holds (d.line ++ u ∷ []) ≡ count_wanting d.holds d.line ++ u ∷ []
+      counts_too = counted_append d.holds d.line (u ∷ []) ∙ ap (λ (l : List Wanting). count_wanting d.holds d.line ++ l) (one_counts (slice_index d.holds h) u reads)
 
       not_both : (g : ℕ) → h ≡ g → slice_index d.holds g ≡ 2 → ⊥
       not_both g is two = let one_now : slice_index d.holds g ≡ 1 = subst (λ (k : ℕ). slice_index d.holds k ≡ 1) is reads in omega arith
@@ -214,7 +214,7 @@ after_same size h e holds awaits bytes new_bytes wants past s own_holds own_awai
 
 -- an unlock
 pub after_unlock : (size h access : ℕ) (d : Directory) (past : List Act) → StandsFor size d past → h < 8 → (slice_index d.holds h ≡ 1 → slice_index d.awaits h ≡ 0 → NoUpgrade h d.line)
-    → StandsFor size (unlocked h d) (record { host = h; effect = TakenUp (Unlocking access) } ∷ past)
+    → StandsFor size (unlock_heard h d) (record { host = h; effect = TakenUp (Unlocking access) } ∷ past)
 after_unlock size h access d past s lt none = by_case (slice_index d.holds h == 1 && slice_index d.awaits h == 0) refl where
   joins : (a b : ℕ) → (a == 1 && b == 0) ≡ true → (a ≡ 1) × (b ≡ 0)
   joins a b is = (grind (arith, nat_tests), grind (arith, nat_tests))
@@ -259,17 +259,17 @@ after_end size h control d past s lt mine =
     (length-set d.awaits h 0 ∙ s.eight_await) refl s.same_bytes
 
 -- a new directory, before any event
-pub begins : (size : ℕ) (d : Directory) → IsNew size d → StandsFor size d []
+pub begins : (size : ℕ) (d : Directory) → IsNewDirectory size d → StandsFor size d []
 begins size d new =
     record {
       same_holds = λ h. sym (zeros d.holds new.holds h);
       same_awaits = λ h. sym (zeros d.awaits new.awaits h);
-      same_line = sym (ap (counted d.holds) new.line);
+      same_line = sym (ap (count_wanting d.holds) new.line);
       same_bytes = sym new.bytes;
       eight_hold = ap (λ (l : List ℕ). length l) new.holds;
       eight_await = ap (λ (l : List ℕ). length l) new.awaits;
       bounded = λ h. omega (arith, zeros d.holds new.holds h);
-      in_turn = subst (λ (l : List Wanting). InTurn l) (sym new.line) tt;
+      in_turn = subst (λ (l : List Wanting). LineIsInTurn l) (sym new.line) tt;
       waiting = λ h some. absurd (omega (arith, zeros d.holds new.holds h));
       writing = λ h two. absurd (omega (arith, zeros d.holds new.holds h));
     } where
@@ -278,19 +278,19 @@ begins size d new =
 
 -- the same, with premises on the history alone
 
-request_apart : (holds : List ℕ) (h : ℕ) (ws : List Wanting) → NoRequest h (counted holds ws) → NoRequest h ws
+request_apart : (holds : List ℕ) (h : ℕ) (ws : List Wanting) → NoRequest h (count_wanting holds ws) → NoRequest h ws
 request_apart holds h [] none = tt
 request_apart holds h (w ∷ ws) none = by_case (counts holds w) refl (request_apart holds h ws) none where
-  by_case : (b : Bool) → counts holds w ≡ b → (NoRequest h (counted holds ws) → NoRequest h ws) → NoRequest h (if b then w ∷ counted holds ws else counted holds ws) → NoRequest h (w ∷ ws)
+  by_case : (b : Bool) → counts holds w ≡ b → (NoRequest h (count_wanting holds ws) → NoRequest h ws) → NoRequest h (if b then w ∷ count_wanting holds ws else count_wanting holds ws) → NoRequest h (w ∷ ws)
   by_case true is rest apart = (apart.0, rest apart.1)
   by_case false is rest apart = ((λ request. absurd (no_count w (slice_index holds w.host) request is)), rest apart) where
     no_count : (w : Wanting) (a : ℕ) → w.upgrade ≡ false → (if w.upgrade then a == 1 else true) ≡ false → ⊥
     no_count w a request is = grind arith
 
-upgrade_apart : (holds : List ℕ) (h : ℕ) (ws : List Wanting) → slice_index holds h ≡ 1 → NoUpgrade h (counted holds ws) → NoUpgrade h ws
+upgrade_apart : (holds : List ℕ) (h : ℕ) (ws : List Wanting) → slice_index holds h ≡ 1 → NoUpgrade h (count_wanting holds ws) → NoUpgrade h ws
 upgrade_apart holds h [] reads none = tt
 upgrade_apart holds h (w ∷ ws) reads none = by_case (counts holds w) refl (upgrade_apart holds h ws reads) none where
-  by_case : (b : Bool) → counts holds w ≡ b → (NoUpgrade h (counted holds ws) → NoUpgrade h ws) → NoUpgrade h (if b then w ∷ counted holds ws else counted holds ws) → NoUpgrade h (w ∷ ws)
+  by_case : (b : Bool) → counts holds w ≡ b → (NoUpgrade h (count_wanting holds ws) → NoUpgrade h ws) → NoUpgrade h (if b then w ∷ count_wanting holds ws else count_wanting holds ws) → NoUpgrade h (w ∷ ws)
   by_case true is rest apart = (apart.0, rest apart.1)
   by_case false is rest apart = ((λ up same. absurd (not_counted w (slice_index holds w.host) up (ap (λ (k : ℕ). slice_index holds k) same ∙ reads) is)), rest apart) where
     not_counted : (w : Wanting) (a : ℕ) → w.upgrade ≡ true → a ≡ 1 → (if w.upgrade then a == 1 else true) ≡ false → ⊥
@@ -299,7 +299,7 @@ upgrade_apart holds h (w ∷ ws) reads none = by_case (counts holds w) refl (upg
 pub request_taken : (size h control access : ℕ) (d : Directory) (past : List Act) → StandsFor size d past → h < 8 → NoRequest h (line past) → StandsFor size (requested h access d) (taking_act h (Asking control access) ∷ past)
 request_taken size h control access d past s lt none = after_request size h control access d past s lt (request_apart d.holds h d.line (subst (λ (l : List Wanting). NoRequest h l) s.same_line none))
 
-pub unlock_taken : (size h access : ℕ) (d : Directory) (past : List Act) → StandsFor size d past → h < 8 → NoUpgrade h (line past) → StandsFor size (unlocked h d) (taking_act h (Unlocking access) ∷ past)
+pub unlock_taken : (size h access : ℕ) (d : Directory) (past : List Act) → StandsFor size d past → h < 8 → NoUpgrade h (line past) → StandsFor size (unlock_heard h d) (taking_act h (Unlocking access) ∷ past)
 unlock_taken size h access d past s lt none = after_unlock size h access d past s lt (λ reads free. upgrade_apart d.holds h d.line reads (subst (λ (l : List Wanting). NoUpgrade h l) s.same_line none))
 
 pub completed_taken : (size h control count : ℕ) (d : Directory) (past : List Act) → StandsFor size d past → h < 8 → (0 < (side h past).awaits → (side h past).awaited_control ≡ control) → StandsFor size (finished h d) (taking_act h (Doing control count) ∷ past)

@@ -28,11 +28,11 @@ replies_with w host holds before replies =
     if is_recalled w host (slice_index holds host) (slice_index before host) then recall w (host) ∷ replies else replies
 
 -- what is left to serve, with what was sent, comes to the same as before; or it has come to its end
-abbrev pub Serves : Bool → Desk → List Reply → Desk → List Reply → Type 0
-Serves true old sent new replies =
+abbrev pub DeskServes : Bool → Desk → List Reply → Desk → List Reply → Type 0
+DeskServes true old sent new replies =
     served replies new.holds new.awaits new.bytes new.line.items
     ≡ served sent old.holds old.awaits old.bytes old.line.items
-Serves false old sent new replies =
+DeskServes false old sent new replies =
     record { holds = new.holds; awaits = new.awaits; line = new.line.items; replies = replies }
     ≡ served sent old.holds old.awaits old.bytes old.line.items
 

@@ -21,9 +21,9 @@ pub record Directory : Type 0 where
   -- the next call has the memory that it takes
   pub prepared : Bool
 
-abbrev pub access_number : Access → ℕ
-access_number Load = 1
-access_number Store = 3
+abbrev pub wanted_access : Access → ℕ
+wanted_access Load = 1
+wanted_access Store = 3
 
 -- What each message changes, before the front is served.
 
@@ -32,8 +32,8 @@ requested host access d =
     record d { holds = slice_set d.holds host 0; line = d.line ++ record { host = host; upgrade = false; access = access } ∷ [] }
 
 -- an unlock counts only from a host that holds Read and isn't awaited
-abbrev pub unlocked : ℕ → Directory → Directory
-unlocked host d =
+abbrev pub unlock_heard : ℕ → Directory → Directory
+unlock_heard host d =
     record d {
       line = if slice_index d.holds host == 1 && slice_index d.awaits host == 0 then d.line ++ record { host = host; upgrade = true; access = 3 } ∷ [] else d.line;
     }
@@ -128,7 +128,7 @@ served sent holds awaits bytes (w ∷ ws) = elim (turn w holds awaits) [
 ]
 
 -- the directory and the replies after a call that changed it so
-pub record IsServed (changed after : Directory) (replies : List Reply) : Type 0 where
+pub record IsServedDirectory (changed after : Directory) (replies : List Reply) : Type 0 where
   pub exact : record { holds = after.holds; awaits = after.awaits; line = after.line; replies = replies } ≡ served [] changed.holds changed.awaits changed.bytes changed.line
   pub bytes : after.bytes ≡ changed.bytes
 
@@ -144,7 +144,7 @@ abbrev pub most_replies : Directory → ℕ
 most_replies d = length d.line + 9
 
 -- of a page of so many zeros, which nobody holds or wants
-pub record IsNew (size : ℕ) (d : Directory) : Type 0 where
+pub record IsNewDirectory (size : ℕ) (d : Directory) : Type 0 where
   pub holds : d.holds ≡ replicate most_hosts 0
   pub awaits : d.awaits ≡ replicate most_hosts 0
   pub line : d.line ≡ []

@@ -1,11 +1,11 @@
 -- A page's directory beside the page's history: what it notes is what the history says.
-use Rattle.std.specs.Prelude.{ℕ, ◌≡◌, ◌≢◌, ◌≤◌, ◌<◌, ◌+◌, ◌==◌, Bool, true, false, if◌then◌else◌, List, [], ◌∷◌, ◌++◌, length, slice_index}
+use Rattle.std.specs.Prelude.{ℕ, ◌≡◌, ◌≤◌, ◌<◌, ◌+◌, ◌==◌, Bool, true, false, if◌then◌else◌, List, [], ◌∷◌, ◌++◌, length, slice_index}
 use Rattle.vm_base.specs.Limits.{most_hosts}
 use Rattle.vm_base.specs.declared.ids.Lock.{Lock}
 use Rattle.vm_model.specs.Words.{Act, Supplying, Locking, SentDown, TakenUp, UpWord}
 use Rattle.vm_model.specs.Side.{side}
 use Rattle.vm_model.specs.Server.{Wanting, line, kept, NoUpgrade, NoRequest}
-use Rattle.vm_model.specs.PageLicences.{Licensed}
+use Rattle.vm_model.specs.PageLicences.{ActsLicensed}
 use Rattle.vm_model.specs.Coherence.{SomebodyIsAwaited}
 use Rattle.sms_pages.specs.declared.reply.Reply.{Reply}
 use Rattle.sms_pages.specs.declared.reply.Reply.TheVariants.{Supply, Flush, CleanLock, Unlock}
@@ -15,24 +15,24 @@ use Rattle.sms_pages.specs.Directory.{Directory, Outcome}
 abbrev pub counts : List ℕ → Wanting → Bool
 counts holds w = if w.upgrade then slice_index holds w.host == 1 else true
 
-abbrev pub counted : List ℕ → List Wanting → List Wanting
-counted holds [] = []
-counted holds (w ∷ ws) = if counts holds w then w ∷ counted holds ws else counted holds ws
+abbrev pub count_wanting : List ℕ → List Wanting → List Wanting
+count_wanting holds [] = []
+count_wanting holds (w ∷ ws) = if counts holds w then w ∷ count_wanting holds ws else count_wanting holds ws
 
 -- each is of one of eight hosts; a host is in it once with an upgrade and once with a request, the upgrade in front
-abbrev pub InTurn : List Wanting → Type 0
-InTurn [] = Unit {0}
-InTurn (w ∷ ws) = (w.host < most_hosts) × NoUpgrade w.host ws × (w.upgrade ≡ false → NoRequest w.host ws) × InTurn ws
+abbrev pub LineIsInTurn : List Wanting → Type 0
+LineIsInTurn [] = Unit {0}
+LineIsInTurn (w ∷ ws) = (w.host < most_hosts) × NoUpgrade w.host ws × (w.upgrade ≡ false → NoRequest w.host ws) × LineIsInTurn ws
 
 pub record DirectoryStands (size : ℕ) (holds awaits : List ℕ) (bytes : List ℕ) (wants : List Wanting) (past : List Act) : Type 0 where
   pub same_holds : (h : ℕ) → (side h past).holds ≡ slice_index holds h
   pub same_awaits : (h : ℕ) → (side h past).awaits ≡ slice_index awaits h
-  pub same_line : line past ≡ counted holds wants
+  pub same_line : line past ≡ count_wanting holds wants
   pub same_bytes : kept size past ≡ bytes
   pub eight_hold : length holds ≡ most_hosts
   pub eight_await : length awaits ≡ most_hosts
   pub bounded : (h : ℕ) → slice_index holds h ≤ 2
-  pub in_turn : InTurn wants
+  pub in_turn : LineIsInTurn wants
   -- a host whose request waits holds nothing, and one that can write has no upgrade waiting
   pub waiting : (h : ℕ) → 0 < slice_index holds h → NoRequest h wants
   pub writing : (h : ℕ) → slice_index holds h ≡ 2 → NoUpgrade h wants
@@ -58,7 +58,7 @@ Hears heard past = (h : ℕ) → heard h ≡ (side h past).heard
 
 -- the past with the replies has a cause for each act, and what serving leaves stands for it
 pub record ServingFollows (size : ℕ) (heard : ℕ → ℕ) (bytes : List ℕ) (s : Outcome) (past : List Act) : Type 0 where
-  pub licensed : Licensed size (reply_acts heard s.replies ++ past)
+  pub licensed : ActsLicensed size (reply_acts heard s.replies ++ past)
   pub stands : DirectoryStands size s.holds s.awaits bytes s.line (reply_acts heard s.replies ++ past)
 
 abbrev pub StandsFor : ℕ → Directory → List Act → Type 0
@@ -66,8 +66,8 @@ StandsFor size d past = DirectoryStands size d.holds d.awaits d.bytes d.line pas
 
 -- each reply has its cause, the directory stands for the past with them, and where somebody still waits a host is
 -- awaited
-pub record IsAnswered (size : ℕ) (heard : ℕ → ℕ) (after : Directory) (replies : List Reply) (past : List Act) : Type 0 where
-  pub licensed : Licensed size (reply_acts heard replies ++ past)
+pub record RepliesHaveCause (size : ℕ) (heard : ℕ → ℕ) (after : Directory) (replies : List Reply) (past : List Act) : Type 0 where
+  pub licensed : ActsLicensed size (reply_acts heard replies ++ past)
   pub stands : StandsFor size after (reply_acts heard replies ++ past)
   pub served : SomebodyIsAwaited (reply_acts heard replies ++ past)
 

@@ -4,7 +4,7 @@ ghost use Rattle.vm_base.specs.Limits.{most_hosts};
 ghost use Rattle.std.specs.Prelude.{◌≡◌, ◌==◌, ◌+◌, ◌-◌, ◌<◌, ◌≤◌, ◌∷◌, [], ◌++◌, List, ℕ, length, slice_index, slice_get, slice_set, Some, true, false, not, IsOk, OnOk, IfOk, Ok};
 ghost use Rattle.vm_base.specs.Listing.{Listed};
 ghost use Rattle.sms_pages.specs.Directory.{is_recalled, recall, recall_kind, recalls, recalled, grant, granted, served, turn, any_recalled};
-ghost use Rattle.sms_pages.specs.Desk.{AllLong, IsElsewhereSame, awaits_with, replies_with, Serves, HasRoom};
+ghost use Rattle.sms_pages.specs.Desk.{AllLong, IsElsewhereSame, awaits_with, replies_with, DeskServes, HasRoom};
 
 use crate::holding::{Holding, Recall, Turn, Wish};
 use crate::{Replies, Reply};
@@ -194,7 +194,7 @@ impl Desk {
     fn serve_front(&mut self, front: &Wish, replies: &mut Replies) -> Result<bool, NoMemory>
         requires long { AllLong (length self.old.bytes) self.old.spare.items }
         requires front { slice_get self.old.line.items 0 ≡ Some front.now }
-        ensures exact { IfOk result (λ goes_on. Serves goes_on self.old replies.old.items self.new replies.new.items) }
+        ensures exact { IfOk result (λ goes_on. DeskServes goes_on self.old replies.old.items self.new replies.new.items) }
         ensures bytes { self.new.bytes ≡ self.old.bytes }
         ensures long { AllLong (length self.new.bytes) self.new.spare.items }
         ensures shorter { IfOk result (λ goes_on. goes_on ≡ true
@@ -224,7 +224,7 @@ impl Desk {
     /// Serves the line as far as it goes.
     pub fn serve(&mut self, replies: &mut Replies) -> Result<(), NoMemory>
         requires long { AllLong (length self.old.bytes) self.old.spare.items }
-        ensures exact { OnOk result (Serves false self.old replies.old.items self.new replies.new.items) }
+        ensures exact { OnOk result (DeskServes false self.old replies.old.items self.new replies.new.items) }
         ensures bytes { self.new.bytes ≡ self.old.bytes }
         ensures long { AllLong (length self.new.bytes) self.new.spare.items }
         ensures succeeds { HasRoom self.old replies.old.room → IsOk result }

@@ -1,8 +1,8 @@
 // The directory of one page.
 ghost use Rattle.std.specs.Prelude.{◌≡◌, ◌+◌, ◌<◌, ◌≤◌, [], replicate, length, true, false, IsOk, OnOk, OnErr, IfOk};
 ghost use Rattle.vm_base.specs.Limits.{most_hosts};
-ghost use Rattle.sms_pages.specs.Desk.{AllLong, Serves, HasRoom};
-ghost use Rattle.sms_pages.specs.Directory.{access_number, requested, unlocked, saved, finished, left_by, ended, IsServed, IsSame, IsNew, most_replies};
+ghost use Rattle.sms_pages.specs.Desk.{AllLong, DeskServes, HasRoom};
+ghost use Rattle.sms_pages.specs.Directory.{wanted_access, requested, unlock_heard, saved, finished, left_by, ended, IsServedDirectory, IsSame, IsNewDirectory, most_replies};
 
 use crate::Replies;
 use crate::desk::{Desk, HOSTS, make_pages, overwrite};
@@ -43,7 +43,7 @@ impl Model for PageDirectory {
 impl PageDirectory {
     /// The directory of a page of zeros that nobody holds; it fails for want of memory alone.
     pub fn new(alloc: Global, size: PageSize) -> Result<PageDirectory, NoMemory>
-        ensures { IfOk result (λ directory. IsNew size directory) }
+        ensures { IfOk result (λ directory. IsNewDirectory size directory) }
     {
         let desk = Desk {
             holds: [Holding::NOTHING; HOSTS],
@@ -82,7 +82,7 @@ impl PageDirectory {
     /// want of memory alone.
     pub fn request(&mut self, host: HostId, access: Access) -> Result<Replies, NoMemory>
         requires { host.0 < most_hosts }
-        ensures exact { IfOk result (λ replies. IsServed (requested host.0 (access_number access) self.old) self.new replies.items) }
+        ensures exact { IfOk result (λ replies. IsServedDirectory (requested host.0 (wanted_access access) self.old) self.new replies.items) }
         ensures few { IfOk result (λ replies. length replies.items ≤ most_replies self.old) }
         ensures err { OnErr result (IsSame self.old self.new) }
         ensures succeeds { self.old.prepared ≡ true → IsOk result }
@@ -97,7 +97,7 @@ impl PageDirectory {
     /// It fails for want of memory alone.
     pub fn unlock(&mut self, host: HostId) -> Result<Replies, NoMemory>
         requires { host.0 < most_hosts }
-        ensures exact { IfOk result (λ replies. IsServed (unlocked host.0 self.old) self.new replies.items) }
+        ensures exact { IfOk result (λ replies. IsServedDirectory (unlock_heard host.0 self.old) self.new replies.items) }
         ensures few { IfOk result (λ replies. length replies.items ≤ most_replies self.old) }
         ensures err { OnErr result (IsSame self.old self.new) }
         ensures succeeds { self.old.prepared ≡ true → IsOk result }
@@ -121,7 +121,7 @@ impl PageDirectory {
     ) -> Result<Replies, NoMemory>
         requires host { host.0 < most_hosts }
         requires size { length bytes.now ≡ length self.old.bytes }
-        ensures exact { IfOk result (λ replies. IsServed (saved host.0 keep bytes.now self.old) self.new replies.items) }
+        ensures exact { IfOk result (λ replies. IsServedDirectory (saved host.0 keep bytes.now self.old) self.new replies.items) }
         ensures few { IfOk result (λ replies. length replies.items ≤ most_replies self.old) }
         ensures err { OnErr result (IsSame self.old self.new) }
         ensures succeeds { self.old.prepared ≡ true → IsOk result }
@@ -139,7 +139,7 @@ impl PageDirectory {
     /// alone.
     pub fn completed(&mut self, host: HostId) -> Result<Replies, NoMemory>
         requires { host.0 < most_hosts }
-        ensures exact { IfOk result (λ replies. IsServed (finished host.0 self.old) self.new replies.items) }
+        ensures exact { IfOk result (λ replies. IsServedDirectory (finished host.0 self.old) self.new replies.items) }
         ensures few { IfOk result (λ replies. length replies.items ≤ most_replies self.old) }
         ensures err { OnErr result (IsSame self.old self.new) }
         ensures succeeds { self.old.prepared ≡ true → IsOk result }
@@ -155,7 +155,7 @@ impl PageDirectory {
     /// for want of memory alone.
     pub fn gone(&mut self, host: HostId) -> Result<Replies, NoMemory>
         requires { host.0 < most_hosts }
-        ensures exact { IfOk result (λ replies. IsServed (ended host.0 self.old) self.new replies.items) }
+        ensures exact { IfOk result (λ replies. IsServedDirectory (ended host.0 self.old) self.new replies.items) }
         ensures few { IfOk result (λ replies. length replies.items ≤ most_replies self.old) }
         ensures err { OnErr result (IsSame self.old self.new) }
         ensures succeeds { self.old.prepared ≡ true → IsOk result }
@@ -190,7 +190,7 @@ fn answer(desk: &mut Desk, ready: &mut Replies, alloc: Global) -> Result<Replies
     requires empty { ready.old.items ≡ [] }
     requires room { HasRoom desk.old ready.old.room }
     ensures ok { IsOk result }
-    ensures exact { IfOk result (λ replies. Serves false desk.old [] desk.new replies.items) }
+    ensures exact { IfOk result (λ replies. DeskServes false desk.old [] desk.new replies.items) }
     ensures few { IfOk result (λ replies. length replies.items ≤ length desk.old.line.items + most_hosts) }
     ensures bytes { desk.new.bytes ≡ desk.old.bytes }
     ensures long { AllLong (length desk.new.bytes) desk.new.spare.items }

@@ -2,7 +2,7 @@
 ghost use Rattle.std.specs.Prelude.{◌≡◌, ◌<◌, true, false};
 ghost use Rattle.vm_base.specs.Limits.{most_hosts};
 ghost use Rattle.vm_model.specs.Server.{wants_write};
-ghost use Rattle.sms_pages.specs.Directory.{access_number};
+ghost use Rattle.sms_pages.specs.Directory.{wanted_access};
 
 use std::marker::Model;
 use vm_base::{Access, HostId};
@@ -83,7 +83,7 @@ impl Wish {
     /// A request of the host.
     pub fn request(host: HostId, access: Access) -> Wish
         requires { host.0 < most_hosts }
-        ensures { result ≡ record { host = host.0; upgrade = false; access = access_number access } }
+        ensures { result ≡ record { host = host.0; upgrade = false; access = wanted_access access } }
     {
         let access = match access {
             Access::Load => 1,

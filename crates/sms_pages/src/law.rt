@@ -3,11 +3,11 @@ ghost use Rattle.std.specs.Prelude.{ℕ, List, [], ◌∷◌, ◌≡◌, ◌<◌
 ghost use Rattle.vm_base.specs.Limits.{most_hosts};
 ghost use Rattle.vm_model.specs.Words.{Act, Asking, Unlocking, Returning, Doing, Ending};
 ghost use Rattle.vm_model.specs.Side.{side};
-ghost use Rattle.vm_model.specs.PageLicences.{Licensed};
+ghost use Rattle.vm_model.specs.PageLicences.{ActsLicensed};
 ghost use Rattle.sms_pages.specs.declared.reply.Reply.{Reply};
-ghost use Rattle.sms_pages.specs.Directory.{Directory, requested, unlocked, saved, finished, ended, IsNew, IsServed};
+ghost use Rattle.sms_pages.specs.Directory.{Directory, requested, unlock_heard, saved, finished, ended, IsNewDirectory, IsServedDirectory};
 ghost use Rattle.vm_model.specs.Server.{line, NoRequest, NoUpgrade};
-ghost use Rattle.sms_pages.specs.Stands.{StandsFor, Hears, IsAnswered, taking_act};
+ghost use Rattle.sms_pages.specs.Stands.{StandsFor, Hears, RepliesHaveCause, taking_act};
 
 /// The law of a page's directory: where it stands for the history of its page, each message that the
 /// server takes leaves it standing for the history with that message, and each reply has its cause.
@@ -17,11 +17,11 @@ ghost use Rattle.sms_pages.specs.Stands.{StandsFor, Hears, IsAnswered, taking_ac
 /// control of the last request taken from each host, to which the replies go.
 #[tactic(auto, using(crate::proofs::Taken::begins))]
 pub fn directory_law()
-    ensures begins { (size : ℕ) (d : Directory) → IsNew size d → StandsFor size d [] }
+    ensures begins { (size : ℕ) (d : Directory) → IsNewDirectory size d → StandsFor size d [] }
     ensures request { (size h control access : ℕ) (d : Directory) (past : List Act) → StandsFor size d past → h < most_hosts
         → NoRequest h (line past) → StandsFor size (requested h access d) (taking_act h (Asking control access) ∷ past) }
     ensures unlock { (size h access : ℕ) (d : Directory) (past : List Act) → StandsFor size d past → h < most_hosts
-        → NoUpgrade h (line past) → StandsFor size (unlocked h d) (taking_act h (Unlocking access) ∷ past) }
+        → NoUpgrade h (line past) → StandsFor size (unlock_heard h d) (taking_act h (Unlocking access) ∷ past) }
     ensures returned { (size h : ℕ) (dirty keep : Bool) (bytes : List ℕ) (d : Directory) (past : List Act)
         → StandsFor size d past → h < most_hosts
         → StandsFor size (saved h keep bytes d) (taking_act h (Returning dirty keep bytes) ∷ past) }
@@ -32,6 +32,6 @@ pub fn directory_law()
         → (0 < (side h past).awaits → (side h past).awaited_control ≡ control)
         → StandsFor size (ended h d) (taking_act h (Ending control) ∷ past) }
     ensures served { (size : ℕ) (heard : ℕ → ℕ) (changed after : Directory) (replies : List Reply) (past : List Act)
-        → Licensed size past → StandsFor size changed past → Hears heard past → IsServed changed after replies
-        → IsAnswered size heard after replies past }
+        → ActsLicensed size past → StandsFor size changed past → Hears heard past → IsServedDirectory changed after replies
+        → RepliesHaveCause size heard after replies past }
 {}

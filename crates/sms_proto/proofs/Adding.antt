@@ -6,12 +6,12 @@ use Rattle.vm_model.specs.declared.message.Message.{Message}
 use Rattle.vm_model.specs.declared.event.Event.{Event}
 use Rattle.vm_model.specs.declared.event.Event.TheVariants.{Sent}
 use Rattle.vm_base.specs.declared.ids.HostId.{HostId}
-use Rattle.sms_proto.specs.Adds.{Adds, Same, More, HostDoes, IsLetter}
+use Rattle.sms_proto.specs.Adds.{Adds, Same, More, HostDoes, IsPageMessage}
 
 pub added : (P : Event → Type 0) (old new : List Event) (e : Event) → new ≡ e ∷ old → P e → Adds P old new
 added P old new e is own = subst (λ (l : List Event). Adds P old l) (sym is) (More e old own Same)
 
-pub added_letter : (host : HostId) (old new : List Event) (e : Event) (m : Message) → new ≡ e ∷ old → e ≡ Sent (Up host (record { 0 = 0 })) m → IsLetter m → Adds (HostDoes host.0) old new
+pub added_letter : (host : HostId) (old new : List Event) (e : Event) (m : Message) → new ≡ e ∷ old → e ≡ Sent (Up host (record { 0 = 0 })) m → IsPageMessage m → Adds (HostDoes host.0) old new
 added_letter host old new e m is sent letter = added (HostDoes host.0) old new e is (subst (λ (x : Event). HostDoes host.0 x) (sym sent) (refl_of, refl_of, letter)) where
   refl_of : {A : Type 0} {x : A} → x ≡ x
   refl_of {A} {x} = λ i. x

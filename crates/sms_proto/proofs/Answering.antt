@@ -15,16 +15,16 @@ use Rattle.vm_model.specs.Waiters.{waiters}
 use Rattle.vm_model.specs.Server.{first, Wanting, line, kept}
 use Rattle.vm_model.specs.PagePart.{world_part}
 use Rattle.vm_model.specs.Channels.{up_queue, down_queue}
-use Rattle.vm_model.specs.PageLicences.{Licensed, Cause, SupplyRow}
+use Rattle.vm_model.specs.PageLicences.{ActsLicensed, Cause, SupplyRow}
 use Rattle.vm_model.specs.Coherence.{Done, StepsDone, SomebodyIsAwaited, begins_step}
 use Rattle.vm_coherence.proofs.Law.{world, cause}
 use Rattle.vm_coherence.proofs.Protocol.{one_request, one_unlock, completed_awaited, ended_awaited}
 use Rattle.sms_pages.specs.declared.reply.Reply.{Reply}
 use Rattle.sms_pages.specs.declared.reply.Reply.TheVariants as reply
-use Rattle.sms_pages.specs.Directory.{Directory, IsServed, IsSame, access_number}
+use Rattle.sms_pages.specs.Directory.{Directory, IsServedDirectory, IsSame, wanted_access}
 use Rattle.sms_pages.specs.Desk.{AllLong}
 use Rattle.std.specs.VecDeque.{deque_len, deque_capacity}
-use Rattle.sms_pages.specs.Stands.{DirectoryStands, StandsFor, IsAnswered, Hears, lock_number, reply_act, reply_acts, taking_act}
+use Rattle.sms_pages.specs.Stands.{DirectoryStands, StandsFor, RepliesHaveCause, Hears, lock_number, reply_act, reply_acts, taking_act}
 use Rattle.sms_pages.proofs.Taken.{request_taken, unlock_taken, after_return, completed_taken, end_taken}
 use Rattle.sms_pages.proofs.Following.{serving}
 use Rattle.sms_proto.specs.declared.kernel.Kernel.{Kernel}
@@ -36,7 +36,7 @@ use Rattle.sms_proto.specs.Letters.{letter_word, order_word, letter_taken, order
 use Rattle.sms_proto.specs.Kernels.{KernelFits, Each, IsProper, IsWholeOrder, IsPrompt, SamePage}
 use Rattle.vm_model.specs.declared.message.Channel.TheVariants.{Up}
 use Rattle.vm_model.specs.declared.event.Event.TheVariants.{Taken}
-use Rattle.sms_proto.specs.Steps.{taken_head, IsTaken}
+use Rattle.sms_proto.specs.Steps.{taken_head, AddsFirst}
 use Rattle.sms_proto.specs.Worlds.{SameHostSide, Present, StandsAt, WorldStands, Answering, noted_by, heard_of, heard_in, reply_host, reply_order, HasPlaces, IsSupplied}
 use Rattle.sms_proto.proofs.Hosts.{kept_act, kept_wait, not_mine}
 use Rattle.sms_proto.proofs.Standing.{step_at, each_after, get_set_same, get_set_other}
@@ -62,8 +62,8 @@ letter_cause size h (letter.Return control keep bytes) past is = is
 letter_cause size h (letter.Completed control) past is = is
 letter_cause size h (letter.Terminate control) past is = is
 
-noted_stands : (size h : ℕ) (l : Letter) (d : Directory) (past : List Act) → Licensed size past → StepsDone past → StandsFor size d past → h < 8 → first (side h past).up ≡ Some (letter_word l) → StandsFor size (noted_by h l d) (taking_act h (letter_word l) ∷ past)
-noted_stands size h (letter.Request control access) d past licensed steps s lt is = request_taken size h control (access_number access) d past s lt (one_request size h control (access_number access) past licensed is)
+noted_stands : (size h : ℕ) (l : Letter) (d : Directory) (past : List Act) → ActsLicensed size past → StepsDone past → StandsFor size d past → h < 8 → first (side h past).up ≡ Some (letter_word l) → StandsFor size (noted_by h l d) (taking_act h (letter_word l) ∷ past)
+noted_stands size h (letter.Request control access) d past licensed steps s lt is = request_taken size h control (wanted_access access) d past s lt (one_request size h control (wanted_access access) past licensed is)
 noted_stands size h (letter.Unlock control) d past licensed steps s lt is = unlock_taken size h 3 d past s lt (one_unlock size h 3 past licensed steps is)
 noted_stands size h (letter.Return control keep bytes) d past licensed steps s lt is = after_return size h true keep bytes d past s lt
 noted_stands size h (letter.Completed control) d past licensed steps s lt is = completed_taken size h control 1 d past s lt (λ some. completed_awaited size h control 1 past licensed steps is)
@@ -101,7 +101,7 @@ kept_sent size g host control o past apart none =
     }
 
 -- a letter is taken, and the line served
-pub answering_heard : (size h : ℕ) (ks : List Kernel) (d after : Directory) (replies : List Reply) (old new : List Event) (k m : Kernel) (l : Letter) (rest : List Letter) → h < length ks → slice_get ks h ≡ Some k → WorldStands size ks d old → k.up.items ≡ l ∷ rest → new ≡ letter_taken k.host l ∷ old → KernelFits new m → SamePage k m → IsServed (noted_by h l d) after replies → Answering size (set ks h m) after replies new
+pub answering_heard : (size h : ℕ) (ks : List Kernel) (d after : Directory) (replies : List Reply) (old new : List Event) (k m : Kernel) (l : Letter) (rest : List Letter) → h < length ks → slice_get ks h ≡ Some k → WorldStands size ks d old → k.up.items ≡ l ∷ rest → new ≡ letter_taken k.host l ∷ old → KernelFits new m → SamePage k m → IsServedDirectory (noted_by h l d) after replies → Answering size (set ks h m) after replies new
 answering_heard size h ks d after replies old new k m l rest within is w items added fits same served =
     record {
       answered = serving size (heard_in (set ks h m)) (noted_by h l d) after replies (world_part size new) licensed stands (hears_each size (set ks h m) new each) served;
@@ -122,8 +122,8 @@ answering_heard size h ks d after replies old new k m l rest within is w items a
       front : first (side h (world_part size old)).up ≡ Some (letter_word l)
       front = subst (λ (n : ℕ). first (side h (world_part n old)).up ≡ Some (letter_word l)) p.same_size (subst (λ (n : ℕ). first (side n (world_part k.size old)).up ≡ Some (letter_word l)) p.same_host (ap (λ (q : List UpWord). first q) p.fits.up ∙ first_word k.up.items rest l items))
 
-      licensed : Licensed size (world_part size new)
-      licensed = subst (λ (a : List Act). Licensed size a) (sym acts) (letter_cause size h l (world_part size old) front, w.licensed)
+      licensed : ActsLicensed size (world_part size new)
+      licensed = subst (λ (a : List Act). ActsLicensed size a) (sym acts) (letter_cause size h l (world_part size old) front, w.licensed)
 
       stands : StandsFor size (noted_by h l d) (world_part size new)
       stands = subst (λ (a : List Act). StandsFor size (noted_by h l d) a) (sym acts) (noted_stands size h l d (world_part size old) w.licensed w.steps w.noted (omega (arith, w.few)) front)
@@ -141,12 +141,12 @@ acts_end : (heard : ℕ → ℕ) (rs : List Reply) (r : Reply) (past : List Act)
 acts_end heard [] r past = refl
 acts_end heard (x ∷ rs) r past = ap (λ (a : List Act). reply_act heard x ∷ a) (acts_end heard rs r past)
 
-licensed_rest : (size : ℕ) (front past : List Act) → Licensed size (front ++ past) → Licensed size past
+licensed_rest : (size : ℕ) (front past : List Act) → ActsLicensed size (front ++ past) → ActsLicensed size past
 licensed_rest size [] past licensed = licensed
 licensed_rest size (a ∷ front) past licensed = licensed_rest size front past licensed.1
 
-pub oldest_licensed : (size : ℕ) (ks : List Kernel) (d : Directory) (rest : List Reply) (r : Reply) (history : List Event) → Answering size ks d (rest ++ r ∷ []) history → Licensed size (reply_act (heard_in ks) r ∷ world_part size history)
-oldest_licensed size ks d rest r history a = licensed_rest size (reply_acts (heard_in ks) rest) _ (subst (λ (l : List Act). Licensed size l) (acts_end (heard_in ks) rest r (world_part size history)) a.answered.licensed)
+pub oldest_licensed : (size : ℕ) (ks : List Kernel) (d : Directory) (rest : List Reply) (r : Reply) (history : List Event) → Answering size ks d (rest ++ r ∷ []) history → ActsLicensed size (reply_act (heard_in ks) r ∷ world_part size history)
+oldest_licensed size ks d rest r history a = licensed_rest size (reply_acts (heard_in ks) rest) _ (subst (λ (l : List Act). ActsLicensed size l) (acts_end (heard_in ks) rest r (world_part size history)) a.answered.licensed)
 
 none_some : 0 < 0 → ⊥
 none_some some = omega arith
@@ -155,7 +155,7 @@ none_one : (n : ℕ) → n ≡ 0 → n ≡ 1 → ⊥
 none_one n e f = omega arith
 
 -- a reply goes to a host that the world has
-reply_some : (size : ℕ) (heard : ℕ → ℕ) (r : Reply) (past : List Act) → Licensed size (reply_act heard r ∷ past) → (side (reply_host r).0 past) ≡ nobody → ⊥
+reply_some : (size : ℕ) (heard : ℕ → ℕ) (r : Reply) (past : List Act) → ActsLicensed size (reply_act heard r ∷ past) → (side (reply_host r).0 past) ≡ nobody → ⊥
 reply_some size heard (reply.Supply host lock bytes) past l is = let c = cause size host.0 (SentDown (heard host.0) (Supplying (lock_number lock) false bytes)) past (world size past l.1) l.0 in none_some (subst (λ (s : Side). 0 < s.pending) is c.1)
 reply_some size heard (reply.Flush host) past l is = none_some (subst (λ (s : Side). 0 < s.holds) is l.0.4)
 reply_some size heard (reply.CleanLock host) past l is = none_some (subst (λ (s : Side). 0 < s.holds) is l.0.4)
@@ -176,7 +176,7 @@ reply_within size ks d rest r history a = elim (within_or ks (reply_host r).0) [
 ]
 
 -- the words of a reply
-reply_part : (size : ℕ) (heard : ℕ → ℕ) (r : Reply) (k : Kernel) (past : List Event) → k.host ≡ reply_host r → heard k.host.0 ≡ k.heard → Licensed size (reply_act heard r ∷ world_part size past) → world_part size (order_sent k.host k.heard (reply_order r) ∷ past) ≡ reply_act heard r ∷ world_part size past
+reply_part : (size : ℕ) (heard : ℕ → ℕ) (r : Reply) (k : Kernel) (past : List Event) → k.host ≡ reply_host r → heard k.host.0 ≡ k.heard → ActsLicensed size (reply_act heard r ∷ world_part size past) → world_part size (order_sent k.host k.heard (reply_order r) ∷ past) ≡ reply_act heard r ∷ world_part size past
 reply_part size heard r k past host hears licensed =
     sent_part size k.host k.heard (reply_order r) past
     ∙ (ap (λ (n : ℕ). record { host = k.host.0; effect = SentDown n (order_word (reply_order r)) } ∷ world_part size past) (sym hears)
@@ -191,13 +191,13 @@ reply_part size heard r k past host hears licensed =
         by_bits false true is = refl
         by_bits false false is = refl
 
-      one : (r : Reply) → Licensed size (reply_act heard r ∷ world_part size past) → record { host = (reply_host r).0; effect = SentDown (heard (reply_host r).0) (order_word (reply_order r)) } ≡ reply_act heard r
+      one : (r : Reply) → ActsLicensed size (reply_act heard r ∷ world_part size past) → record { host = (reply_host r).0; effect = SentDown (heard (reply_host r).0) (order_word (reply_order r)) } ≡ reply_act heard r
       one (reply.Supply host lock bytes) l = ap (λ (n : ℕ). record { host = host.0; effect = SentDown (heard host.0) (Supplying n false bytes) }) (lock_of lock (first (line (world_part size past))) host.0 (world_part size past) l.0.4)
       one (reply.Flush host) l = refl
       one (reply.CleanLock host) l = refl
       one (reply.Unlock host) l = refl
 
-pub reply_whole : (size : ℕ) (heard : ℕ → ℕ) (r : Reply) (past : List Act) (bytes : List ℕ) → Licensed size (reply_act heard r ∷ past) → kept size past ≡ bytes → length bytes ≡ size → IsWholeOrder size (reply_order r)
+pub reply_whole : (size : ℕ) (heard : ℕ → ℕ) (r : Reply) (past : List Act) (bytes : List ℕ) → ActsLicensed size (reply_act heard r ∷ past) → kept size past ≡ bytes → length bytes ≡ size → IsWholeOrder size (reply_order r)
 reply_whole size heard (reply.Supply host lock supplied) past bytes l same long = ap (λ (b : List ℕ). length b) (l.0.3 ∙ same) ∙ long
 reply_whole size heard (reply.Flush host) past bytes l same long = tt
 reply_whole size heard (reply.CleanLock host) past bytes l same long = tt
@@ -212,7 +212,7 @@ heard_set ks h k m within is same g = elim (ℕ_discrete g h) [
 pub answering_sent : (size h : ℕ) (ks : List Kernel) (d : Directory) (rest : List Reply) (r : Reply) (old new : List Event) (k m : Kernel) → h < length ks → slice_get ks h ≡ Some k → h ≡ (reply_host r).0 → Answering size ks d (rest ++ r ∷ []) old → new ≡ order_sent k.host k.heard (reply_order r) ∷ old → KernelFits new m → SamePage k m → m.heard ≡ k.heard → Answering size (set ks h m) d rest new
 answering_sent size h ks d rest r old new k m within is mine a added fits same heard =
     record {
-      answered = subst (λ (f : ℕ → ℕ). IsAnswered size f d rest (world_part size new)) (λ i g. sym (heard_set ks h k m within is heard g) i) answered;
+      answered = subst (λ (f : ℕ → ℕ). RepliesHaveCause size f d rest (world_part size new)) (λ i g. sym (heard_set ks h k m within is heard g) i) answered;
       steps = subst (λ (l : List Act). StepsDone l) (sym acts) (none r, a.steps);
       each = each_after size ks h m old new within a.each (λ g apart. subst (λ (e : List Event). SameHostSide size g old e) (sym added) (kept_sent size g k.host k.heard (reply_order r) old (λ e. apart (e ∙ p.same_host)) (step_at size g old (slice_get ks g) (a.each g))))
           (record { same_host = ap (λ (x : HostId). x.0) same.same_host ∙ p.same_host; same_size = same.same_size ∙ p.same_size; fits = fits; prompt = prompt_same k m same p.prompt });
@@ -222,7 +222,7 @@ answering_sent size h ks d rest r old new k m within is mine a added fits same h
       p : Present size h old k
       p = subst (λ (o : Option Kernel). StandsAt size h old o) is (a.each h)
 
-      licensed : Licensed size (reply_act (heard_in ks) r ∷ world_part size old)
+      licensed : ActsLicensed size (reply_act (heard_in ks) r ∷ world_part size old)
       licensed = oldest_licensed size ks d rest r old a
 
       hears : heard_in ks k.host.0 ≡ k.heard
@@ -234,10 +234,10 @@ answering_sent size h ks d rest r old new k m within is mine a added fits same h
       moved : reply_acts (heard_in ks) (rest ++ r ∷ []) ++ world_part size old ≡ reply_acts (heard_in ks) rest ++ world_part size new
       moved = acts_end (heard_in ks) rest r (world_part size old) ∙ ap (λ (l : List Act). reply_acts (heard_in ks) rest ++ l) (sym acts)
 
-      answered : IsAnswered size (heard_in ks) d rest (world_part size new)
+      answered : RepliesHaveCause size (heard_in ks) d rest (world_part size new)
       answered =
           record {
-            licensed = subst (λ (l : List Act). Licensed size l) moved a.answered.licensed;
+            licensed = subst (λ (l : List Act). ActsLicensed size l) moved a.answered.licensed;
             stands = subst (λ (l : List Act). StandsFor size d l) moved a.answered.stands;
             served = subst (λ (l : List Act). SomebodyIsAwaited l) moved a.answered.served;
           }
@@ -350,7 +350,7 @@ set_places_fewer n most ks h k m le within is places len cap g x found = elim (�
   | no e ↦ let more = places g x (sym (get_set_other ks h g m e) ∙ found) in omega (arith, more)
 ]
 
-pub taken_is : (host k : HostId) (q qs : List Message) (m : Message) (old new : List Event) → q ≡ m ∷ qs → k ≡ host → new ≡ Taken (Up k (record { 0 = 0 })) m ∷ old → IsTaken (taken_head (Up host (record { 0 = 0 })) q) old new
+pub taken_is : (host k : HostId) (q qs : List Message) (m : Message) (old new : List Event) → q ≡ m ∷ qs → k ≡ host → new ≡ Taken (Up k (record { 0 = 0 })) m ∷ old → AddsFirst (taken_head (Up host (record { 0 = 0 })) q) old new
 taken_is host k q qs m old new is same added =
-    subst (λ (ms : List Message). IsTaken (taken_head (Up host (record { 0 = 0 })) ms) old new) (sym is)
+    subst (λ (ms : List Message). AddsFirst (taken_head (Up host (record { 0 = 0 })) ms) old new) (sym is)
     (added ∙ ap (λ (g : HostId). Taken (Up g (record { 0 = 0 })) m ∷ old) same)

@@ -12,7 +12,7 @@ use Rattle.sms_proto.specs.declared.kernel.Want.{Want}
 use Rattle.sms_proto.specs.declared.letter.Letter.{Letter}
 use Rattle.sms_proto.specs.declared.letter.Letter.TheVariants as letter
 use Rattle.sms_proto.specs.Letters.{order_message, order_word}
-use Rattle.sms_proto.specs.Kernels.{KernelFits, Each, IsProper, seen, waiting}
+use Rattle.sms_proto.specs.Kernels.{KernelFits, Each, IsProper, kernel_side, waiter_list}
 use Rattle.sms_proto.specs.Steps.{begun_event}
 
 abbrev pub begins : ℕ → ℕ → Bool → ℕ → Act
@@ -52,7 +52,7 @@ begun_waits size h value store acts none =
     ap (λ (e : ActEffect). waiters_after e (waiters h acts)) (own_effect (begins size h store value)) ∙ (ap (λ (n : ℕ). record { task = h; store = store; at = n; size = 8; value = value } ∷ waiters h acts) (zero_at size) ∙ ap (λ ws. record { task = h; store = store; at = 0; size = 8; value = value } ∷ ws) none)
 
 -- a kernel to which nothing happens but that another access waits
-pub fits_same : (old new : List Event) (k : Kernel) (w : Option Want) → seen new k ≡ seen old k → waiters k.host.0 (world_part k.size new) ≡ waiting k.host.0 w → up_queue k.host.0 0 new ≡ up_queue k.host.0 0 old → ((n : ℕ) → down_queue k.host.0 0 n new ≡ down_queue k.host.0 0 n old) → (k.asked ≡ true → w ≢ None) → KernelFits old k → KernelFits new (record k { want = w })
+pub fits_same : (old new : List Event) (k : Kernel) (w : Option Want) → kernel_side new k ≡ kernel_side old k → waiters k.host.0 (world_part k.size new) ≡ waiter_list k.host.0 w → up_queue k.host.0 0 new ≡ up_queue k.host.0 0 old → ((n : ℕ) → down_queue k.host.0 0 n new ≡ down_queue k.host.0 0 n old) → (k.asked ≡ true → w ≢ None) → KernelFits old k → KernelFits new (record k { want = w })
 fits_same old new k w same waits sent down asked f =
     record {
       control = ap (λ (t : Side). t.control) same ∙ f.control;
@@ -89,7 +89,7 @@ pub fits_begun : (history : List Event) (k : Kernel) (want : Want) → KernelFit
 fits_begun history k want f live idle plain =
     fits_same history (begun_event k.host.0 want.store want.value ∷ history) k (Some want)
     (ap (λ (l : List Act). side k.host.0 l) part ∙ own_side (begins k.size k.host.0 want.store want.value) (world_part k.size history))
-    (ap (λ (l : List Act). waiters k.host.0 l) part ∙ begun_waits k.size k.host.0 want.value want.store (world_part k.size history) (f.waits ∙ ap (waiting k.host.0) idle))
+    (ap (λ (l : List Act). waiters k.host.0 l) part ∙ begun_waits k.size k.host.0 want.value want.store (world_part k.size history) (f.waits ∙ ap (waiter_list k.host.0) idle))
     (begun_up k.host.0 k.host.0 want.value want.store history)
     (λ n. begun_down k.host.0 n k.host.0 want.value want.store history)
     (λ asked none. absurd (cc))
@@ -124,7 +124,7 @@ fits_anew history k want next f gone is idle plain =
       heard = ap (λ (t : Side). t.heard) now ∙ f.heard;
       up = ap (λ (t : Side). t.up) now ∙ f.up;
       down = ap (λ (t : Side). t.down) now ∙ ap (map order_word) (sym (f.gone_down gone));
-      waits = ap (λ (l : List Act). waiters k.host.0 l) part ∙ begun_waits k.size k.host.0 want.value want.store (opens k.host.0 (seen history k).control ∷ world_part k.size history) (others_wait ∙ (f.waits ∙ ap (waiting k.host.0) idle));
+      waits = ap (λ (l : List Act). waiters k.host.0 l) part ∙ begun_waits k.size k.host.0 want.value want.store (opens k.host.0 (kernel_side history k).control ∷ world_part k.size history) (others_wait ∙ (f.waits ∙ ap (waiter_list k.host.0) idle));
       sent = begun_up k.host.0 k.host.0 want.value want.store history ∙ f.sent;
       coming = λ l. begun_down k.host.0 next k.host.0 want.value want.store history ∙ (f.later next (omega arith) ∙ ap (map order_message) (sym (f.gone_down gone)));
       later = λ n lt. begun_down k.host.0 n k.host.0 want.value want.store history ∙ f.later n (omega arith);
@@ -143,8 +143,8 @@ fits_anew history k want next f gone is idle plain =
       part : world_part k.size (begun_event k.host.0 want.store want.value ∷ history) ≡ begins k.size k.host.0 want.store want.value ∷ opens k.host.0 (side k.host.0 (world_part k.size history)).control ∷ world_part k.size history
       part = begun_part k.size k.host.0 want.value want.store false history plain (f.live ∙ gone)
 
-      now : side k.host.0 (world_part k.size (begun_event k.host.0 want.store want.value ∷ history)) ≡ opened (seen history k) ((seen history k).control + 1) true
-      now = ap (λ (l : List Act). side k.host.0 l) part ∙ (own_side (begins k.size k.host.0 want.store want.value) (opens k.host.0 (seen history k).control ∷ world_part k.size history) ∙ own_side (opens k.host.0 (seen history k).control) (world_part k.size history))
+      now : side k.host.0 (world_part k.size (begun_event k.host.0 want.store want.value ∷ history)) ≡ opened (kernel_side history k) ((kernel_side history k).control + 1) true
+      now = ap (λ (l : List Act). side k.host.0 l) part ∙ (own_side (begins k.size k.host.0 want.store want.value) (opens k.host.0 (kernel_side history k).control ∷ world_part k.size history) ∙ own_side (opens k.host.0 (kernel_side history k).control) (world_part k.size history))
 
-      others_wait : waiters k.host.0 (opens k.host.0 (seen history k).control ∷ world_part k.size history) ≡ waiters k.host.0 (world_part k.size history)
-      others_wait = ap (λ (e : ActEffect). waiters_after e (waiters k.host.0 (world_part k.size history))) (own_effect (opens k.host.0 (seen history k).control))
+      others_wait : waiters k.host.0 (opens k.host.0 (kernel_side history k).control ∷ world_part k.size history) ≡ waiters k.host.0 (world_part k.size history)
+      others_wait = ap (λ (e : ActEffect). waiters_after e (waiters k.host.0 (world_part k.size history))) (own_effect (opens k.host.0 (kernel_side history k).control))

@@ -7,8 +7,8 @@ use Rattle.vm_model.specs.declared.message.Message.{Message}
 use Rattle.vm_model.specs.declared.message.Message.TheVariants as message
 use Rattle.vm_model.specs.declared.event.Event.{Event}
 use Rattle.vm_model.specs.declared.event.Event.TheVariants as event
-use Rattle.vm_model.specs.Words.{Act, UpWord, DownWord, ActEffect, Opens, SendsUp, TakenUp, SentDown, TakesDown, Drops, Begins, Loads, Stores, StepBegins, Nothing, down_word, sent_effect, to_others, act_of}
-use Rattle.vm_model.specs.Side.{Side, side, side_after, hears, reaches, sent_up}
+use Rattle.vm_model.specs.Words.{Act, UpWord, DownWord, ActEffect, Opens, SendsUp, TakenUp, SentDown, TakesDown, Drops, Begins, Loads, Stores, StepBegins, Nothing, down_word, sent_act_effect, to_others, act_of}
+use Rattle.vm_model.specs.Side.{Side, side, side_after, side_taken_down, is_open_to, side_sent_up}
 use Rattle.vm_model.specs.Waiters.{Waiter, waiters, waiters_after}
 use Rattle.vm_model.specs.Server.{Wanting, line, joined, kept, kept_after, trimmed_line}
 use Rattle.vm_model.specs.Channels.{up_queue, down_queue}
@@ -32,10 +32,10 @@ own_holds : (e : ActEffect) (s : Side) → is_own e ≡ true → (side_after s e
 own_holds (TakenUp word) s own = absurd (cc)
 own_holds (SentDown control word) s own = absurd (cc)
 own_holds (SendsUp control word) s own = sends word s where
-  sends : (w : UpWord) (s : Side) → (sent_up s w).holds ≡ s.holds
+  sends : (w : UpWord) (s : Side) → (side_sent_up s w).holds ≡ s.holds
   sends w s = grind arith
-own_holds (TakesDown control word) s own = takes word s (reaches s control) where
-  takes : (w : DownWord) (s : Side) (b : Bool) → (if b then hears s w else record s { step = 0 }).holds ≡ s.holds
+own_holds (TakesDown control word) s own = takes word s (is_open_to s control) where
+  takes : (w : DownWord) (s : Side) (b : Bool) → (if b then side_taken_down s w else record s { step = 0 }).holds ≡ s.holds
   takes w s b = grind arith
 own_holds e s own = refl
 
@@ -43,10 +43,10 @@ own_awaits : (e : ActEffect) (s : Side) → is_own e ≡ true → (side_after s 
 own_awaits (TakenUp word) s own = absurd (cc)
 own_awaits (SentDown control word) s own = absurd (cc)
 own_awaits (SendsUp control word) s own = sends word s where
-  sends : (w : UpWord) (s : Side) → (sent_up s w).awaits ≡ s.awaits
+  sends : (w : UpWord) (s : Side) → (side_sent_up s w).awaits ≡ s.awaits
   sends w s = grind arith
-own_awaits (TakesDown control word) s own = takes word s (reaches s control) where
-  takes : (w : DownWord) (s : Side) (b : Bool) → (if b then hears s w else record s { step = 0 }).awaits ≡ s.awaits
+own_awaits (TakesDown control word) s own = takes word s (is_open_to s control) where
+  takes : (w : DownWord) (s : Side) (b : Bool) → (if b then side_taken_down s w else record s { step = 0 }).awaits ≡ s.awaits
   takes w s b = grind arith
 own_awaits e s own = refl
 
@@ -155,7 +155,7 @@ no_opening s h e past plain = refl
 plain_part : (size : ℕ) (e : Event) (past : List Event) → is_beginning (event_act size e).effect ≡ false → world_part size (e ∷ past) ≡ event_act size e ∷ world_part size past
 plain_part size e past plain = ap (λ (l : List Act). event_act size e ∷ l) (no_opening (side (event_act size e).host (world_part size past)) (event_act size e).host (event_act size e).effect (world_part size past) plain)
 
-sent_own : (b : Bool) (m : Message) → is_own (if b then sent_effect 0 m else Nothing) ≡ true
+sent_own : (b : Bool) (m : Message) → is_own (if b then sent_act_effect 0 m else Nothing) ≡ true
 sent_own true (message.Init control size) = refl
 sent_own true (message.Create control size) = refl
 sent_own true m = refl
@@ -169,7 +169,7 @@ own_if : (b : Bool) (e : ActEffect) → is_own e ≡ true → is_own (if b then 
 own_if true e own = own
 own_if false e own = refl
 
-sent_plain : (b : Bool) (m : Message) → is_beginning (if b then sent_effect 0 m else Nothing) ≡ false
+sent_plain : (b : Bool) (m : Message) → is_beginning (if b then sent_act_effect 0 m else Nothing) ≡ false
 sent_plain true (message.Init control size) = refl
 sent_plain true (message.Create control size) = refl
 sent_plain true m = refl
@@ -231,7 +231,7 @@ kept_event size g h e past own apart none =
 pub stands_event : (size h : ℕ) (e : Event) (d : Directory) (past : List Event) → IsHosts h e → StandsFor size d (world_part size past) → StandsFor size d (world_part size (e ∷ past))
 stands_event size h e d past own s = subst (λ (l : List Act). StandsFor size d l) (sym (plain_part size e past (hosts_plain size h e own))) (stands_act size (event_act size e).host (event_act size e).effect d (world_part size past) (hosts_own size h e own) s)
 
-sent_step : (b : Bool) (m : Message) → begins_step (if b then sent_effect 0 m else Nothing) ≡ false
+sent_step : (b : Bool) (m : Message) → begins_step (if b then sent_act_effect 0 m else Nothing) ≡ false
 sent_step true (message.Init control size) = refl
 sent_step true (message.Create control size) = refl
 sent_step true m = refl

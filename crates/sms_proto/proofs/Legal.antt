@@ -7,13 +7,13 @@ use Rattle.vm_model.specs.Side.{Side, side}
 use Rattle.vm_model.specs.Waiters.{waiters}
 use Rattle.vm_model.specs.PagePart.{world_part}
 use Rattle.vm_model.specs.Channels.{up_queue, down_queue}
-use Rattle.vm_model.specs.Coherence.{Prompt, Quiet}
+use Rattle.vm_model.specs.Coherence.{Quiet, WaitersHaveAsked}
 use Rattle.vm_coherence.proofs.Whole.{page_legal}
 use Rattle.vm_coherence.proofs.Still.{still}
 use Rattle.sms_pages.specs.Directory.{Directory}
 use Rattle.sms_proto.specs.declared.kernel.Kernel.{Kernel}
 use Rattle.sms_proto.specs.Letters.{letter_message, letter_word, order_message, order_word}
-use Rattle.sms_proto.specs.Kernels.{waiting}
+use Rattle.sms_proto.specs.Kernels.{waiter_list}
 use Rattle.sms_proto.specs.Worlds.{Present, StandsAt, WorldStands}
 use Rattle.sms_proto.specs.World.{AllDelivered, IsPageWorld}
 use Rattle.sms_proto.proofs.Standing.{step_at}
@@ -33,9 +33,9 @@ own_prompt : (history : List Event) (h size : ℕ) (k : Kernel) → Present size
 own_prompt history h size k p some = by_asked k.asked refl where
   by_asked : (b : Bool) → k.asked ≡ b → ((side k.host.0 (world_part k.size history)).asked ≡ true) ⊎ (((0 < (side k.host.0 (world_part k.size history)).right) × ((side k.host.0 (world_part k.size history)).unlocking ≡ true)) ⊎ (((side k.host.0 (world_part k.size history)).live ≡ true) × ((side k.host.0 (world_part k.size history)).ready ≡ false)))
   by_asked true e = inl (p.fits.asked ∙ e)
-  by_asked false e = let ready = p.prompt (λ none. some (p.fits.waits ∙ ap (waiting k.host.0) none)) e in inr (inl (subst (λ (n : ℕ). 0 < n) (sym p.fits.right) ready.0, p.fits.unlocking ∙ ready.1))
+  by_asked false e = let ready = p.prompt (λ none. some (p.fits.waits ∙ ap (waiter_list k.host.0) none)) e in inr (inl (subst (λ (n : ℕ). 0 < n) (sym p.fits.right) ready.0, p.fits.unlocking ∙ ready.1))
 
-prompt_world : (size : ℕ) (ks : List Kernel) (d : Directory) (history : List Event) → WorldStands size ks d history → Prompt (world_part size history)
+prompt_world : (size : ℕ) (ks : List Kernel) (d : Directory) (history : List Event) → WorldStands size ks d history → WaitersHaveAsked (world_part size history)
 prompt_world size ks d history w h = one (slice_get ks h) (w.each h) where
   one : (o : Option Kernel) → StandsAt size h history o → Prompts history size h
   one None a some = absurd (some a.no_waits)

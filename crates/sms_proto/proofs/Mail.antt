@@ -5,7 +5,7 @@ use Rattle.vm_base.specs.declared.ids.HostId.{HostId}
 use Rattle.vm_model.specs.declared.message.Message.{Message}
 use Rattle.vm_model.specs.declared.event.Event.{Event}
 use Rattle.vm_model.specs.Words.{Act, ActEffect, DownWord, TakenUp, SentDown}
-use Rattle.vm_model.specs.Side.{Side, side, rest, taken_up, sent_down, reaches}
+use Rattle.vm_model.specs.Side.{Side, side, rest, side_taken_up, side_sent_down, is_open_to}
 use Rattle.vm_model.specs.Waiters.{waiters, waiters_after}
 use Rattle.vm_model.specs.PagePart.{world_part}
 use Rattle.vm_model.specs.Channels.{up_queue, down_queue}
@@ -16,7 +16,7 @@ use Rattle.sms_proto.specs.declared.letter.Letter.TheVariants as letter
 use Rattle.sms_proto.specs.declared.letter.Order.{Order}
 use Rattle.sms_proto.specs.declared.letter.Order.TheVariants as order
 use Rattle.sms_proto.specs.Letters.{letter_message, letter_word, order_message, order_word, letter_taken, order_sent, heard_by}
-use Rattle.sms_proto.specs.Kernels.{KernelFits, Each, IsProper, IsWholeOrder, seen}
+use Rattle.sms_proto.specs.Kernels.{KernelFits, Each, IsProper, IsWholeOrder, kernel_side}
 use Rattle.sms_proto.proofs.Queues.{map_end, each_end}
 
 record SameHost (s t : Side) : Type 0 where
@@ -34,11 +34,11 @@ abbrev pub mailed : Kernel → Kernel → Kernel
 mailed k m = record k { up = m.up; down = m.down; heard = m.heard }
 
 record Mailed (old new : List Event) (k m : Kernel) : Type 0 where
-  same : SameHost (seen old k) (seen new k)
-  step : (seen new k).step ≡ 0
-  up : (seen new k).up ≡ map letter_word m.up.items
-  down : (seen new k).down ≡ map order_word m.down.items
-  heard : (seen new k).heard ≡ m.heard
+  same : SameHost (kernel_side old k) (kernel_side new k)
+  step : (kernel_side new k).step ≡ 0
+  up : (kernel_side new k).up ≡ map letter_word m.up.items
+  down : (kernel_side new k).down ≡ map order_word m.down.items
+  heard : (kernel_side new k).heard ≡ m.heard
   waits : waiters k.host.0 (world_part k.size new) ≡ waiters k.host.0 (world_part k.size old)
   sent : up_queue k.host.0 0 new ≡ map letter_message m.up.items
   coming : k.live ≡ true → down_queue k.host.0 0 k.control new ≡ map order_message m.down.items
@@ -90,35 +90,35 @@ taken_part size host (letter.Return control keep bytes) past = refl
 taken_part size host (letter.Completed control) past = refl
 taken_part size host (letter.Terminate control) past = refl
 
-heard_same : (s : Side) (l : Letter) → SameHost s (taken_up s (letter_word l))
+heard_same : (s : Side) (l : Letter) → SameHost s (side_taken_up s (letter_word l))
 heard_same s (letter.Request asker access) = record { control = refl; live = refl; ready = refl; right = refl; lock = refl; bytes = refl; dirty = refl; asked = refl; unlocking = refl }
 heard_same s (letter.Unlock control) = record { control = refl; live = refl; ready = refl; right = refl; lock = refl; bytes = refl; dirty = refl; asked = refl; unlocking = refl }
 heard_same s (letter.Return control keep bytes) = record { control = refl; live = refl; ready = refl; right = refl; lock = refl; bytes = refl; dirty = refl; asked = refl; unlocking = refl }
 heard_same s (letter.Completed control) = record { control = refl; live = refl; ready = refl; right = refl; lock = refl; bytes = refl; dirty = refl; asked = refl; unlocking = refl }
 heard_same s (letter.Terminate control) = record { control = refl; live = refl; ready = refl; right = refl; lock = refl; bytes = refl; dirty = refl; asked = refl; unlocking = refl }
 
-heard_step : (s : Side) (l : Letter) → (taken_up s (letter_word l)).step ≡ 0
+heard_step : (s : Side) (l : Letter) → (side_taken_up s (letter_word l)).step ≡ 0
 heard_step s (letter.Request asker access) = refl
 heard_step s (letter.Unlock control) = refl
 heard_step s (letter.Return control keep bytes) = refl
 heard_step s (letter.Completed control) = refl
 heard_step s (letter.Terminate control) = refl
 
-heard_rest : (s : Side) (l : Letter) → (taken_up s (letter_word l)).up ≡ rest s.up
+heard_rest : (s : Side) (l : Letter) → (side_taken_up s (letter_word l)).up ≡ rest s.up
 heard_rest s (letter.Request asker access) = refl
 heard_rest s (letter.Unlock control) = refl
 heard_rest s (letter.Return control keep bytes) = refl
 heard_rest s (letter.Completed control) = refl
 heard_rest s (letter.Terminate control) = refl
 
-heard_down : (s : Side) (l : Letter) → (taken_up s (letter_word l)).down ≡ s.down
+heard_down : (s : Side) (l : Letter) → (side_taken_up s (letter_word l)).down ≡ s.down
 heard_down s (letter.Request asker access) = refl
 heard_down s (letter.Unlock control) = refl
 heard_down s (letter.Return control keep bytes) = refl
 heard_down s (letter.Completed control) = refl
 heard_down s (letter.Terminate control) = refl
 
-heard_heard : (s : Side) (l : Letter) → (taken_up s (letter_word l)).heard ≡ heard_by s.heard l
+heard_heard : (s : Side) (l : Letter) → (side_taken_up s (letter_word l)).heard ≡ heard_by s.heard l
 heard_heard s (letter.Request asker access) = refl
 heard_heard s (letter.Unlock control) = refl
 heard_heard s (letter.Return control keep bytes) = refl
@@ -142,11 +142,11 @@ pub fits_heard : (history : List Event) (k m : Kernel) (l : Letter) → KernelFi
 fits_heard history k m l f first down heard =
     fits_mailed history (letter_taken k.host l ∷ history) k m
     (record {
-      same = same_side (seen history k) (seen (letter_taken k.host l ∷ history) k) (taken_up (seen history k) (letter_word l)) now (heard_same (seen history k) l);
-      step = ap (λ (t : Side). t.step) now ∙ heard_step (seen history k) l;
-      up = ap (λ (t : Side). t.up) now ∙ (heard_rest (seen history k) l ∙ (ap rest f.up ∙ ap (λ (ls : List Letter). rest (map letter_word ls)) first));
-      down = ap (λ (t : Side). t.down) now ∙ (heard_down (seen history k) l ∙ (f.down ∙ ap (map order_word) (sym down)));
-      heard = ap (λ (t : Side). t.heard) now ∙ (heard_heard (seen history k) l ∙ (ap (λ (n : ℕ). heard_by n l) f.heard ∙ sym heard));
+      same = same_side (kernel_side history k) (kernel_side (letter_taken k.host l ∷ history) k) (side_taken_up (kernel_side history k) (letter_word l)) now (heard_same (kernel_side history k) l);
+      step = ap (λ (t : Side). t.step) now ∙ heard_step (kernel_side history k) l;
+      up = ap (λ (t : Side). t.up) now ∙ (heard_rest (kernel_side history k) l ∙ (ap rest f.up ∙ ap (λ (ls : List Letter). rest (map letter_word ls)) first));
+      down = ap (λ (t : Side). t.down) now ∙ (heard_down (kernel_side history k) l ∙ (f.down ∙ ap (map order_word) (sym down)));
+      heard = ap (λ (t : Side). t.heard) now ∙ (heard_heard (kernel_side history k) l ∙ (ap (λ (n : ℕ). heard_by n l) f.heard ∙ sym heard));
       waits = ap (λ (a : List Act). waiters k.host.0 a) (taken_part k.size k.host l history) ∙ ap (λ (e : ActEffect). waiters_after e (waiters k.host.0 (world_part k.size history))) (own_effect (record { host = k.host.0; effect = TakenUp (letter_word l) }));
       sent = mine k.host.0 (rest (up_queue k.host.0 0 history)) (up_queue k.host.0 0 history) ∙ (ap rest f.sent ∙ ap (λ (ls : List Letter). rest (map letter_message ls)) first);
       coming = λ live. f.coming live ∙ ap (map order_message) (sym down);
@@ -160,7 +160,7 @@ fits_heard history k m l f first down heard =
       each : Each (IsProper k.size k.control) (l ∷ m.up.items)
       each = subst (λ (ls : List Letter). Each (IsProper k.size k.control) ls) first f.proper
 
-      now : seen (letter_taken k.host l ∷ history) k ≡ taken_up (seen history k) (letter_word l)
+      now : kernel_side (letter_taken k.host l ∷ history) k ≡ side_taken_up (kernel_side history k) (letter_word l)
       now = ap (λ (a : List Act). side k.host.0 a) (taken_part k.size k.host l history) ∙ own_side (record { host = k.host.0; effect = TakenUp (letter_word l) }) (world_part k.size history)
 
 -- the server sends an order
@@ -171,7 +171,7 @@ sent_part size host control order.Flush past = refl
 sent_part size host control order.Clean past = refl
 sent_part size host control order.Unlock past = refl
 
-sent_same : (s : Side) (control : ℕ) (o : Order) → SameHost s (sent_down s control (order_word o))
+sent_same : (s : Side) (control : ℕ) (o : Order) → SameHost s (side_sent_down s control (order_word o))
 sent_same s control (order.Supply writes bytes) = record { control = refl; live = refl; ready = refl; right = refl; lock = refl; bytes = refl; dirty = refl; asked = refl; unlocking = refl }
 sent_same s control order.Flush = record { control = refl; live = refl; ready = refl; right = refl; lock = refl; bytes = refl; dirty = refl; asked = refl; unlocking = refl }
 sent_same s control order.Clean = record { control = refl; live = refl; ready = refl; right = refl; lock = refl; bytes = refl; dirty = refl; asked = refl; unlocking = refl }
@@ -182,13 +182,13 @@ record SameServer (s t : Side) : Type 0 where
   up : t.up ≡ s.up
   heard : t.heard ≡ s.heard
 
-sent_server : (s : Side) (control : ℕ) (o : Order) → SameServer s (sent_down s control (order_word o))
+sent_server : (s : Side) (control : ℕ) (o : Order) → SameServer s (side_sent_down s control (order_word o))
 sent_server s control (order.Supply writes bytes) = record { step = refl; up = refl; heard = refl }
 sent_server s control order.Flush = record { step = refl; up = refl; heard = refl }
 sent_server s control order.Clean = record { step = refl; up = refl; heard = refl }
 sent_server s control order.Unlock = record { step = refl; up = refl; heard = refl }
 
-sent_queue : (s : Side) (control : ℕ) (o : Order) → (sent_down s control (order_word o)).down ≡ (if reaches s control then s.down ++ order_word o ∷ [] else s.down)
+sent_queue : (s : Side) (control : ℕ) (o : Order) → (side_sent_down s control (order_word o)).down ≡ (if is_open_to s control then s.down ++ order_word o ∷ [] else s.down)
 sent_queue s control (order.Supply writes bytes) = refl
 sent_queue s control order.Flush = refl
 sent_queue s control order.Clean = refl
@@ -224,11 +224,11 @@ pub fits_posted : (history : List Event) (k m : Kernel) (o : Order) → KernelFi
 fits_posted history k m o f up down heard whole =
     fits_mailed history (order_sent k.host k.heard o ∷ history) k m
     (record {
-      same = same_side (seen history k) (seen (order_sent k.host k.heard o ∷ history) k) (sent_down (seen history k) k.heard (order_word o)) now (sent_same (seen history k) k.heard o);
-      step = ap (λ (t : Side). t.step) now ∙ ((sent_server (seen history k) k.heard o).step ∙ f.step);
-      up = ap (λ (t : Side). t.up) now ∙ ((sent_server (seen history k) k.heard o).up ∙ (f.up ∙ ap (map letter_word) (sym up)));
-      down = ap (λ (t : Side). t.down) now ∙ (sent_queue (seen history k) k.heard o ∙ (ap (λ (b : Bool). if b && (seen history k).control == k.heard then (seen history k).down ++ order_word o ∷ [] else (seen history k).down) f.live ∙ (ap (λ (n : ℕ). if k.live && n == k.heard then (seen history k).down ++ order_word o ∷ [] else (seen history k).down) f.control ∙ (ap (λ (ws : List DownWord). if k.live && k.control == k.heard then ws ++ order_word o ∷ [] else ws) f.down ∙ (posted_words (k.live && k.control == k.heard) k.down.items o ∙ ap (map order_word) (sym down))))));
-      heard = ap (λ (t : Side). t.heard) now ∙ ((sent_server (seen history k) k.heard o).heard ∙ (f.heard ∙ sym heard));
+      same = same_side (kernel_side history k) (kernel_side (order_sent k.host k.heard o ∷ history) k) (side_sent_down (kernel_side history k) k.heard (order_word o)) now (sent_same (kernel_side history k) k.heard o);
+      step = ap (λ (t : Side). t.step) now ∙ ((sent_server (kernel_side history k) k.heard o).step ∙ f.step);
+      up = ap (λ (t : Side). t.up) now ∙ ((sent_server (kernel_side history k) k.heard o).up ∙ (f.up ∙ ap (map letter_word) (sym up)));
+      down = ap (λ (t : Side). t.down) now ∙ (sent_queue (kernel_side history k) k.heard o ∙ (ap (λ (b : Bool). if b && (kernel_side history k).control == k.heard then (kernel_side history k).down ++ order_word o ∷ [] else (kernel_side history k).down) f.live ∙ (ap (λ (n : ℕ). if k.live && n == k.heard then (kernel_side history k).down ++ order_word o ∷ [] else (kernel_side history k).down) f.control ∙ (ap (λ (ws : List DownWord). if k.live && k.control == k.heard then ws ++ order_word o ∷ [] else ws) f.down ∙ (posted_words (k.live && k.control == k.heard) k.down.items o ∙ ap (map order_word) (sym down))))));
+      heard = ap (λ (t : Side). t.heard) now ∙ ((sent_server (kernel_side history k) k.heard o).heard ∙ (f.heard ∙ sym heard));
       waits = ap (λ (a : List Act). waiters k.host.0 a) (sent_part k.size k.host k.heard o history) ∙ ap (λ (e : ActEffect). waiters_after e (waiters k.host.0 (world_part k.size history))) (own_effect (record { host = k.host.0; effect = SentDown k.heard (order_word o) }));
       sent = f.sent ∙ ap (map letter_message) (sym up);
       coming = λ live. posted_queue k.host.0 k.control k.heard k.live (down_queue k.host.0 0 k.control history) k.down.items o live (f.coming live) ∙ ap (map order_message) (sym down);
@@ -239,5 +239,5 @@ fits_posted history k m o f up down heard whole =
       supplies = subst (λ (os : List Order). Each (IsWholeOrder k.size) os) (sym down) (posted_whole k.size (k.live && k.control == k.heard) k.down.items o f.supplies whole);
     })
     f where
-      now : seen (order_sent k.host k.heard o ∷ history) k ≡ sent_down (seen history k) k.heard (order_word o)
+      now : kernel_side (order_sent k.host k.heard o ∷ history) k ≡ side_sent_down (kernel_side history k) k.heard (order_word o)
       now = ap (λ (a : List Act). side k.host.0 a) (sent_part k.size k.host k.heard o history) ∙ own_side (record { host = k.host.0; effect = SentDown k.heard (order_word o) }) (world_part k.size history)

@@ -14,14 +14,14 @@ use Rattle.vm_model.specs.Waiters.{Waiter, waiters}
 use Rattle.vm_model.specs.Server.{first}
 use Rattle.vm_model.specs.PagePart.{world_part}
 use Rattle.vm_model.specs.Channels.{down_queue}
-use Rattle.vm_model.specs.PageLicences.{Licensed}
+use Rattle.vm_model.specs.PageLicences.{ActsLicensed}
 use Rattle.sms_pages.specs.Directory.{Directory}
 use Rattle.sms_proto.specs.declared.kernel.Kernel.{Kernel}
 use Rattle.sms_proto.specs.declared.kernel.Want.{Want}
 use Rattle.sms_proto.specs.declared.letter.Order.{Order}
 use Rattle.sms_proto.specs.Adds.{HostDoes}
 use Rattle.sms_proto.specs.Letters.{order_message, taken_first}
-use Rattle.sms_proto.specs.Kernels.{KernelFits, IsPrompt, seen, waiting, order_head, evicted_by, left_by, given_up, idle_head, where_idle}
+use Rattle.sms_proto.specs.Kernels.{KernelFits, IsPrompt, kernel_side, waiter_list, order_head, evicted_by, kernel_leaves, given_up, idle_head, where_idle}
 use Rattle.sms_proto.specs.Steps.{StepEvents, begun_event, put_away_event, when_idle, taken_head, down_head, gives_up, left}
 use Rattle.sms_proto.specs.Worlds.{Moved, Present, StandsAt, WorldStands}
 use Rattle.sms_proto.proofs.Standing.{stands_host}
@@ -29,22 +29,22 @@ use Rattle.sms_proto.proofs.Standing.{stands_host}
 pub present_of : (size h : ℕ) (ks : List Kernel) (d : Directory) (old : List Event) (k : Kernel) → WorldStands size ks d old → slice_get ks h ≡ Some k → Present size h old k
 present_of size h ks d old k w is = subst (λ (o : Option Kernel). StandsAt size h old o) is (w.each h)
 
-pub stage_stands : (size : ℕ) (ks : List Kernel) (d : Directory) (old new : List Event) (h : ℕ) (k m : Kernel) → h < length ks → slice_get ks h ≡ Some k → WorldStands size ks d old → KernelFits new m → IsPrompt m → Licensed m.size (world_part m.size new) → m.host ≡ k.host → m.size ≡ k.size → Moved k.size k.host.0 old new → WorldStands size (set ks h m) d new
+pub stage_stands : (size : ℕ) (ks : List Kernel) (d : Directory) (old new : List Event) (h : ℕ) (k m : Kernel) → h < length ks → slice_get ks h ≡ Some k → WorldStands size ks d old → KernelFits new m → IsPrompt m → ActsLicensed m.size (world_part m.size new) → m.host ≡ k.host → m.size ≡ k.size → Moved k.size k.host.0 old new → WorldStands size (set ks h m) d new
 stage_stands size ks d old new h k m within is w fits prompt licensed host pages moved =
     stands_host size ks d old new h m within w
     (record { same_host = ap (λ (g : HostId). g.0) host ∙ p.same_host; same_size = pages ∙ p.same_size; fits = fits; prompt = prompt })
-    (subst (λ (n : ℕ). Licensed n (world_part n new)) (pages ∙ p.same_size) licensed)
+    (subst (λ (n : ℕ). ActsLicensed n (world_part n new)) (pages ∙ p.same_size) licensed)
     (subst (λ (n : ℕ). Moved n h old new) p.same_size (subst (λ (n : ℕ). Moved k.size n old new) p.same_host moved)) where
       p : Present size h old k
       p = present_of size h ks d old k w is
 
 -- the words of the kernel are those of the history
 
-idle_when : (h : ℕ) (w : Option Want) (e : Event) → idle_head w e ≡ when_idle (waiting h w) (Some e) None
+idle_when : (h : ℕ) (w : Option Want) (e : Event) → idle_head w e ≡ when_idle (waiter_list h w) (Some e) None
 idle_when h None e = refl
 idle_when h (Some want) e = refl
 
-idle_where : {A : Type 0} (h : ℕ) (w : Option Want) (x y : A) → where_idle w x y ≡ when_idle (waiting h w) x y
+idle_where : {A : Type 0} (h : ℕ) (w : Option Want) (x y : A) → where_idle w x y ≡ when_idle (waiter_list h w) x y
 idle_where h None x y = refl
 idle_where h (Some want) x y = refl
 
@@ -74,21 +74,21 @@ saw_evicted size h old new k p is =
     (subst (λ (g : ℕ). new ≡ when_idle (waiters g (world_part k.size old)) (gives_up g (side g (world_part k.size old)) ++ old) old) p.same_host
     (is ∙ (idle_where k.host.0 k.want (given_up k ++ old) old
     ∙ (ap (λ (ws : List Waiter). when_idle ws (given_up k ++ old) old) (sym p.fits.waits)
-    ∙ ap (λ (l : List Event). when_idle (waiters k.host.0 (world_part k.size old)) (l ++ old) old) (given_by k (seen old k) p.fits.right p.fits.control p.fits.dirty p.fits.bytes)))))
+    ∙ ap (λ (l : List Event). when_idle (waiters k.host.0 (world_part k.size old)) (l ++ old) old) (given_by k (kernel_side old k) p.fits.right p.fits.control p.fits.dirty p.fits.bytes)))))
 
 abbrev ends : HostId → List Event → ℕ → List Event → List Event
 ends host old n l = event.Sent (Up host (record { 0 = 0 })) (message.Terminate n) ∷ l ++ old
 
-pub saw_left : (size : ℕ) (h : ℕ) (old new : List Event) (k : Kernel) → Present size h old k → new ≡ left_by k old → new ≡ left h (side h (world_part size old)) (waiters h (world_part size old)) old
+pub saw_left : (size : ℕ) (h : ℕ) (old new : List Event) (k : Kernel) → Present size h old k → new ≡ kernel_leaves k old → new ≡ left h (side h (world_part size old)) (waiters h (world_part size old)) old
 saw_left size h old new k p is =
     subst (λ (n : ℕ). new ≡ left h (side h (world_part n old)) (waiters h (world_part n old)) old) p.same_size
     (subst (λ (g : ℕ). new ≡ left g (side g (world_part k.size old)) (waiters g (world_part k.size old)) old) p.same_host
     (is ∙ (ap (λ (l : List Event). if k.live then l else old)
     (idle_where k.host.0 k.want (ends k.host old k.control (given_up k)) old
     ∙ (ap (λ (ws : List Waiter). when_idle ws (ends k.host old k.control (given_up k)) old) (sym p.fits.waits)
-    ∙ (ap (λ (l : List Event). when_idle (waiters k.host.0 (world_part k.size old)) (ends k.host old k.control l) old) (given_by k (seen old k) p.fits.right p.fits.control p.fits.dirty p.fits.bytes)
-    ∙ ap (λ (n : ℕ). when_idle (waiters k.host.0 (world_part k.size old)) (ends k.host old n (gives_up k.host.0 (seen old k))) old) (sym p.fits.control))))
-    ∙ ap (λ (b : Bool). if b then when_idle (waiters k.host.0 (world_part k.size old)) (ends k.host old (seen old k).control (gives_up k.host.0 (seen old k))) old else old) (sym p.fits.live))))
+    ∙ (ap (λ (l : List Event). when_idle (waiters k.host.0 (world_part k.size old)) (ends k.host old k.control l) old) (given_by k (kernel_side old k) p.fits.right p.fits.control p.fits.dirty p.fits.bytes)
+    ∙ ap (λ (n : ℕ). when_idle (waiters k.host.0 (world_part k.size old)) (ends k.host old n (gives_up k.host.0 (kernel_side old k))) old) (sym p.fits.control))))
+    ∙ ap (λ (b : Bool). if b then when_idle (waiters k.host.0 (world_part k.size old)) (ends k.host old (kernel_side old k).control (gives_up k.host.0 (kernel_side old k))) old else old) (sym p.fits.live))))
 
 -- the oldest order is the oldest message
 pub saw_order : (size : ℕ) (host : HostId) (old new : List Event) (k : Kernel) → Present size host.0 old k → StepEvents (HostDoes k.host.0) (order_head k) old new → StepEvents (HostDoes host.0) (down_head host (side host.0 (world_part size old)).live (side host.0 (world_part size old)).control (down_queue host.0 0 (side host.0 (world_part size old)).control old)) old new
@@ -107,5 +107,5 @@ saw_order size host old new k p goes =
       heads : order_head k ≡ down_head k.host k.live k.control (down_queue k.host.0 0 k.control old)
       heads = by_live k.live refl
 
-      turned : down_head k.host k.live k.control (down_queue k.host.0 0 k.control old) ≡ down_head k.host (seen old k).live (seen old k).control (down_queue k.host.0 0 (seen old k).control old)
-      turned = ap (λ (b : Bool). down_head k.host b k.control (down_queue k.host.0 0 k.control old)) (sym p.fits.live) ∙ ap (λ (n : ℕ). down_head k.host (seen old k).live n (down_queue k.host.0 0 n old)) (sym p.fits.control)
+      turned : down_head k.host k.live k.control (down_queue k.host.0 0 k.control old) ≡ down_head k.host (kernel_side old k).live (kernel_side old k).control (down_queue k.host.0 0 (kernel_side old k).control old)
+      turned = ap (λ (b : Bool). down_head k.host b k.control (down_queue k.host.0 0 k.control old)) (sym p.fits.live) ∙ ap (λ (n : ℕ). down_head k.host (kernel_side old k).live n (down_queue k.host.0 0 n old)) (sym p.fits.control)

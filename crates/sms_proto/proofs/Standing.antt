@@ -9,7 +9,7 @@ use Rattle.vm_model.specs.declared.event.Event.{Event}
 use Rattle.vm_model.specs.Words.{Act}
 use Rattle.vm_model.specs.Side.{Side, side}
 use Rattle.vm_model.specs.PagePart.{world_part}
-use Rattle.vm_model.specs.PageLicences.{Licensed}
+use Rattle.vm_model.specs.PageLicences.{ActsLicensed}
 use Rattle.vm_model.specs.Coherence.{Done, SomebodyIsAwaited}
 use Rattle.sms_pages.specs.Directory.{Directory}
 use Rattle.sms_pages.specs.Stands.{StandsFor}
@@ -60,7 +60,7 @@ served_same size d old new a b served some =
     let awaited = served (λ none. some (b.same_line ∙ (sym a.same_line ∙ none))) in
     (awaited.0, subst (λ (n : ℕ). 0 < n) (a.same_awaits awaited.0 ∙ sym (b.same_awaits awaited.0)) awaited.1)
 
-pub stands_host : (size : ℕ) (ks : List Kernel) (d : Directory) (old new : List Event) (h : ℕ) (k : Kernel) → h < length ks → WorldStands size ks d old → Present size h new k → Licensed size (world_part size new) → Moved size h old new → WorldStands size (set ks h k) d new
+pub stands_host : (size : ℕ) (ks : List Kernel) (d : Directory) (old new : List Event) (h : ℕ) (k : Kernel) → h < length ks → WorldStands size ks d old → Present size h new k → ActsLicensed size (world_part size new) → Moved size h old new → WorldStands size (set ks h k) d new
 stands_host size ks d old new h k within w own licensed moved =
     record {
       licensed = licensed;

@@ -1,7 +1,7 @@
 -- A world at its beginning.
 use Rattle.std.proofs.Common.{inl, inr, zero, suc, ◌≡◌, ◌≤◌, ℕ, List, [], ◌∷◌, ◌++◌, Option, Some, refl, ap, sym, subst, length}
 use Rattle.std.specs.Prelude.{slice_get, ◌⊎◌}
-use Rattle.sms_pages.specs.Directory.{Directory, IsNew}
+use Rattle.sms_pages.specs.Directory.{Directory, IsNewDirectory}
 use Rattle.sms_pages.proofs.Taken.{begins}
 use Rattle.sms_proto.specs.declared.kernel.Kernel.{Kernel}
 use Rattle.sms_proto.specs.Worlds.{Present, StandsAt, WorldStands}
@@ -24,7 +24,7 @@ pushed_each size ks k each own g = elim (get_end ks k g) [
 pub none_each : (size g : ℕ) → StandsAt size g [] (slice_get [] g)
 none_each size g = record { nothing = refl; no_waits = refl }
 
-pub starts : (size : ℕ) (ks : List Kernel) (d : Directory) → IsNew size d → ((g : ℕ) → StandsAt size g [] (slice_get ks g)) → length ks ≤ 8 → length d.bytes ≡ size → WorldStands size ks d []
+pub starts : (size : ℕ) (ks : List Kernel) (d : Directory) → IsNewDirectory size d → ((g : ℕ) → StandsAt size g [] (slice_get ks g)) → length ks ≤ 8 → length d.bytes ≡ size → WorldStands size ks d []
 starts size ks d new each few long =
     record {
       licensed = tt;

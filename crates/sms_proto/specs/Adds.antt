@@ -7,17 +7,17 @@ use Rattle.vm_model.specs.declared.event.Event.{Event}
 use Rattle.vm_model.specs.declared.event.Event.TheVariants as event
 
 -- a message from a host about the page
-abbrev pub IsLetter : Message → Type 0
-IsLetter (message.Request control page access) = page.0 ≡ 0
-IsLetter (message.Unlock control page access) = page.0 ≡ 0
-IsLetter (message.Return control page dirty keep bytes) = page.0 ≡ 0
-IsLetter (message.Completed control page count) = page.0 ≡ 0
-IsLetter (message.Terminate control) = Unit {0}
-IsLetter m = ⊥
+abbrev pub IsPageMessage : Message → Type 0
+IsPageMessage (message.Request control page access) = page.0 ≡ 0
+IsPageMessage (message.Unlock control page access) = page.0 ≡ 0
+IsPageMessage (message.Return control page dirty keep bytes) = page.0 ≡ 0
+IsPageMessage (message.Completed control page count) = page.0 ≡ 0
+IsPageMessage (message.Terminate control) = Unit {0}
+IsPageMessage m = ⊥
 
 -- a host sends, drops its page, or ends its task's access
 abbrev pub HostDoes : ℕ → Event → Type 0
-HostDoes h (event.Sent (Up host object) m) = (host.0 ≡ h) × (object.0 ≡ 0) × IsLetter m
+HostDoes h (event.Sent (Up host object) m) = (host.0 ≡ h) × (object.0 ≡ 0) × IsPageMessage m
 HostDoes h (event.Dropped host object page) = (host.0 ≡ h) × (object.0 ≡ 0) × (page.0 ≡ 0)
 HostDoes h (event.Loaded task object page value) = (task.0 ≡ h) × (object.0 ≡ 0) × (page.0 ≡ 0)
 HostDoes h (event.Stored task object page at size value) = (task.0 ≡ h) × (object.0 ≡ 0) × (page.0 ≡ 0)

@@ -38,9 +38,9 @@ idle_head (Some want) e = None
 abbrev pub waiter : ℕ → Want → Waiter
 waiter task want = record { task = task; store = want.store; at = 0; size = 8; value = want.value }
 
-abbrev pub waiting : ℕ → Option Want → List Waiter
-waiting task None = []
-waiting task (Some want) = waiter task want ∷ []
+abbrev pub waiter_list : ℕ → Option Want → List Waiter
+waiter_list task None = []
+waiter_list task (Some want) = waiter task want ∷ []
 
 -- a letter's page has so many bytes, and a request names no control that is still to come
 abbrev pub IsProper : ℕ → ℕ → Letter → Type 0
@@ -57,24 +57,24 @@ abbrev pub lock_with : ℕ → ℕ
 lock_with right = if right == 2 then 0 else 2
 
 -- what the history says of the kernel's host
-abbrev pub seen : List Event → Kernel → Side
-seen history k = side k.host.0 (world_part k.size history)
+abbrev pub kernel_side : List Event → Kernel → Side
+kernel_side history k = side k.host.0 (world_part k.size history)
 
 pub record KernelFits (history : List Event) (k : Kernel) : Type 0 where
-  pub control : (seen history k).control ≡ k.control
-  pub live : (seen history k).live ≡ k.live
-  pub ready : k.live ≡ true → (seen history k).ready ≡ true
-  pub right : (seen history k).right ≡ k.right
-  pub lock : 0 < k.right → (seen history k).lock ≡ lock_with k.right
-  pub bytes : 0 < k.right → (seen history k).bytes ≡ k.bytes
-  pub dirty : (seen history k).dirty ≡ k.dirty
-  pub asked : (seen history k).asked ≡ k.asked
-  pub unlocking : (seen history k).unlocking ≡ k.unlocking
-  pub step : (seen history k).step ≡ 0
-  pub heard : (seen history k).heard ≡ k.heard
-  pub up : (seen history k).up ≡ map letter_word k.up.items
-  pub down : (seen history k).down ≡ map order_word k.down.items
-  pub waits : waiters k.host.0 (world_part k.size history) ≡ waiting k.host.0 k.want
+  pub control : (kernel_side history k).control ≡ k.control
+  pub live : (kernel_side history k).live ≡ k.live
+  pub ready : k.live ≡ true → (kernel_side history k).ready ≡ true
+  pub right : (kernel_side history k).right ≡ k.right
+  pub lock : 0 < k.right → (kernel_side history k).lock ≡ lock_with k.right
+  pub bytes : 0 < k.right → (kernel_side history k).bytes ≡ k.bytes
+  pub dirty : (kernel_side history k).dirty ≡ k.dirty
+  pub asked : (kernel_side history k).asked ≡ k.asked
+  pub unlocking : (kernel_side history k).unlocking ≡ k.unlocking
+  pub step : (kernel_side history k).step ≡ 0
+  pub heard : (kernel_side history k).heard ≡ k.heard
+  pub up : (kernel_side history k).up ≡ map letter_word k.up.items
+  pub down : (kernel_side history k).down ≡ map order_word k.down.items
+  pub waits : waiters k.host.0 (world_part k.size history) ≡ waiter_list k.host.0 k.want
   pub sent : up_queue k.host.0 0 history ≡ map letter_message k.up.items
   pub coming : k.live ≡ true → down_queue k.host.0 0 k.control history ≡ map order_message k.down.items
   pub later : (n : ℕ) → k.control < n → down_queue k.host.0 0 n history ≡ []
@@ -114,8 +114,8 @@ given_up k = if 0 == k.right then [] else put_away_event k.host.0 k.control k.di
 abbrev pub evicted_by : Kernel → List Event → List Event
 evicted_by k old = where_idle k.want (given_up k ++ old) old
 
-abbrev pub left_by : Kernel → List Event → List Event
-left_by k old = if k.live then where_idle k.want (event.Sent (Up k.host (record { 0 = 0 })) (message.Terminate k.control) ∷ given_up k ++ old) old else old
+abbrev pub kernel_leaves : Kernel → List Event → List Event
+kernel_leaves k old = if k.live then where_idle k.want (event.Sent (Up k.host (record { 0 = 0 })) (message.Terminate k.control) ∷ given_up k ++ old) old else old
 
 -- the same host, with the same access waiting and the same of the page
 pub record SamePage (k m : Kernel) : Type 0 where

@@ -8,7 +8,7 @@ use Rattle.vm_base.specs.declared.ids.PageNo.{PageNo}
 use Rattle.vm_model.specs.declared.message.Message.{Message}
 use Rattle.vm_model.specs.declared.message.Message.TheVariants as message
 use Rattle.vm_model.specs.Words.{UpWord, Asking, Unlocking, Returning, Doing, Ending, DownWord, Supplying, Locking}
-use Rattle.sms_pages.specs.Directory.{access_number}
+use Rattle.sms_pages.specs.Directory.{wanted_access}
 use Rattle.sms_proto.specs.declared.letter.Letter.{Letter}
 use Rattle.sms_proto.specs.declared.letter.Letter.TheVariants as letter
 use Rattle.sms_proto.specs.declared.letter.Order.{Order}
@@ -19,14 +19,14 @@ abbrev pub the_page : PageNo
 the_page = record { 0 = 0 }
 
 abbrev pub letter_message : Letter → Message
-letter_message (letter.Request control access) = message.Request control the_page (access_number access)
+letter_message (letter.Request control access) = message.Request control the_page (wanted_access access)
 letter_message (letter.Unlock control) = message.Unlock control the_page 3
 letter_message (letter.Return control keep bytes) = message.Return control the_page true keep bytes
 letter_message (letter.Completed control) = message.Completed control the_page 1
 letter_message (letter.Terminate control) = message.Terminate control
 
 abbrev pub letter_word : Letter → UpWord
-letter_word (letter.Request control access) = Asking control (access_number access)
+letter_word (letter.Request control access) = Asking control (wanted_access access)
 letter_word (letter.Unlock control) = Unlocking 3
 letter_word (letter.Return control keep bytes) = Returning true keep bytes
 letter_word (letter.Completed control) = Doing control 1

@@ -71,6 +71,6 @@ TakesSteps size [] old new = new ≡ old
 TakesSteps size (s ∷ steps) old new = (middle : List Event) × Takes size s old middle × TakesSteps size steps middle new
 
 -- what one taking adds first
-abbrev pub IsTaken : Option Event → List Event → List Event → Type 0
-IsTaken None old new = ⊥
-IsTaken (Some e) old new = new ≡ e ∷ old
+abbrev pub AddsFirst : Option Event → List Event → List Event → Type 0
+AddsFirst None old new = ⊥
+AddsFirst (Some e) old new = new ≡ e ∷ old

@@ -6,14 +6,14 @@ use Rattle.vm_model.specs.Side.{side, nobody}
 use Rattle.vm_model.specs.Waiters.{waiters}
 use Rattle.vm_model.specs.PagePart.{world_part}
 use Rattle.vm_model.specs.Channels.{up_queue, down_queue}
-use Rattle.vm_model.specs.PageLicences.{Licensed}
+use Rattle.vm_model.specs.PageLicences.{ActsLicensed}
 use Rattle.vm_model.specs.Coherence.{Done, StepsDone, SomebodyIsAwaited}
 use Rattle.std.specs.VecDeque.{deque_len, deque_capacity}
 use Rattle.vm_base.specs.declared.ids.HostId.{HostId}
-use Rattle.sms_pages.specs.Directory.{Directory, access_number, requested, unlocked, saved, finished, ended}
+use Rattle.sms_pages.specs.Directory.{Directory, wanted_access, requested, unlock_heard, saved, finished, ended}
 use Rattle.sms_pages.specs.declared.reply.Reply.{Reply}
 use Rattle.sms_pages.specs.declared.reply.Reply.TheVariants as reply
-use Rattle.sms_pages.specs.Stands.{StandsFor, IsAnswered}
+use Rattle.sms_pages.specs.Stands.{StandsFor, RepliesHaveCause}
 use Rattle.sms_pages.specs.Desk.{AllLong}
 use Rattle.sms_proto.specs.declared.letter.Letter.{Letter}
 use Rattle.sms_proto.specs.declared.letter.Letter.TheVariants as letter
@@ -52,7 +52,7 @@ StandsAt size g history None = Absent size g history
 StandsAt size g history (Some k) = Present size g history k
 
 pub record WorldStands (size : ℕ) (kernels : List Kernel) (d : Directory) (history : List Event) : Type 0 where
-  pub licensed : Licensed size (world_part size history)
+  pub licensed : ActsLicensed size (world_part size history)
   pub steps : StepsDone (world_part size history)
   pub served : SomebodyIsAwaited (world_part size history)
   pub noted : StandsFor size d (world_part size history)
@@ -64,8 +64,8 @@ pub record WorldStands (size : ℕ) (kernels : List Kernel) (d : Directory) (his
 
 -- what the server notes of a letter, before it serves its line
 abbrev pub noted_by : ℕ → Letter → Directory → Directory
-noted_by h (letter.Request control access) d = requested h (access_number access) d
-noted_by h (letter.Unlock control) d = unlocked h d
+noted_by h (letter.Request control access) d = requested h (wanted_access access) d
+noted_by h (letter.Unlock control) d = unlock_heard h d
 noted_by h (letter.Return control keep bytes) d = saved h keep bytes d
 noted_by h (letter.Completed control) d = finished h d
 noted_by h (letter.Terminate control) d = ended h d
@@ -93,7 +93,7 @@ reply_order (reply.Unlock host) = order.Unlock
 
 -- the server has replies to send, the newest first, and what it knows stands for the history with them
 pub record Answering (size : ℕ) (kernels : List Kernel) (d : Directory) (replies : List Reply) (history : List Event) : Type 0 where
-  pub answered : IsAnswered size (heard_in kernels) d replies (world_part size history)
+  pub answered : RepliesHaveCause size (heard_in kernels) d replies (world_part size history)
   pub steps : StepsDone (world_part size history)
   pub each : (g : ℕ) → StandsAt size g history (slice_get kernels g)
   pub few : length kernels ≤ most_hosts

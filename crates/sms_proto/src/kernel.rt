@@ -1,8 +1,8 @@
 // What a host's kernel has of the page, and what it does of itself.
 ghost use Rattle.std.specs.Prelude.{◌≡◌, ◌≢◌, ◌+◌, ◌≤◌, ◌<◌, ◌^◌, ◌∷◌, true, false, None, Some, [], OnOk, OnErr, IfOk, IsOk, length, replicate, if◌then◌else◌, ℕ};
 ghost use Rattle.vm_model.specs.PagePart.{world_part};
-ghost use Rattle.vm_model.specs.PageLicences.{Licensed};
-ghost use Rattle.sms_pages.specs.Directory.{access_number};
+ghost use Rattle.vm_model.specs.PageLicences.{ActsLicensed};
+ghost use Rattle.sms_pages.specs.Directory.{wanted_access};
 ghost use Rattle.vm_model.specs.declared.event.Event.TheVariants.{Sent, Dropped};
 ghost use Rattle.vm_model.specs.declared.message.Message.TheVariants.{Return, Terminate};
 ghost use Rattle.vm_model.specs.declared.message.Channel.TheVariants.{Up};
@@ -78,7 +78,7 @@ pub struct Want {
 impl Want {
     // The access that a request for it names.
     fn access(&self) -> Access
-        ensures { access_number result ≡ (if self.now.store then 3 else 1) }
+        ensures { wanted_access result ≡ (if self.now.store then 3 else 1) }
     {
         if self.store {
             Access::Store
@@ -162,10 +162,10 @@ impl Kernel {
         requires clean { self.old.dirty ≡ false }
         requires room { HasRoom 1 events.old self.old }
         requires fits { KernelFits events.old.items self.old }
-        requires licensed { Licensed self.old.size (world_part self.old.size events.old.items) }
+        requires licensed { ActsLicensed self.old.size (world_part self.old.size events.old.items) }
         ensures ok { IsOk result }
         ensures fits { OnOk result (KernelFits events.new.items self.new) }
-        ensures licensed { OnOk result (Licensed self.new.size (world_part self.new.size events.new.items)) }
+        ensures licensed { OnOk result (ActsLicensed self.new.size (world_part self.new.size events.new.items)) }
         ensures adds { OnOk result (Adds (HostDoes self.old.host.0) events.old.items events.new.items) }
         ensures same { (self.new.host ≡ self.old.host) × (self.new.size ≡ self.old.size) }
         ensures exact { OnOk result (events.new.items
@@ -198,9 +198,9 @@ impl Kernel {
         requires dirty { self.old.dirty ≡ true }
         requires room { HasRoom 1 events.old self.old }
         requires fits { KernelFits events.old.items self.old }
-        requires licensed { Licensed self.old.size (world_part self.old.size events.old.items) }
+        requires licensed { ActsLicensed self.old.size (world_part self.old.size events.old.items) }
         ensures fits { OnOk result (KernelFits events.new.items self.new) }
-        ensures licensed { OnOk result (Licensed self.new.size (world_part self.new.size events.new.items)) }
+        ensures licensed { OnOk result (ActsLicensed self.new.size (world_part self.new.size events.new.items)) }
         ensures adds { OnOk result (Adds (HostDoes self.old.host.0) events.old.items events.new.items) }
         ensures same { (self.new.host ≡ self.old.host) × (self.new.size ≡ self.old.size) }
         ensures exact { OnOk result (events.new.items ≡ Sent (Up self.old.host (record { 0 = 0 })) (Return self.old.control (record { 0 = 0 }) true false self.old.bytes) ∷ events.old.items) }
@@ -228,9 +228,9 @@ impl Kernel {
         requires here { 0 < self.old.right }
         requires room { HasRoom 1 events.old self.old }
         requires fits { KernelFits events.old.items self.old }
-        requires licensed { Licensed self.old.size (world_part self.old.size events.old.items) }
+        requires licensed { ActsLicensed self.old.size (world_part self.old.size events.old.items) }
         ensures fits { OnOk result (KernelFits events.new.items self.new) }
-        ensures licensed { OnOk result (Licensed self.new.size (world_part self.new.size events.new.items)) }
+        ensures licensed { OnOk result (ActsLicensed self.new.size (world_part self.new.size events.new.items)) }
         ensures adds { OnOk result (Adds (HostDoes self.old.host.0) events.old.items events.new.items) }
         ensures same { (self.new.host ≡ self.old.host) × (self.new.size ≡ self.old.size) }
         ensures exact { OnOk result (events.new.items
@@ -255,10 +255,10 @@ impl Kernel {
         requires plain { self.old.asked ≡ false }
         requires room { HasRoom 1 events.old self.old }
         requires fits { KernelFits events.old.items self.old }
-        requires licensed { Licensed self.old.size (world_part self.old.size events.old.items) }
+        requires licensed { ActsLicensed self.old.size (world_part self.old.size events.old.items) }
         ensures ok { IsOk result }
         ensures fits { OnOk result (KernelFits events.new.items self.new) }
-        ensures licensed { OnOk result (Licensed self.new.size (world_part self.new.size events.new.items)) }
+        ensures licensed { OnOk result (ActsLicensed self.new.size (world_part self.new.size events.new.items)) }
         ensures adds { OnOk result (Adds (HostDoes self.old.host.0) events.old.items events.new.items) }
         ensures same { (self.new.host ≡ self.old.host) × (self.new.size ≡ self.old.size) }
         ensures exact { OnOk result (events.new.items
@@ -286,10 +286,10 @@ impl Kernel {
         requires waits { self.old.want ≡ Some want }
         requires room { HasRoom 1 events.old self.old }
         requires fits { KernelFits events.old.items self.old }
-        requires licensed { Licensed self.old.size (world_part self.old.size events.old.items) }
+        requires licensed { ActsLicensed self.old.size (world_part self.old.size events.old.items) }
         ensures ok { IsOk result }
         ensures fits { OnOk result (KernelFits events.new.items self.new) }
-        ensures licensed { OnOk result (Licensed self.new.size (world_part self.new.size events.new.items)) }
+        ensures licensed { OnOk result (ActsLicensed self.new.size (world_part self.new.size events.new.items)) }
         ensures adds { OnOk result (Adds (HostDoes self.old.host.0) events.old.items events.new.items) }
         ensures same { (self.new.host ≡ self.old.host) × (self.new.size ≡ self.old.size) }
         ensures prompt { OnOk result (IsPrompt self.new) }
@@ -319,10 +319,10 @@ impl Kernel {
         requires store { want.store ≡ true }
         requires room { HasRoom 1 events.old self.old }
         requires fits { KernelFits events.old.items self.old }
-        requires licensed { Licensed self.old.size (world_part self.old.size events.old.items) }
+        requires licensed { ActsLicensed self.old.size (world_part self.old.size events.old.items) }
         ensures ok { IsOk result }
         ensures fits { OnOk result (KernelFits events.new.items self.new) }
-        ensures licensed { OnOk result (Licensed self.new.size (world_part self.new.size events.new.items)) }
+        ensures licensed { OnOk result (ActsLicensed self.new.size (world_part self.new.size events.new.items)) }
         ensures adds { OnOk result (Adds (HostDoes self.old.host.0) events.old.items events.new.items) }
         ensures same { (self.new.host ≡ self.old.host) × (self.new.size ≡ self.old.size) }
         ensures prompt { OnOk result (IsPrompt self.new) }
@@ -348,10 +348,10 @@ impl Kernel {
         requires load { want.store ≡ false }
         requires room { HasRoom 1 events.old self.old }
         requires fits { KernelFits events.old.items self.old }
-        requires licensed { Licensed self.old.size (world_part self.old.size events.old.items) }
+        requires licensed { ActsLicensed self.old.size (world_part self.old.size events.old.items) }
         ensures ok { IsOk result }
         ensures fits { OnOk result (KernelFits events.new.items self.new) }
-        ensures licensed { OnOk result (Licensed self.new.size (world_part self.new.size events.new.items)) }
+        ensures licensed { OnOk result (ActsLicensed self.new.size (world_part self.new.size events.new.items)) }
         ensures adds { OnOk result (Adds (HostDoes self.old.host.0) events.old.items events.new.items) }
         ensures same { (self.new.host ≡ self.old.host) × (self.new.size ≡ self.old.size) }
         ensures none { OnOk result (self.new.want ≡ None) }
@@ -375,10 +375,10 @@ impl Kernel {
         requires fits_in { want.value < 2 ^ 64 }
         requires room { HasRoom 1 events.old self.old }
         requires fits { KernelFits events.old.items self.old }
-        requires licensed { Licensed self.old.size (world_part self.old.size events.old.items) }
+        requires licensed { ActsLicensed self.old.size (world_part self.old.size events.old.items) }
         ensures ok { IsOk result }
         ensures fits { OnOk result (KernelFits events.new.items self.new) }
-        ensures licensed { OnOk result (Licensed self.new.size (world_part self.new.size events.new.items)) }
+        ensures licensed { OnOk result (ActsLicensed self.new.size (world_part self.new.size events.new.items)) }
         ensures adds { OnOk result (Adds (HostDoes self.old.host.0) events.old.items events.new.items) }
         ensures same { (self.new.host ≡ self.old.host) × (self.new.size ≡ self.old.size) }
         ensures none { OnOk result (self.new.want ≡ None) }
@@ -402,10 +402,10 @@ impl Kernel {
         requires live { self.old.want ≢ None → self.old.live ≡ true }
         requires room { HasRoom 1 events.old self.old }
         requires fits { KernelFits events.old.items self.old }
-        requires licensed { Licensed self.old.size (world_part self.old.size events.old.items) }
+        requires licensed { ActsLicensed self.old.size (world_part self.old.size events.old.items) }
         ensures ok { IsOk result }
         ensures fits { OnOk result (KernelFits events.new.items self.new) }
-        ensures licensed { OnOk result (Licensed self.new.size (world_part self.new.size events.new.items)) }
+        ensures licensed { OnOk result (ActsLicensed self.new.size (world_part self.new.size events.new.items)) }
         ensures adds { OnOk result (Adds (HostDoes self.old.host.0) events.old.items events.new.items) }
         ensures same { (self.new.host ≡ self.old.host) × (self.new.size ≡ self.old.size) }
         ensures prompt { OnOk result (IsPrompt self.new) }
@@ -438,10 +438,10 @@ impl Kernel {
         requires plain { want.store ≡ false → want.value ≡ 0 }
         requires room { HasRoom 2 events.old self.old }
         requires fits { KernelFits events.old.items self.old }
-        requires licensed { Licensed self.old.size (world_part self.old.size events.old.items) }
+        requires licensed { ActsLicensed self.old.size (world_part self.old.size events.old.items) }
         ensures ok { IsOk result }
         ensures fits { OnOk result (KernelFits events.new.items self.new) }
-        ensures licensed { OnOk result (Licensed self.new.size (world_part self.new.size events.new.items)) }
+        ensures licensed { OnOk result (ActsLicensed self.new.size (world_part self.new.size events.new.items)) }
         ensures same { (self.new.host ≡ self.old.host) × (self.new.size ≡ self.old.size) }
         ensures exact { OnOk result (events.new.items
             ≡ begun_event self.old.host.0 want.store want.value ∷ events.old.items) }
@@ -466,10 +466,10 @@ impl Kernel {
         requires plain { want.store ≡ false → want.value ≡ 0 }
         requires room { HasRoom 2 events.old self.old }
         requires fits { KernelFits events.old.items self.old }
-        requires licensed { Licensed self.old.size (world_part self.old.size events.old.items) }
+        requires licensed { ActsLicensed self.old.size (world_part self.old.size events.old.items) }
         ensures ok { IsOk result }
         ensures fits { OnOk result (KernelFits events.new.items self.new) }
-        ensures licensed { OnOk result (Licensed self.new.size (world_part self.new.size events.new.items)) }
+        ensures licensed { OnOk result (ActsLicensed self.new.size (world_part self.new.size events.new.items)) }
         ensures same { (self.new.host ≡ self.old.host) × (self.new.size ≡ self.old.size) }
         ensures exact { OnOk result (events.new.items
             ≡ begun_event self.old.host.0 want.store want.value ∷ events.old.items) }

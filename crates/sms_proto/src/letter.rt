@@ -1,6 +1,6 @@
 // What is on the way between a host's kernel and the server.
 ghost use Rattle.std.specs.Prelude.{◌≡◌, true, false, IfOk};
-ghost use Rattle.sms_pages.specs.Directory.{access_number};
+ghost use Rattle.sms_pages.specs.Directory.{wanted_access};
 ghost use Rattle.vm_model.specs.declared.message.Message.TheVariants.{Lock};
 ghost use Rattle.sms_proto.specs.Letters.{letter_message, order_message};
 
@@ -71,7 +71,7 @@ impl Letter {
 
 /// The desired access of a request.
 pub fn access_of(access: Access) -> u32
-    ensures { result ≡ access_number access }
+    ensures { result ≡ wanted_access access }
 {
     match access {
         Access::Load => 1,

@@ -1,9 +1,9 @@
 // The steps that a host's kernel takes.
 ghost use Rattle.std.specs.Prelude.{◌≡◌, ◌≢◌, ◌+◌, ◌<◌, ◌∷◌, ◌++◌, true, false, None, Some, OnOk, OnErr, IsOk, ℕ};
 ghost use Rattle.vm_model.specs.PagePart.{world_part};
-ghost use Rattle.vm_model.specs.PageLicences.{Licensed};
+ghost use Rattle.vm_model.specs.PageLicences.{ActsLicensed};
 ghost use Rattle.sms_proto.specs.Adds.{HostDoes};
-ghost use Rattle.sms_proto.specs.Kernels.{KernelFits, HasRoom, IsPrompt, access_head, order_head, evicted_by, left_by, given_up};
+ghost use Rattle.sms_proto.specs.Kernels.{KernelFits, HasRoom, IsPrompt, access_head, order_head, evicted_by, kernel_leaves, given_up};
 ghost use Rattle.sms_proto.specs.Steps.{StepEvents, begun_event};
 ghost use Rattle.sms_proto.specs.Worlds.{Moved};
 
@@ -36,9 +36,9 @@ impl Kernel {
         requires plain { want.store ≡ false → want.value ≡ 0 }
         requires room { HasRoom 2 events.old self.old }
         requires fits { KernelFits events.old.items self.old }
-        requires licensed { Licensed self.old.size (world_part self.old.size events.old.items) }
+        requires licensed { ActsLicensed self.old.size (world_part self.old.size events.old.items) }
         ensures fits { KernelFits events.new.items self.new }
-        ensures licensed { Licensed self.new.size (world_part self.new.size events.new.items) }
+        ensures licensed { ActsLicensed self.new.size (world_part self.new.size events.new.items) }
         ensures same { (self.new.host ≡ self.old.host) × (self.new.size ≡ self.old.size) }
         ensures exact { OnOk result (events.new.items
             ≡ begun_event self.old.host.0 want.store want.value ∷ events.old.items) }
@@ -63,10 +63,10 @@ impl Kernel {
         requires plain { want.store ≡ false → want.value ≡ 0 }
         requires fits { KernelFits events.old.items self.old }
         requires prompt { IsPrompt self.old }
-        requires licensed { Licensed self.old.size (world_part self.old.size events.old.items) }
+        requires licensed { ActsLicensed self.old.size (world_part self.old.size events.old.items) }
         ensures fits { KernelFits events.new.items self.new }
         ensures prompt { IsPrompt self.new }
-        ensures licensed { Licensed self.new.size (world_part self.new.size events.new.items) }
+        ensures licensed { ActsLicensed self.new.size (world_part self.new.size events.new.items) }
         ensures same { (self.new.host ≡ self.old.host) × (self.new.size ≡ self.old.size) }
         ensures moved { Moved self.old.size self.old.host.0 events.old.items events.new.items }
         ensures err { OnErr result (events.new.items ≡ events.old.items) }
@@ -86,10 +86,10 @@ impl Kernel {
     pub fn take_down(&mut self, events: &mut Events) -> Result<(), NoMemory>
         requires fits { KernelFits events.old.items self.old }
         requires prompt { IsPrompt self.old }
-        requires licensed { Licensed self.old.size (world_part self.old.size events.old.items) }
+        requires licensed { ActsLicensed self.old.size (world_part self.old.size events.old.items) }
         ensures fits { KernelFits events.new.items self.new }
         ensures prompt { IsPrompt self.new }
-        ensures licensed { Licensed self.new.size (world_part self.new.size events.new.items) }
+        ensures licensed { ActsLicensed self.new.size (world_part self.new.size events.new.items) }
         ensures same { (self.new.host ≡ self.old.host) × (self.new.size ≡ self.old.size) }
         ensures moved { Moved self.old.size self.old.host.0 events.old.items events.new.items }
         ensures err { OnErr result (events.new.items ≡ events.old.items) }
@@ -108,9 +108,9 @@ impl Kernel {
     fn clear(&mut self, events: &mut Events) -> Result<(), NoMemory>
         requires room { HasRoom 2 events.old self.old }
         requires fits { KernelFits events.old.items self.old }
-        requires licensed { Licensed self.old.size (world_part self.old.size events.old.items) }
+        requires licensed { ActsLicensed self.old.size (world_part self.old.size events.old.items) }
         ensures fits { KernelFits events.new.items self.new }
-        ensures licensed { Licensed self.new.size (world_part self.new.size events.new.items) }
+        ensures licensed { ActsLicensed self.new.size (world_part self.new.size events.new.items) }
         ensures exact { OnOk result (events.new.items ≡ given_up self.old ++ events.old.items) }
         ensures kept { OnOk result ((self.new.right ≡ 0) × (self.new.want ≡ self.old.want)
             × (self.new.live ≡ self.old.live) × (self.new.asked ≡ self.old.asked)) }
@@ -130,10 +130,10 @@ impl Kernel {
     pub fn evict(&mut self, events: &mut Events) -> Result<(), NoMemory>
         requires fits { KernelFits events.old.items self.old }
         requires prompt { IsPrompt self.old }
-        requires licensed { Licensed self.old.size (world_part self.old.size events.old.items) }
+        requires licensed { ActsLicensed self.old.size (world_part self.old.size events.old.items) }
         ensures fits { KernelFits events.new.items self.new }
         ensures prompt { IsPrompt self.new }
-        ensures licensed { Licensed self.new.size (world_part self.new.size events.new.items) }
+        ensures licensed { ActsLicensed self.new.size (world_part self.new.size events.new.items) }
         ensures same { (self.new.host ≡ self.old.host) × (self.new.size ≡ self.old.size) }
         ensures moved { Moved self.old.size self.old.host.0 events.old.items events.new.items }
         ensures err { OnErr result (events.new.items ≡ events.old.items) }
@@ -152,14 +152,14 @@ impl Kernel {
     pub fn leave(&mut self, events: &mut Events) -> Result<(), NoMemory>
         requires fits { KernelFits events.old.items self.old }
         requires prompt { IsPrompt self.old }
-        requires licensed { Licensed self.old.size (world_part self.old.size events.old.items) }
+        requires licensed { ActsLicensed self.old.size (world_part self.old.size events.old.items) }
         ensures fits { KernelFits events.new.items self.new }
         ensures prompt { IsPrompt self.new }
-        ensures licensed { Licensed self.new.size (world_part self.new.size events.new.items) }
+        ensures licensed { ActsLicensed self.new.size (world_part self.new.size events.new.items) }
         ensures same { (self.new.host ≡ self.old.host) × (self.new.size ≡ self.old.size) }
         ensures moved { Moved self.old.size self.old.host.0 events.old.items events.new.items }
         ensures err { OnErr result (events.new.items ≡ events.old.items) }
-        ensures exact { OnOk result (events.new.items ≡ left_by self.old events.old.items) }
+        ensures exact { OnOk result (events.new.items ≡ kernel_leaves self.old events.old.items) }
     {
         if self.want.is_some() || !self.live {
             return Ok(());

@@ -4,7 +4,7 @@ ghost use Rattle.vm_model.specs.declared.event.Event.TheVariants.{Sent, Taken};
 ghost use Rattle.vm_model.specs.declared.message.Channel.TheVariants.{Up, Down};
 ghost use Rattle.vm_model.specs.declared.message.Message.TheVariants.{Supply, Completed};
 ghost use Rattle.vm_model.specs.PagePart.{world_part};
-ghost use Rattle.vm_model.specs.PageLicences.{Licensed};
+ghost use Rattle.vm_model.specs.PageLicences.{ActsLicensed};
 ghost use Rattle.vm_model.specs.Server.{first};
 ghost use Rattle.sms_proto.specs.declared.letter.Order.TheVariants as order;
 ghost use Rattle.sms_proto.specs.Adds.{Adds, HostDoes};
@@ -58,10 +58,10 @@ impl Kernel {
         requires head { first self.old.down.items ≡ Some (order.Supply writes bytes) }
         requires room { HasRoom 2 events.old self.old }
         requires fits { KernelFits events.old.items self.old }
-        requires licensed { Licensed self.old.size (world_part self.old.size events.old.items) }
+        requires licensed { ActsLicensed self.old.size (world_part self.old.size events.old.items) }
         ensures ok { IsOk result }
         ensures fits { OnOk result (KernelFits events.new.items self.new) }
-        ensures licensed { OnOk result (Licensed self.new.size (world_part self.new.size events.new.items)) }
+        ensures licensed { OnOk result (ActsLicensed self.new.size (world_part self.new.size events.new.items)) }
         ensures adds { OnOk result (Adds (HostDoes self.old.host.0) (order_taken self.old.host self.old.control (order.Supply writes bytes) ∷ events.old.items) events.new.items) }
         ensures same { (self.new.host ≡ self.old.host) × (self.new.size ≡ self.old.size)
             × (self.new.live ≡ self.old.live) }
@@ -87,10 +87,10 @@ impl Kernel {
         requires head { first self.old.down.items ≡ Some order.Unlock }
         requires room { HasRoom 2 events.old self.old }
         requires fits { KernelFits events.old.items self.old }
-        requires licensed { Licensed self.old.size (world_part self.old.size events.old.items) }
+        requires licensed { ActsLicensed self.old.size (world_part self.old.size events.old.items) }
         ensures ok { IsOk result }
         ensures fits { OnOk result (KernelFits events.new.items self.new) }
-        ensures licensed { OnOk result (Licensed self.new.size (world_part self.new.size events.new.items)) }
+        ensures licensed { OnOk result (ActsLicensed self.new.size (world_part self.new.size events.new.items)) }
         ensures adds { OnOk result (Adds (HostDoes self.old.host.0) (order_taken self.old.host self.old.control order.Unlock ∷ events.old.items) events.new.items) }
         ensures same { (self.new.host ≡ self.old.host) × (self.new.size ≡ self.old.size)
             × (self.new.live ≡ self.old.live) }
@@ -111,10 +111,10 @@ impl Kernel {
         requires away { self.old.right ≡ 0 }
         requires room { HasRoom 4 events.old self.old }
         requires fits { KernelFits events.old.items self.old }
-        requires licensed { Licensed self.old.size (world_part self.old.size events.old.items) }
+        requires licensed { ActsLicensed self.old.size (world_part self.old.size events.old.items) }
         ensures ok { IsOk result }
         ensures fits { OnOk result (KernelFits events.new.items self.new) }
-        ensures licensed { OnOk result (Licensed self.new.size (world_part self.new.size events.new.items)) }
+        ensures licensed { OnOk result (ActsLicensed self.new.size (world_part self.new.size events.new.items)) }
         ensures adds { OnOk result (Adds (HostDoes self.old.host.0) (order_taken self.old.host self.old.control order.Flush ∷ events.old.items) events.new.items) }
         ensures same { (self.new.host ≡ self.old.host) × (self.new.size ≡ self.old.size)
             × (self.new.live ≡ self.old.live) }
@@ -139,10 +139,10 @@ impl Kernel {
         requires clean { self.old.dirty ≡ false }
         requires room { HasRoom 4 events.old self.old }
         requires fits { KernelFits events.old.items self.old }
-        requires licensed { Licensed self.old.size (world_part self.old.size events.old.items) }
+        requires licensed { ActsLicensed self.old.size (world_part self.old.size events.old.items) }
         ensures ok { IsOk result }
         ensures fits { OnOk result (KernelFits events.new.items self.new) }
-        ensures licensed { OnOk result (Licensed self.new.size (world_part self.new.size events.new.items)) }
+        ensures licensed { OnOk result (ActsLicensed self.new.size (world_part self.new.size events.new.items)) }
         ensures adds { OnOk result (Adds (HostDoes self.old.host.0) (order_taken self.old.host self.old.control order.Flush ∷ events.old.items) events.new.items) }
         ensures same { (self.new.host ≡ self.old.host) × (self.new.size ≡ self.old.size)
             × (self.new.live ≡ self.old.live) }
@@ -170,9 +170,9 @@ impl Kernel {
         requires dirty { self.old.dirty ≡ true }
         requires room { HasRoom 4 events.old self.old }
         requires fits { KernelFits events.old.items self.old }
-        requires licensed { Licensed self.old.size (world_part self.old.size events.old.items) }
+        requires licensed { ActsLicensed self.old.size (world_part self.old.size events.old.items) }
         ensures fits { OnOk result (KernelFits events.new.items self.new) }
-        ensures licensed { OnOk result (Licensed self.new.size (world_part self.new.size events.new.items)) }
+        ensures licensed { OnOk result (ActsLicensed self.new.size (world_part self.new.size events.new.items)) }
         ensures adds { OnOk result (Adds (HostDoes self.old.host.0) (order_taken self.old.host self.old.control order.Flush ∷ events.old.items) events.new.items) }
         ensures same { (self.new.host ≡ self.old.host) × (self.new.size ≡ self.old.size)
             × (self.new.live ≡ self.old.live) }
@@ -207,10 +207,10 @@ impl Kernel {
         requires saved { 0 < self.old.right → self.old.dirty ≡ false }
         requires room { HasRoom 4 events.old self.old }
         requires fits { KernelFits events.old.items self.old }
-        requires licensed { Licensed self.old.size (world_part self.old.size events.old.items) }
+        requires licensed { ActsLicensed self.old.size (world_part self.old.size events.old.items) }
         ensures ok { IsOk result }
         ensures fits { OnOk result (KernelFits events.new.items self.new) }
-        ensures licensed { OnOk result (Licensed self.new.size (world_part self.new.size events.new.items)) }
+        ensures licensed { OnOk result (ActsLicensed self.new.size (world_part self.new.size events.new.items)) }
         ensures adds { OnOk result (Adds (HostDoes self.old.host.0) (order_taken self.old.host self.old.control order.Clean ∷ events.old.items) events.new.items) }
         ensures same { (self.new.host ≡ self.old.host) × (self.new.size ≡ self.old.size)
             × (self.new.live ≡ self.old.live) }
@@ -237,9 +237,9 @@ impl Kernel {
         requires dirty { self.old.dirty ≡ true }
         requires room { HasRoom 4 events.old self.old }
         requires fits { KernelFits events.old.items self.old }
-        requires licensed { Licensed self.old.size (world_part self.old.size events.old.items) }
+        requires licensed { ActsLicensed self.old.size (world_part self.old.size events.old.items) }
         ensures fits { OnOk result (KernelFits events.new.items self.new) }
-        ensures licensed { OnOk result (Licensed self.new.size (world_part self.new.size events.new.items)) }
+        ensures licensed { OnOk result (ActsLicensed self.new.size (world_part self.new.size events.new.items)) }
         ensures adds { OnOk result (Adds (HostDoes self.old.host.0) (order_taken self.old.host self.old.control order.Clean ∷ events.old.items) events.new.items) }
         ensures same { (self.new.host ≡ self.old.host) × (self.new.size ≡ self.old.size)
             × (self.new.live ≡ self.old.live) }
@@ -272,9 +272,9 @@ impl Kernel {
         requires head { first self.old.down.items ≡ Some order.Flush }
         requires room { HasRoom 4 events.old self.old }
         requires fits { KernelFits events.old.items self.old }
-        requires licensed { Licensed self.old.size (world_part self.old.size events.old.items) }
+        requires licensed { ActsLicensed self.old.size (world_part self.old.size events.old.items) }
         ensures fits { OnOk result (KernelFits events.new.items self.new) }
-        ensures licensed { OnOk result (Licensed self.new.size (world_part self.new.size events.new.items)) }
+        ensures licensed { OnOk result (ActsLicensed self.new.size (world_part self.new.size events.new.items)) }
         ensures adds { OnOk result (Adds (HostDoes self.old.host.0) (order_taken self.old.host self.old.control order.Flush ∷ events.old.items) events.new.items) }
         ensures same { (self.new.host ≡ self.old.host) × (self.new.size ≡ self.old.size)
             × (self.new.live ≡ self.old.live) }
@@ -297,9 +297,9 @@ impl Kernel {
         requires head { first self.old.down.items ≡ Some order.Clean }
         requires room { HasRoom 4 events.old self.old }
         requires fits { KernelFits events.old.items self.old }
-        requires licensed { Licensed self.old.size (world_part self.old.size events.old.items) }
+        requires licensed { ActsLicensed self.old.size (world_part self.old.size events.old.items) }
         ensures fits { OnOk result (KernelFits events.new.items self.new) }
-        ensures licensed { OnOk result (Licensed self.new.size (world_part self.new.size events.new.items)) }
+        ensures licensed { OnOk result (ActsLicensed self.new.size (world_part self.new.size events.new.items)) }
         ensures adds { OnOk result (Adds (HostDoes self.old.host.0) (order_taken self.old.host self.old.control order.Clean ∷ events.old.items) events.new.items) }
         ensures same { (self.new.host ≡ self.old.host) × (self.new.size ≡ self.old.size)
             × (self.new.live ≡ self.old.live) }
@@ -318,9 +318,9 @@ impl Kernel {
         requires live { self.old.live ≡ true }
         requires room { HasRoom 4 events.old self.old }
         requires fits { KernelFits events.old.items self.old }
-        requires licensed { Licensed self.old.size (world_part self.old.size events.old.items) }
+        requires licensed { ActsLicensed self.old.size (world_part self.old.size events.old.items) }
         ensures fits { KernelFits events.new.items self.new }
-        ensures licensed { Licensed self.new.size (world_part self.new.size events.new.items) }
+        ensures licensed { ActsLicensed self.new.size (world_part self.new.size events.new.items) }
         ensures goes { OnOk result (StepEvents (HostDoes self.old.host.0) (taken_first self.old.host self.old.control (first self.old.down.items)) events.old.items events.new.items) }
         ensures same { (self.new.host ≡ self.old.host) × (self.new.size ≡ self.old.size)
             × (self.new.live ≡ self.old.live) }

@@ -4,11 +4,11 @@ ghost use Rattle.vm_base.specs.Limits.{most_hosts};
 ghost use Rattle.std.specs.VecDeque.{deque_len, deque_capacity};
 ghost use Rattle.vm_model.specs.declared.event.Event.{Event};
 ghost use Rattle.sms_pages.specs.Desk.{AllLong};
-ghost use Rattle.sms_pages.specs.Directory.{IsServed, most_replies};
+ghost use Rattle.sms_pages.specs.Directory.{IsServedDirectory, most_replies};
 ghost use Rattle.vm_model.specs.declared.message.Channel.TheVariants.{Up};
 ghost use Rattle.vm_model.specs.Channels.{up_queue};
 ghost use Rattle.sms_proto.specs.declared.step.WorldStep.TheVariants as step;
-ghost use Rattle.sms_proto.specs.Steps.{Takes, taken_head, IsTaken};
+ghost use Rattle.sms_proto.specs.Steps.{Takes, taken_head, AddsFirst};
 ghost use Rattle.sms_proto.specs.Adds.{Adds, ServerDoes};
 ghost use Rattle.sms_proto.specs.Kernels.{IsWholeOrder, KernelFits, SamePage};
 ghost use Rattle.sms_proto.specs.Letters.{order_message, heard_by, letter_taken, order_sent};
@@ -70,7 +70,7 @@ fn note(directory: &mut PageDirectory, host: HostId, letter: &Letter) -> Result<
     requires size { IsLong (length directory.old.bytes) letter.now }
     requires prepared { directory.old.prepared ≡ true }
     ensures ok { IsOk result }
-    ensures exact { IfOk result (λ replies. IsServed (noted_by host.0 letter.now directory.old) directory.new replies.items) }
+    ensures exact { IfOk result (λ replies. IsServedDirectory (noted_by host.0 letter.now directory.old) directory.new replies.items) }
     ensures few { IfOk result (λ replies. length replies.items ≤ most_replies directory.old) }
 {
     match letter {
@@ -246,7 +246,7 @@ impl Stage {
         ensures same { (self.new.size ≡ self.old.size)
             × (length self.new.kernels.items ≡ length self.old.kernels.items)
             × (self.new.spare.items ≡ self.old.spare.items) }
-        ensures taken { OnOk result (IsTaken (taken_head (Up host (record { 0 = 0 })) (up_queue host.0 0 self.old.events.items)) self.old.events.items self.new.events.items) }
+        ensures taken { OnOk result (AddsFirst (taken_head (Up host (record { 0 = 0 })) (up_queue host.0 0 self.old.events.items)) self.old.events.items self.new.events.items) }
         ensures err { OnErr result (WorldStands self.new.size self.new.kernels.items self.new.directory self.new.events.items × (self.new.events.items ≡ self.old.events.items)) }
     {
         let index = host.0 as usize;

@@ -1,5 +1,5 @@
 -- The home of a region stays what it is, and a region that wasn't made has none.
-use Rattle.std.proofs.Common.{◌≡◌, ℕ, ◌≤◌, ◌==◌, Bool, true, false, List, [], ◌∷◌, ◌++◌, Option, Some, None, ap, ◌∙◌, arith}
+use Rattle.std.proofs.Common.{◌≡◌, ℕ, ◌==◌, Bool, true, false, List, [], ◌∷◌, ◌++◌, Option, Some, None, ap, ◌∙◌, arith}
 use Rattle.std.proofs.lemmas.Bool.Decides.{nat_tests}
 use Rattle.std.specs.Prelude.{if◌then◌else◌}
 use Rattle.vm_base.specs.declared.ids.Inherit.{Inherit}
@@ -9,7 +9,6 @@ use Rattle.vm_base.specs.declared.ids.TaskId.{TaskId}
 use Rattle.vm_model.specs.declared.event.Event.{Event}
 use Rattle.vm_model.specs.declared.event.Event.TheVariants as event
 use Rattle.vm_model.specs.declared.script.Header.{Header}
-use Rattle.vm_model.specs.Regions.{next_region}
 use Rattle.vm_model.specs.Tasks.{host_of}
 use Rattle.vm_legal.specs.Licences.{HasCause}
 use Rattle.vm_legal.specs.Outside.{Outside}

@@ -1,4 +1,5 @@
 pub mod Chains
+pub mod Elsewhere
 pub mod Facts
 pub mod Heads
 pub mod Home

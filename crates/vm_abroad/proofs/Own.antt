@@ -12,7 +12,7 @@ use Rattle.vm_model.specs.declared.script.Header.{Header}
 use Rattle.vm_model.specs.Controls.{control_after, is_control, last_control, live_after, live_control}
 use Rattle.vm_model.specs.Local.{Local, Place, effect, local, local_after}
 use Rattle.vm_legal.specs.Accesses.{is_ready}
-use Rattle.vm_legal.specs.Frames.{change, frames_after, frames_held, frames_wired, returns_out, sent_up, taken_down, taken_up}
+use Rattle.vm_legal.specs.Frames.{change, frames_after, frames_held, frames_wired, returns_out, sent_up_change, taken_down_change, taken_up_change}
 use Rattle.vm_legal.specs.Homes.{gives_frame, is_home}
 use Rattle.vm_abroad.specs.Own.{own_change, own_effect, own_last, own_live, own_out, own_ready, own_wired}
 
@@ -86,7 +86,7 @@ ready_own header h other past is o = refl
 
 -- frames
 
-change_taken : (b : Bool) (own : ℕ → Bool) (m : Message) → b ≡ true → taken_down (λ page. b && own page) m ≡ taken_down own m
+change_taken : (b : Bool) (own : ℕ → Bool) (m : Message) → b ≡ true → taken_down_change (λ page. b && own page) m ≡ taken_down_change own m
 change_taken b own (message.Unavailable page) is = rw is refl
 change_taken b own (message.Error page reason) is = rw is refl
 change_taken b own other is = refl
@@ -97,9 +97,9 @@ change_own header h (event.Zeroed at object page) past is = rw is refl
 change_own header h (event.Raised at lower lower_page upper upper_page) past is = rw is refl
 change_own header h (event.CopiedPage task page object object_page target) past is = rw is refl
 change_own header h (event.Dropped at object page) past is = rw is refl
-change_own header h (event.Sent (Up at object) m) past is = ap (λ z. sent_up z m) is
+change_own header h (event.Sent (Up at object) m) past is = ap (λ z. sent_up_change z m) is
 change_own header h (event.Sent (Down at object control) m) past is = refl
-change_own header h (event.Taken (Up at object) m) past is = ap (λ z. taken_up z m) (both_left (at.0 == h) (gives_frame m) is)
+change_own header h (event.Taken (Up at object) m) past is = ap (λ z. taken_up_change z m) (both_left (at.0 == h) (gives_frame m) is)
 change_own header h (event.Taken (Down at object control) m) past is =
     change_taken (at.0 == h) (λ page. is_control control (live_control h object.0 past) && (local header.size h (record { object = object.0; page = page }) past).asked) m is
 change_own header h other past is = refl

@@ -11,7 +11,7 @@ use Rattle.vm_model.specs.declared.script.Header.{Header}
 use Rattle.vm_model.specs.Controls.{control_after, is_control, last_control, live_after, live_control}
 use Rattle.vm_model.specs.Local.{Elsewhere, Local, Place, effect, local, local_after}
 use Rattle.vm_legal.specs.Accesses.{is_ready}
-use Rattle.vm_legal.specs.Frames.{Keeps, change, frames_after, frames_held, frames_wired, returns_out, sent_up, taken_down, taken_up}
+use Rattle.vm_legal.specs.Frames.{Keeps, change, frames_after, frames_held, frames_wired, returns_out, sent_up_change, taken_down_change, taken_up_change}
 use Rattle.vm_legal.specs.Homes.{gives_frame, is_home}
 use Rattle.vm_abroad.specs.Same.{SamePages}
 
@@ -73,15 +73,15 @@ ready_abroad header h other past is o = refl
 
 -- frames
 
-change_sent : (b : Bool) (m : Message) → b ≡ false → sent_up b m ≡ Keeps
+change_sent : (b : Bool) (m : Message) → b ≡ false → sent_up_change b m ≡ Keeps
 change_sent b (message.Request control page access) is = rw is refl
 change_sent b other is = refl
 
-change_returned : (b : Bool) (m : Message) → (b && gives_frame m) ≡ false → taken_up b m ≡ Keeps
+change_returned : (b : Bool) (m : Message) → (b && gives_frame m) ≡ false → taken_up_change b m ≡ Keeps
 change_returned b (message.Return control page dirty keep bytes) is = rw is refl
 change_returned b other is = refl
 
-change_answered : (b : Bool) (own : ℕ → Bool) (m : Message) → b ≡ false → taken_down (λ page. b && own page) m ≡ Keeps
+change_answered : (b : Bool) (own : ℕ → Bool) (m : Message) → b ≡ false → taken_down_change (λ page. b && own page) m ≡ Keeps
 change_answered b own (message.Unavailable page) is = rw is refl
 change_answered b own (message.Error page reason) is = rw is refl
 change_answered b own other is = refl

@@ -13,7 +13,7 @@ use Rattle.vm_legal.specs.Living.{lives_on}
 use Rattle.vm_legal.specs.Outside.{Outside}
 use Rattle.vm_legal.specs.Stretches.{EachIn}
 use Rattle.vm_abroad.specs.Sound.{IsAbroad, Sound}
-use Rattle.vm_abroad.specs.Whose.{IsNew, IsOfHost, IsOnlyOfHost}
+use Rattle.vm_abroad.specs.Whose.{IsNewTask, IsOfHost, IsOnlyOfHost}
 use Rattle.vm_abroad.proofs.Regions.{kind_of}
 use Rattle.vm_abroad.proofs.Sounds.{both_left, one_home, shut_before, used_of}
 
@@ -33,7 +33,7 @@ one_copy g h (event.BegunCopy task address bytes to ∷ past) one two = one_task
 one_copy g h [] one two = absurd (let bad : false ≡ true = one in cc)
 one_copy g h (e ∷ past) one two = absurd (let bad : false ≡ true = one in cc)
 
-pub own_of_home : (header : Header) (outside : Outside) (g : ℕ) (e : Event) (past : List Event) → Sound header past → HasCause header outside e past → EntersNext e past → IsNew e past → is_home header g e past ≡ true → IsOnlyOfHost header g e past
+pub own_of_home : (header : Header) (outside : Outside) (g : ℕ) (e : Event) (past : List Event) → Sound header past → HasCause header outside e past → EntersNext e past → IsNewTask e past → is_home header g e past ≡ true → IsOnlyOfHost header g e past
 own_of_home header outside g (event.TaskMade task host) past sound cause next new home h there =
     let none : (k : ℕ) → lives_on k task.0 past ≡ false = λ k. ap (is_on k) new in
     one_number host.0 g h (first_of (host.0 == g) (lives_on g task.0 past) (none g) home) (first_of (host.0 == h) (lives_on h task.0 past) (none h) there)

@@ -7,7 +7,7 @@ use Rattle.vm_model.specs.declared.message.Channel.TheVariants.{Up, Down}
 use Rattle.vm_model.specs.declared.message.Message.TheVariants as message
 use Rattle.vm_model.specs.Controls.{is_control, without_control}
 use Rattle.vm_model.specs.Local.{Drops, Elsewhere, Local, LocalEffect, Place, Raises, Stores, Zeroes, is_place, sent_effect, taken_effect}
-use Rattle.vm_legal.specs.Frames.{FrameChange, Gives, Keeps, Takes, sent_up, taken_down, taken_up}
+use Rattle.vm_legal.specs.Frames.{FrameChange, Gives, Keeps, Takes, sent_up_change, taken_down_change, taken_up_change}
 
 -- to a place of the host, with what the host has of the others, and the live control of its object
 abbrev pub own_effect : Place → (Place → Local) → Option ℕ → Event → LocalEffect
@@ -28,9 +28,9 @@ own_change asked (event.Zeroed at object page) = Takes
 own_change asked (event.Raised at lower lower_page upper upper_page) = Takes
 own_change asked (event.CopiedPage task page object object_page target) = Takes
 own_change asked (event.Dropped at object page) = Gives
-own_change asked (event.Sent (Up at object) m) = sent_up true m
-own_change asked (event.Taken (Up at object) m) = taken_up true m
-own_change asked (event.Taken (Down at object control) m) = taken_down (asked object.0 control) m
+own_change asked (event.Sent (Up at object) m) = sent_up_change true m
+own_change asked (event.Taken (Up at object) m) = taken_up_change true m
+own_change asked (event.Taken (Down at object control) m) = taken_down_change (asked object.0 control) m
 own_change asked other = Keeps
 
 -- to the live control of an object, the last one, and whether that is ready

@@ -1,5 +1,5 @@
 -- Where regions are in use, and what the tables of a host lead to.
-use Rattle.std.specs.Prelude.{ℕ, ◌<◌, ◌≤◌, ◌≡◌, ◌⊎◌, true, false, List, [], ◌∷◌}
+use Rattle.std.specs.Prelude.{ℕ, ◌<◌, ◌≤◌, ◌≡◌, ◌⊎◌, ◌||◌, Bool, true, false, List, [], ◌∷◌}
 use Rattle.vm_model.specs.declared.event.Event.{Event}
 use Rattle.vm_model.specs.declared.script.Header.{Header}
 use Rattle.vm_model.specs.Named.{named}
@@ -28,6 +28,10 @@ pub record Sound (header : Header) (past : List Event) : Type 0 where
 abbrev pub IsAmong : ℕ → List ℕ → Type 0
 IsAmong n [] = ⊥
 IsAmong n (m ∷ more) = (m ≡ n) ⊎ IsAmong n more
+
+-- the task has an entry on the region, or fills it by a slow copy
+abbrev pub holds : ℕ → ℕ → ℕ → List Event → Bool
+holds size task region past = has_entry region (entries_of size task past) || fills region (waiting task past) (copy_target task past)
 
 -- a task of the host has an entry on the region, or fills it
 pub record IsHeldOn (header : Header) (h r : ℕ) (past : List Event) : Type 0 where

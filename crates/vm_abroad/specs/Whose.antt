@@ -13,9 +13,9 @@ abbrev pub IsOnlyOfHost : Header → ℕ → Event → List Event → Type 0
 IsOnlyOfHost header g e past = (h : ℕ) → is_home header h e past ≡ true → h ≡ g
 
 -- a task that begins doesn't live yet
-abbrev pub IsNew : Event → List Event → Type 0
-IsNew (event.TaskMade task host) past = host_of task.0 past ≡ None
-IsNew other past = Unit {0}
+abbrev pub IsNewTask : Event → List Event → Type 0
+IsNewTask (event.TaskMade task host) past = host_of task.0 past ≡ None
+IsNewTask other past = Unit {0}
 
 -- an event of a host, or nobody's
 pub record IsOfHost (header : Header) (outside : Outside) (g : ℕ) (e : Event) (past : List Event) : Type 0 where

@@ -24,7 +24,7 @@ ghost use Rattle.vm_abroad.specs.Own.{own_change, own_effect, own_last, own_live
 ghost use Rattle.vm_abroad.specs.Run as run;
 ghost use Rattle.vm_abroad.specs.Same.{SameFacts, SameForHost};
 ghost use Rattle.vm_abroad.specs.Sound.{IsAbroad, Knows, Sound};
-ghost use Rattle.vm_abroad.specs.Whose.{IsNew, IsOfHost, IsOnlyOfHost, IsShut};
+ghost use Rattle.vm_abroad.specs.Whose.{IsNewTask, IsOfHost, IsOnlyOfHost, IsShut};
 
 /// Where regions are in use, and what their tables say of one host, it reads the same behind events that
 /// are nothing to it; and so it goes on.
@@ -57,7 +57,7 @@ pub fn own_events_move_their_host()
 /// An event of one host is no other's, so it is nothing to the others.
 #[tactic(auto, using(crate::proofs::Whose::abroad_of_own))]
 pub fn events_have_one_home()
-    ensures one { (header : Header) (outside : Outside) (g : ℕ) (e : Event) (past : List Event) → Sound header past → HasCause header outside e past → EntersNext e past → IsNew e past → is_home header g e past ≡ true → IsOnlyOfHost header g e past }
+    ensures one { (header : Header) (outside : Outside) (g : ℕ) (e : Event) (past : List Event) → Sound header past → HasCause header outside e past → EntersNext e past → IsNewTask e past → is_home header g e past ≡ true → IsOnlyOfHost header g e past }
     ensures others { (header : Header) (outside : Outside) (g h : ℕ) (events past : List Event) → h ≢ g → EachIn (IsOfHost header outside g) events past → EachIn (IsAbroad header outside h) events past }
 {}
 

@@ -1,6 +1,6 @@
 // Why a command is refused.
 ghost use Rattle.std.specs.Prelude.{◌≡◌};
-ghost use Rattle.vm_base.specs.Code.{number};
+ghost use Rattle.vm_base.specs.Code.{code_number};
 
 /// A refusal, in the order of its number. The numbers up to 10 are named after the manual of the
 /// Mach 3 kernel interfaces; those from 101 on are this profile's.
@@ -34,7 +34,7 @@ pub enum Code {
 impl Code {
     /// The number that a history and its text have for the refusal.
     pub fn number(self) -> u32
-        ensures { result ≡ number self }
+        ensures { result ≡ code_number self }
     {
         match self {
             Code::InvalidAddress => 1,

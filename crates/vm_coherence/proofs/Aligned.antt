@@ -4,10 +4,10 @@ use Rattle.std.specs.Prelude.{nat_lt}
 use native.Mathlib.Decide.{ℕ_discrete}
 use Rattle.std.proofs.lemmas.Bool.Decides.{nat_tests}
 use Rattle.vm_model.specs.Words.{UpWord, Asking, Unlocking, Returning, Doing, Ending, OtherUp, DownWord, Locking, SendsUp, TakenUp}
-use Rattle.vm_model.specs.Side.{Side, nobody, rest, opened, sent_up, taken_up, sent_down, hears}
+use Rattle.vm_model.specs.Side.{Side, nobody, rest, opened, side_sent_up, side_taken_up, side_sent_down, side_taken_down}
 use Rattle.vm_model.specs.Waiters.{Waiter}
 use Rattle.vm_model.specs.Server.{first}
-use Rattle.vm_model.specs.PageLicences.{May}
+use Rattle.vm_model.specs.PageLicences.{HostMay}
 use Rattle.vm_coherence.proofs.Queues.{ender, does, ends, over, sum_up, sum_up_end, sum_up_le, late_all}
 use Rattle.vm_coherence.proofs.Sound.{MayAnswer, Sound}
 use Rattle.vm_coherence.proofs.Ways.{does_of}
@@ -84,24 +84,24 @@ pub record Aligned (s : Side) : Type 0 where
   pub heard_le : s.heard ≤ s.control
   pub ordered : unordered s.up ≡ 0
 
-pub aligned_sent : (ws : List Waiter) (rs : List ℕ) (w : UpWord) (control : ℕ) (s : Side) → Sound s → Aligned s → May ws rs s (SendsUp control w) → Aligned (sent_up s w)
+pub aligned_sent : (ws : List Waiter) (rs : List ℕ) (w : UpWord) (control : ℕ) (s : Side) → Sound s → Aligned s → HostMay ws rs s (SendsUp control w) → Aligned (side_sent_up s w)
 aligned_sent ws rs (Asking asker access) control s ok x may = grind (arith, nat_tests, sum_up_end, unordered_end (s.control) s.up)
 aligned_sent ws rs (Unlocking access) control s ok x may = grind (arith, nat_tests, sum_up_end, unordered_end (s.control) s.up)
 aligned_sent ws rs (Returning dirty keep bytes) control s ok x may = aligned_return ws rs dirty keep bytes control s ok x may where
-  aligned_return : (ws : List Waiter) (rs : List ℕ) (dirty keep : Bool) (bytes : List ℕ) (control : ℕ) (s : Side) → Sound s → Aligned s → May ws rs s (SendsUp control (Returning dirty keep bytes)) → Aligned (sent_up s (Returning dirty keep bytes))
+  aligned_return : (ws : List Waiter) (rs : List ℕ) (dirty keep : Bool) (bytes : List ℕ) (control : ℕ) (s : Side) → Sound s → Aligned s → HostMay ws rs s (SendsUp control (Returning dirty keep bytes)) → Aligned (side_sent_up s (Returning dirty keep bytes))
   aligned_return ws rs dirty keep bytes control s ok x may = grind (arith, nat_tests, sum_up_end, unordered_end (s.control) s.up)
 aligned_sent ws rs (Doing told count) control s ok x may = aligned_doing ws rs told count control s ok x may where
-  aligned_doing : (ws : List Waiter) (rs : List ℕ) (told count control : ℕ) (s : Side) → Sound s → Aligned s → May ws rs s (SendsUp control (Doing told count)) → Aligned (sent_up s (Doing told count))
+  aligned_doing : (ws : List Waiter) (rs : List ℕ) (told count control : ℕ) (s : Side) → Sound s → Aligned s → HostMay ws rs s (SendsUp control (Doing told count)) → Aligned (side_sent_up s (Doing told count))
   aligned_doing ws rs told count control s ok x may = grind (arith, nat_tests, sum_up_end, unordered_end (s.control) s.up)
 aligned_sent ws rs (Ending told) control s ok x may = aligned_ending ws rs told control s ok x may where
-  aligned_ending : (ws : List Waiter) (rs : List ℕ) (told control : ℕ) (s : Side) → Sound s → Aligned s → May ws rs s (SendsUp control (Ending told)) → Aligned (sent_up s (Ending told))
+  aligned_ending : (ws : List Waiter) (rs : List ℕ) (told control : ℕ) (s : Side) → Sound s → Aligned s → HostMay ws rs s (SendsUp control (Ending told)) → Aligned (side_sent_up s (Ending told))
   aligned_ending ws rs told control s ok x may = grind (arith, nat_tests, sum_up_end, unordered_end (s.control) s.up)
 aligned_sent ws rs OtherUp control s ok x may = x
 
-aligned_asked : (s : Side) (n asker access : ℕ) → Sound s → Carried s n → Aligned s → first s.up ≡ Some (Asking asker access) → Aligned (taken_up s (Asking asker access))
+aligned_asked : (s : Side) (n asker access : ℕ) → Sound s → Carried s n → Aligned s → first s.up ≡ Some (Asking asker access) → Aligned (side_taken_up s (Asking asker access))
 aligned_asked s n asker access ok k x is = grind (arith, nat_tests, late_all, ends_under_le asker (rest s.up))
 
-pub aligned_taken : (w : UpWord) (ws : List Waiter) (rs : List ℕ) (s : Side) (n : ℕ) → Sound s → Carried s n → Aligned s → May ws rs s (TakenUp w) → Aligned (taken_up s w)
+pub aligned_taken : (w : UpWord) (ws : List Waiter) (rs : List ℕ) (s : Side) (n : ℕ) → Sound s → Carried s n → Aligned s → HostMay ws rs s (TakenUp w) → Aligned (side_taken_up s w)
 aligned_taken (Asking asker access) ws rs s n ok k x may = aligned_asked s n asker access ok k x may
 aligned_taken (Unlocking access) ws rs s n ok k x may = grind (arith, nat_tests)
 aligned_taken (Returning dirty keep bytes) ws rs s n ok k x may = grind (arith, nat_tests)
@@ -109,7 +109,7 @@ aligned_taken (Doing control count) ws rs s n ok k x may = grind (arith, nat_tes
 aligned_taken (Ending control) ws rs s n ok k x may = grind (arith, nat_tests)
 aligned_taken OtherUp ws rs s n ok k x may = record { done_mine = x.done_mine; ends_old = x.ends_old; awaited_heard = x.awaited_heard; heard_le = x.heard_le; ordered = x.ordered }
 
-pub aligned_order : (s : Side) (control count returns lock : ℕ) (flush : Bool) → Sound s → Aligned s → MayAnswer s (Locking count returns flush lock true) → control ≡ s.heard → Aligned (sent_down s control (Locking count returns flush lock true))
+pub aligned_order : (s : Side) (control count returns lock : ℕ) (flush : Bool) → Sound s → Aligned s → MayAnswer s (Locking count returns flush lock true) → control ≡ s.heard → Aligned (side_sent_down s control (Locking count returns flush lock true))
 aligned_order s control count returns lock flush ok x may mine = grind (arith, nat_tests, does_other_le control s.up)
 
 pub aligned_opens : (s : Side) (control : ℕ) (ready : Bool) → Aligned s → control ≡ s.control + 1 → Aligned (opened s control ready)
@@ -138,5 +138,5 @@ end_is_mine s n control ok k x is some = elim (ℕ_discrete s.awaited_control co
 pub aligned_start : Aligned nobody
 aligned_start = grind (arith, nat_tests)
 
-pub aligned_hears : (s : Side) (w : DownWord) → Aligned s → Aligned (hears s w)
+pub aligned_hears : (s : Side) (w : DownWord) → Aligned s → Aligned (side_taken_down s w)
 aligned_hears s w x = grind arith

@@ -3,7 +3,7 @@ use Rattle.std.proofs.Common.{◌≡◌, ℕ, ◌+◌, ◌==◌, ◌&&◌, if◌
 use Rattle.std.proofs.lemmas.Bool.Decides.{nat_tests}
 use native.Mathlib.Decide.{ℕ_discrete}
 use Rattle.vm_model.specs.Words.{Asking, Unlocking, Returning, Doing, Ending, Supplying, Locking, ActEffect, SendsUp, TakenUp, SentDown, Drops, Stores}
-use Rattle.vm_model.specs.Side.{Side, nobody, opened, put_down, hears, side_after}
+use Rattle.vm_model.specs.Side.{Side, nobody, opened, put_down, side_taken_down, side_after}
 use Rattle.vm_model.specs.Waiters.{Waiter}
 use Rattle.vm_model.specs.Server.{first}
 use Rattle.vm_model.specs.PageLicences.{MaySend}
@@ -144,10 +144,10 @@ carried_order s n control count returns lock flush ok k may holds fits =
 
 -- what the host takes
 
-pub carried_supplied : (s : Side) (n : ℕ) (control lock : ℕ) (precious : Bool) (bytes : List ℕ) → Sound s → Carried s n → s.live ≡ true → s.control ≡ control → first s.down ≡ Some (Supplying lock precious bytes) → s.step ≡ 0 → Carried (hears s (Supplying lock precious bytes)) (gate s.holds n)
+pub carried_supplied : (s : Side) (n : ℕ) (control lock : ℕ) (precious : Bool) (bytes : List ℕ) → Sound s → Carried s n → s.live ≡ true → s.control ≡ control → first s.down ≡ Some (Supplying lock precious bytes) → s.step ≡ 0 → Carried (side_taken_down s (Supplying lock precious bytes)) (gate s.holds n)
 carried_supplied s n control lock precious bytes ok k live mine is none = grind (arith, nat_tests)
 
-pub carried_locked : (s : Side) (n : ℕ) (count returns lock : ℕ) (flush reply : Bool) → Sound s → Carried s n → s.live ≡ true → first s.down ≡ Some (Locking count returns flush lock reply) → s.step ≡ 0 → Carried (hears s (Locking count returns flush lock reply)) (gate s.holds n)
+pub carried_locked : (s : Side) (n : ℕ) (count returns lock : ℕ) (flush reply : Bool) → Sound s → Carried s n → s.live ≡ true → first s.down ≡ Some (Locking count returns flush lock reply) → s.step ≡ 0 → Carried (side_taken_down s (Locking count returns flush lock reply)) (gate s.holds n)
 carried_locked s n count returns lock flush reply ok k live is none = grind (arith, nat_tests)
 
 pub carried_start : Carried nobody 0

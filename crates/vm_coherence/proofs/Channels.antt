@@ -6,8 +6,8 @@ use Rattle.vm_model.specs.declared.message.Message.{Message}
 use Rattle.vm_model.specs.declared.message.Message.TheVariants as message
 use Rattle.vm_model.specs.declared.event.Event.{Event}
 use Rattle.vm_model.specs.declared.event.Event.TheVariants as event
-use Rattle.vm_model.specs.Words.{UpWord, OtherUp, DownWord, ActEffect, SendsUp, TakenUp, SentDown, TakesDown, Puts, Drops, Begins, Loads, Stores, Fails, BeginsCopy, Copies, EndsCopy, StepBegins, Nothing, up_word, down_word, times_meant, sent_effect, act_if, act_of, to_others, effect_on}
-use Rattle.vm_model.specs.Side.{Side, rest, sent_up, taken_up, side_after, side}
+use Rattle.vm_model.specs.Words.{UpWord, OtherUp, DownWord, ActEffect, SendsUp, TakenUp, SentDown, TakesDown, Puts, Drops, Begins, Loads, Stores, Fails, BeginsCopy, Copies, EndsCopy, StepBegins, Nothing, up_word, down_word, times_meant, sent_act_effect, act_if, act_of, to_others, effect_on}
+use Rattle.vm_model.specs.Side.{Side, rest, side_sent_up, side_taken_up, side_after, side}
 use Rattle.vm_model.specs.Server.{first, line}
 use Rattle.vm_model.specs.TaskPlace.{task_host, means_page}
 use Rattle.vm_model.specs.PagePart.{page_part}
@@ -24,14 +24,14 @@ append_none : (ws : List UpWord) → ws ++ [] ≡ ws
 append_none [] = refl
 append_none (w ∷ ws) = grind (arith, append_none ws)
 
-sent_queue : (w : UpWord) (s : Side) → (sent_up s w).up ≡ s.up ++ with_word w []
+sent_queue : (w : UpWord) (s : Side) → (side_sent_up s w).up ≡ s.up ++ with_word w []
 sent_queue w s = grind (arith, append_none)
 
-taken_queue : (w : UpWord) (s : Side) (ws : List UpWord) → s.up ≡ with_word w ws → (taken_up s w).up ≡ ws
+taken_queue : (w : UpWord) (s : Side) (ws : List UpWord) → s.up ≡ with_word w ws → (side_taken_up s w).up ≡ ws
 taken_queue w s ws is = grind arith
 
 -- what a host sends adds its word
-sends : (p : ℕ) (m : Message) (s : Side) → (side_after s (sent_effect p m)).up ≡ s.up ++ with_word (up_word p m) []
+sends : (p : ℕ) (m : Message) (s : Side) → (side_after s (sent_act_effect p m)).up ≡ s.up ++ with_word (up_word p m) []
 sends p (message.Init control size) s = sent_queue OtherUp s
 sends p (message.Create control size) s = sent_queue OtherUp s
 sends p m s = sent_queue (up_word p m) s
@@ -53,15 +53,15 @@ HeadOf h o e q = Unit {0}
 took : (p : ℕ) (q : List Message) (m : Message) → first q ≡ Some m → up_words p q ≡ with_word (up_word p m) (up_words p (rest q))
 took p q m is = grind arith
 
-sent_step : (host object : ℕ) (m : Message) (h o p : ℕ) (s : Side) (q : List Message) → s.up ≡ up_words p q → (side_after s (effect_on h (record { host = host; effect = if object == o then sent_effect p m else Nothing }))).up ≡ up_words p (if host == h && object == o then q ++ m ∷ [] else q)
+sent_step : (host object : ℕ) (m : Message) (h o p : ℕ) (s : Side) (q : List Message) → s.up ≡ up_words p q → (side_after s (effect_on h (record { host = host; effect = if object == o then sent_act_effect p m else Nothing }))).up ≡ up_words p (if host == h && object == o then q ++ m ∷ [] else q)
 sent_step host object m h o p s q is = by_cases (host == h) (object == o) refl where
   to_others_up : (e : ActEffect) (s : Side) → (side_after s (to_others e)).up ≡ s.up
   to_others_up e s = grind arith
 
-  by_cases : (b c : Bool) → (host == h) ≡ b → (side_after s (if b then (if c then sent_effect p m else Nothing) else to_others (if c then sent_effect p m else Nothing))).up ≡ up_words p (if b && c then q ++ m ∷ [] else q)
+  by_cases : (b c : Bool) → (host == h) ≡ b → (side_after s (if b then (if c then sent_act_effect p m else Nothing) else to_others (if c then sent_act_effect p m else Nothing))).up ≡ up_words p (if b && c then q ++ m ∷ [] else q)
   by_cases true true e = sends p m s ∙ (ap (λ (l : List UpWord). l ++ with_word (up_word p m) []) is ∙ sym (words_end p q m))
   by_cases true false e = is
-  by_cases false true e = to_others_up (sent_effect p m) s ∙ is
+  by_cases false true e = to_others_up (sent_act_effect p m) s ∙ is
   by_cases false false e = is
 
 taken_step : (host object : ℕ) (m : Message) (h o p : ℕ) (s : Side) (q : List Message) → s.up ≡ up_words p q → (host ≡ h → object ≡ o → first q ≡ Some m) → (side_after s (effect_on h (record { host = host; effect = if object == o then TakenUp (up_word p m) else StepBegins }))).up ≡ up_words p (if host == h && object == o then rest q else q)

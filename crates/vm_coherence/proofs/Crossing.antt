@@ -7,14 +7,14 @@ use Rattle.vm_model.specs.declared.message.Message.TheVariants as message
 use Rattle.vm_model.specs.declared.event.Event.{Event}
 use Rattle.vm_model.specs.declared.event.Event.TheVariants as event
 use Rattle.vm_model.specs.Words.{Asking, Unlocking, Returning, Doing, Supplying, Locking, Opens, SendsUp, TakenUp, SentDown, TakesDown, Drops, Begins, Loads, Stores}
-use Rattle.vm_model.specs.PageLicences.{NobodyAwaited, OthersHold, Cause, Licensed}
-use Rattle.vm_model.specs.Coherence.{Done, StepsDone, Prompt, SomebodyIsAwaited, Quiet}
+use Rattle.vm_model.specs.PageLicences.{NobodyAwaited, OthersHold, Cause, ActsLicensed}
+use Rattle.vm_model.specs.Coherence.{Done, StepsDone, WaitersHaveAsked, SomebodyIsAwaited, Quiet}
 use Rattle.vm_model.specs.PagePart.{world_part}
 
 abbrev run_0 : List Event
 run_0 = []
 
-licensed_0 : Licensed 16 (world_part 16 run_0)
+licensed_0 : ActsLicensed 16 (world_part 16 run_0)
 licensed_0 = tt
 
 steps_0 : StepsDone (world_part 16 run_0)
@@ -32,7 +32,7 @@ cause_0 = tt
 steps_1 : StepsDone (world_part 16 run_1)
 steps_1 = (λ begins. absurd (cc), (λ begins. absurd (cc), steps_0))
 
-licensed_1 : Licensed 16 (world_part 16 run_1)
+licensed_1 : ActsLicensed 16 (world_part 16 run_1)
 licensed_1 = (cause_0, (opens_0, licensed_0))
 
 abbrev run_2 : List Event
@@ -44,7 +44,7 @@ cause_1 = grind (arith, nat_tests)
 steps_2 : StepsDone (world_part 16 run_2)
 steps_2 = (λ begins. absurd (cc), steps_1)
 
-licensed_2 : Licensed 16 (world_part 16 run_2)
+licensed_2 : ActsLicensed 16 (world_part 16 run_2)
 licensed_2 = (cause_1, licensed_1)
 
 opens_2 : Cause 16 1 (Opens 1 true) (world_part 16 run_2)
@@ -59,7 +59,7 @@ cause_2 = tt
 steps_3 : StepsDone (world_part 16 run_3)
 steps_3 = (λ begins. absurd (cc), (λ begins. absurd (cc), steps_2))
 
-licensed_3 : Licensed 16 (world_part 16 run_3)
+licensed_3 : ActsLicensed 16 (world_part 16 run_3)
 licensed_3 = (cause_2, (opens_2, licensed_2))
 
 abbrev run_4 : List Event
@@ -71,7 +71,7 @@ cause_3 = grind (arith, nat_tests)
 steps_4 : StepsDone (world_part 16 run_4)
 steps_4 = (λ begins. absurd (cc), steps_3)
 
-licensed_4 : Licensed 16 (world_part 16 run_4)
+licensed_4 : ActsLicensed 16 (world_part 16 run_4)
 licensed_4 = (cause_3, licensed_3)
 
 abbrev run_5 : List Event
@@ -86,7 +86,7 @@ done_4 h = grind (arith, nat_tests)
 steps_5 : StepsDone (world_part 16 run_5)
 steps_5 = (λ begins. done_4, steps_4)
 
-licensed_5 : Licensed 16 (world_part 16 run_5)
+licensed_5 : ActsLicensed 16 (world_part 16 run_5)
 licensed_5 = (cause_4, licensed_4)
 
 abbrev run_6 : List Event
@@ -104,7 +104,7 @@ cause_5 = (refl, refl, free_5, refl, (refl, refl, refl, low_5))
 steps_6 : StepsDone (world_part 16 run_6)
 steps_6 = (λ begins. absurd (cc), steps_5)
 
-licensed_6 : Licensed 16 (world_part 16 run_6)
+licensed_6 : ActsLicensed 16 (world_part 16 run_6)
 licensed_6 = (cause_5, licensed_5)
 
 abbrev run_7 : List Event
@@ -119,7 +119,7 @@ done_6 h = grind (arith, nat_tests)
 steps_7 : StepsDone (world_part 16 run_7)
 steps_7 = (λ begins. done_6, steps_6)
 
-licensed_7 : Licensed 16 (world_part 16 run_7)
+licensed_7 : ActsLicensed 16 (world_part 16 run_7)
 licensed_7 = (cause_6, licensed_6)
 
 abbrev run_8 : List Event
@@ -137,7 +137,7 @@ cause_7 = (refl, refl, free_7, refl, (refl, refl, refl, low_7))
 steps_8 : StepsDone (world_part 16 run_8)
 steps_8 = (λ begins. absurd (cc), steps_7)
 
-licensed_8 : Licensed 16 (world_part 16 run_8)
+licensed_8 : ActsLicensed 16 (world_part 16 run_8)
 licensed_8 = (cause_7, licensed_7)
 
 abbrev run_9 : List Event
@@ -152,7 +152,7 @@ done_8 h = grind (arith, nat_tests)
 steps_9 : StepsDone (world_part 16 run_9)
 steps_9 = (λ begins. done_8, steps_8)
 
-licensed_9 : Licensed 16 (world_part 16 run_9)
+licensed_9 : ActsLicensed 16 (world_part 16 run_9)
 licensed_9 = (cause_8, licensed_8)
 
 abbrev run_10 : List Event
@@ -164,7 +164,7 @@ cause_9 = (refl, refl, refl)
 steps_10 : StepsDone (world_part 16 run_10)
 steps_10 = (λ begins. absurd (cc), steps_9)
 
-licensed_10 : Licensed 16 (world_part 16 run_10)
+licensed_10 : ActsLicensed 16 (world_part 16 run_10)
 licensed_10 = (cause_9, licensed_9)
 
 abbrev run_11 : List Event
@@ -179,7 +179,7 @@ done_10 h = grind (arith, nat_tests)
 steps_11 : StepsDone (world_part 16 run_11)
 steps_11 = (λ begins. done_10, steps_10)
 
-licensed_11 : Licensed 16 (world_part 16 run_11)
+licensed_11 : ActsLicensed 16 (world_part 16 run_11)
 licensed_11 = (cause_10, licensed_10)
 
 abbrev run_12 : List Event
@@ -191,7 +191,7 @@ cause_11 = (refl, refl, refl)
 steps_12 : StepsDone (world_part 16 run_12)
 steps_12 = (λ begins. absurd (cc), steps_11)
 
-licensed_12 : Licensed 16 (world_part 16 run_12)
+licensed_12 : ActsLicensed 16 (world_part 16 run_12)
 licensed_12 = (cause_11, licensed_11)
 
 abbrev run_13 : List Event
@@ -203,7 +203,7 @@ cause_12 = tt
 steps_13 : StepsDone (world_part 16 run_13)
 steps_13 = (λ begins. absurd (cc), steps_12)
 
-licensed_13 : Licensed 16 (world_part 16 run_13)
+licensed_13 : ActsLicensed 16 (world_part 16 run_13)
 licensed_13 = (cause_12, licensed_12)
 
 abbrev run_14 : List Event
@@ -215,7 +215,7 @@ cause_13 = grind (arith, nat_tests)
 steps_14 : StepsDone (world_part 16 run_14)
 steps_14 = (λ begins. absurd (cc), steps_13)
 
-licensed_14 : Licensed 16 (world_part 16 run_14)
+licensed_14 : ActsLicensed 16 (world_part 16 run_14)
 licensed_14 = (cause_13, licensed_13)
 
 abbrev run_15 : List Event
@@ -227,7 +227,7 @@ cause_14 = tt
 steps_15 : StepsDone (world_part 16 run_15)
 steps_15 = (λ begins. absurd (cc), steps_14)
 
-licensed_15 : Licensed 16 (world_part 16 run_15)
+licensed_15 : ActsLicensed 16 (world_part 16 run_15)
 licensed_15 = (cause_14, licensed_14)
 
 abbrev run_16 : List Event
@@ -239,7 +239,7 @@ cause_15 = grind (arith, nat_tests)
 steps_16 : StepsDone (world_part 16 run_16)
 steps_16 = (λ begins. absurd (cc), steps_15)
 
-licensed_16 : Licensed 16 (world_part 16 run_16)
+licensed_16 : ActsLicensed 16 (world_part 16 run_16)
 licensed_16 = (cause_15, licensed_15)
 
 abbrev run_17 : List Event
@@ -254,7 +254,7 @@ done_16 h = grind (arith, nat_tests)
 steps_17 : StepsDone (world_part 16 run_17)
 steps_17 = (λ begins. done_16, steps_16)
 
-licensed_17 : Licensed 16 (world_part 16 run_17)
+licensed_17 : ActsLicensed 16 (world_part 16 run_17)
 licensed_17 = (cause_16, licensed_16)
 
 abbrev run_18 : List Event
@@ -266,7 +266,7 @@ cause_17 = grind (arith, nat_tests)
 steps_18 : StepsDone (world_part 16 run_18)
 steps_18 = (λ begins. absurd (cc), steps_17)
 
-licensed_18 : Licensed 16 (world_part 16 run_18)
+licensed_18 : ActsLicensed 16 (world_part 16 run_18)
 licensed_18 = (cause_17, licensed_17)
 
 abbrev run_19 : List Event
@@ -281,7 +281,7 @@ done_18 h = grind (arith, nat_tests)
 steps_19 : StepsDone (world_part 16 run_19)
 steps_19 = (λ begins. done_18, steps_18)
 
-licensed_19 : Licensed 16 (world_part 16 run_19)
+licensed_19 : ActsLicensed 16 (world_part 16 run_19)
 licensed_19 = (cause_18, licensed_18)
 
 abbrev run_20 : List Event
@@ -296,7 +296,7 @@ done_19 h = grind (arith, nat_tests)
 steps_20 : StepsDone (world_part 16 run_20)
 steps_20 = (λ begins. done_19, steps_19)
 
-licensed_20 : Licensed 16 (world_part 16 run_20)
+licensed_20 : ActsLicensed 16 (world_part 16 run_20)
 licensed_20 = (cause_19, licensed_19)
 
 abbrev run_21 : List Event
@@ -308,7 +308,7 @@ cause_20 = grind (arith, nat_tests)
 steps_21 : StepsDone (world_part 16 run_21)
 steps_21 = (λ begins. absurd (cc), steps_20)
 
-licensed_21 : Licensed 16 (world_part 16 run_21)
+licensed_21 : ActsLicensed 16 (world_part 16 run_21)
 licensed_21 = (cause_20, licensed_20)
 
 abbrev run_22 : List Event
@@ -320,7 +320,7 @@ cause_21 = grind (arith, nat_tests)
 steps_22 : StepsDone (world_part 16 run_22)
 steps_22 = (λ begins. absurd (cc), steps_21)
 
-licensed_22 : Licensed 16 (world_part 16 run_22)
+licensed_22 : ActsLicensed 16 (world_part 16 run_22)
 licensed_22 = (cause_21, licensed_21)
 
 abbrev run_23 : List Event
@@ -332,7 +332,7 @@ cause_22 = grind (arith, nat_tests)
 steps_23 : StepsDone (world_part 16 run_23)
 steps_23 = (λ begins. absurd (cc), steps_22)
 
-licensed_23 : Licensed 16 (world_part 16 run_23)
+licensed_23 : ActsLicensed 16 (world_part 16 run_23)
 licensed_23 = (cause_22, licensed_22)
 
 abbrev run_24 : List Event
@@ -347,7 +347,7 @@ done_23 h = grind (arith, nat_tests)
 steps_24 : StepsDone (world_part 16 run_24)
 steps_24 = (λ begins. done_23, steps_23)
 
-licensed_24 : Licensed 16 (world_part 16 run_24)
+licensed_24 : ActsLicensed 16 (world_part 16 run_24)
 licensed_24 = (cause_23, licensed_23)
 
 abbrev run_25 : List Event
@@ -365,7 +365,7 @@ cause_24 = (refl, refl, refl, refl, refl, free_24, low_24, (refl, refl))
 steps_25 : StepsDone (world_part 16 run_25)
 steps_25 = (λ begins. absurd (cc), steps_24)
 
-licensed_25 : Licensed 16 (world_part 16 run_25)
+licensed_25 : ActsLicensed 16 (world_part 16 run_25)
 licensed_25 = (cause_24, licensed_24)
 
 abbrev run_26 : List Event
@@ -380,7 +380,7 @@ done_25 h = grind (arith, nat_tests)
 steps_26 : StepsDone (world_part 16 run_26)
 steps_26 = (λ begins. done_25, steps_25)
 
-licensed_26 : Licensed 16 (world_part 16 run_26)
+licensed_26 : ActsLicensed 16 (world_part 16 run_26)
 licensed_26 = (cause_25, licensed_25)
 
 abbrev run_27 : List Event
@@ -392,7 +392,7 @@ cause_26 = grind (arith, nat_tests)
 steps_27 : StepsDone (world_part 16 run_27)
 steps_27 = (λ begins. absurd (cc), steps_26)
 
-licensed_27 : Licensed 16 (world_part 16 run_27)
+licensed_27 : ActsLicensed 16 (world_part 16 run_27)
 licensed_27 = (cause_26, licensed_26)
 
 abbrev run_28 : List Event
@@ -407,7 +407,7 @@ done_27 h = grind (arith, nat_tests)
 steps_28 : StepsDone (world_part 16 run_28)
 steps_28 = (λ begins. done_27, steps_27)
 
-licensed_28 : Licensed 16 (world_part 16 run_28)
+licensed_28 : ActsLicensed 16 (world_part 16 run_28)
 licensed_28 = (cause_27, licensed_27)
 
 abbrev run_29 : List Event
@@ -419,7 +419,7 @@ cause_28 = (refl, refl, refl, refl, refl)
 steps_29 : StepsDone (world_part 16 run_29)
 steps_29 = (λ begins. absurd (cc), steps_28)
 
-licensed_29 : Licensed 16 (world_part 16 run_29)
+licensed_29 : ActsLicensed 16 (world_part 16 run_29)
 licensed_29 = (cause_28, licensed_28)
 
 abbrev run_30 : List Event
@@ -434,7 +434,7 @@ done_29 h = grind (arith, nat_tests)
 steps_30 : StepsDone (world_part 16 run_30)
 steps_30 = (λ begins. done_29, steps_29)
 
-licensed_30 : Licensed 16 (world_part 16 run_30)
+licensed_30 : ActsLicensed 16 (world_part 16 run_30)
 licensed_30 = (cause_29, licensed_29)
 
 abbrev run_31 : List Event
@@ -446,7 +446,7 @@ cause_30 = grind (arith, nat_tests)
 steps_31 : StepsDone (world_part 16 run_31)
 steps_31 = (λ begins. absurd (cc), steps_30)
 
-licensed_31 : Licensed 16 (world_part 16 run_31)
+licensed_31 : ActsLicensed 16 (world_part 16 run_31)
 licensed_31 = (cause_30, licensed_30)
 
 abbrev run_32 : List Event
@@ -458,7 +458,7 @@ cause_31 = grind (arith, nat_tests)
 steps_32 : StepsDone (world_part 16 run_32)
 steps_32 = (λ begins. absurd (cc), steps_31)
 
-licensed_32 : Licensed 16 (world_part 16 run_32)
+licensed_32 : ActsLicensed 16 (world_part 16 run_32)
 licensed_32 = (cause_31, licensed_31)
 
 abbrev run_33 : List Event
@@ -473,7 +473,7 @@ done_32 h = grind (arith, nat_tests)
 steps_33 : StepsDone (world_part 16 run_33)
 steps_33 = (λ begins. done_32, steps_32)
 
-licensed_33 : Licensed 16 (world_part 16 run_33)
+licensed_33 : ActsLicensed 16 (world_part 16 run_33)
 licensed_33 = (cause_32, licensed_32)
 
 abbrev run_34 : List Event
@@ -488,7 +488,7 @@ done_33 h = grind (arith, nat_tests)
 steps_34 : StepsDone (world_part 16 run_34)
 steps_34 = (λ begins. done_33, steps_33)
 
-licensed_34 : Licensed 16 (world_part 16 run_34)
+licensed_34 : ActsLicensed 16 (world_part 16 run_34)
 licensed_34 = (cause_33, licensed_33)
 
 abbrev run_35 : List Event
@@ -506,7 +506,7 @@ cause_34 = (refl, refl, free_34, refl, (refl, refl, refl, low_34))
 steps_35 : StepsDone (world_part 16 run_35)
 steps_35 = (λ begins. absurd (cc), steps_34)
 
-licensed_35 : Licensed 16 (world_part 16 run_35)
+licensed_35 : ActsLicensed 16 (world_part 16 run_35)
 licensed_35 = (cause_34, licensed_34)
 
 abbrev run_36 : List Event
@@ -521,7 +521,7 @@ done_35 h = grind (arith, nat_tests)
 steps_36 : StepsDone (world_part 16 run_36)
 steps_36 = (λ begins. done_35, steps_35)
 
-licensed_36 : Licensed 16 (world_part 16 run_36)
+licensed_36 : ActsLicensed 16 (world_part 16 run_36)
 licensed_36 = (cause_35, licensed_35)
 
 abbrev run_37 : List Event
@@ -533,7 +533,7 @@ cause_36 = (refl, refl, refl, refl, refl)
 steps_37 : StepsDone (world_part 16 run_37)
 steps_37 = (λ begins. absurd (cc), steps_36)
 
-licensed_37 : Licensed 16 (world_part 16 run_37)
+licensed_37 : ActsLicensed 16 (world_part 16 run_37)
 licensed_37 = (cause_36, licensed_36)
 
 abbrev run_38 : List Event
@@ -545,7 +545,7 @@ cause_37 = tt
 steps_38 : StepsDone (world_part 16 run_38)
 steps_38 = (λ begins. absurd (cc), steps_37)
 
-licensed_38 : Licensed 16 (world_part 16 run_38)
+licensed_38 : ActsLicensed 16 (world_part 16 run_38)
 licensed_38 = (cause_37, licensed_37)
 
 abbrev run_39 : List Event
@@ -557,10 +557,10 @@ cause_38 = (refl, refl, refl)
 steps_39 : StepsDone (world_part 16 run_39)
 steps_39 = (λ begins. absurd (cc), steps_38)
 
-licensed_39 : Licensed 16 (world_part 16 run_39)
+licensed_39 : ActsLicensed 16 (world_part 16 run_39)
 licensed_39 = (cause_38, licensed_38)
 
-pub crossing_licensed : Licensed 16 (world_part 16 crossing)
+pub crossing_licensed : ActsLicensed 16 (world_part 16 crossing)
 crossing_licensed = licensed_39
 
 pub crossing_done : StepsDone (world_part 16 crossing)
@@ -572,5 +572,5 @@ crossing_quiet = record { no_up = λ h. grind (arith, nat_tests); no_down = λ h
 pub crossing_served : SomebodyIsAwaited (world_part 16 crossing)
 crossing_served some = absurd (some refl)
 
-pub crossing_prompt : Prompt (world_part 16 crossing)
+pub crossing_prompt : WaitersHaveAsked (world_part 16 crossing)
 crossing_prompt h some = absurd (some (grind (arith, nat_tests)))

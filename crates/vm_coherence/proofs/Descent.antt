@@ -7,8 +7,8 @@ use Rattle.vm_model.specs.declared.message.Message.{Message}
 use Rattle.vm_model.specs.declared.message.Message.TheVariants as message
 use Rattle.vm_model.specs.declared.event.Event.{Event}
 use Rattle.vm_model.specs.declared.event.Event.TheVariants as event
-use Rattle.vm_model.specs.Words.{UpWord, Asking, Unlocking, Returning, Doing, Ending, OtherUp, DownWord, ActEffect, Opens, SendsUp, TakenUp, SentDown, TakesDown, Puts, Drops, Begins, Loads, Stores, Fails, BeginsCopy, Copies, EndsCopy, StepBegins, Nothing, up_word, control_of, down_word, times_meant, sent_effect, act_if, act_of, to_others, effect_on}
-use Rattle.vm_model.specs.Side.{Side, rest, opened, sent_up, sent_down, side_after, side}
+use Rattle.vm_model.specs.Words.{UpWord, Asking, Unlocking, Returning, Doing, Ending, OtherUp, DownWord, ActEffect, Opens, SendsUp, TakenUp, SentDown, TakesDown, Puts, Drops, Begins, Loads, Stores, Fails, BeginsCopy, Copies, EndsCopy, StepBegins, Nothing, up_word, control_of, down_word, times_meant, sent_act_effect, act_if, act_of, to_others, effect_on}
+use Rattle.vm_model.specs.Side.{Side, rest, opened, side_sent_up, side_sent_down, side_after, side}
 use Rattle.vm_model.specs.Server.{first, line}
 use Rattle.vm_model.specs.TaskPlace.{task_host, means_page}
 use Rattle.vm_model.specs.PagePart.{page_part}
@@ -33,16 +33,16 @@ pub record Descends (p : ℕ) (s : Side) (last : ℕ) (queue : ℕ → List Mess
   pub control : s.control ≡ last
   pub empty : (k : ℕ) → last < k → queue k ≡ []
 
-sent_to : (w : DownWord) (s : Side) (control : ℕ) → s.live ≡ true → s.control ≡ control → (sent_down s control w).down ≡ s.down ++ with_down w []
+sent_to : (w : DownWord) (s : Side) (control : ℕ) → s.live ≡ true → s.control ≡ control → (side_sent_down s control w).down ≡ s.down ++ with_down w []
 sent_to w s control live mine = grind (arith, nat_tests, append_none s.down)
 
-sent_past : (w : DownWord) (s : Side) (control : ℕ) → s.control ≢ control → (sent_down s control w).down ≡ s.down
+sent_past : (w : DownWord) (s : Side) (control : ℕ) → s.control ≢ control → (side_sent_down s control w).down ≡ s.down
 sent_past w s control apart = grind (arith, nat_tests)
 
-sent_control : (w : DownWord) (s : Side) (control : ℕ) → (sent_down s control w).control ≡ s.control
+sent_control : (w : DownWord) (s : Side) (control : ℕ) → (side_sent_down s control w).control ≡ s.control
 sent_control w s control = grind arith
 
-sent_live : (w : DownWord) (s : Side) (control : ℕ) → (sent_down s control w).live ≡ s.live
+sent_live : (w : DownWord) (s : Side) (control : ℕ) → (side_sent_down s control w).live ≡ s.live
 sent_live w s control = grind arith
 
 taken_down : Side → ℕ → DownWord → Side
@@ -64,7 +64,7 @@ took_down : (p : ℕ) (q : List Message) (m : Message) → first q ≡ Some m �
 took_down p q m is = grind arith
 
 -- the message goes to control c
-after_sent : (p c last : ℕ) (m : Message) (s : Side) (queue new : ℕ → List Message) → Descends p s last queue → c ≤ last → new c ≡ queue c ++ m ∷ [] → ((k : ℕ) → k ≢ c → new k ≡ queue k) → Descends p (sent_down s c (down_word p m)) last new
+after_sent : (p c last : ℕ) (m : Message) (s : Side) (queue new : ℕ → List Message) → Descends p s last queue → c ≤ last → new c ≡ queue c ++ m ∷ [] → ((k : ℕ) → k ≢ c → new k ≡ queue k) → Descends p (side_sent_down s c (down_word p m)) last new
 after_sent p c last m s queue new d le at others =
     record {
       same = λ live. elim (ℕ_discrete s.control c) [
@@ -146,11 +146,11 @@ steady_act p last h s queue host b e still d = by_cases (host == h) b where
   by_cases false false = d
 
 -- what a host sends up, but for the beginning of a control
-sends_other : (p last : ℕ) (w : UpWord) (s : Side) (queue : ℕ → List Message) → Descends p s last queue → Descends p (sent_up s w) last queue
-sends_other p last (Asking asker access) s queue d = kept_as p last s (sent_up s (Asking asker access)) queue d refl refl refl
-sends_other p last (Unlocking access) s queue d = kept_as p last s (sent_up s (Unlocking access)) queue d refl refl refl
-sends_other p last (Returning dirty keep bytes) s queue d = kept_as p last s (sent_up s (Returning dirty keep bytes)) queue d refl refl refl
-sends_other p last (Doing control count) s queue d = kept_as p last s (sent_up s (Doing control count)) queue d refl refl refl
+sends_other : (p last : ℕ) (w : UpWord) (s : Side) (queue : ℕ → List Message) → Descends p s last queue → Descends p (side_sent_up s w) last queue
+sends_other p last (Asking asker access) s queue d = kept_as p last s (side_sent_up s (Asking asker access)) queue d refl refl refl
+sends_other p last (Unlocking access) s queue d = kept_as p last s (side_sent_up s (Unlocking access)) queue d refl refl refl
+sends_other p last (Returning dirty keep bytes) s queue d = kept_as p last s (side_sent_up s (Returning dirty keep bytes)) queue d refl refl refl
+sends_other p last (Doing control count) s queue d = kept_as p last s (side_sent_up s (Doing control count)) queue d refl refl refl
 sends_other p last (Ending control) s queue d = record { same = λ live. absurd (cc); control = d.control; empty = d.empty }
 sends_other p last OtherUp s queue d = d
 
@@ -166,8 +166,8 @@ begins_act p last h o host object control s queue d more = by_cases (host == h) 
   by_cases false true mine its = d
   by_cases false false mine its = d
 
-sends_act : (p last h o host object : ℕ) (m : Message) (s : Side) (queue : ℕ → List Message) → Descends p s last queue → (host ≡ h → object ≡ o → (control : ℕ) → sent_effect p m ≡ Opens control false → last < control)
-    → Descends p (side_after s (effect_on h (act_if (object == o) host (sent_effect p m)))) (control_after h o (event.Sent (Up (record { 0 = host }) (record { 0 = object })) m) last) queue
+sends_act : (p last h o host object : ℕ) (m : Message) (s : Side) (queue : ℕ → List Message) → Descends p s last queue → (host ≡ h → object ≡ o → (control : ℕ) → sent_act_effect p m ≡ Opens control false → last < control)
+    → Descends p (side_after s (effect_on h (act_if (object == o) host (sent_act_effect p m)))) (control_after h o (event.Sent (Up (record { 0 = host }) (record { 0 = object })) m) last) queue
 sends_act p last h o host object (message.Init control size) s queue d more = begins_act p last h o host object control s queue d (λ mine its. more mine its control refl)
 sends_act p last h o host object (message.Create control size) s queue d more = begins_act p last h o host object control s queue d (λ mine its. more mine its control refl)
 sends_act p last h o host object m s queue d more = by_cases (host == h) (object == o) where
@@ -213,7 +213,7 @@ taken_up_act p last h o host object m s queue d = by_cases (host == h) (object =
 abbrev InOrderAt : ℕ → ℕ → ℕ → ℕ → (ℕ → List Message) → Event → Type 0
 InOrderAt p h o last queue (event.Taken (Down host object control) m) = host.0 ≡ h → object.0 ≡ o → first (queue control) ≡ Some m
 InOrderAt p h o last queue (event.Sent (Down host object control) m) = host.0 ≡ h → object.0 ≡ o → control ≤ last
-InOrderAt p h o last queue (event.Sent (Up host object) m) = host.0 ≡ h → object.0 ≡ o → (control : ℕ) → sent_effect p m ≡ Opens control false → last < control
+InOrderAt p h o last queue (event.Sent (Up host object) m) = host.0 ≡ h → object.0 ≡ o → (control : ℕ) → sent_act_effect p m ≡ Opens control false → last < control
 InOrderAt p h o last queue e = Unit {0}
 
 in_order_at : (e : Event) (past : List Event) (p h o : ℕ) → DownFirst e past → InOrderAt p h o (last_control h o past) (λ k. down_queue h o k past) e

@@ -6,7 +6,7 @@ use Rattle.vm_model.specs.declared.message.Message.TheVariants as message
 use Rattle.vm_model.specs.declared.event.Event.{Event}
 use Rattle.vm_model.specs.declared.event.Event.TheVariants as event
 use Rattle.vm_model.specs.Words.{Asking, Doing, Locking, Opens, SendsUp, SentDown, Drops}
-use Rattle.vm_model.specs.PageLicences.{NobodyAwaited, OthersHold, Cause, Licensed}
+use Rattle.vm_model.specs.PageLicences.{NobodyAwaited, OthersHold, Cause, ActsLicensed}
 use Rattle.vm_model.specs.PagePart.{world_part}
 use Rattle.vm_coherence.specs.Crossing.{host, task, object, page, zeros}
 use Rattle.vm_coherence.specs.Idle.{flushed, idle_request}
@@ -17,7 +17,7 @@ begun = event.BegunLoad (task 0) 0 8 ∷ []
 opens_first : Cause 16 0 (Opens 1 true) []
 opens_first = grind (arith, nat_tests)
 
-licensed_begun : Licensed 16 (world_part 16 begun)
+licensed_begun : ActsLicensed 16 (world_part 16 begun)
 licensed_begun = (tt, (opens_first, tt))
 
 asks : Cause 16 0 (SendsUp 1 (Asking 1 1)) (world_part 16 begun)
@@ -26,7 +26,7 @@ asks = grind (arith, nat_tests)
 abbrev heard : List Event
 heard = event.Taken (Up (host 0) object) (message.Request 1 page 1) ∷ event.Sent (Up (host 0) object) (message.Request 1 page 1) ∷ begun
 
-licensed_heard : Licensed 16 (world_part 16 heard)
+licensed_heard : ActsLicensed 16 (world_part 16 heard)
 licensed_heard = (refl, (asks, licensed_begun))
 
 free : NobodyAwaited (world_part 16 heard)
@@ -38,7 +38,7 @@ low g apart = grind (arith, nat_tests)
 abbrev read : List Event
 read = event.Loaded (task 0) object page 0 ∷ event.Taken (Down (host 0) object 1) (message.Supply page 2 false zeros) ∷ event.Sent (Down (host 0) object 1) (message.Supply page 2 false zeros) ∷ heard
 
-licensed_read : Licensed 16 (world_part 16 read)
+licensed_read : ActsLicensed 16 (world_part 16 read)
 licensed_read = ((refl, refl, refl), ((λ mine live. refl), ((refl, refl, free, refl, (refl, refl, refl, low)), licensed_heard)))
 
 opens_second : Cause 16 1 (Opens 1 true) (world_part 16 read)
@@ -47,7 +47,7 @@ opens_second = grind (arith, nat_tests)
 abbrev wanted : List Event
 wanted = event.BegunStore (task 1) 0 8 5 ∷ read
 
-licensed_wanted : Licensed 16 (world_part 16 wanted)
+licensed_wanted : ActsLicensed 16 (world_part 16 wanted)
 licensed_wanted = (tt, (opens_second, licensed_read))
 
 asks_to_write : Cause 16 1 (SendsUp 1 (Asking 1 3)) (world_part 16 wanted)
@@ -56,7 +56,7 @@ asks_to_write = grind (arith, nat_tests)
 abbrev queued : List Event
 queued = event.Taken (Up (host 1) object) (message.Request 1 page 3) ∷ event.Sent (Up (host 1) object) (message.Request 1 page 3) ∷ wanted
 
-licensed_queued : Licensed 16 (world_part 16 queued)
+licensed_queued : ActsLicensed 16 (world_part 16 queued)
 licensed_queued = (refl, (asks_to_write, licensed_wanted))
 
 recalls : Cause 16 0 (SentDown 1 (Locking 1 1 true 8 true)) (world_part 16 queued)
@@ -65,7 +65,7 @@ recalls = grind (arith, nat_tests)
 abbrev recalled : List Event
 recalled = event.Taken (Down (host 0) object 1) (message.Lock page 1 1 true 8 true) ∷ event.Sent (Down (host 0) object 1) (message.Lock page 1 1 true 8 true) ∷ queued
 
-licensed_recalled : Licensed 16 (world_part 16 recalled)
+licensed_recalled : ActsLicensed 16 (world_part 16 recalled)
 licensed_recalled = ((λ mine live. refl), (recalls, licensed_queued))
 
 drops : Cause 16 0 Drops (world_part 16 recalled)
@@ -74,8 +74,8 @@ drops = grind (arith, nat_tests)
 says_done : Cause 16 0 (SendsUp 1 (Doing 1 1)) (world_part 16 (event.Dropped (host 0) object page ∷ recalled))
 says_done = grind (arith, nat_tests)
 
-pub flushed_licensed : Licensed 16 (world_part 16 flushed)
+pub flushed_licensed : ActsLicensed 16 (world_part 16 flushed)
 flushed_licensed = (says_done, (drops, licensed_recalled))
 
-pub idle_refused : Licensed 16 (world_part 16 idle_request) → ⊥
+pub idle_refused : ActsLicensed 16 (world_part 16 idle_request) → ⊥
 idle_refused licensed = let reason : false ≡ true = licensed.0.2.4 in cc

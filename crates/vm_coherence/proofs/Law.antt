@@ -5,10 +5,10 @@ use Rattle.std.proofs.lemmas.Bool.Decides.{nat_tests}
 use native.Mathlib.Decide.{ℕ_discrete}
 use Rattle.std.proofs.Common.{subst, sym, ◌∙◌}
 use Rattle.vm_model.specs.Words.{UpWord, Asking, Unlocking, Returning, Doing, Ending, OtherUp, DownWord, Supplying, Locking, Lacking, Failing, Readying, OtherDown, ActEffect, Opens, SendsUp, TakenUp, SentDown, TakesDown, Puts, Drops, Begins, Loads, Stores, Fails, BeginsCopy, Copies, EndsCopy, StepBegins, Nothing, Act, to_others, effect_on}
-use Rattle.vm_model.specs.Side.{Side, nobody, can_read, can_write, right_of, opened, sent_up, reaches, hears, side_after, side}
+use Rattle.vm_model.specs.Side.{Side, nobody, can_read, can_write, right_of, opened, side_sent_up, is_open_to, side_taken_down, side_after, side}
 use Rattle.vm_model.specs.Waiters.{Waiter, waiters, readers}
 use Rattle.vm_model.specs.Server.{first, Wanting, joined, line, kept}
-use Rattle.vm_model.specs.PageLicences.{May, OthersHold, SupplyRow, UpgradeRow, RecallRow, ReplyCause, Cause, Licensed}
+use Rattle.vm_model.specs.PageLicences.{HostMay, OthersHold, SupplyRow, UpgradeRow, RecallRow, ReplyCause, Cause, ActsLicensed}
 use Rattle.vm_model.specs.Coherence.{Throughout, OneWriter}
 use Rattle.vm_coherence.proofs.Queues.{odd, drain, drain_up}
 use Rattle.vm_coherence.proofs.Sound.{MayAnswer, Fair, Sound, keep_asking, keep_unlocking, keep_returning, keep_doing, keep_ending, keep_drops, keep_step, keep_opens, keep_ready, keep_stores, keep_heard_asking, keep_heard_unlocking, keep_heard_returning, keep_heard_doing, keep_heard_ending, keep_supply, keep_upgrade, keep_order, keep_supplied, keep_locked}
@@ -20,7 +20,7 @@ pub never : (s : Side) (w : DownWord) → Sound s → odd w ≡ 1 → first s.do
 never s w ok is head = absurd (grind (arith, ok.plain))
 
 -- what a host takes, where its control is the live one
-keep_taking : (ws : List Waiter) (rs : List ℕ) (s : Side) (control : ℕ) (word : DownWord) (b : Bool) → reaches s control ≡ b → Sound s → May ws rs s (TakesDown control word) → Sound (if b then hears s word else record s { step = 0 })
+keep_taking : (ws : List Waiter) (rs : List ℕ) (s : Side) (control : ℕ) (word : DownWord) (b : Bool) → is_open_to s control ≡ b → Sound s → HostMay ws rs s (TakesDown control word) → Sound (if b then side_taken_down s word else record s { step = 0 })
 keep_taking ws rs s control word false is ok may = keep_step s ok
 keep_taking ws rs s control OtherDown true is ok may = keep_step s ok
 keep_taking ws rs s control Readying true is ok may = keep_ready s ok
@@ -62,7 +62,7 @@ keep (SentDown control Lacking) ws rs s ok may = absurd may
 keep (SentDown control Failing) ws rs s ok may = absurd may
 keep (SentDown control Readying) ws rs s ok may = ok
 keep (SentDown control OtherDown) ws rs s ok may = ok
-keep (TakesDown control word) ws rs s ok may = keep_taking ws rs s control word (reaches s control) refl ok may
+keep (TakesDown control word) ws rs s ok may = keep_taking ws rs s control word (is_open_to s control) refl ok may
 keep (Puts bytes dirty) ws rs s ok may = absurd may
 keep Drops ws rs s ok may = keep_drops s ok
 keep (Begins task store at size value) ws rs s ok may = ok
@@ -216,10 +216,10 @@ gives size k (TakenUp (Doing control count)) s past c = inl (grind (arith, nat_t
 gives size k (TakenUp (Ending control)) s past c = inl (omega arith)
 gives size k (TakenUp OtherUp) s past c = inl (omega arith)
 gives size k (SendsUp control word) s past c = inl (sends_same word s) where
-  sends_same : (w : UpWord) (s : Side) → (sent_up s w).holds ≤ s.holds
+  sends_same : (w : UpWord) (s : Side) → (side_sent_up s w).holds ≤ s.holds
   sends_same w s = grind arith
-gives size k (TakesDown control word) s past c = inl (takes_same word s (reaches s control)) where
-  takes_same : (w : DownWord) (s : Side) (b : Bool) → (if b then hears s w else record s { step = 0 }).holds ≤ s.holds
+gives size k (TakesDown control word) s past c = inl (takes_same word s (is_open_to s control)) where
+  takes_same : (w : DownWord) (s : Side) (b : Bool) → (if b then side_taken_down s w else record s { step = 0 }).holds ≤ s.holds
   takes_same w s b = grind arith
 gives size k (Puts bytes dirty) s past c = absurd c
 gives size k e s past c = inl (omega arith)
@@ -303,15 +303,15 @@ upgrading_after a past w h some = elim (ℕ_discrete h a.host) [
 sound_start : Sound nobody
 sound_start = grind (arith, nat_tests)
 
-pub world : (size : ℕ) (past : List Act) → Licensed size past → World past
+pub world : (size : ℕ) (past : List Act) → ActsLicensed size past → World past
 world size [] licensed = record { each = λ h. sound_start; alone = λ g h apart is. refl; counted = λ h. refl; upgrading = λ h some. absurd (omega arith) }
 world size (a ∷ past) licensed =
     let w : World past = world size past licensed.1 in
     record { each = sound_after size a past w licensed.0; alone = alone_after size a past w licensed.0; counted = counted_after a past w; upgrading = upgrading_after a past w }
 
-pub writer : (size : ℕ) (past : List Act) → Licensed size past → OneWriter past
+pub writer : (size : ℕ) (past : List Act) → ActsLicensed size past → OneWriter past
 writer size past licensed = one_writer past (world size past licensed)
 
-pub throughout_writer : (size : ℕ) (past : List Act) → Licensed size past → Throughout OneWriter past
+pub throughout_writer : (size : ℕ) (past : List Act) → ActsLicensed size past → Throughout OneWriter past
 throughout_writer size [] licensed = writer size [] licensed
 throughout_writer size (a ∷ past) licensed = (writer size (a ∷ past) licensed, throughout_writer size past licensed.1)

@@ -1,7 +1,7 @@
 -- The server's line: how many of each kind a host has in it.
 use Rattle.std.proofs.Common.{◌≡◌, ℕ, ◌+◌, ◌-◌, ◌≤◌, ◌≢◌, List, [], ◌∷◌, ◌++◌, arith, Some, if◌then◌else◌, refl, ◌==◌}
 use Rattle.std.proofs.lemmas.Bool.Decides.{nat_tests}
-use Rattle.vm_model.specs.Server.{first, Wanting, without, stays, trimmed_line}
+use Rattle.vm_model.specs.Server.{first, Wanting, without_request, stays, trimmed_line}
 
 abbrev pub request : ℕ → Wanting → ℕ
 request h w = if w.host == h then (if w.upgrade then 0 else 1) else 0
@@ -41,22 +41,22 @@ pub trimmed_none : (k holds : ℕ) (ws : List Wanting) → holds ≢ 1 → total
 trimmed_none k holds [] less = refl
 trimmed_none k holds (w ∷ ws) less = lost_upgrade k holds w (trimmed_line k holds ws) less (trimmed_none k holds ws less)
 
-pub without_upgrade : (h k : ℕ) (ws : List Wanting) → total (upgrade h) (without k ws) ≡ total (upgrade h) ws
+pub without_upgrade : (h k : ℕ) (ws : List Wanting) → total (upgrade h) (without_request k ws) ≡ total (upgrade h) ws
 without_upgrade h k [] = refl
-without_upgrade h k (w ∷ ws) = without_upgrade_step h k w ws (without k ws) (without_upgrade h k ws) where
+without_upgrade h k (w ∷ ws) = without_upgrade_step h k w ws (without_request k ws) (without_upgrade h k ws) where
   without_upgrade_step : (h k : ℕ) (w : Wanting) (ws vs : List Wanting) → total (upgrade h) vs ≡ total (upgrade h) ws → total (upgrade h) (if w.host == k then (if w.upgrade then w ∷ vs else ws) else w ∷ vs) ≡ total (upgrade h) (w ∷ ws)
   without_upgrade_step h k w ws vs is = grind (arith, nat_tests)
 
 other_request : (h k : ℕ) (w : Wanting) (ws vs : List Wanting) → h ≢ k → total (request h) vs ≡ total (request h) ws → total (request h) (if w.host == k then (if w.upgrade then w ∷ vs else ws) else w ∷ vs) ≡ total (request h) (w ∷ ws)
 other_request h k w ws vs apart is = grind (arith, nat_tests)
 
-pub without_other : (h k : ℕ) (ws : List Wanting) → h ≢ k → total (request h) (without k ws) ≡ total (request h) ws
+pub without_other : (h k : ℕ) (ws : List Wanting) → h ≢ k → total (request h) (without_request k ws) ≡ total (request h) ws
 without_other h k [] apart = refl
-without_other h k (w ∷ ws) apart = other_request h k w ws (without k ws) apart (without_other h k ws apart)
+without_other h k (w ∷ ws) apart = other_request h k w ws (without_request k ws) apart (without_other h k ws apart)
 
 own_request : (k : ℕ) (w : Wanting) (ws vs : List Wanting) → total (request k) vs ≡ total (request k) ws - 1 → total (request k) (if w.host == k then (if w.upgrade then w ∷ vs else ws) else w ∷ vs) ≡ total (request k) (w ∷ ws) - 1
 own_request k w ws vs is = grind (arith, nat_tests)
 
-pub without_own : (k : ℕ) (ws : List Wanting) → total (request k) (without k ws) ≡ total (request k) ws - 1
+pub without_own : (k : ℕ) (ws : List Wanting) → total (request k) (without_request k ws) ≡ total (request k) ws - 1
 without_own k [] = refl
-without_own k (w ∷ ws) = own_request k w ws (without k ws) (without_own k ws)
+without_own k (w ∷ ws) = own_request k w ws (without_request k ws) (without_own k ws)

@@ -18,11 +18,11 @@ use Rattle.vm_model.specs.Local.{Local, Elsewhere, is_on, local, local_after, ta
 use Rattle.vm_model.specs.Moments.{EachEvent}
 use Rattle.vm_model.specs.PagePart.{page_part}
 use Rattle.vm_model.specs.Server.{current}
-use Rattle.vm_model.specs.Side.{Side, side, side_after, reaches, hears, locked, right_of, can_read, can_write}
+use Rattle.vm_model.specs.Side.{Side, side, side_after, is_open_to, side_taken_down, locked, right_of, can_read, can_write}
 use Rattle.vm_model.specs.TaskPlace.{task_host, means_page}
 use Rattle.vm_model.specs.Tasks.{host_of}
-use Rattle.vm_model.specs.PageLicences.{Cause, Licensed}
-use Rattle.vm_model.specs.Words.{Asking, Unlocking, Returning, Doing, Ending, OtherUp, Supplying, Locking, Lacking, Failing, Readying, OtherDown, ActEffect, Opens, SendsUp, TakenUp, SentDown, TakesDown, Puts, Drops, Begins, Loads, Stores, Fails, BeginsCopy, Copies, EndsCopy, StepBegins, Nothing, Act, in_range, times_meant, up_word, down_word, sent_effect, act_if, to_others, effect_on}
+use Rattle.vm_model.specs.PageLicences.{ActsLicensed, Cause}
+use Rattle.vm_model.specs.Words.{Asking, Unlocking, Returning, Doing, Ending, OtherUp, Supplying, Locking, Lacking, Failing, Readying, OtherDown, ActEffect, Opens, SendsUp, TakenUp, SentDown, TakesDown, Puts, Drops, Begins, Loads, Stores, Fails, BeginsCopy, Copies, EndsCopy, StepBegins, Nothing, Act, in_range, times_meant, up_word, down_word, sent_act_effect, act_if, to_others, effect_on}
 use Rattle.vm_coherence.specs.Locals.{SideIsLocal}
 use Rattle.vm_coherence.proofs.Law.{writer}
 use Rattle.vm_coherence.proofs.Whole.{same_bytes}
@@ -165,19 +165,19 @@ done size live s page control told count i =
 
 -- the live control takes
 
-supplied : (size : ℕ) (live : Option ℕ) (s : Side) (page : Local) (lock : ℕ) (precious : Bool) (bytes : List ℕ) (a b : Bool) → s.asked ≡ a → page.asked ≡ b → SideIsLocal live s page → SideIsLocal live (hears s (Supplying lock precious bytes)) (local_after size (L.TakesPage lock precious bytes) page)
+supplied : (size : ℕ) (live : Option ℕ) (s : Side) (page : Local) (lock : ℕ) (precious : Bool) (bytes : List ℕ) (a b : Bool) → s.asked ≡ a → page.asked ≡ b → SideIsLocal live s page → SideIsLocal live (side_taken_down s (Supplying lock precious bytes)) (local_after size (L.TakesPage lock precious bytes) page)
 supplied size live s page lock precious bytes true true e f i = rw (e, f) (record { right = refl; lock = λ here. refl; bytes = λ here. refl; dirty = λ here. refl; precious = λ here. refl; unlocking = λ here. refl; asked = refl; absent = i.absent; control = i.control })
 supplied size live s page lock precious bytes false false e f i = rw (e, f) (record { right = i.right; lock = i.lock; bytes = i.bytes; dirty = i.dirty; precious = i.precious; unlocking = i.unlocking; asked = refl; absent = i.absent; control = i.control })
 supplied size live s page lock precious bytes true false e f i = never (sym f ∙ sym i.asked ∙ e)
 supplied size live s page lock precious bytes false true e f i = never (sym e ∙ i.asked ∙ f)
 
-lacks : (size : ℕ) (live : Option ℕ) (s : Side) (page : Local) (a b : Bool) → s.asked ≡ a → page.asked ≡ b → SideIsLocal live s page → SideIsLocal live (hears s Lacking) (local_after size L.TakesNothing page)
+lacks : (size : ℕ) (live : Option ℕ) (s : Side) (page : Local) (a b : Bool) → s.asked ≡ a → page.asked ≡ b → SideIsLocal live s page → SideIsLocal live (side_taken_down s Lacking) (local_after size L.TakesNothing page)
 lacks size live s page true true e f i = rw (e, f) (record { right = i.right; lock = i.lock; bytes = i.bytes; dirty = i.dirty; precious = i.precious; unlocking = i.unlocking; asked = refl; absent = refl; control = i.control })
 lacks size live s page false false e f i = rw (e, f) (record { right = i.right; lock = i.lock; bytes = i.bytes; dirty = i.dirty; precious = i.precious; unlocking = i.unlocking; asked = refl; absent = i.absent; control = i.control })
 lacks size live s page true false e f i = never (sym f ∙ sym i.asked ∙ e)
 lacks size live s page false true e f i = never (sym e ∙ i.asked ∙ f)
 
-fails : (size : ℕ) (live : Option ℕ) (s : Side) (page : Local) → SideIsLocal live s page → SideIsLocal live (hears s Failing) (local_after size L.TakesError page)
+fails : (size : ℕ) (live : Option ℕ) (s : Side) (page : Local) → SideIsLocal live s page → SideIsLocal live (side_taken_down s Failing) (local_after size L.TakesError page)
 fails size live s page i =
     record { right = i.right; lock = i.lock; bytes = i.bytes; dirty = i.dirty; precious = i.precious; unlocking = i.unlocking; asked = refl; absent = i.absent; control = i.control }
 
@@ -198,10 +198,10 @@ locked_none : (flush : Bool) (lock : ℕ) → locked 0 flush lock ≡ 0
 locked_none true lock = refl
 locked_none false lock = refl
 
-locks : (size : ℕ) (live : Option ℕ) (s : Side) (page : Local) (count returns : ℕ) (flush : Bool) (lock : ℕ) (reply b : Bool) → page.here ≡ b → SideIsLocal live s page → SideIsLocal live (hears s (Locking count returns flush lock reply)) (local_after size (L.TakesLock lock flush) page)
+locks : (size : ℕ) (live : Option ℕ) (s : Side) (page : Local) (count returns : ℕ) (flush : Bool) (lock : ℕ) (reply b : Bool) → page.here ≡ b → SideIsLocal live s page → SideIsLocal live (side_taken_down s (Locking count returns flush lock reply)) (local_after size (L.TakesLock lock flush) page)
 locks size live s page count returns flush lock reply true e i =
     let right : s.right ≡ right_of page.lock = i.right ∙ ap (λ (b : Bool). if b then right_of page.lock else 0) e in
-    subst (λ (p : Local). SideIsLocal live (hears s (Locking count returns flush lock reply)) p) (sym (ap (λ (b : Bool). if b then record page { lock = if flush || lock == 8 then page.lock else lock; unlocking = false } else page) e))
+    subst (λ (p : Local). SideIsLocal live (side_taken_down s (Locking count returns flush lock reply)) p) (sym (ap (λ (b : Bool). if b then record page { lock = if flush || lock == 8 then page.lock else lock; unlocking = false } else page) e))
     (record {
       right = ap (λ n. locked n flush lock) right ∙ locked_right flush page.lock lock ∙ sym (ap (λ (b : Bool). if b then right_of (if flush || lock == 8 then page.lock else lock) else 0) e);
       lock = λ here. ap (λ n. if flush || lock == 8 then n else lock) (i.lock here);
@@ -215,7 +215,7 @@ locks size live s page count returns flush lock reply true e i =
     })
 locks size live s page count returns flush lock reply false e i =
     let right : s.right ≡ 0 = i.right ∙ ap (λ (b : Bool). if b then right_of page.lock else 0) e in
-    subst (λ (p : Local). SideIsLocal live (hears s (Locking count returns flush lock reply)) p) (sym (ap (λ (b : Bool). if b then record page { lock = if flush || lock == 8 then page.lock else lock; unlocking = false } else page) e))
+    subst (λ (p : Local). SideIsLocal live (side_taken_down s (Locking count returns flush lock reply)) p) (sym (ap (λ (b : Bool). if b then record page { lock = if flush || lock == 8 then page.lock else lock; unlocking = false } else page) e))
     (record {
       right = ap (λ n. locked n flush lock) right ∙ locked_none flush lock ∙ sym (ap (λ (b : Bool). if b then right_of page.lock else 0) e);
       lock = λ here. never (sym e ∙ here);
@@ -229,25 +229,25 @@ locks size live s page count returns flush lock reply false e i =
     })
 
 -- what the live control takes of a message
-takes : (size p : ℕ) (live : Option ℕ) (s : Side) (page : Local) (m : Message) → SideIsLocal live s page → SideIsLocal live (hears s (down_word p m)) (local_after size (taken_effect p m) page)
+takes : (size p : ℕ) (live : Option ℕ) (s : Side) (page : Local) (m : Message) → SideIsLocal live s page → SideIsLocal live (side_taken_down s (down_word p m)) (local_after size (taken_effect p m) page)
 takes size p live s page (message.Supply at lock precious bytes) i = by_page (at.0 == p)
   where
-    by_page : (b : Bool) → SideIsLocal live (hears s (if b then Supplying lock precious bytes else OtherDown)) (local_after size (if b then L.TakesPage lock precious bytes else Elsewhere) page)
+    by_page : (b : Bool) → SideIsLocal live (side_taken_down s (if b then Supplying lock precious bytes else OtherDown)) (local_after size (if b then L.TakesPage lock precious bytes else Elsewhere) page)
     by_page true = supplied size live s page lock precious bytes s.asked page.asked refl refl i
     by_page false = alike live s _ page (same s _ refl refl refl refl refl refl refl refl refl refl) i
 takes size p live s page (message.Lock at count returns flush lock reply) i = by_page (in_range p at.0 count)
   where
-    by_page : (b : Bool) → SideIsLocal live (hears s (if b then Locking count returns flush lock reply else OtherDown)) (local_after size (if b then L.TakesLock lock flush else Elsewhere) page)
+    by_page : (b : Bool) → SideIsLocal live (side_taken_down s (if b then Locking count returns flush lock reply else OtherDown)) (local_after size (if b then L.TakesLock lock flush else Elsewhere) page)
     by_page true = locks size live s page count returns flush lock reply page.here refl i
     by_page false = alike live s _ page (same s _ refl refl refl refl refl refl refl refl refl refl) i
 takes size p live s page (message.Unavailable at) i = by_page (at.0 == p)
   where
-    by_page : (b : Bool) → SideIsLocal live (hears s (if b then Lacking else OtherDown)) (local_after size (if b then L.TakesNothing else Elsewhere) page)
+    by_page : (b : Bool) → SideIsLocal live (side_taken_down s (if b then Lacking else OtherDown)) (local_after size (if b then L.TakesNothing else Elsewhere) page)
     by_page true = lacks size live s page s.asked page.asked refl refl i
     by_page false = alike live s _ page (same s _ refl refl refl refl refl refl refl refl refl refl) i
 takes size p live s page (message.Error at reason) i = by_page (at.0 == p)
   where
-    by_page : (b : Bool) → SideIsLocal live (hears s (if b then Failing else OtherDown)) (local_after size (if b then L.TakesError else Elsewhere) page)
+    by_page : (b : Bool) → SideIsLocal live (side_taken_down s (if b then Failing else OtherDown)) (local_after size (if b then L.TakesError else Elsewhere) page)
     by_page true = fails size live s page i
     by_page false = alike live s _ page (same s _ refl refl refl refl refl refl refl refl refl refl) i
 takes size p live s page (message.Ready cache strategy) i = alike live s _ page (same s _ refl refl refl refl refl refl refl refl refl refl) i
@@ -353,7 +353,7 @@ Granted (message.Terminate control) live = live ≡ Some control
 Granted m live = Unit {0}
 
 sent : (size h o p : ℕ) (live : Option ℕ) (s : Side) (page : Local) (host : HostId) (object : ObjectId) (m : Message) → ((host.0 == h) ≡ true → (object.0 == o) ≡ true → Granted m live) → SideIsLocal live s page
-    → SideIsLocal (live_after h o (event.Sent (Up host object) m) live) (side_after s (effect_on h (act_if (object.0 == o) host.0 (sent_effect p m)))) (local_after size (if host.0 == h && object.0 == o then L.sent_effect p live m else Elsewhere) page)
+    → SideIsLocal (live_after h o (event.Sent (Up host object) m) live) (side_after s (effect_on h (act_if (object.0 == o) host.0 (sent_act_effect p m)))) (local_after size (if host.0 == h && object.0 == o then L.sent_effect p live m else Elsewhere) page)
 sent size h o p live s page host object (message.Init control bytes) founded i = begins size live s page control (host.0 == h) (object.0 == o) i
 sent size h o p live s page host object (message.Create control bytes) founded i = begins size live s page control (host.0 == h) (object.0 == o) i
 sent size h o p live s page host object (message.Terminate control) founded i = terminates size live s page control (host.0 == h) (object.0 == o) founded i
@@ -373,14 +373,14 @@ sent size h o p live s page host object m founded i = acted size live s page (ho
 
 -- what a host takes
 
-reaches_is : (live : Option ℕ) (s : Side) (control : ℕ) → (if s.live then Some s.control else None) ≡ live → reaches s control ≡ is_control control live
+reaches_is : (live : Option ℕ) (s : Side) (control : ℕ) → (if s.live then Some s.control else None) ≡ live → is_open_to s control ≡ is_control control live
 reaches_is live s control is = by_live s.live s.control ∙ ap (is_control control) is
   where
     by_live : (b : Bool) (n : ℕ) → (b && n == control) ≡ is_control control (if b then Some n else None)
     by_live true n = refl
     by_live false n = refl
 
-took_if : (size p : ℕ) (live : Option ℕ) (s : Side) (page : Local) (m : Message) (a b : Bool) → a ≡ b → SideIsLocal live s page → SideIsLocal live (if a then hears s (down_word p m) else record s { step = 0 }) (local_after size (if b then taken_effect p m else Elsewhere) page)
+took_if : (size p : ℕ) (live : Option ℕ) (s : Side) (page : Local) (m : Message) (a b : Bool) → a ≡ b → SideIsLocal live s page → SideIsLocal live (if a then side_taken_down s (down_word p m) else record s { step = 0 }) (local_after size (if b then taken_effect p m else Elsewhere) page)
 took_if size p live s page m true true is i = takes size p live s page m i
 took_if size p live s page m false false is i = alike live s _ page (same s _ refl refl refl refl refl refl refl refl refl refl) i
 took_if size p live s page m true false is i = never (sym is)
@@ -389,7 +389,7 @@ took_if size p live s page m false true is i = never is
 took : (size p control : ℕ) (live : Option ℕ) (s : Side) (page : Local) (m : Message) (c b : Bool) → SideIsLocal live s page
     → SideIsLocal live (side_after s (if c then (if b then TakesDown control (down_word p m) else StepBegins) else to_others (if b then TakesDown control (down_word p m) else StepBegins)))
     (local_after size (if c && (b && is_control control live) then taken_effect p m else Elsewhere) page)
-took size p control live s page m true true i = took_if size p live s page m (reaches s control) (is_control control live) (reaches_is live s control i.control) i
+took size p control live s page m true true i = took_if size p live s page m (is_open_to s control) (is_control control live) (reaches_is live s control i.control) i
 took size p control live s page m true false i = alike live s _ page (idle StepBegins s tt) i
 took size p control live s page m false true i = alike live s _ page (idle StepBegins s tt) i
 took size p control live s page m false false i = alike live s _ page (idle StepBegins s tt) i
@@ -468,7 +468,7 @@ pub can_write_is : (live : Option ℕ) (s : Side) (page : Local) → SideIsLocal
 can_write_is live s page i can = grind (arith, nat_tests)
 
 -- while a host can write the page, no other can read it
-pub one_writer : (size : ℕ) (past : List Event) (g h o p : ℕ) → EachEvent (IsFounded size) past → Licensed size (page_part size o p past) → g ≢ h
+pub one_writer : (size : ℕ) (past : List Event) (g h o p : ℕ) → EachEvent (IsFounded size) past → ActsLicensed size (page_part size o p past) → g ≢ h
     → CanWrite (local size h (record { object = o; page = p }) past) → CanRead (local size g (record { object = o; page = p }) past) → ⊥
 one_writer size past g h o p founded licensed apart write read =
     let writing : can_write (side h (page_part size o p past)) ≡ true = can_write_is _ _ _ (side_is_local size past h o p founded) write in
@@ -480,7 +480,7 @@ above zero = omega arith
 above (suc lock) = omega arith
 
 -- a page that is here has what the stores left
-pub local_bytes : (size : ℕ) (past : List Event) (h o p : ℕ) → EachEvent (IsFounded size) past → Licensed size (page_part size o p past) → (local size h (record { object = o; page = p }) past).here ≡ true
+pub local_bytes : (size : ℕ) (past : List Event) (h o p : ℕ) → EachEvent (IsFounded size) past → ActsLicensed size (page_part size o p past) → (local size h (record { object = o; page = p }) past).here ≡ true
     → (local size h (record { object = o; page = p }) past).bytes ≡ current size (page_part size o p past)
 local_bytes size past h o p founded licensed here =
     let page : Local = local size h (record { object = o; page = p }) past in
@@ -504,14 +504,14 @@ ends_live size h control past true one may = (may.0, may.1)
 ends_live size h control past false one may = never one
 
 pub asked_live : (size : ℕ) (past : List Event) (host : HostId) (object : ObjectId) (control access : ℕ) (page : PageNo) → EachEvent (IsFounded size) past
-    → Licensed size (page_part size object.0 page.0 (event.Sent (Up host object) (message.Request control page access) ∷ past)) → IsFounded size (event.Sent (Up host object) (message.Request control page access)) past
+    → ActsLicensed size (page_part size object.0 page.0 (event.Sent (Up host object) (message.Request control page access) ∷ past)) → IsFounded size (event.Sent (Up host object) (message.Request control page access)) past
 asked_live size past host object control access page founded licensed =
     let s : ((side host.0 (page_part size object.0 page.0 past)).live ≡ true) × ((side host.0 (page_part size object.0 page.0 past)).control ≡ control) =
     sends_live size host.0 control access (page_part size object.0 page.0 past) (object.0 == object.0) (page.0 == page.0) (itself object.0) (itself page.0) licensed.0 in
     lives _ _ _ control (side_is_local size past host.0 object.0 page.0 founded) s.0 s.1
 
 pub ended_live : (size : ℕ) (past : List Event) (host : HostId) (object : ObjectId) (control p : ℕ) → EachEvent (IsFounded size) past
-    → Licensed size (page_part size object.0 p (event.Sent (Up host object) (message.Terminate control) ∷ past)) → IsFounded size (event.Sent (Up host object) (message.Terminate control)) past
+    → ActsLicensed size (page_part size object.0 p (event.Sent (Up host object) (message.Terminate control) ∷ past)) → IsFounded size (event.Sent (Up host object) (message.Terminate control)) past
 ended_live size past host object control p founded licensed =
     let s : ((side host.0 (page_part size object.0 p past)).live ≡ true) × ((side host.0 (page_part size object.0 p past)).control ≡ control) =
     ends_live size host.0 control (page_part size object.0 p past) (object.0 == object.0) (itself object.0) licensed.0 in

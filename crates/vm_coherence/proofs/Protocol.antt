@@ -3,10 +3,10 @@ use Rattle.std.proofs.Common.{◌≡◌, ◌≢◌, ℕ, ◌<◌, ◌≤◌, ◌
 use Rattle.std.proofs.lemmas.Bool.Decides.{nat_tests}
 use native.Mathlib.Decide.{ℕ_discrete}
 use Rattle.vm_model.specs.Words.{Asking, Unlocking, Returning, Doing, Ending, OtherUp, DownWord, Supplying, Locking, Lacking, Failing, Readying, OtherDown, ActEffect, Opens, SendsUp, TakenUp, SentDown, TakesDown, Puts, Drops, Stores, StepBegins, Act, to_others}
-use Rattle.vm_model.specs.Side.{Side, done, reaches, sent_down, hears, side_after, side}
+use Rattle.vm_model.specs.Side.{Side, done, is_open_to, side_sent_down, side_taken_down, side_after, side}
 use Rattle.vm_model.specs.Waiters.{Waiter, waiters, readers}
 use Rattle.vm_model.specs.Server.{first, Wanting, line, NoUpgrade, NoRequest, kept}
-use Rattle.vm_model.specs.PageLicences.{May, UpgradeRow, RecallRow, Cause, Licensed}
+use Rattle.vm_model.specs.PageLicences.{HostMay, UpgradeRow, RecallRow, Cause, ActsLicensed}
 use Rattle.vm_model.specs.Coherence.{Done, begins_step, StepsDone}
 use Rattle.vm_coherence.proofs.Sound.{Fair, Sound}
 use Rattle.vm_coherence.proofs.Line.{request, upgrade, total, total_front}
@@ -40,7 +40,7 @@ told_if size h e past c = tt
 
 -- one unlock, over all acts
 
-single_hears : (w : DownWord) (s : Side) (n : ℕ) → Sound s → Carried s n → Single s n → s.live ≡ true → first s.down ≡ Some w → s.step ≡ 0 → Single (hears s w) (gate (hears s w).holds n)
+single_hears : (w : DownWord) (s : Side) (n : ℕ) → Sound s → Carried s n → Single s n → s.live ≡ true → first s.down ≡ Some w → s.step ≡ 0 → Single (side_taken_down s w) (gate (side_taken_down s w).holds n)
 single_hears (Supplying lock precious bytes) s n ok k x live is none = single_supplied s n lock precious bytes ok k x live is none
 single_hears (Locking count returns true lock true) s n ok k x live is none = single_flushed s n count returns lock ok k x live is none
 single_hears (Locking count returns false lock true) s n ok k x live is none = single_cleaned s n count returns lock ok k x live is none
@@ -51,7 +51,7 @@ single_hears Failing s n ok k x live is none = absurd (never s Failing ok refl i
 single_hears Readying s n ok k x live is none = single_ready s n ok k x none
 single_hears OtherDown s n ok k x live is none = single_rest s n ok k x none
 
-single_takes : (ws : List Waiter) (rs : List ℕ) (w : DownWord) (s : Side) (n control : ℕ) (b : Bool) → reaches s control ≡ b → Sound s → Carried s n → Single s n → May ws rs s (TakesDown control w) → s.step ≡ 0 → Single (if b then hears s w else record s { step = 0 }) (gate (if b then hears s w else record s { step = 0 }).holds n)
+single_takes : (ws : List Waiter) (rs : List ℕ) (w : DownWord) (s : Side) (n control : ℕ) (b : Bool) → is_open_to s control ≡ b → Sound s → Carried s n → Single s n → HostMay ws rs s (TakesDown control w) → s.step ≡ 0 → Single (if b then side_taken_down s w else record s { step = 0 }) (gate (if b then side_taken_down s w else record s { step = 0 }).holds n)
 single_takes ws rs w s n control false is ok k x may none = single_rest s n ok k x none
 single_takes ws rs OtherDown s n control true is ok k x may none = single_rest s n ok k x none
 single_takes ws rs Readying s n control true is ok k x may none = single_ready s n ok k x none
@@ -81,7 +81,7 @@ single_own (SentDown control Lacking) ws rs s n ok k x may none told = absurd ma
 single_own (SentDown control Failing) ws rs s n ok k x may none told = absurd may
 single_own (SentDown control Readying) ws rs s n ok k x may none told = single_same s n k x
 single_own (SentDown control OtherDown) ws rs s n ok k x may none told = single_same s n k x
-single_own (TakesDown control w) ws rs s n ok k x may none told = single_takes ws rs w s n control (reaches s control) refl ok k x may (none refl)
+single_own (TakesDown control w) ws rs s n ok k x may none told = single_takes ws rs w s n control (is_open_to s control) refl ok k x may (none refl)
 single_own (Puts bytes dirty) ws rs s n ok k x may none told = absurd may
 single_own Drops ws rs s n ok k x may none told = single_drops s n ok k x
 single_own (Stores task at size value) ws rs s n ok k x may none told = single_stores s n task at size value k x
@@ -102,7 +102,7 @@ single_others e s n x none = x
 aligned_same : (s t : Side) → Aligned s → t.up ≡ s.up → t.awaited_control ≡ s.awaited_control → t.heard ≡ s.heard → t.awaits ≡ s.awaits → t.control ≡ s.control → Aligned t
 aligned_same s t x up awaited heard awaits control = grind (arith, nat_tests)
 
-aligned_takes : (w : DownWord) (s : Side) (b : Bool) → Aligned s → Aligned (if b then hears s w else record s { step = 0 })
+aligned_takes : (w : DownWord) (s : Side) (b : Bool) → Aligned s → Aligned (if b then side_taken_down s w else record s { step = 0 })
 aligned_takes w s true x = aligned_hears s w x
 aligned_takes w s false x = aligned_same s (record s { step = 0 }) x refl refl refl refl refl
 
@@ -111,13 +111,13 @@ aligned_own (Opens control ready) ws rs s n ok k x may told = aligned_opens s co
 aligned_own (SendsUp control w) ws rs s n ok k x may told = aligned_sent ws rs w control s ok x may
 aligned_own (TakenUp w) ws rs s n ok k x may told = aligned_taken w ws rs s n ok k x may
 aligned_own (SentDown control (Locking count returns flush lock true)) ws rs s n ok k x may told = aligned_order s control count returns lock flush ok x may told.0
-aligned_own (SentDown control (Locking count returns flush lock false)) ws rs s n ok k x may told = aligned_same s (sent_down s control (Locking count returns flush lock false)) x refl refl refl refl refl
-aligned_own (SentDown control (Supplying lock precious bytes)) ws rs s n ok k x may told = aligned_same s (sent_down s control (Supplying lock precious bytes)) x refl refl refl refl refl
+aligned_own (SentDown control (Locking count returns flush lock false)) ws rs s n ok k x may told = aligned_same s (side_sent_down s control (Locking count returns flush lock false)) x refl refl refl refl refl
+aligned_own (SentDown control (Supplying lock precious bytes)) ws rs s n ok k x may told = aligned_same s (side_sent_down s control (Supplying lock precious bytes)) x refl refl refl refl refl
 aligned_own (SentDown control Lacking) ws rs s n ok k x may told = absurd may
 aligned_own (SentDown control Failing) ws rs s n ok k x may told = absurd may
 aligned_own (SentDown control Readying) ws rs s n ok k x may told = x
 aligned_own (SentDown control OtherDown) ws rs s n ok k x may told = x
-aligned_own (TakesDown control w) ws rs s n ok k x may told = aligned_takes w s (reaches s control) x
+aligned_own (TakesDown control w) ws rs s n ok k x may told = aligned_takes w s (is_open_to s control) x
 aligned_own (Puts bytes dirty) ws rs s n ok k x may told = absurd may
 aligned_own Drops ws rs s n ok k x may told = aligned_same s (record s { right = 0 }) x refl refl refl refl refl
 aligned_own (Stores task at size value) ws rs s n ok k x may told = aligned_same s (side_after s (Stores task at size value)) x refl refl refl refl refl
@@ -152,7 +152,7 @@ aligned_after size a past w k p c = at_each (λ s. Aligned s) a past
     (aligned_own a.effect (waiters a.host past) (readers a.host past) (side a.host past) (upgrades a.host past) (w.each a.host) (k.each a.host) (p.aligned a.host) (cause size a.host a.effect past w c) (told_if size a.host a.effect past c))
     (λ h e. aligned_others a.effect (side h past) (p.aligned h))
 
-pub protocol : (size : ℕ) (past : List Act) → Licensed size past → StepsDone past → Protocol past
+pub protocol : (size : ℕ) (past : List Act) → ActsLicensed size past → StepsDone past → Protocol past
 protocol size [] licensed done = record { single = λ h. single_start; aligned = λ h. aligned_start }
 protocol size (a ∷ past) licensed done =
     let w = world size past licensed.1 in
@@ -180,16 +180,16 @@ pending_0 s control access ok is = grind (arith, nat_tests)
 upgrades_0 : (s : Side) (n access : ℕ) → Single s n → first s.up ≡ Some (Unlocking access) → n ≡ 0
 upgrades_0 s n access x is = grind (arith, nat_tests)
 
-pub one_request : (size h control access : ℕ) (past : List Act) → Licensed size past → first (side h past).up ≡ Some (Asking control access) → NoRequest h (line past)
+pub one_request : (size h control access : ℕ) (past : List Act) → ActsLicensed size past → first (side h past).up ≡ Some (Asking control access) → NoRequest h (line past)
 one_request size h control access past licensed is =
     let w = world size past licensed in
     none_requests h (line past) (w.counted h ∙ pending_0 (side h past) control access (w.each h) is)
 
-pub one_unlock : (size h access : ℕ) (past : List Act) → Licensed size past → StepsDone past → first (side h past).up ≡ Some (Unlocking access) → NoUpgrade h (line past)
+pub one_unlock : (size h access : ℕ) (past : List Act) → ActsLicensed size past → StepsDone past → first (side h past).up ≡ Some (Unlocking access) → NoUpgrade h (line past)
 one_unlock size h access past licensed done is = none_upgrades h (line past) (upgrades_0 (side h past) (upgrades h past) access ((protocol size past licensed done).single h) is)
 
-pub completed_awaited : (size h control count : ℕ) (past : List Act) → Licensed size past → StepsDone past → first (side h past).up ≡ Some (Doing control count) → (side h past).awaited_control ≡ control
+pub completed_awaited : (size h control count : ℕ) (past : List Act) → ActsLicensed size past → StepsDone past → first (side h past).up ≡ Some (Doing control count) → (side h past).awaited_control ≡ control
 completed_awaited size h control count past licensed done is = done_is_mine (side h past) control count ((protocol size past licensed done).aligned h) is
 
-pub ended_awaited : (size h control : ℕ) (past : List Act) → Licensed size past → StepsDone past → first (side h past).up ≡ Some (Ending control) → 0 < (side h past).awaits → (side h past).awaited_control ≡ control
+pub ended_awaited : (size h control : ℕ) (past : List Act) → ActsLicensed size past → StepsDone past → first (side h past).up ≡ Some (Ending control) → 0 < (side h past).awaits → (side h past).awaited_control ≡ control
 ended_awaited size h control past licensed done is some = end_is_mine (side h past) (upgrades h past) control ((world size past licensed).each h) ((waits size past licensed done).each h) ((protocol size past licensed done).aligned h) is some

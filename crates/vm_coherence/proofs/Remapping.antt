@@ -9,14 +9,14 @@ use Rattle.vm_model.specs.declared.message.Message.TheVariants as message
 use Rattle.vm_model.specs.declared.event.Event.{Event}
 use Rattle.vm_model.specs.declared.event.Event.TheVariants as event
 use Rattle.vm_model.specs.Words.{Asking, Unlocking, Returning, Doing, Ending, Locking, Opens, SendsUp, SentDown, Drops}
-use Rattle.vm_model.specs.PageLicences.{NobodyAwaited, OthersHold, Cause, Licensed}
+use Rattle.vm_model.specs.PageLicences.{NobodyAwaited, OthersHold, Cause, ActsLicensed}
 use Rattle.vm_model.specs.Coherence.{StepsDone}
 use Rattle.vm_model.specs.PagePart.{page_part}
 
 abbrev run_0 : List Event
 run_0 = []
 
-licensed_0 : Licensed 16 (page_part 16 0 0 run_0)
+licensed_0 : ActsLicensed 16 (page_part 16 0 0 run_0)
 licensed_0 = tt
 
 steps_0 : StepsDone (page_part 16 0 0 run_0)
@@ -28,7 +28,7 @@ run_1 = event.Line 4 ∷ run_0
 steps_1 : StepsDone (page_part 16 0 0 run_1)
 steps_1 = ((λ begins h. grind (arith, nat_tests)), steps_0)
 
-licensed_1 : Licensed 16 (page_part 16 0 0 run_1)
+licensed_1 : ActsLicensed 16 (page_part 16 0 0 run_1)
 licensed_1 = (tt, licensed_0)
 
 abbrev run_2 : List Event
@@ -37,7 +37,7 @@ run_2 = event.TaskMade (task 0) (host 0) ∷ run_1
 steps_2 : StepsDone (page_part 16 0 0 run_2)
 steps_2 = (λ begins. absurd (cc), steps_1)
 
-licensed_2 : Licensed 16 (page_part 16 0 0 run_2)
+licensed_2 : ActsLicensed 16 (page_part 16 0 0 run_2)
 licensed_2 = (tt, licensed_1)
 
 abbrev run_3 : List Event
@@ -46,7 +46,7 @@ run_3 = event.Line 5 ∷ run_2
 steps_3 : StepsDone (page_part 16 0 0 run_3)
 steps_3 = ((λ begins h. grind (arith, nat_tests)), steps_2)
 
-licensed_3 : Licensed 16 (page_part 16 0 0 run_3)
+licensed_3 : ActsLicensed 16 (page_part 16 0 0 run_3)
 licensed_3 = (tt, licensed_2)
 
 abbrev run_4 : List Event
@@ -55,7 +55,7 @@ run_4 = event.TaskMade (task 1) (host 1) ∷ run_3
 steps_4 : StepsDone (page_part 16 0 0 run_4)
 steps_4 = (λ begins. absurd (cc), steps_3)
 
-licensed_4 : Licensed 16 (page_part 16 0 0 run_4)
+licensed_4 : ActsLicensed 16 (page_part 16 0 0 run_4)
 licensed_4 = (tt, licensed_3)
 
 abbrev run_5 : List Event
@@ -64,7 +64,7 @@ run_5 = event.Line 6 ∷ run_4
 steps_5 : StepsDone (page_part 16 0 0 run_5)
 steps_5 = ((λ begins h. grind (arith, nat_tests)), steps_4)
 
-licensed_5 : Licensed 16 (page_part 16 0 0 run_5)
+licensed_5 : ActsLicensed 16 (page_part 16 0 0 run_5)
 licensed_5 = (tt, licensed_4)
 
 abbrev run_6 : List Event
@@ -73,7 +73,7 @@ run_6 = event.Entered (task 0) 0 16 region 0 both Share ∷ run_5
 steps_6 : StepsDone (page_part 16 0 0 run_6)
 steps_6 = (λ begins. absurd (cc), steps_5)
 
-licensed_6 : Licensed 16 (page_part 16 0 0 run_6)
+licensed_6 : ActsLicensed 16 (page_part 16 0 0 run_6)
 licensed_6 = (tt, licensed_5)
 
 abbrev run_7 : List Event
@@ -85,7 +85,7 @@ cause_6 = grind (arith, nat_tests)
 steps_7 : StepsDone (page_part 16 0 0 run_7)
 steps_7 = (λ begins. absurd (cc), steps_6)
 
-licensed_7 : Licensed 16 (page_part 16 0 0 run_7)
+licensed_7 : ActsLicensed 16 (page_part 16 0 0 run_7)
 licensed_7 = (cause_6, licensed_6)
 
 abbrev run_8 : List Event
@@ -94,7 +94,7 @@ run_8 = event.Line 7 ∷ run_7
 steps_8 : StepsDone (page_part 16 0 0 run_8)
 steps_8 = ((λ begins h. grind (arith, nat_tests)), steps_7)
 
-licensed_8 : Licensed 16 (page_part 16 0 0 run_8)
+licensed_8 : ActsLicensed 16 (page_part 16 0 0 run_8)
 licensed_8 = (tt, licensed_7)
 
 abbrev run_9 : List Event
@@ -103,7 +103,7 @@ run_9 = event.Entered (task 1) 0 16 region 0 both Share ∷ run_8
 steps_9 : StepsDone (page_part 16 0 0 run_9)
 steps_9 = (λ begins. absurd (cc), steps_8)
 
-licensed_9 : Licensed 16 (page_part 16 0 0 run_9)
+licensed_9 : ActsLicensed 16 (page_part 16 0 0 run_9)
 licensed_9 = (tt, licensed_8)
 
 abbrev run_10 : List Event
@@ -115,7 +115,7 @@ cause_9 = grind (arith, nat_tests)
 steps_10 : StepsDone (page_part 16 0 0 run_10)
 steps_10 = (λ begins. absurd (cc), steps_9)
 
-licensed_10 : Licensed 16 (page_part 16 0 0 run_10)
+licensed_10 : ActsLicensed 16 (page_part 16 0 0 run_10)
 licensed_10 = (cause_9, licensed_9)
 
 abbrev run_11 : List Event
@@ -124,7 +124,7 @@ run_11 = event.Line 8 ∷ run_10
 steps_11 : StepsDone (page_part 16 0 0 run_11)
 steps_11 = ((λ begins h. grind (arith, nat_tests)), steps_10)
 
-licensed_11 : Licensed 16 (page_part 16 0 0 run_11)
+licensed_11 : ActsLicensed 16 (page_part 16 0 0 run_11)
 licensed_11 = (tt, licensed_10)
 
 abbrev run_12 : List Event
@@ -133,7 +133,7 @@ run_12 = event.BegunLoad (task 0) 0 1 ∷ run_11
 steps_12 : StepsDone (page_part 16 0 0 run_12)
 steps_12 = (λ begins. absurd (cc), steps_11)
 
-licensed_12 : Licensed 16 (page_part 16 0 0 run_12)
+licensed_12 : ActsLicensed 16 (page_part 16 0 0 run_12)
 licensed_12 = (tt, licensed_11)
 
 abbrev run_13 : List Event
@@ -142,7 +142,7 @@ run_13 = event.Line 9 ∷ run_12
 steps_13 : StepsDone (page_part 16 0 0 run_13)
 steps_13 = ((λ begins h. grind (arith, nat_tests)), steps_12)
 
-licensed_13 : Licensed 16 (page_part 16 0 0 run_13)
+licensed_13 : ActsLicensed 16 (page_part 16 0 0 run_13)
 licensed_13 = (tt, licensed_12)
 
 abbrev run_14 : List Event
@@ -151,7 +151,7 @@ run_14 = event.BegunLoad (task 1) 0 1 ∷ run_13
 steps_14 : StepsDone (page_part 16 0 0 run_14)
 steps_14 = (λ begins. absurd (cc), steps_13)
 
-licensed_14 : Licensed 16 (page_part 16 0 0 run_14)
+licensed_14 : ActsLicensed 16 (page_part 16 0 0 run_14)
 licensed_14 = (tt, licensed_13)
 
 abbrev run_15 : List Event
@@ -160,7 +160,7 @@ run_15 = event.Line 10 ∷ run_14
 steps_15 : StepsDone (page_part 16 0 0 run_15)
 steps_15 = ((λ begins h. grind (arith, nat_tests)), steps_14)
 
-licensed_15 : Licensed 16 (page_part 16 0 0 run_15)
+licensed_15 : ActsLicensed 16 (page_part 16 0 0 run_15)
 licensed_15 = (tt, licensed_14)
 
 abbrev run_16 : List Event
@@ -169,7 +169,7 @@ run_16 = event.Taken (Up (host 0) object) (message.Init 1 16) ∷ run_15
 steps_16 : StepsDone (page_part 16 0 0 run_16)
 steps_16 = ((λ begins h. grind (arith, nat_tests)), steps_15)
 
-licensed_16 : Licensed 16 (page_part 16 0 0 run_16)
+licensed_16 : ActsLicensed 16 (page_part 16 0 0 run_16)
 licensed_16 = (tt, licensed_15)
 
 abbrev run_17 : List Event
@@ -178,7 +178,7 @@ run_17 = event.Sent (Down (host 0) object 1) (message.Ready false 0) ∷ run_16
 steps_17 : StepsDone (page_part 16 0 0 run_17)
 steps_17 = (λ begins. absurd (cc), steps_16)
 
-licensed_17 : Licensed 16 (page_part 16 0 0 run_17)
+licensed_17 : ActsLicensed 16 (page_part 16 0 0 run_17)
 licensed_17 = (tt, licensed_16)
 
 abbrev run_18 : List Event
@@ -187,7 +187,7 @@ run_18 = event.Taken (Up (host 1) object) (message.Init 1 16) ∷ run_17
 steps_18 : StepsDone (page_part 16 0 0 run_18)
 steps_18 = ((λ begins h. grind (arith, nat_tests)), steps_17)
 
-licensed_18 : Licensed 16 (page_part 16 0 0 run_18)
+licensed_18 : ActsLicensed 16 (page_part 16 0 0 run_18)
 licensed_18 = (tt, licensed_17)
 
 abbrev run_19 : List Event
@@ -196,7 +196,7 @@ run_19 = event.Sent (Down (host 1) object 1) (message.Ready false 0) ∷ run_18
 steps_19 : StepsDone (page_part 16 0 0 run_19)
 steps_19 = (λ begins. absurd (cc), steps_18)
 
-licensed_19 : Licensed 16 (page_part 16 0 0 run_19)
+licensed_19 : ActsLicensed 16 (page_part 16 0 0 run_19)
 licensed_19 = (tt, licensed_18)
 
 abbrev run_20 : List Event
@@ -205,7 +205,7 @@ run_20 = event.Taken (Down (host 0) object 1) (message.Ready false 0) ∷ run_19
 steps_20 : StepsDone (page_part 16 0 0 run_20)
 steps_20 = ((λ begins h. grind (arith, nat_tests)), steps_19)
 
-licensed_20 : Licensed 16 (page_part 16 0 0 run_20)
+licensed_20 : ActsLicensed 16 (page_part 16 0 0 run_20)
 licensed_20 = (tt, licensed_19)
 
 abbrev run_21 : List Event
@@ -217,7 +217,7 @@ cause_20 = grind (arith, nat_tests)
 steps_21 : StepsDone (page_part 16 0 0 run_21)
 steps_21 = (λ begins. absurd (cc), steps_20)
 
-licensed_21 : Licensed 16 (page_part 16 0 0 run_21)
+licensed_21 : ActsLicensed 16 (page_part 16 0 0 run_21)
 licensed_21 = (cause_20, licensed_20)
 
 abbrev run_22 : List Event
@@ -226,7 +226,7 @@ run_22 = event.Taken (Down (host 1) object 1) (message.Ready false 0) ∷ run_21
 steps_22 : StepsDone (page_part 16 0 0 run_22)
 steps_22 = ((λ begins h. grind (arith, nat_tests)), steps_21)
 
-licensed_22 : Licensed 16 (page_part 16 0 0 run_22)
+licensed_22 : ActsLicensed 16 (page_part 16 0 0 run_22)
 licensed_22 = (tt, licensed_21)
 
 abbrev run_23 : List Event
@@ -238,7 +238,7 @@ cause_22 = grind (arith, nat_tests)
 steps_23 : StepsDone (page_part 16 0 0 run_23)
 steps_23 = (λ begins. absurd (cc), steps_22)
 
-licensed_23 : Licensed 16 (page_part 16 0 0 run_23)
+licensed_23 : ActsLicensed 16 (page_part 16 0 0 run_23)
 licensed_23 = (cause_22, licensed_22)
 
 abbrev run_24 : List Event
@@ -247,7 +247,7 @@ run_24 = event.Taken (Up (host 0) object) (message.Request 1 page 1) ∷ run_23
 steps_24 : StepsDone (page_part 16 0 0 run_24)
 steps_24 = ((λ begins h. grind (arith, nat_tests)), steps_23)
 
-licensed_24 : Licensed 16 (page_part 16 0 0 run_24)
+licensed_24 : ActsLicensed 16 (page_part 16 0 0 run_24)
 licensed_24 = (refl, licensed_23)
 
 abbrev run_25 : List Event
@@ -262,7 +262,7 @@ low_24 g apart = grind (arith, nat_tests)
 steps_25 : StepsDone (page_part 16 0 0 run_25)
 steps_25 = (λ begins. absurd (cc), steps_24)
 
-licensed_25 : Licensed 16 (page_part 16 0 0 run_25)
+licensed_25 : ActsLicensed 16 (page_part 16 0 0 run_25)
 licensed_25 = ((refl, refl, free_24, refl, (refl, refl, refl, low_24)), licensed_24)
 
 abbrev run_26 : List Event
@@ -271,7 +271,7 @@ run_26 = event.Taken (Up (host 1) object) (message.Request 1 page 1) ∷ run_25
 steps_26 : StepsDone (page_part 16 0 0 run_26)
 steps_26 = ((λ begins h. grind (arith, nat_tests)), steps_25)
 
-licensed_26 : Licensed 16 (page_part 16 0 0 run_26)
+licensed_26 : ActsLicensed 16 (page_part 16 0 0 run_26)
 licensed_26 = (refl, licensed_25)
 
 abbrev run_27 : List Event
@@ -286,7 +286,7 @@ low_26 g apart = grind (arith, nat_tests)
 steps_27 : StepsDone (page_part 16 0 0 run_27)
 steps_27 = (λ begins. absurd (cc), steps_26)
 
-licensed_27 : Licensed 16 (page_part 16 0 0 run_27)
+licensed_27 : ActsLicensed 16 (page_part 16 0 0 run_27)
 licensed_27 = ((refl, refl, free_26, refl, (refl, refl, refl, low_26)), licensed_26)
 
 abbrev run_28 : List Event
@@ -295,7 +295,7 @@ run_28 = event.Taken (Down (host 0) object 1) (message.Supply page 2 false zeros
 steps_28 : StepsDone (page_part 16 0 0 run_28)
 steps_28 = ((λ begins h. grind (arith, nat_tests)), steps_27)
 
-licensed_28 : Licensed 16 (page_part 16 0 0 run_28)
+licensed_28 : ActsLicensed 16 (page_part 16 0 0 run_28)
 licensed_28 = ((λ mine live. refl), licensed_27)
 
 abbrev run_29 : List Event
@@ -304,7 +304,7 @@ run_29 = event.Loaded (task 0) object page 0 ∷ run_28
 steps_29 : StepsDone (page_part 16 0 0 run_29)
 steps_29 = (λ begins. absurd (cc), steps_28)
 
-licensed_29 : Licensed 16 (page_part 16 0 0 run_29)
+licensed_29 : ActsLicensed 16 (page_part 16 0 0 run_29)
 licensed_29 = ((refl, refl, refl), licensed_28)
 
 abbrev run_30 : List Event
@@ -313,7 +313,7 @@ run_30 = event.Taken (Down (host 1) object 1) (message.Supply page 2 false zeros
 steps_30 : StepsDone (page_part 16 0 0 run_30)
 steps_30 = ((λ begins h. grind (arith, nat_tests)), steps_29)
 
-licensed_30 : Licensed 16 (page_part 16 0 0 run_30)
+licensed_30 : ActsLicensed 16 (page_part 16 0 0 run_30)
 licensed_30 = ((λ mine live. refl), licensed_29)
 
 abbrev run_31 : List Event
@@ -322,7 +322,7 @@ run_31 = event.Loaded (task 1) object page 0 ∷ run_30
 steps_31 : StepsDone (page_part 16 0 0 run_31)
 steps_31 = (λ begins. absurd (cc), steps_30)
 
-licensed_31 : Licensed 16 (page_part 16 0 0 run_31)
+licensed_31 : ActsLicensed 16 (page_part 16 0 0 run_31)
 licensed_31 = ((refl, refl, refl), licensed_30)
 
 abbrev run_32 : List Event
@@ -331,7 +331,7 @@ run_32 = event.Line 11 ∷ run_31
 steps_32 : StepsDone (page_part 16 0 0 run_32)
 steps_32 = ((λ begins h. grind (arith, nat_tests)), steps_31)
 
-licensed_32 : Licensed 16 (page_part 16 0 0 run_32)
+licensed_32 : ActsLicensed 16 (page_part 16 0 0 run_32)
 licensed_32 = (tt, licensed_31)
 
 abbrev run_33 : List Event
@@ -340,7 +340,7 @@ run_33 = event.BegunStore (task 0) 0 1 8 ∷ run_32
 steps_33 : StepsDone (page_part 16 0 0 run_33)
 steps_33 = (λ begins. absurd (cc), steps_32)
 
-licensed_33 : Licensed 16 (page_part 16 0 0 run_33)
+licensed_33 : ActsLicensed 16 (page_part 16 0 0 run_33)
 licensed_33 = (tt, licensed_32)
 
 abbrev run_34 : List Event
@@ -352,7 +352,7 @@ cause_33 = grind (arith, nat_tests)
 steps_34 : StepsDone (page_part 16 0 0 run_34)
 steps_34 = (λ begins. absurd (cc), steps_33)
 
-licensed_34 : Licensed 16 (page_part 16 0 0 run_34)
+licensed_34 : ActsLicensed 16 (page_part 16 0 0 run_34)
 licensed_34 = (cause_33, licensed_33)
 
 abbrev run_35 : List Event
@@ -361,7 +361,7 @@ run_35 = event.Line 12 ∷ run_34
 steps_35 : StepsDone (page_part 16 0 0 run_35)
 steps_35 = ((λ begins h. grind (arith, nat_tests)), steps_34)
 
-licensed_35 : Licensed 16 (page_part 16 0 0 run_35)
+licensed_35 : ActsLicensed 16 (page_part 16 0 0 run_35)
 licensed_35 = (tt, licensed_34)
 
 abbrev run_36 : List Event
@@ -370,7 +370,7 @@ run_36 = event.Taken (Up (host 0) object) (message.Unlock 1 page 3) ∷ run_35
 steps_36 : StepsDone (page_part 16 0 0 run_36)
 steps_36 = ((λ begins h. grind (arith, nat_tests)), steps_35)
 
-licensed_36 : Licensed 16 (page_part 16 0 0 run_36)
+licensed_36 : ActsLicensed 16 (page_part 16 0 0 run_36)
 licensed_36 = (refl, licensed_35)
 
 abbrev run_37 : List Event
@@ -382,7 +382,7 @@ cause_36 = grind (arith, nat_tests)
 steps_37 : StepsDone (page_part 16 0 0 run_37)
 steps_37 = (λ begins. absurd (cc), steps_36)
 
-licensed_37 : Licensed 16 (page_part 16 0 0 run_37)
+licensed_37 : ActsLicensed 16 (page_part 16 0 0 run_37)
 licensed_37 = (cause_36, licensed_36)
 
 abbrev run_38 : List Event
@@ -391,7 +391,7 @@ run_38 = event.Line 13 ∷ run_37
 steps_38 : StepsDone (page_part 16 0 0 run_38)
 steps_38 = ((λ begins h. grind (arith, nat_tests)), steps_37)
 
-licensed_38 : Licensed 16 (page_part 16 0 0 run_38)
+licensed_38 : ActsLicensed 16 (page_part 16 0 0 run_38)
 licensed_38 = (tt, licensed_37)
 
 abbrev run_39 : List Event
@@ -400,7 +400,7 @@ run_39 = event.Removed (task 1) 0 16 ∷ run_38
 steps_39 : StepsDone (page_part 16 0 0 run_39)
 steps_39 = (λ begins. absurd (cc), steps_38)
 
-licensed_39 : Licensed 16 (page_part 16 0 0 run_39)
+licensed_39 : ActsLicensed 16 (page_part 16 0 0 run_39)
 licensed_39 = (tt, licensed_38)
 
 abbrev run_40 : List Event
@@ -412,7 +412,7 @@ cause_39 = grind (arith, nat_tests)
 steps_40 : StepsDone (page_part 16 0 0 run_40)
 steps_40 = (λ begins. absurd (cc), steps_39)
 
-licensed_40 : Licensed 16 (page_part 16 0 0 run_40)
+licensed_40 : ActsLicensed 16 (page_part 16 0 0 run_40)
 licensed_40 = (cause_39, licensed_39)
 
 abbrev run_41 : List Event
@@ -424,7 +424,7 @@ cause_40 = grind (arith, nat_tests)
 steps_41 : StepsDone (page_part 16 0 0 run_41)
 steps_41 = (λ begins. absurd (cc), steps_40)
 
-licensed_41 : Licensed 16 (page_part 16 0 0 run_41)
+licensed_41 : ActsLicensed 16 (page_part 16 0 0 run_41)
 licensed_41 = (cause_40, licensed_40)
 
 abbrev run_42 : List Event
@@ -433,7 +433,7 @@ run_42 = event.Line 14 ∷ run_41
 steps_42 : StepsDone (page_part 16 0 0 run_42)
 steps_42 = ((λ begins h. grind (arith, nat_tests)), steps_41)
 
-licensed_42 : Licensed 16 (page_part 16 0 0 run_42)
+licensed_42 : ActsLicensed 16 (page_part 16 0 0 run_42)
 licensed_42 = (tt, licensed_41)
 
 abbrev run_43 : List Event
@@ -442,7 +442,7 @@ run_43 = event.Entered (task 1) 0 16 region 0 both Share ∷ run_42
 steps_43 : StepsDone (page_part 16 0 0 run_43)
 steps_43 = (λ begins. absurd (cc), steps_42)
 
-licensed_43 : Licensed 16 (page_part 16 0 0 run_43)
+licensed_43 : ActsLicensed 16 (page_part 16 0 0 run_43)
 licensed_43 = (tt, licensed_42)
 
 abbrev run_44 : List Event
@@ -454,7 +454,7 @@ cause_43 = grind (arith, nat_tests)
 steps_44 : StepsDone (page_part 16 0 0 run_44)
 steps_44 = (λ begins. absurd (cc), steps_43)
 
-licensed_44 : Licensed 16 (page_part 16 0 0 run_44)
+licensed_44 : ActsLicensed 16 (page_part 16 0 0 run_44)
 licensed_44 = (cause_43, licensed_43)
 
 abbrev run_45 : List Event
@@ -463,7 +463,7 @@ run_45 = event.Line 15 ∷ run_44
 steps_45 : StepsDone (page_part 16 0 0 run_45)
 steps_45 = ((λ begins h. grind (arith, nat_tests)), steps_44)
 
-licensed_45 : Licensed 16 (page_part 16 0 0 run_45)
+licensed_45 : ActsLicensed 16 (page_part 16 0 0 run_45)
 licensed_45 = (tt, licensed_44)
 
 abbrev run_46 : List Event
@@ -472,7 +472,7 @@ run_46 = event.Taken (Up (host 1) object) (message.Terminate 1) ∷ run_45
 steps_46 : StepsDone (page_part 16 0 0 run_46)
 steps_46 = ((λ begins h. grind (arith, nat_tests)), steps_45)
 
-licensed_46 : Licensed 16 (page_part 16 0 0 run_46)
+licensed_46 : ActsLicensed 16 (page_part 16 0 0 run_46)
 licensed_46 = (refl, licensed_45)
 
 abbrev run_47 : List Event
@@ -487,7 +487,7 @@ low_46 g apart = grind (arith, nat_tests)
 steps_47 : StepsDone (page_part 16 0 0 run_47)
 steps_47 = (λ begins. absurd (cc), steps_46)
 
-licensed_47 : Licensed 16 (page_part 16 0 0 run_47)
+licensed_47 : ActsLicensed 16 (page_part 16 0 0 run_47)
 licensed_47 = ((refl, refl, refl, refl, refl, free_46, low_46, (refl, refl)), licensed_46)
 
 abbrev run_48 : List Event
@@ -496,7 +496,7 @@ run_48 = event.Line 16 ∷ run_47
 steps_48 : StepsDone (page_part 16 0 0 run_48)
 steps_48 = ((λ begins h. grind (arith, nat_tests)), steps_47)
 
-licensed_48 : Licensed 16 (page_part 16 0 0 run_48)
+licensed_48 : ActsLicensed 16 (page_part 16 0 0 run_48)
 licensed_48 = (tt, licensed_47)
 
 abbrev run_49 : List Event
@@ -505,7 +505,7 @@ run_49 = event.Taken (Down (host 1) object 1) (message.Lock page 1 1 true 8 true
 steps_49 : StepsDone (page_part 16 0 0 run_49)
 steps_49 = ((λ begins h. grind (arith, nat_tests)), steps_48)
 
-licensed_49 : Licensed 16 (page_part 16 0 0 run_49)
+licensed_49 : ActsLicensed 16 (page_part 16 0 0 run_49)
 licensed_49 = ((λ mine live. absurd (cc)), licensed_48)
 
 abbrev run_50 : List Event
@@ -514,7 +514,7 @@ run_50 = event.Line 17 ∷ run_49
 steps_50 : StepsDone (page_part 16 0 0 run_50)
 steps_50 = ((λ begins h. grind (arith, nat_tests)), steps_49)
 
-licensed_50 : Licensed 16 (page_part 16 0 0 run_50)
+licensed_50 : ActsLicensed 16 (page_part 16 0 0 run_50)
 licensed_50 = (tt, licensed_49)
 
 abbrev run_51 : List Event
@@ -523,7 +523,7 @@ run_51 = event.Taken (Up (host 1) object) (message.Init 2 16) ∷ run_50
 steps_51 : StepsDone (page_part 16 0 0 run_51)
 steps_51 = ((λ begins h. grind (arith, nat_tests)), steps_50)
 
-licensed_51 : Licensed 16 (page_part 16 0 0 run_51)
+licensed_51 : ActsLicensed 16 (page_part 16 0 0 run_51)
 licensed_51 = (tt, licensed_50)
 
 abbrev run_52 : List Event
@@ -532,7 +532,7 @@ run_52 = event.Sent (Down (host 1) object 2) (message.Ready false 0) ∷ run_51
 steps_52 : StepsDone (page_part 16 0 0 run_52)
 steps_52 = (λ begins. absurd (cc), steps_51)
 
-licensed_52 : Licensed 16 (page_part 16 0 0 run_52)
+licensed_52 : ActsLicensed 16 (page_part 16 0 0 run_52)
 licensed_52 = (tt, licensed_51)
 
 abbrev run_53 : List Event
@@ -541,7 +541,7 @@ run_53 = event.Taken (Down (host 0) object 1) (message.Lock page 1 0 false 0 fal
 steps_53 : StepsDone (page_part 16 0 0 run_53)
 steps_53 = ((λ begins h. grind (arith, nat_tests)), steps_52)
 
-licensed_53 : Licensed 16 (page_part 16 0 0 run_53)
+licensed_53 : ActsLicensed 16 (page_part 16 0 0 run_53)
 licensed_53 = ((λ mine live. refl), licensed_52)
 
 abbrev run_54 : List Event
@@ -550,7 +550,7 @@ run_54 = event.Stored (task 0) object page 0 1 8 ∷ run_53
 steps_54 : StepsDone (page_part 16 0 0 run_54)
 steps_54 = (λ begins. absurd (cc), steps_53)
 
-licensed_54 : Licensed 16 (page_part 16 0 0 run_54)
+licensed_54 : ActsLicensed 16 (page_part 16 0 0 run_54)
 licensed_54 = ((refl, refl, refl, refl, refl), licensed_53)
 
 abbrev run_55 : List Event
@@ -559,7 +559,7 @@ run_55 = event.Taken (Down (host 1) object 2) (message.Ready false 0) ∷ run_54
 steps_55 : StepsDone (page_part 16 0 0 run_55)
 steps_55 = ((λ begins h. grind (arith, nat_tests)), steps_54)
 
-licensed_55 : Licensed 16 (page_part 16 0 0 run_55)
+licensed_55 : ActsLicensed 16 (page_part 16 0 0 run_55)
 licensed_55 = (tt, licensed_54)
 
 abbrev run_56 : List Event
@@ -568,7 +568,7 @@ run_56 = event.Line 18 ∷ run_55
 steps_56 : StepsDone (page_part 16 0 0 run_56)
 steps_56 = ((λ begins h. grind (arith, nat_tests)), steps_55)
 
-licensed_56 : Licensed 16 (page_part 16 0 0 run_56)
+licensed_56 : ActsLicensed 16 (page_part 16 0 0 run_56)
 licensed_56 = (tt, licensed_55)
 
 abbrev run_57 : List Event
@@ -577,7 +577,7 @@ run_57 = event.BegunLoad (task 1) 0 1 ∷ run_56
 steps_57 : StepsDone (page_part 16 0 0 run_57)
 steps_57 = (λ begins. absurd (cc), steps_56)
 
-licensed_57 : Licensed 16 (page_part 16 0 0 run_57)
+licensed_57 : ActsLicensed 16 (page_part 16 0 0 run_57)
 licensed_57 = (tt, licensed_56)
 
 abbrev run_58 : List Event
@@ -589,7 +589,7 @@ cause_57 = grind (arith, nat_tests)
 steps_58 : StepsDone (page_part 16 0 0 run_58)
 steps_58 = (λ begins. absurd (cc), steps_57)
 
-licensed_58 : Licensed 16 (page_part 16 0 0 run_58)
+licensed_58 : ActsLicensed 16 (page_part 16 0 0 run_58)
 licensed_58 = (cause_57, licensed_57)
 
 abbrev run_59 : List Event
@@ -598,7 +598,7 @@ run_59 = event.Line 19 ∷ run_58
 steps_59 : StepsDone (page_part 16 0 0 run_59)
 steps_59 = ((λ begins h. grind (arith, nat_tests)), steps_58)
 
-licensed_59 : Licensed 16 (page_part 16 0 0 run_59)
+licensed_59 : ActsLicensed 16 (page_part 16 0 0 run_59)
 licensed_59 = (tt, licensed_58)
 
 abbrev run_60 : List Event
@@ -607,7 +607,7 @@ run_60 = event.Taken (Up (host 1) object) (message.Request 2 page 1) ∷ run_59
 steps_60 : StepsDone (page_part 16 0 0 run_60)
 steps_60 = ((λ begins h. grind (arith, nat_tests)), steps_59)
 
-licensed_60 : Licensed 16 (page_part 16 0 0 run_60)
+licensed_60 : ActsLicensed 16 (page_part 16 0 0 run_60)
 licensed_60 = (refl, licensed_59)
 
 abbrev run_61 : List Event
@@ -619,7 +619,7 @@ cause_60 = grind (arith, nat_tests)
 steps_61 : StepsDone (page_part 16 0 0 run_61)
 steps_61 = (λ begins. absurd (cc), steps_60)
 
-licensed_61 : Licensed 16 (page_part 16 0 0 run_61)
+licensed_61 : ActsLicensed 16 (page_part 16 0 0 run_61)
 licensed_61 = (cause_60, licensed_60)
 
 abbrev run_62 : List Event
@@ -628,7 +628,7 @@ run_62 = event.Taken (Down (host 0) object 1) (message.Lock page 1 1 false 2 tru
 steps_62 : StepsDone (page_part 16 0 0 run_62)
 steps_62 = ((λ begins h. grind (arith, nat_tests)), steps_61)
 
-licensed_62 : Licensed 16 (page_part 16 0 0 run_62)
+licensed_62 : ActsLicensed 16 (page_part 16 0 0 run_62)
 licensed_62 = ((λ mine live. refl), licensed_61)
 
 abbrev run_63 : List Event
@@ -640,7 +640,7 @@ cause_62 = grind (arith, nat_tests)
 steps_63 : StepsDone (page_part 16 0 0 run_63)
 steps_63 = (λ begins. absurd (cc), steps_62)
 
-licensed_63 : Licensed 16 (page_part 16 0 0 run_63)
+licensed_63 : ActsLicensed 16 (page_part 16 0 0 run_63)
 licensed_63 = (cause_62, licensed_62)
 
 abbrev run_64 : List Event
@@ -652,7 +652,7 @@ cause_63 = grind (arith, nat_tests)
 steps_64 : StepsDone (page_part 16 0 0 run_64)
 steps_64 = (λ begins. absurd (cc), steps_63)
 
-licensed_64 : Licensed 16 (page_part 16 0 0 run_64)
+licensed_64 : ActsLicensed 16 (page_part 16 0 0 run_64)
 licensed_64 = (cause_63, licensed_63)
 
 abbrev run_65 : List Event
@@ -661,7 +661,7 @@ run_65 = event.Taken (Up (host 0) object) (message.Return 1 page true true eight
 steps_65 : StepsDone (page_part 16 0 0 run_65)
 steps_65 = ((λ begins h. grind (arith, nat_tests)), steps_64)
 
-licensed_65 : Licensed 16 (page_part 16 0 0 run_65)
+licensed_65 : ActsLicensed 16 (page_part 16 0 0 run_65)
 licensed_65 = (refl, licensed_64)
 
 abbrev run_66 : List Event
@@ -670,7 +670,7 @@ run_66 = event.Taken (Up (host 0) object) (message.Completed 1 page 1) ∷ run_6
 steps_66 : StepsDone (page_part 16 0 0 run_66)
 steps_66 = ((λ begins h. grind (arith, nat_tests)), steps_65)
 
-licensed_66 : Licensed 16 (page_part 16 0 0 run_66)
+licensed_66 : ActsLicensed 16 (page_part 16 0 0 run_66)
 licensed_66 = (refl, licensed_65)
 
 abbrev run_67 : List Event
@@ -685,7 +685,7 @@ low_66 g apart = grind (arith, nat_tests)
 steps_67 : StepsDone (page_part 16 0 0 run_67)
 steps_67 = (λ begins. absurd (cc), steps_66)
 
-licensed_67 : Licensed 16 (page_part 16 0 0 run_67)
+licensed_67 : ActsLicensed 16 (page_part 16 0 0 run_67)
 licensed_67 = ((refl, refl, free_66, refl, (refl, refl, refl, low_66)), licensed_66)
 
 abbrev run_68 : List Event
@@ -694,7 +694,7 @@ run_68 = event.Taken (Down (host 1) object 2) (message.Supply page 2 false eight
 steps_68 : StepsDone (page_part 16 0 0 run_68)
 steps_68 = ((λ begins h. grind (arith, nat_tests)), steps_67)
 
-licensed_68 : Licensed 16 (page_part 16 0 0 run_68)
+licensed_68 : ActsLicensed 16 (page_part 16 0 0 run_68)
 licensed_68 = ((λ mine live. refl), licensed_67)
 
 abbrev run_69 : List Event
@@ -703,10 +703,10 @@ run_69 = event.Loaded (task 1) object page 8 ∷ run_68
 steps_69 : StepsDone (page_part 16 0 0 run_69)
 steps_69 = (λ begins. absurd (cc), steps_68)
 
-licensed_69 : Licensed 16 (page_part 16 0 0 run_69)
+licensed_69 : ActsLicensed 16 (page_part 16 0 0 run_69)
 licensed_69 = ((refl, refl, refl), licensed_68)
 
-pub remapping_licensed : Licensed 16 (page_part 16 0 0 remapping)
+pub remapping_licensed : ActsLicensed 16 (page_part 16 0 0 remapping)
 remapping_licensed = licensed_69
 
 pub remapping_done : StepsDone (page_part 16 0 0 remapping)

@@ -2,7 +2,7 @@
 use Rattle.std.proofs.Common.{◌≡◌, ℕ, ◌+◌, ◌<◌, ◌≤◌, ◌≢◌, List, arith, Bool, true, false, Some}
 use Rattle.std.proofs.lemmas.Bool.Decides.{nat_tests}
 use Rattle.vm_model.specs.Words.{Asking, Unlocking, Returning, Doing, Ending, Supplying, Locking, SendsUp, TakenUp, SentDown, Drops, Stores}
-use Rattle.vm_model.specs.Side.{Side, nobody, rest, opened, hears, side_after}
+use Rattle.vm_model.specs.Side.{Side, nobody, rest, opened, side_taken_down, side_after}
 use Rattle.vm_model.specs.Waiters.{Waiter}
 use Rattle.vm_model.specs.Server.{first}
 use Rattle.vm_model.specs.PageLicences.{MaySend}
@@ -96,16 +96,16 @@ single_order s n control count returns lock flush ok k x may writes = grind (ari
 
 -- what the host takes
 
-pub single_supplied : (s : Side) (n lock : ℕ) (precious : Bool) (bytes : List ℕ) → Sound s → Carried s n → Single s n → s.live ≡ true → first s.down ≡ Some (Supplying lock precious bytes) → s.step ≡ 0 → Single (hears s (Supplying lock precious bytes)) (gate s.holds n)
+pub single_supplied : (s : Side) (n lock : ℕ) (precious : Bool) (bytes : List ℕ) → Sound s → Carried s n → Single s n → s.live ≡ true → first s.down ≡ Some (Supplying lock precious bytes) → s.step ≡ 0 → Single (side_taken_down s (Supplying lock precious bytes)) (gate s.holds n)
 single_supplied s n lock precious bytes ok k x live is none = grind (arith, nat_tests)
 
-pub single_flushed : (s : Side) (n count returns lock : ℕ) → Sound s → Carried s n → Single s n → s.live ≡ true → first s.down ≡ Some (Locking count returns true lock true) → s.step ≡ 0 → Single (hears s (Locking count returns true lock true)) (gate s.holds n)
+pub single_flushed : (s : Side) (n count returns lock : ℕ) → Sound s → Carried s n → Single s n → s.live ≡ true → first s.down ≡ Some (Locking count returns true lock true) → s.step ≡ 0 → Single (side_taken_down s (Locking count returns true lock true)) (gate s.holds n)
 single_flushed s n count returns lock ok k x live is none = grind (arith, nat_tests, loose_all (rest s.down), opens_le (rest s.down), replies_le 1 (rest s.down))
 
-pub single_cleaned : (s : Side) (n count returns lock : ℕ) → Sound s → Carried s n → Single s n → s.live ≡ true → first s.down ≡ Some (Locking count returns false lock true) → s.step ≡ 0 → Single (hears s (Locking count returns false lock true)) (gate s.holds n)
+pub single_cleaned : (s : Side) (n count returns lock : ℕ) → Sound s → Carried s n → Single s n → s.live ≡ true → first s.down ≡ Some (Locking count returns false lock true) → s.step ≡ 0 → Single (side_taken_down s (Locking count returns false lock true)) (gate s.holds n)
 single_cleaned s n count returns lock ok k x live is none = grind (arith, nat_tests, loose_all (rest s.down), opens_le (rest s.down), replies_le 1 (rest s.down))
 
-pub single_unlocked : (s : Side) (n count returns lock : ℕ) → Sound s → Carried s n → Single s n → s.live ≡ true → first s.down ≡ Some (Locking count returns false lock false) → s.step ≡ 0 → Single (hears s (Locking count returns false lock false)) (gate s.holds n)
+pub single_unlocked : (s : Side) (n count returns lock : ℕ) → Sound s → Carried s n → Single s n → s.live ≡ true → first s.down ≡ Some (Locking count returns false lock false) → s.step ≡ 0 → Single (side_taken_down s (Locking count returns false lock false)) (gate s.holds n)
 single_unlocked s n count returns lock ok k x live is none = grind (arith, nat_tests)
 
 pub single_start : Single nobody 0

@@ -3,11 +3,11 @@ use Rattle.std.proofs.Common.{◌≡◌, ℕ, ◌+◌, ◌<◌, ◌≢◌, ◌�
 use Rattle.std.proofs.lemmas.Bool.Decides.{nat_tests}
 use native.Mathlib.Decide.{ℕ_discrete}
 use Rattle.vm_model.specs.Words.{UpWord, Asking, Unlocking, Returning, Doing, Ending, OtherUp, DownWord, Supplying, Locking, Lacking, Failing, Readying, OtherDown, ActEffect, Opens, SendsUp, TakenUp, SentDown, TakesDown, Puts, Drops, Stores, StepBegins, Act, to_others}
-use Rattle.vm_model.specs.Side.{Side, done, reaches, hears, side_after, side}
+use Rattle.vm_model.specs.Side.{Side, done, is_open_to, side_taken_down, side_after, side}
 use Rattle.vm_model.specs.Waiters.{Waiter, waiters, readers}
 use Rattle.vm_model.specs.Server.{first, Wanting, joined, stays, trimmed_line, line, kept}
-use Rattle.vm_model.specs.PageLicences.{May, Cause, Licensed}
-use Rattle.vm_model.specs.Coherence.{Done, begins_step, StepsDone, Prompt, SomebodyIsAwaited, Quiet, NothingIsAsked, NobodyWaits}
+use Rattle.vm_model.specs.PageLicences.{HostMay, Cause, ActsLicensed}
+use Rattle.vm_model.specs.Coherence.{Done, begins_step, StepsDone, WaitersHaveAsked, SomebodyIsAwaited, Quiet, NothingIsAsked, NobodyWaits}
 use Rattle.vm_coherence.proofs.Sound.{Fair, Sound}
 use Rattle.vm_coherence.proofs.Line.{request, upgrade, total, total_end, without_upgrade}
 use Rattle.vm_coherence.proofs.Law.{never, World, cause, own_side, other_side, joined_upgrade, world}
@@ -34,7 +34,7 @@ joined_own k e s n ws is = grind (arith, nat_tests, total_end, without_upgrade)
 
 -- one host
 
-hears_one : (w : DownWord) (s : Side) (n control : ℕ) → Sound s → Carried s n → s.live ≡ true → s.control ≡ control → first s.down ≡ Some w → s.step ≡ 0 → Carried (hears s w) (gate (hears s w).holds n)
+hears_one : (w : DownWord) (s : Side) (n control : ℕ) → Sound s → Carried s n → s.live ≡ true → s.control ≡ control → first s.down ≡ Some w → s.step ≡ 0 → Carried (side_taken_down s w) (gate (side_taken_down s w).holds n)
 hears_one (Supplying lock precious bytes) s n control ok k live mine is none = carried_supplied s n control lock precious bytes ok k live mine is none
 hears_one (Locking count returns flush lock reply) s n control ok k live mine is none = carried_locked s n count returns lock flush reply ok k live is none
 hears_one Lacking s n control ok k live mine is none = absurd (never s Lacking ok refl is)
@@ -43,7 +43,7 @@ hears_one Readying s n control ok k live mine is none = carried_ready s n ok k n
 hears_one OtherDown s n control ok k live mine is none = carried_rest s n ok k none
 
 -- what a host takes, where its control is the live one or not
-hears_if : (ws : List Waiter) (rs : List ℕ) (w : DownWord) (s : Side) (n control : ℕ) (b : Bool) → reaches s control ≡ b → Sound s → Carried s n → May ws rs s (TakesDown control w) → s.step ≡ 0 → Carried (if b then hears s w else record s { step = 0 }) (gate (if b then hears s w else record s { step = 0 }).holds n)
+hears_if : (ws : List Waiter) (rs : List ℕ) (w : DownWord) (s : Side) (n control : ℕ) (b : Bool) → is_open_to s control ≡ b → Sound s → Carried s n → HostMay ws rs s (TakesDown control w) → s.step ≡ 0 → Carried (if b then side_taken_down s w else record s { step = 0 }) (gate (if b then side_taken_down s w else record s { step = 0 }).holds n)
 hears_if ws rs w s n control false is ok k may none = carried_rest s n ok k none
 hears_if ws rs OtherDown s n control true is ok k may none = carried_rest s n ok k none
 hears_if ws rs Readying s n control true is ok k may none = carried_ready s n ok k none
@@ -52,7 +52,7 @@ hears_if ws rs w s n control true is ok k may none =
     let mine : s.control ≡ control = grind (arith, nat_tests) in
     hears_one w s n control ok k live mine (may mine live) none
 
-carried_sent : (ws : List Waiter) (rs : List ℕ) (w : UpWord) (control : ℕ) (s : Side) (n : ℕ) → Sound s → Carried s n → May ws rs s (SendsUp control w) → Carried (side_after s (SendsUp control w)) (after s n (SendsUp control w))
+carried_sent : (ws : List Waiter) (rs : List ℕ) (w : UpWord) (control : ℕ) (s : Side) (n : ℕ) → Sound s → Carried s n → HostMay ws rs s (SendsUp control w) → Carried (side_after s (SendsUp control w)) (after s n (SendsUp control w))
 carried_sent ws rs (Asking asker access) control s n ok k may = carried_asking ws rs s n control asker access ok k may.0 may.2
 carried_sent ws rs (Unlocking access) control s n ok k may = carried_unlocking ws rs s n control access ok k may.2
 carried_sent ws rs (Returning dirty kept bytes) control s n ok k may = carried_returning ws rs s n control dirty kept bytes ok k may.2
@@ -83,7 +83,7 @@ carried_own (SentDown control Lacking) ws rs s n ok k may none orders = absurd m
 carried_own (SentDown control Failing) ws rs s n ok k may none orders = absurd may
 carried_own (SentDown control Readying) ws rs s n ok k may none orders = carried_same s n k
 carried_own (SentDown control OtherDown) ws rs s n ok k may none orders = carried_same s n k
-carried_own (TakesDown control w) ws rs s n ok k may none orders = hears_if ws rs w s n control (reaches s control) refl ok k may (none refl)
+carried_own (TakesDown control w) ws rs s n ok k may none orders = hears_if ws rs w s n control (is_open_to s control) refl ok k may (none refl)
 carried_own (Puts bytes dirty) ws rs s n ok k may none orders = absurd may
 carried_own Drops ws rs s n ok k may none orders = carried_drops s n ok k
 carried_own (Stores task at size value) ws rs s n ok k may none orders = carried_stores s n task at size value ok k
@@ -135,7 +135,7 @@ each_after size a past w k c none h = elim (ℕ_discrete a.host h) [
       (carried_others a.effect (side h past) (upgrades h past) (w.each h) (k.each h) (λ begins. none begins h)))
 ]
 
-pub waits : (size : ℕ) (past : List Act) → Licensed size past → StepsDone past → Waits past
+pub waits : (size : ℕ) (past : List Act) → ActsLicensed size past → StepsDone past → Waits past
 waits size [] licensed done = record { each = λ h. carried_start }
 waits size (a ∷ past) licensed done =
     record { each = each_after size a past (world size past licensed.1) (waits size past licensed.1 done.1) licensed.0 done.0 }
@@ -166,7 +166,7 @@ not_true : (b : Bool) → (b ≡ true → ⊥) → b ≡ false
 not_true true never = absurd (never refl)
 not_true false never = refl
 
-pub answered : (size : ℕ) (past : List Act) → Licensed size past → StepsDone past → SomebodyIsAwaited past → Quiet past → NothingIsAsked past
+pub answered : (size : ℕ) (past : List Act) → ActsLicensed size past → StepsDone past → SomebodyIsAwaited past → Quiet past → NothingIsAsked past
 answered size past licensed done served quiet =
     record {
       none_asked = λ h. not_true (side h past).asked (λ asked. no_line past k served quiet (some_line (request h) (line past) (subst (λ (n : ℕ). 0 < n) (sym (w.counted h)) (asked_pending (side h past) (upgrades h past) (k.each h) (quiet.no_up h) (quiet.no_down h) asked))));
@@ -185,7 +185,7 @@ no_waiter : (ws : List Waiter) → (ws ≢ [] → ⊥) → ws ≡ []
 no_waiter [] never = refl
 no_waiter (w ∷ ws) never = absurd (never (λ is. absurd (cc)))
 
-pub nobody_waits : (past : List Act) → Prompt past → Quiet past → NothingIsAsked past → NobodyWaits past
+pub nobody_waits : (past : List Act) → WaitersHaveAsked past → Quiet past → NothingIsAsked past → NobodyWaits past
 nobody_waits past prompt quiet answered h = no_waiter (waiters h past) (λ some. elim (prompt h some) [
   | inl asked ↦ both (side h past).asked asked (answered.none_asked h)
   | inr other ↦ elim other [
@@ -194,5 +194,5 @@ nobody_waits past prompt quiet answered h = no_waiter (waiters h past) (λ some.
   ]
 ])
 
-pub still : (size : ℕ) (past : List Act) → Licensed size past → StepsDone past → SomebodyIsAwaited past → Prompt past → Quiet past → NobodyWaits past
+pub still : (size : ℕ) (past : List Act) → ActsLicensed size past → StepsDone past → SomebodyIsAwaited past → WaitersHaveAsked past → Quiet past → NobodyWaits past
 still size past licensed done served prompt quiet = nobody_waits past prompt quiet (answered size past licensed done served quiet)

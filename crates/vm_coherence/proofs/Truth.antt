@@ -3,10 +3,10 @@ use Rattle.std.proofs.Common.{◌≡◌, ℕ, ◌<◌, ◌≤◌, ◌∙◌, sub
 use Rattle.std.proofs.lemmas.Bool.Decides.{nat_tests}
 use Rattle.vm_base.specs.Pages.{little_endian_bytes, with_bytes}
 use Rattle.vm_model.specs.Words.{UpWord, Asking, Unlocking, Returning, Doing, Ending, OtherUp, DownWord, Supplying, Locking, Lacking, Failing, Readying, OtherDown, ActEffect, Opens, SendsUp, TakenUp, SentDown, TakesDown, Puts, Drops, Begins, Loads, Stores, Fails, BeginsCopy, Copies, EndsCopy, StepBegins, Nothing, to_others}
-use Rattle.vm_model.specs.Side.{Side, fresh, sent_up, taken_up, reaches, put_down, sent_down, locked, supplied, hears, side_after}
+use Rattle.vm_model.specs.Side.{Side, has_alone, side_sent_up, side_taken_up, is_open_to, put_down, side_sent_down, locked, supplied, side_taken_down, side_after}
 use Rattle.vm_model.specs.Waiters.{Waiter, waiter_of}
 use Rattle.vm_model.specs.Server.{first, current_after}
-use Rattle.vm_model.specs.PageLicences.{MaySend, MayStore, May}
+use Rattle.vm_model.specs.PageLicences.{MaySend, MayStore, HostMay}
 use Rattle.vm_model.specs.Coherence.{SaysDown, CarryDown, Carries}
 use Rattle.vm_coherence.proofs.Queues.{sum_up, saves, supplies, sum_down, drain, drain_up, carry_up_end, carry_down_end, carry_up_rest, carry_down_rest, carry_up_none, carry_down_none, drain_supplies}
 use Rattle.vm_coherence.proofs.Sound.{Fair, Sound}
@@ -14,9 +14,9 @@ use Rattle.vm_coherence.proofs.Law.{keep, writes}
 use Rattle.vm_coherence.proofs.Orderly.{Orderly}
 
 carry_put : (page : List ℕ) (s : Side) (control : ℕ) (w : DownWord) → CarryDown page s.down → SaysDown page w → CarryDown page (put_down s control w)
-carry_put page s control w c says = elim (reaches s control) as (λ b. CarryDown page (if b then s.down ++ w ∷ [] else s.down)) [ true ↦ carry_down_end page s.down w c says | false ↦ c ]
+carry_put page s control w c says = elim (is_open_to s control) as (λ b. CarryDown page (if b then s.down ++ w ∷ [] else s.down)) [ true ↦ carry_down_end page s.down w c says | false ↦ c ]
 
-carry_sent : (ws : List Waiter) (rs : List ℕ) (w : UpWord) (page : List ℕ) (s : Side) → MaySend ws rs s w → Carries page s → Carries page (sent_up s w)
+carry_sent : (ws : List Waiter) (rs : List ℕ) (w : UpWord) (page : List ℕ) (s : Side) → MaySend ws rs s w → Carries page s → Carries page (side_sent_up s w)
 carry_sent ws rs (Asking asker access) page s may c = record { here = c.here; coming = c.coming; going = carry_up_end page s.up (Asking asker access) c.going tt }
 carry_sent ws rs (Unlocking access) page s may c = record { here = c.here; coming = c.coming; going = carry_up_end page s.up (Unlocking access) c.going tt }
 carry_sent ws rs (Returning dirty keep bytes) page s may c =
@@ -29,7 +29,7 @@ carry_sent ws rs (Doing control count) page s may c = record { here = c.here; co
 carry_sent ws rs (Ending control) page s may c = record { here = c.here; coming = tt; going = carry_up_end page s.up (Ending control) c.going tt }
 carry_sent ws rs OtherUp page s may c = c
 
-carry_taken : (w : UpWord) (page : List ℕ) (s : Side) → Carries page s → Carries page (taken_up s w)
+carry_taken : (w : UpWord) (page : List ℕ) (s : Side) → Carries page s → Carries page (side_taken_up s w)
 carry_taken (Asking asker access) page s c = record { here = c.here; coming = c.coming; going = carry_up_rest page s.up c.going }
 carry_taken (Unlocking access) page s c = record { here = c.here; coming = c.coming; going = carry_up_rest page s.up c.going }
 carry_taken (Returning dirty keep bytes) page s c = record { here = c.here; coming = c.coming; going = carry_up_rest page s.up c.going }
@@ -37,7 +37,7 @@ carry_taken (Doing control count) page s c = record { here = c.here; coming = c.
 carry_taken (Ending control) page s c = record { here = c.here; coming = c.coming; going = carry_up_rest page s.up c.going }
 carry_taken OtherUp page s c = record { here = c.here; coming = c.coming; going = c.going }
 
-carry_answer : (w : DownWord) (control : ℕ) (page : List ℕ) (s : Side) → SaysDown page w → Carries page s → Carries page (sent_down s control w)
+carry_answer : (w : DownWord) (control : ℕ) (page : List ℕ) (s : Side) → SaysDown page w → Carries page s → Carries page (side_sent_down s control w)
 carry_answer (Supplying lock precious bytes) control page s says c = record { here = c.here; coming = carry_put page s control (Supplying lock precious bytes) c.coming says; going = c.going }
 carry_answer (Locking count returns flush lock reply) control page s says c = record { here = c.here; coming = carry_put page s control (Locking count returns flush lock reply) c.coming tt; going = c.going }
 carry_answer Lacking control page s says c = record { here = c.here; coming = carry_put page s control Lacking c.coming tt; going = c.going }
@@ -55,7 +55,7 @@ first_says page (v ∷ q) w is c = let e : v ≡ w = cc in subst (λ (u : DownWo
 locked_here : (right lock : ℕ) (flush : Bool) → 0 < locked right flush lock → 0 < right
 locked_here right lock flush some = grind (arith, nat_tests)
 
-carry_hears : (w : DownWord) (page : List ℕ) (s : Side) → Sound s → first s.down ≡ Some w → Carries page s → Carries page (hears s w)
+carry_hears : (w : DownWord) (page : List ℕ) (s : Side) → Sound s → first s.down ≡ Some w → Carries page s → Carries page (side_taken_down s w)
 carry_hears (Supplying lock precious bytes) page s ok is c =
     record { here = supply_here page s lock bytes ok (first_says page s.down (Supplying lock precious bytes) is c.coming) c.here; coming = carry_down_rest page s.down c.coming; going = c.going }
 carry_hears (Locking count returns flush lock reply) page s ok is c =
@@ -68,7 +68,7 @@ carry_hears OtherDown page s ok is c = record { here = c.here; coming = c.coming
 carry_step : (page : List ℕ) (s : Side) → Carries page s → Carries page (record s { step = 0 })
 carry_step page s c = record { here = c.here; coming = c.coming; going = c.going }
 
-carry_taking : (ws : List Waiter) (rs : List ℕ) (w : DownWord) (control : ℕ) (page : List ℕ) (s : Side) (b : Bool) → reaches s control ≡ b → Sound s → May ws rs s (TakesDown control w) → Carries page s → Carries page (if b then hears s w else record s { step = 0 })
+carry_taking : (ws : List Waiter) (rs : List ℕ) (w : DownWord) (control : ℕ) (page : List ℕ) (s : Side) (b : Bool) → is_open_to s control ≡ b → Sound s → HostMay ws rs s (TakesDown control w) → Carries page s → Carries page (if b then side_taken_down s w else record s { step = 0 })
 carry_taking ws rs w control page s false is ok may c = carry_step page s c
 carry_taking ws rs OtherDown control page s true is ok may c = carry_step page s c
 carry_taking ws rs Readying control page s true is ok may c = record { here = c.here; coming = c.coming; going = c.going }
@@ -97,7 +97,7 @@ abbrev pub SaysTruth : List ℕ → ActEffect → Type 0
 SaysTruth page (SentDown control w) = SaysDown page w
 SaysTruth page e = Unit {0}
 
-carry_send : (ws : List Waiter) (rs : List ℕ) (w : UpWord) (control : ℕ) (page : List ℕ) (s : Side) → May ws rs s (SendsUp control w) → Carries page s → Carries page (sent_up s w)
+carry_send : (ws : List Waiter) (rs : List ℕ) (w : UpWord) (control : ℕ) (page : List ℕ) (s : Side) → HostMay ws rs s (SendsUp control w) → Carries page s → Carries page (side_sent_up s w)
 carry_send ws rs OtherUp control page s may c = c
 carry_send ws rs w control page s may c = carry_sent ws rs w page s may.2 c
 
@@ -111,7 +111,7 @@ carry (Opens control ready) ws rs page s ok o may says c = record { here = c.her
 carry (SendsUp control w) ws rs page s ok o may says c = carry_send ws rs w control page s may c
 carry (TakenUp w) ws rs page s ok o may says c = carry_taken w page s c
 carry (SentDown control w) ws rs page s ok o may says c = carry_answer w control page s says c
-carry (TakesDown control w) ws rs page s ok o may says c = carry_taking ws rs w control page s (reaches s control) refl ok may c
+carry (TakesDown control w) ws rs page s ok o may says c = carry_taking ws rs w control page s (is_open_to s control) refl ok may c
 carry (Puts bytes dirty) ws rs page s ok o may says c = absurd may
 carry Drops ws rs page s ok o may says c = record { here = λ some. absurd (omega arith); coming = c.coming; going = c.going }
 carry (Begins task store at size value) ws rs page s ok o may says c = c
@@ -150,7 +150,7 @@ carry_others e page s ok o bare c = c
 -- the server's bytes are the page's, but for a host that can write and has saved nothing yet
 
 abbrev pub Settled : Side → Type 0
-Settled s = s.holds ≡ 2 → (fresh s ≡ false) × (sum_up saves s.up ≡ 0)
+Settled s = s.holds ≡ 2 → (has_alone s ≡ false) × (sum_up saves s.up ≡ 0)
 
 -- the act changes neither the page nor the server's bytes
 abbrev pub Silent : ActEffect → Type 0

@@ -5,11 +5,11 @@ use Rattle.std.proofs.lemmas.Bool.Decides.{nat_tests}
 use native.Mathlib.Decide.{ℕ_discrete}
 use Rattle.vm_base.specs.Pages.{little_endian}
 use Rattle.vm_model.specs.Words.{UpWord, Asking, Unlocking, Returning, Doing, Ending, OtherUp, DownWord, Supplying, Locking, Lacking, Failing, Readying, OtherDown, ActEffect, Opens, SendsUp, TakenUp, SentDown, TakesDown, Puts, Drops, Begins, Loads, Stores, Fails, BeginsCopy, Copies, EndsCopy, StepBegins, Nothing, Act, to_others}
-use Rattle.vm_model.specs.Side.{Side, nobody, can_read, reaches, hears, side_after, side}
+use Rattle.vm_model.specs.Side.{Side, nobody, can_read, is_open_to, side_taken_down, side_after, side}
 use Rattle.vm_model.specs.Waiters.{Waiter, waiters, readers, waiter_of}
 use Rattle.vm_model.specs.Server.{first, Wanting, line, current_after, current, kept_after, kept}
-use Rattle.vm_model.specs.PageLicences.{MayLoad, May, SupplyRow, ReplyCause, Cause, Licensed}
-use Rattle.vm_model.specs.Coherence.{Throughout, SaysUp, CarryUp, Carries, SameBytes, Reads, LoadReads, EachLoadReads, PageLegal}
+use Rattle.vm_model.specs.PageLicences.{MayLoad, HostMay, SupplyRow, ReplyCause, Cause, ActsLicensed}
+use Rattle.vm_model.specs.Coherence.{Throughout, SaysUp, CarryUp, Carries, SameBytes, WaiterReads, LoadReads, EachLoadReads, PageLegal}
 use Rattle.vm_coherence.proofs.Queues.{drain_up}
 use Rattle.vm_coherence.proofs.Sound.{Fair, Sound}
 use Rattle.vm_coherence.proofs.Law.{never, keep, World, alone_if, pending_if, cause, own_side, other_side, world, throughout_writer}
@@ -17,7 +17,7 @@ use Rattle.vm_coherence.proofs.Orderly.{Orderly, order_asking, order_unlocking, 
 use Rattle.vm_coherence.proofs.Truth.{SaysTruth, can_store, carry, IsStore, carry_others, Settled, Silent, settled_others}
 use Rattle.vm_coherence.proofs.Settled.{settled_own}
 
-order_hears : (w : DownWord) (s : Side) → Sound s → Orderly s → first s.down ≡ Some w → Orderly (hears s w)
+order_hears : (w : DownWord) (s : Side) → Sound s → Orderly s → first s.down ≡ Some w → Orderly (side_taken_down s w)
 order_hears (Supplying lock precious bytes) s ok o is = order_supplied s lock precious bytes ok o is
 order_hears (Locking count returns flush lock reply) s ok o is = order_locked s count returns lock flush reply ok o is
 order_hears Lacking s ok o is = absurd (never s Lacking ok refl is)
@@ -25,7 +25,7 @@ order_hears Failing s ok o is = absurd (never s Failing ok refl is)
 order_hears Readying s ok o is = order_ready s o
 order_hears OtherDown s ok o is = order_step s o
 
-order_taking : (ws : List Waiter) (rs : List ℕ) (s : Side) (control : ℕ) (word : DownWord) (b : Bool) → reaches s control ≡ b → Sound s → Orderly s → May ws rs s (TakesDown control word) → Orderly (if b then hears s word else record s { step = 0 })
+order_taking : (ws : List Waiter) (rs : List ℕ) (s : Side) (control : ℕ) (word : DownWord) (b : Bool) → is_open_to s control ≡ b → Sound s → Orderly s → HostMay ws rs s (TakesDown control word) → Orderly (if b then side_taken_down s word else record s { step = 0 })
 order_taking ws rs s control word false is ok o may = order_step s o
 order_taking ws rs s control OtherDown true is ok o may = order_step s o
 order_taking ws rs s control Readying true is ok o may = order_ready s o
@@ -55,7 +55,7 @@ order (SentDown control Lacking) ws rs s ok o may = absurd may
 order (SentDown control Failing) ws rs s ok o may = absurd may
 order (SentDown control Readying) ws rs s ok o may = o
 order (SentDown control OtherDown) ws rs s ok o may = o
-order (TakesDown control word) ws rs s ok o may = order_taking ws rs s control word (reaches s control) refl ok o may
+order (TakesDown control word) ws rs s ok o may = order_taking ws rs s control word (is_open_to s control) refl ok o may
 order (Puts bytes dirty) ws rs s ok o may = absurd may
 order Drops ws rs s ok o may = order_drops s ok o
 order (Begins task store at size value) ws rs s ok o may = o
@@ -149,19 +149,19 @@ order_start = grind (arith, nat_tests)
 carry_start : (page : List ℕ) → Carries page nobody
 carry_start page = record { here = λ some. absurd (omega arith); coming = tt; going = tt }
 
-pub bytes_law : (size : ℕ) (past : List Act) → Licensed size past → Bytes size past
+pub bytes_law : (size : ℕ) (past : List Act) → ActsLicensed size past → Bytes size past
 bytes_law size [] licensed = record { orders = λ h. order_start; carries = λ h. carry_start (replicate size 0); saved = λ is. refl }
 bytes_law size (a ∷ past) licensed =
     let w : World past = world size past licensed.1 in
     let b : Bytes size past = bytes_law size past licensed.1 in
     record { orders = orders_after size a past w b licensed.0; carries = carries_after size a past w b licensed.0; saved = saved_after size a past w b licensed.0 }
 
-pub same_bytes : (size : ℕ) (past : List Act) → Licensed size past → SameBytes size past
+pub same_bytes : (size : ℕ) (past : List Act) → ActsLicensed size past → SameBytes size past
 same_bytes size past licensed = (bytes_law size past licensed).carries
 
 -- a load reads what its host has
 
-load_reads : (o : Option Waiter) (s : Side) (value : ℕ) (page : List ℕ) → Carries page s → MayLoad o s value → Reads page value o
+load_reads : (o : Option Waiter) (s : Side) (value : ℕ) (page : List ℕ) → Carries page s → MayLoad o s value → WaiterReads page value o
 load_reads None s value page c may = absurd may
 load_reads (Some v) s value page c may =
     let here : 0 < s.right = some_right s may.1 in
@@ -173,14 +173,14 @@ cause_reads : (size h : ℕ) (e : ActEffect) (past : List Act) → Carries (curr
 cause_reads size h (Loads task value) past c cause = load_reads (waiter_of task (waiters h past)) (side h past) value (current size past) c cause
 cause_reads size h e past c cause = tt
 
-pub loads : (size : ℕ) (past : List Act) → Licensed size past → EachLoadReads size past
+pub loads : (size : ℕ) (past : List Act) → ActsLicensed size past → EachLoadReads size past
 loads size [] licensed = tt
 loads size (a ∷ past) licensed = (cause_reads size a.host a.effect past (same_bytes size past licensed.1 a.host) licensed.0, loads size past licensed.1)
 
-pub throughout_bytes : (size : ℕ) (past : List Act) → Licensed size past → Throughout (SameBytes size) past
+pub throughout_bytes : (size : ℕ) (past : List Act) → ActsLicensed size past → Throughout (SameBytes size) past
 throughout_bytes size [] licensed = same_bytes size [] licensed
 throughout_bytes size (a ∷ past) licensed = (same_bytes size (a ∷ past) licensed, throughout_bytes size past licensed.1)
 
-pub page_legal : (size : ℕ) (past : List Act) → Licensed size past → PageLegal size past
+pub page_legal : (size : ℕ) (past : List Act) → ActsLicensed size past → PageLegal size past
 page_legal size past licensed =
     record { licensed = licensed; one_writer = throughout_writer size past licensed; same_bytes = throughout_bytes size past licensed; loads = loads size past licensed }

@@ -21,14 +21,14 @@ ghost use Rattle.vm_model.specs.Local.{CanRead, CanWrite, local};
 ghost use Rattle.vm_model.specs.Moments.{EachEvent};
 ghost use Rattle.vm_model.specs.Side.{side};
 ghost use Rattle.vm_model.specs.Server.{current, first, line, NoRequest, NoUpgrade};
-ghost use Rattle.vm_model.specs.PageLicences.{Licensed};
+ghost use Rattle.vm_model.specs.PageLicences.{ActsLicensed};
 ghost use Rattle.vm_model.specs.PagePart.{page_part, world_part};
 ghost use Rattle.vm_coherence.specs.Crossing.{crossing};
 ghost use Rattle.vm_coherence.specs.Idle.{flushed, idle_request};
 ghost use Rattle.vm_coherence.specs.Locals.{SideIsLocal};
 ghost use Rattle.vm_coherence.specs.Remapping.{remapping};
 ghost use Rattle.vm_coherence.specs.SlowCopy.{copying, reclaimed, read_again};
-ghost use Rattle.vm_model.specs.Coherence.{Throughout, OneWriter, SameBytes, EachLoadReads, PageLegal, StepsDone, SomebodyIsAwaited, Prompt, Quiet, NothingIsAsked, NobodyWaits};
+ghost use Rattle.vm_model.specs.Coherence.{Throughout, OneWriter, SameBytes, EachLoadReads, PageLegal, StepsDone, SomebodyIsAwaited, WaitersHaveAsked, Quiet, NothingIsAsked, NobodyWaits};
 
 /// The law of one shared page, for any page size. It holds of the page's part of a history and of
 /// the page world alike, and for whatever host, also one that never appears.
@@ -39,12 +39,12 @@ ghost use Rattle.vm_model.specs.Coherence.{Throughout, OneWriter, SameBytes, Eac
 /// asked for and no unlock is outstanding, so that no access waits.
 #[tactic(auto, using(crate::proofs::Law::throughout_writer, crate::proofs::Whole::throughout_bytes, crate::proofs::Whole::loads, crate::proofs::Whole::page_legal, crate::proofs::Still::answered, crate::proofs::Still::still))]
 pub fn coherence_law()
-    ensures one_writer { (size : ℕ) (acts : List Act) → Licensed size acts → Throughout OneWriter acts }
-    ensures same_bytes { (size : ℕ) (acts : List Act) → Licensed size acts → Throughout (SameBytes size) acts }
-    ensures loads { (size : ℕ) (acts : List Act) → Licensed size acts → EachLoadReads size acts }
-    ensures legal { (size : ℕ) (acts : List Act) → Licensed size acts → PageLegal size acts }
-    ensures answered { (size : ℕ) (acts : List Act) → Licensed size acts → StepsDone acts → SomebodyIsAwaited acts → Quiet acts → NothingIsAsked acts }
-    ensures nobody_waits { (size : ℕ) (acts : List Act) → Licensed size acts → StepsDone acts → SomebodyIsAwaited acts → Prompt acts → Quiet acts → NobodyWaits acts }
+    ensures one_writer { (size : ℕ) (acts : List Act) → ActsLicensed size acts → Throughout OneWriter acts }
+    ensures same_bytes { (size : ℕ) (acts : List Act) → ActsLicensed size acts → Throughout (SameBytes size) acts }
+    ensures loads { (size : ℕ) (acts : List Act) → ActsLicensed size acts → EachLoadReads size acts }
+    ensures legal { (size : ℕ) (acts : List Act) → ActsLicensed size acts → PageLegal size acts }
+    ensures answered { (size : ℕ) (acts : List Act) → ActsLicensed size acts → StepsDone acts → SomebodyIsAwaited acts → Quiet acts → NothingIsAsked acts }
+    ensures nobody_waits { (size : ℕ) (acts : List Act) → ActsLicensed size acts → StepsDone acts → SomebodyIsAwaited acts → WaitersHaveAsked acts → Quiet acts → NobodyWaits acts }
 {}
 
 /// A worked run of the page world, of 16-byte pages: two hosts read a page and then both store. The
@@ -53,10 +53,10 @@ pub fn coherence_law()
 /// of message but `terminate` appears.
 #[tactic(auto, using(crate::proofs::Crossing::crossing_licensed, crate::proofs::Crossing::crossing_done, crate::proofs::Crossing::crossing_quiet, crate::proofs::Crossing::crossing_served, crate::proofs::Crossing::crossing_prompt))]
 pub fn crossing_run()
-    ensures licensed { Licensed 16 (world_part 16 crossing) }
+    ensures licensed { ActsLicensed 16 (world_part 16 crossing) }
     ensures done { StepsDone (world_part 16 crossing) }
     ensures served { SomebodyIsAwaited (world_part 16 crossing) }
-    ensures prompt { Prompt (world_part 16 crossing) }
+    ensures prompt { WaitersHaveAsked (world_part 16 crossing) }
     ensures quiet { Quiet (world_part 16 crossing) }
 {}
 
@@ -68,10 +68,10 @@ pub fn crossing_run()
 /// control that they name.
 #[tactic(auto, using(crate::proofs::Protocol::one_request, crate::proofs::Protocol::one_unlock, crate::proofs::Protocol::completed_awaited, crate::proofs::Protocol::ended_awaited))]
 pub fn protocol_law()
-    ensures one_request { (size h control access : ℕ) (acts : List Act) → Licensed size acts → first (side h acts).up ≡ Some (Asking control access) → NoRequest h (line acts) }
-    ensures one_unlock { (size h access : ℕ) (acts : List Act) → Licensed size acts → StepsDone acts → first (side h acts).up ≡ Some (Unlocking access) → NoUpgrade h (line acts) }
-    ensures completed { (size h control count : ℕ) (acts : List Act) → Licensed size acts → StepsDone acts → first (side h acts).up ≡ Some (Doing control count) → (side h acts).awaited_control ≡ control }
-    ensures ended { (size h control : ℕ) (acts : List Act) → Licensed size acts → StepsDone acts → first (side h acts).up ≡ Some (Ending control) → 0 < (side h acts).awaits → (side h acts).awaited_control ≡ control }
+    ensures one_request { (size h control access : ℕ) (acts : List Act) → ActsLicensed size acts → first (side h acts).up ≡ Some (Asking control access) → NoRequest h (line acts) }
+    ensures one_unlock { (size h access : ℕ) (acts : List Act) → ActsLicensed size acts → StepsDone acts → first (side h acts).up ≡ Some (Unlocking access) → NoUpgrade h (line acts) }
+    ensures completed { (size h control count : ℕ) (acts : List Act) → ActsLicensed size acts → StepsDone acts → first (side h acts).up ≡ Some (Doing control count) → (side h acts).awaited_control ≡ control }
+    ensures ended { (size h control : ℕ) (acts : List Act) → ActsLicensed size acts → StepsDone acts → first (side h acts).up ≡ Some (Ending control) → 0 < (side h acts).awaits → (side h acts).awaited_control ≡ control }
 {}
 
 /// A worked history of a whole system, of 16-byte pages: two hosts map one page and read it, host 0
@@ -79,7 +79,7 @@ pub fn protocol_law()
 /// host 0 stored. The page's part of it has a cause for each event and pays what its steps owe.
 #[tactic(auto, using(crate::proofs::Remapping::remapping_licensed, crate::proofs::Remapping::remapping_done))]
 pub fn remapping_run()
-    ensures licensed { Licensed 16 (page_part 16 0 0 remapping) }
+    ensures licensed { ActsLicensed 16 (page_part 16 0 0 remapping) }
     ensures done { StepsDone (page_part 16 0 0 remapping) }
 {}
 
@@ -88,8 +88,8 @@ pub fn remapping_run()
 /// host 0 then asks to read again though nobody waits there, that has none.
 #[tactic(auto, using(crate::proofs::Idle::flushed_licensed, crate::proofs::Idle::idle_refused))]
 pub fn idle_run()
-    ensures licensed { Licensed 16 (world_part 16 flushed) }
-    ensures idle { Licensed 16 (world_part 16 idle_request) → ⊥ }
+    ensures licensed { ActsLicensed 16 (world_part 16 flushed) }
+    ensures idle { ActsLicensed 16 (world_part 16 idle_request) → ⊥ }
 {}
 
 /// A slow copy reads too, each of its pages once. In this history, of 16-byte pages, a slow copy asks
@@ -98,9 +98,9 @@ pub fn idle_run()
 /// first page again, that has none, though the copy still waits for the second.
 #[tactic(auto, using(crate::proofs::SlowCopy::reclaimed_licensed, crate::proofs::SlowCopy::second_licensed, crate::proofs::SlowCopy::again_refused))]
 pub fn slow_copy_run()
-    ensures first { Licensed 16 (page_part 16 0 0 reclaimed) }
-    ensures second { Licensed 16 (page_part 16 0 1 copying) }
-    ensures again { Licensed 16 (page_part 16 0 0 read_again) → ⊥ }
+    ensures first { ActsLicensed 16 (page_part 16 0 0 reclaimed) }
+    ensures second { ActsLicensed 16 (page_part 16 0 1 copying) }
+    ensures again { ActsLicensed 16 (page_part 16 0 0 read_again) → ⊥ }
 {}
 
 /// A page's words are the messages of its channels, in order, so that first in, first out is said
@@ -124,8 +124,8 @@ pub fn channel_law()
 #[tactic(auto, using(crate::proofs::Locals::side_is_local, crate::proofs::Locals::one_writer, crate::proofs::Locals::local_bytes, crate::proofs::Locals::asked_live, crate::proofs::Locals::ended_live))]
 pub fn local_law()
     ensures page { (size : ℕ) (history : List Event) (h o p : ℕ) → EachEvent (IsFounded size) history → SideIsLocal (live_control h o history) (side h (page_part size o p history)) (local size h (record { object = o; page = p }) history) }
-    ensures one_writer { (size : ℕ) (history : List Event) (g h o p : ℕ) → EachEvent (IsFounded size) history → Licensed size (page_part size o p history) → g ≢ h → CanWrite (local size h (record { object = o; page = p }) history) → CanRead (local size g (record { object = o; page = p }) history) → ⊥ }
-    ensures same_bytes { (size : ℕ) (history : List Event) (h o p : ℕ) → EachEvent (IsFounded size) history → Licensed size (page_part size o p history) → (local size h (record { object = o; page = p }) history).here ≡ true → (local size h (record { object = o; page = p }) history).bytes ≡ current size (page_part size o p history) }
-    ensures asked { (size : ℕ) (past : List Event) (host : HostId) (object : ObjectId) (control access : ℕ) (page : PageNo) → EachEvent (IsFounded size) past → Licensed size (page_part size object.0 page.0 (Sent (Up host object) (Request control page access) ∷ past)) → IsFounded size (Sent (Up host object) (Request control page access)) past }
-    ensures ended { (size : ℕ) (past : List Event) (host : HostId) (object : ObjectId) (control p : ℕ) → EachEvent (IsFounded size) past → Licensed size (page_part size object.0 p (Sent (Up host object) (Terminate control) ∷ past)) → IsFounded size (Sent (Up host object) (Terminate control)) past }
+    ensures one_writer { (size : ℕ) (history : List Event) (g h o p : ℕ) → EachEvent (IsFounded size) history → ActsLicensed size (page_part size o p history) → g ≢ h → CanWrite (local size h (record { object = o; page = p }) history) → CanRead (local size g (record { object = o; page = p }) history) → ⊥ }
+    ensures same_bytes { (size : ℕ) (history : List Event) (h o p : ℕ) → EachEvent (IsFounded size) history → ActsLicensed size (page_part size o p history) → (local size h (record { object = o; page = p }) history).here ≡ true → (local size h (record { object = o; page = p }) history).bytes ≡ current size (page_part size o p history) }
+    ensures asked { (size : ℕ) (past : List Event) (host : HostId) (object : ObjectId) (control access : ℕ) (page : PageNo) → EachEvent (IsFounded size) past → ActsLicensed size (page_part size object.0 page.0 (Sent (Up host object) (Request control page access) ∷ past)) → IsFounded size (Sent (Up host object) (Request control page access)) past }
+    ensures ended { (size : ℕ) (past : List Event) (host : HostId) (object : ObjectId) (control p : ℕ) → EachEvent (IsFounded size) past → ActsLicensed size (page_part size object.0 p (Sent (Up host object) (Terminate control) ∷ past)) → IsFounded size (Sent (Up host object) (Terminate control)) past }
 {}

@@ -1,6 +1,6 @@
 -- What a place itself must say for an effect, and what it has to show.
 use Rattle.std.specs.Prelude.{ℕ, ◌&&◌, ◌≡◌, List, true, false, if◌then◌else◌, Option, Some, None}
-use Rattle.vm_flat.specs.Words.{Requesting, Returning, DownWord, Supplying, Unavailing, Erring, SpotEffect, Creates, Requests, Returns, TakesRequest, TakesReturn, Answers, Takes, Zeroes, Raises, Stores, Drops, Ends, StepEnds, Nothing}
+use Rattle.vm_flat.specs.Words.{Requesting, Returning, SpotDownWord, Supplying, Unavailing, Erring, SpotEffect, Creates, Requests, Returns, TakesRequest, TakesReturn, Answers, Takes, Zeroes, Raises, Stores, Drops, Ends, StepEnds, Nothing}
 use Rattle.vm_model.specs.Server.{first}
 use Rattle.vm_flat.specs.Spot.{Spot}
 
@@ -12,7 +12,7 @@ pub record Passed (s : Spot) : Type 0 where
   pub without : s.control ≡ 1 → s.absent ≡ true
 
 -- what the place itself must say for the effect
-abbrev pub MayAnswer : List ℕ → Spot → DownWord → Type 0
+abbrev pub MayAnswer : List ℕ → Spot → SpotDownWord → Type 0
 MayAnswer z s (Supplying bytes) = (s.step ≡ true) × (s.kept ≡ Some bytes)
 MayAnswer z s Unavailing = (s.step ≡ true) × (s.kept ≡ (if s.file then Some z else None))
 MayAnswer z s Erring = s.step ≡ true

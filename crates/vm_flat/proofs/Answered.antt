@@ -3,7 +3,7 @@ use Rattle.std.proofs.Common.{◌<◌, ◌≡◌, ℕ, ◌+◌, ◌≤◌, List,
 use Rattle.std.proofs.lemmas.Bool.Decides.{nat_tests}
 use Rattle.std.specs.Prelude.{◌==◌, ◌&&◌}
 use native.Mathlib.Decide.{ℕ_discrete}
-use Rattle.vm_flat.specs.Words.{DownWord, Answers, Nothing}
+use Rattle.vm_flat.specs.Words.{SpotDownWord, Answers, Nothing}
 use Rattle.vm_flat.specs.Spot.{spot_after}
 use Rattle.vm_flat.proofs.Allowed.{May}
 use Rattle.vm_flat.proofs.Deeds.{is_file, covered, Ground, Deed, Answered, said, row, objects, link, spot, flat}
@@ -14,7 +14,7 @@ use Rattle.vm_flat.proofs.Traffic.{After, rest_nothing}
 use Rattle.vm_flat.proofs.Stored.{and_no, and_yes, page_no, page_yes, no_if, not_ours}
 
 -- it says what was known
-after_plain : (z : Ground) (own : Bool) (o p : ℕ) (word : DownWord) (past : List Deed) → World z past → (Ours z own o → May z.zeros (spot z o p past) (Answers false word)) → World z (Answered own false o p word ∷ past)
+after_plain : (z : Ground) (own : Bool) (o p : ℕ) (word : SpotDownWord) (past : List Deed) → World z past → (Ours z own o → May z.zeros (spot z o p past) (Answers false word)) → World z (Answered own false o p word ∷ past)
 after_plain z own o p word past w c =
     record {
       shape = w.shape;
@@ -25,7 +25,7 @@ after_plain z own o p word past w c =
     }
 
 -- it says what the file has
-after_told : (z : Ground) (k q : ℕ) (word : DownWord) (past : List Deed) → World z past → May z.zeros (spot z k q past) (Answers true word) → OwnRegion z k past → World z (Answered true true k q word ∷ past)
+after_told : (z : Ground) (k q : ℕ) (word : SpotDownWord) (past : List Deed) → World z past → May z.zeros (spot z k q past) (Answers true word) → OwnRegion z k past → World z (Answered true true k q word ∷ past)
 after_told z k q word past w may c =
     record { shape = w.shape; regional = regional; places = λ o p ours. places_if o p ours (k == o && q == p) refl }
   where
@@ -86,7 +86,7 @@ after_told z k q word past w may c =
     places_if o p ours false is = other o p ours (λ e f. absurd (grind (arith, nat_tests)))
 
 -- it is about an object that is not in use here
-after_away : (z : Ground) (own : Bool) (k q : ℕ) (word : DownWord) (past : List Deed) → World z past → Foreign z own k k past → World z (Answered own true k q word ∷ past)
+after_away : (z : Ground) (own : Bool) (k q : ℕ) (word : SpotDownWord) (past : List Deed) → World z past → Foreign z own k k past → World z (Answered own true k q word ∷ past)
 after_away z own k q word past w f =
     record { shape = w.shape; regional = regional; places = places }
   where
@@ -109,7 +109,7 @@ after_away z own k q word past w f =
         (w.places o p ours) (λ x. x) (λ x. x) (λ x. view_is o p ours) (λ reach none backed. view_is (link z o past).under ((link z o past).shift + p) (w.shape.covers_under o ours backed))
         (λ reach barren n l lp path. (view_is l lp (path_covered z n o p l lp past w.shape ours path) ∙ (barren n l lp path).0, (barren n l lp path).1)))
 
-pub after_answered : (z : Ground) (own tells : Bool) (o p : ℕ) (word : DownWord) (past : List Deed) → World z past → Cause z (Answered own tells o p word) past → World z (Answered own tells o p word ∷ past)
+pub after_answered : (z : Ground) (own tells : Bool) (o p : ℕ) (word : SpotDownWord) (past : List Deed) → World z past → Cause z (Answered own tells o p word) past → World z (Answered own tells o p word ∷ past)
 after_answered z own false o p word past w c = after_plain z own o p word past w c.0
 after_answered z own true o p word past w c = elim (c.1 refl) [
   | inl ours ↦ subst (λ (b : Bool). World z (Answered b true o p word ∷ past)) (sym ours.0.on_host) (after_told z o p word past w (c.0 ours.0) ours.1)

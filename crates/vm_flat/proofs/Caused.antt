@@ -23,7 +23,7 @@ use Rattle.vm_model.specs.Regions.{next_region, region_of, backing_of}
 use Rattle.vm_legal.specs.Used.{made_here}
 use Rattle.vm_flat.proofs.Uses.{in_use}
 use Rattle.vm_model.specs.Channels.{queue}
-use Rattle.vm_flat.specs.Words.{UpWord, Requesting, Returning, DownWord, Supplying, Unavailing, Erring, TakesRequest, TakesReturn, Answers, Takes}
+use Rattle.vm_flat.specs.Words.{SpotUpWord, Requesting, Returning, SpotDownWord, Supplying, Unavailing, Erring, TakesRequest, TakesReturn, Answers, Takes}
 use Rattle.vm_model.specs.Side.{rest}
 use Rattle.vm_model.specs.Server.{first}
 use Rattle.vm_flat.specs.Spot.{Spot}
@@ -419,7 +419,7 @@ file_private : (header : Header) (outside : Outside) (o : ℕ) → is_file heade
 file_private header outside o file = grind (arith, nat_tests)
 
 -- the pager's answer
-answer_cause : (header : Header) (outside : Outside) (host : ℕ) (at : HostId) (object n page : ℕ) (word : DownWord) (past : List Event) (b : Bool) → is_said header outside object ≡ b → Holds header outside past
+answer_cause : (header : Header) (outside : Outside) (host : ℕ) (at : HostId) (object n page : ℕ) (word : SpotDownWord) (past : List Event) (b : Bool) → is_said header outside object ≡ b → Holds header outside past
     → (is_private header outside object ≡ true → S.Answers header outside at.0 object n page past) → (Ours (ground header outside) (at.0 == host && n == last_control host object past) object → b ≡ false → May (zeros header) (spot header outside host object page past) (Answers false word))
     → Cause (ground header outside) (D.Answered (at.0 == host && n == last_control host object past) b object page word) (deeds header outside host past)
 answer_cause header outside host at object n page word past false is h answers says = (λ ours. may header outside host object page past (λ s. May (zeros header) s (Answers false word)) (says ours refl), λ e. absurd (clash false refl e))
@@ -458,7 +458,7 @@ down_cause header outside host at object n m past h c = tt
 same_page : {A : Type 0} (p : ℕ) (x y : A) → (if p == p then x else y) ≡ x
 same_page p x y = let is : (p == p) ≡ true = grind (arith, nat_tests) in ap (λ b. if b then x else y) is
 
-first_up : (header : Header) (outside : Outside) (host : ℕ) (at : HostId) (object : ObjectId) (p : ℕ) (m : Message) (w : UpWord) (past : List Event) → Holds header outside past → at.0 ≡ host → first (queue (Up at object) past) ≡ Some m → up_words p (m ∷ rest (queue (Up at object) past)) ≡ w ∷ up_words p (rest (queue (Up at object) past))
+first_up : (header : Header) (outside : Outside) (host : ℕ) (at : HostId) (object : ObjectId) (p : ℕ) (m : Message) (w : SpotUpWord) (past : List Event) → Holds header outside past → at.0 ≡ host → first (queue (Up at object) past) ≡ Some m → up_words p (m ∷ rest (queue (Up at object) past)) ≡ w ∷ up_words p (rest (queue (Up at object) past))
     → first (spot header outside host object.0 p past).up ≡ Some w
 first_up header outside host at object p m w past h is head word =
     subst (λ (k : ℕ). first (spot header outside k object.0 p past).up ≡ Some w) is
@@ -476,7 +476,7 @@ taken_up_cause header outside host at object (message.Return number page dirty k
     (same_page page.0 (Returning bytes ∷ up_words page.0 (rest (queue (Up at object) past))) (up_words page.0 (rest (queue (Up at object) past)))))
 taken_up_cause header outside host at object m past h head = tt
 
-first_down : (header : Header) (outside : Outside) (host : ℕ) (at : HostId) (object : ObjectId) (n p : ℕ) (m : Message) (w : DownWord) (past : List Event) → Holds header outside past → is_private header outside object.0 ≡ true → (at.0 == host && n == last_control host object.0 past) ≡ true
+first_down : (header : Header) (outside : Outside) (host : ℕ) (at : HostId) (object : ObjectId) (n p : ℕ) (m : Message) (w : SpotDownWord) (past : List Event) → Holds header outside past → is_private header outside object.0 ≡ true → (at.0 == host && n == last_control host object.0 past) ≡ true
     → first (queue (Down at object n) past) ≡ Some m → down_words p (m ∷ rest (queue (Down at object n) past)) ≡ w ∷ down_words p (rest (queue (Down at object n) past))
     → first (spot header outside host object.0 p past).down ≡ Some w
 first_down header outside host at object n p m w past h ours own head word =

@@ -14,7 +14,7 @@ use Rattle.vm_legal.specs.Living.{lives_on}
 use Rattle.vm_legal.specs.Used.{is_kept, made_here}
 use Rattle.vm_model.specs.Controls.{is_control, last_control, live_control}
 use Rattle.vm_legal.specs.Flat.{StoreChange, change_of, made_over}
-use Rattle.vm_flat.specs.Words.{DownWord, Supplying, Unavailing, Erring}
+use Rattle.vm_flat.specs.Words.{SpotDownWord, Supplying, Unavailing, Erring}
 use Rattle.vm_legal.specs.Outside.{Outside}
 use Rattle.vm_flat.proofs.Deeds.{Ground, Deed, Line, Region, Cow, Kept, Shadowed, Zeroed, Raised, Stored, Dropped, Created, Asked, Copied, Returned, TookRequest, TookReturn, Answered, Took, Terminated, Elsewhere}
 
@@ -101,13 +101,13 @@ taken_up_case P a b c own object (message.Request control page access) = a own o
 taken_up_case P a b c own object (message.Return control page dirty keep bytes) = b own object page.0 bytes
 taken_up_case P a b c own object other = c
 
-pub down_case : (P : Deed → Type 0) (own tells : Bool) → ((o p : ℕ) (word : DownWord) → P (Answered own tells o p word)) → P Elsewhere → (object : ℕ) (m : Message) → P (down_deed own tells object m)
+pub down_case : (P : Deed → Type 0) (own tells : Bool) → ((o p : ℕ) (word : SpotDownWord) → P (Answered own tells o p word)) → P Elsewhere → (object : ℕ) (m : Message) → P (down_deed own tells object m)
 down_case P own tells a b object (message.Supply page lock precious bytes) = a object page.0 (Supplying bytes)
 down_case P own tells a b object (message.Unavailable page) = a object page.0 Unavailing
 down_case P own tells a b object (message.Error page reason) = a object page.0 Erring
 down_case P own tells a b object other = b
 
-pub taken_down_case : (P : Deed → Type 0) → ((own : Bool) (o p : ℕ) (word : DownWord) → P (Took own o p word)) → P Line → (own : Bool) (object : ℕ) (m : Message) → P (taken_down_deed own object m)
+pub taken_down_case : (P : Deed → Type 0) → ((own : Bool) (o p : ℕ) (word : SpotDownWord) → P (Took own o p word)) → P Line → (own : Bool) (object : ℕ) (m : Message) → P (taken_down_deed own object m)
 taken_down_case P a b own object (message.Supply page lock precious bytes) = a own object page.0 (Supplying bytes)
 taken_down_case P a b own object (message.Unavailable page) = a own object page.0 Unavailing
 taken_down_case P a b own object (message.Error page reason) = a own object page.0 Erring

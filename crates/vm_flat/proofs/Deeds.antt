@@ -2,7 +2,7 @@
 -- objects, places, and the flat map. Lists have the newest first.
 use Rattle.std.specs.Prelude.{not, nat_lt, ℕ, suc, ◌+◌, ◌==◌, List, [], ◌∷◌, Bool, true, false, if◌then◌else◌, ◌&&◌, ◌||◌}
 use Rattle.vm_base.specs.Pages.{with_bytes}
-use Rattle.vm_flat.specs.Words.{DownWord, Supplying, Unavailing, Erring, SpotEffect, Creates, Requests, Returns, TakesRequest, TakesReturn, Answers, Takes, Zeroes, Raises, Stores, Drops, Ends, StepEnds, Nothing}
+use Rattle.vm_flat.specs.Words.{SpotDownWord, Supplying, Unavailing, Erring, SpotEffect, Creates, Requests, Returns, TakesRequest, TakesReturn, Answers, Takes, Zeroes, Raises, Stores, Drops, Ends, StepEnds, Nothing}
 use Rattle.vm_flat.specs.Spot.{Spot, first_spot, spot_after}
 
 -- What does not change: the page of zeros; how many objects are declared, and which of them are
@@ -45,8 +45,8 @@ pub data Deed : Type 0 where
   TookRequest : (own : Bool) → (object : ℕ) → (page : ℕ) → Deed
   TookReturn : (own : Bool) → (object : ℕ) → (page : ℕ) → (bytes : List ℕ) → Deed
   -- `tells`: it gives the object's region the page that it says
-  Answered : (own : Bool) → (tells : Bool) → (object : ℕ) → (page : ℕ) → (word : DownWord) → Deed
-  Took : (own : Bool) → (object : ℕ) → (page : ℕ) → (word : DownWord) → Deed
+  Answered : (own : Bool) → (tells : Bool) → (object : ℕ) → (page : ℕ) → (word : SpotDownWord) → Deed
+  Took : (own : Bool) → (object : ℕ) → (page : ℕ) → (word : SpotDownWord) → Deed
   Terminated : (own : Bool) → (object : ℕ) → Deed
   Elsewhere : Deed
 
@@ -174,7 +174,7 @@ control z o (Terminated own object ∷ past) = if own && object == o then (if is
 control z o (e ∷ past) = control z o past
 
 -- the page that an answer gives
-abbrev pub said : List ℕ → DownWord → List ℕ → List ℕ
+abbrev pub said : List ℕ → SpotDownWord → List ℕ → List ℕ
 said z (Supplying bytes) was = bytes
 said z Unavailing was = z
 said z Erring was = was

@@ -1,10 +1,10 @@
 -- All places of a file object are pages of a file.
 use Rattle.std.proofs.Common.{◌≡◌, ℕ, List, [], ◌∷◌, refl, ◌∙◌}
-use Rattle.vm_flat.specs.Words.{DownWord, Supplying, Unavailing, Erring, SpotEffect, Creates, Requests, Returns, TakesRequest, TakesReturn, Answers, Takes, Zeroes, Raises, Stores, Drops, Ends, StepEnds, Nothing}
+use Rattle.vm_flat.specs.Words.{SpotDownWord, Supplying, Unavailing, Erring, SpotEffect, Creates, Requests, Returns, TakesRequest, TakesReturn, Answers, Takes, Zeroes, Raises, Stores, Drops, Ends, StepEnds, Nothing}
 use Rattle.vm_flat.specs.Spot.{Spot, spot_after}
 use Rattle.vm_flat.proofs.Deeds.{Ground, is_file, Deed, spot, effect}
 
-takes_file : (z : List ℕ) (s : Spot) (word : DownWord) → (spot_after z s (Takes word)).file ≡ s.file
+takes_file : (z : List ℕ) (s : Spot) (word : SpotDownWord) → (spot_after z s (Takes word)).file ≡ s.file
 takes_file z s (Supplying bytes) = refl
 takes_file z s Unavailing = refl
 takes_file z s Erring = refl

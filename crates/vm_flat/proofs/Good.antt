@@ -3,7 +3,7 @@ use Rattle.std.proofs.Common.{◌≡◌, ℕ, List, arith, Bool, true, false, Op
 use Rattle.std.proofs.lemmas.Bool.Decides.{nat_tests}
 use Rattle.std.specs.Prelude.{◌⊎◌}
 use Rattle.vm_base.specs.Pages.{with_bytes}
-use Rattle.vm_flat.specs.Words.{DownWord, Supplying, Unavailing, Erring, Creates, Requests, Returns, TakesRequest, TakesReturn, Answers, Takes, Zeroes, Raises, Stores, Drops, Ends, StepEnds, Nothing}
+use Rattle.vm_flat.specs.Words.{SpotDownWord, Supplying, Unavailing, Erring, Creates, Requests, Returns, TakesRequest, TakesReturn, Answers, Takes, Zeroes, Raises, Stores, Drops, Ends, StepEnds, Nothing}
 use Rattle.vm_flat.specs.Spot.{Spot, spot_after}
 use Rattle.vm_flat.proofs.Allowed.{Passed, May, content}
 use Rattle.vm_flat.proofs.Causes.{Void}
@@ -96,7 +96,7 @@ good_takes_return z R U B v b w s bytes g may =
       blank = g.blank;
     }
 
-pub good_answers : (z : List ℕ) (R U B : Type 0) (v : List ℕ) (b : Bool) (w : List ℕ) (s : Spot) (word : DownWord) → Good z R U B v b w s → May z s (Answers false word) → Good z R U B v b w (spot_after z s (Answers false word))
+pub good_answers : (z : List ℕ) (R U B : Type 0) (v : List ℕ) (b : Bool) (w : List ℕ) (s : Spot) (word : SpotDownWord) → Good z R U B v b w s → May z s (Answers false word) → Good z R U B v b w (spot_after z s (Answers false word))
 good_answers z R U B v b w s word g may =
     record {
       sound = keep_answers z s word g.sound may;
@@ -105,7 +105,7 @@ good_answers z R U B v b w s word g may =
     }
 
 -- where the answer says what the file has, the object shows that
-pub good_tells : (z : List ℕ) (R U B : Type 0) (v : List ℕ) (b : Bool) (w : List ℕ) (s : Spot) (word : DownWord) → Good z R U B v b w s → May z s (Answers true word) → Good z R U B (said z word v) b w (spot_after z s (Answers true word))
+pub good_tells : (z : List ℕ) (R U B : Type 0) (v : List ℕ) (b : Bool) (w : List ℕ) (s : Spot) (word : SpotDownWord) → Good z R U B v b w s → May z s (Answers true word) → Good z R U B (said z word v) b w (spot_after z s (Answers true word))
 good_tells z R U B v b w s word g may =
     record {
       sound = keep_tells z s word g.sound may;
@@ -134,12 +134,12 @@ good_tells z R U B v b w s word g may =
     now_zero : content (spot_after z s (Answers true Unavailing)) ≡ Some z
     now_zero = grind arith
 
-    fits : (word : DownWord) → R → Fits z B (said z word v) b w (spot_after z s (Answers true word))
+    fits : (word : SpotDownWord) → R → Fits z B (said z word v) b w (spot_after z s (Answers true word))
     fits (Supplying bytes) r = record { solid = λ c e. some_is bytes c (sym (now bytes) ∙ e); through = λ e. absurd (none_is bytes (sym (now bytes) ∙ e)); bottom = λ e. absurd (none_is bytes (sym (now bytes) ∙ e)); zeros = λ e here. absurd (no_here here); living = lives r }
     fits Unavailing r = record { solid = λ c e. some_is z c (sym now_zero ∙ e); through = λ e. absurd (none_is z (sym now_zero ∙ e)); bottom = λ e. absurd (none_is z (sym now_zero ∙ e)); zeros = λ e here. absurd (no_here here); living = lives r }
     fits Erring r = record { solid = (g.fits r).solid; through = (g.fits r).through; bottom = (g.fits r).bottom; zeros = λ e here. absurd (no_here here); living = lives r }
 
-takes_come : (z : List ℕ) (B : Type 0) (s : Spot) (word : DownWord) → Sound z s → May z s (Takes word) → content (spot_after z s (Takes word)) ≡ None → (spot_after z s (Takes word)).here ≡ true → (s.here ≡ true) ⊎ B
+takes_come : (z : List ℕ) (B : Type 0) (s : Spot) (word : SpotDownWord) → Sound z s → May z s (Takes word) → content (spot_after z s (Takes word)) ≡ None → (spot_after z s (Takes word)).here ≡ true → (s.here ≡ true) ⊎ B
 takes_come z B s (Supplying bytes) ok may none here =
     let saved : content (spot_after z s (Takes (Supplying bytes))) ≡ content s = content_saved z s (Takes (Supplying bytes)) ok may tt in
     let said : s.returned ≡ Some bytes = supplied_returned z s bytes ok may in
@@ -147,17 +147,17 @@ takes_come z B s (Supplying bytes) ok may none here =
 takes_come z B s Unavailing ok may none here = inl here
 takes_come z B s Erring ok may none here = inl here
 
-pub takes_control : (z : List ℕ) (s : Spot) (word : DownWord) → (spot_after z s (Takes word)).control ≡ s.control
+pub takes_control : (z : List ℕ) (s : Spot) (word : SpotDownWord) → (spot_after z s (Takes word)).control ≡ s.control
 takes_control z s (Supplying bytes) = refl
 takes_control z s Unavailing = refl
 takes_control z s Erring = refl
 
-takes_blank : (z : List ℕ) (s : Spot) (word : DownWord) → (s.here ≡ false) × (s.control ≡ 0) × (s.file ≡ false) → ((spot_after z s (Takes word)).here ≡ false) × ((spot_after z s (Takes word)).control ≡ 0) × ((spot_after z s (Takes word)).file ≡ false)
+takes_blank : (z : List ℕ) (s : Spot) (word : SpotDownWord) → (s.here ≡ false) × (s.control ≡ 0) × (s.file ≡ false) → ((spot_after z s (Takes word)).here ≡ false) × ((spot_after z s (Takes word)).control ≡ 0) × ((spot_after z s (Takes word)).file ≡ false)
 takes_blank z s (Supplying bytes) was = grind (arith, nat_tests)
 takes_blank z s Unavailing was = was
 takes_blank z s Erring was = was
 
-pub good_takes : (z : List ℕ) (R U B : Type 0) (v : List ℕ) (b : Bool) (w : List ℕ) (s : Spot) (word : DownWord) → Good z R U B v b w s → May z s (Takes word) → Good z R U B v b w (spot_after z s (Takes word))
+pub good_takes : (z : List ℕ) (R U B : Type 0) (v : List ℕ) (b : Bool) (w : List ℕ) (s : Spot) (word : SpotDownWord) → Good z R U B v b w s → May z s (Takes word) → Good z R U B v b w (spot_after z s (Takes word))
 good_takes z R U B v b w s word g may =
     record {
       sound = keep_takes z s word g.sound may;

@@ -13,7 +13,7 @@ use Rattle.vm_model.specs.declared.message.Message.TheVariants as message
 use Rattle.vm_model.specs.declared.script.Header.{Header}
 use Rattle.vm_model.specs.Moments.{EachEvent}
 use Rattle.vm_base.specs.Entries.{page_at}
-use Rattle.vm_model.specs.Bytes.{number_in}
+use Rattle.vm_model.specs.Bytes.{number_at}
 use Rattle.vm_model.specs.Tasks.{host_of}
 use Rattle.vm_model.specs.Waiting.{Access, Loading, waiting}
 use Rattle.vm_legal.specs.Outside.{Outside, is_private, is_file, is_said}
@@ -250,16 +250,16 @@ same_host task host other past one two = ap (λ (h : Option ℕ). number_or_zero
 
 loaded : (header : Header) (outside : Outside) (e : Event) (past : List Event) → Holds header outside past → Sustained header outside e past → OwnBytes header e past → FlatBytes header outside e past
 loaded header outside (event.Loaded task object page value) past h c own =
-    record { address = c.address; bytes = c.bytes; waits = c.waits; number = λ ours. number ∙ ap (λ x. number_in x header.size c.address c.bytes) (same ours) }
+    record { address = c.address; bytes = c.bytes; waits = c.waits; number = λ ours. number ∙ ap (λ x. number_at x header.size c.address c.bytes) (same ours) }
   where
     alike : SameLoad c.address c.bytes own.address own.bytes
     alike = same_load task.0 c.address c.bytes own.address own.bytes past c.waits.waits own.waits.waits
 
-    number : value ≡ number_in (page_on header c.waits.at.host object.0 page.0 past).bytes header.size c.address c.bytes
+    number : value ≡ number_at (page_on header c.waits.at.host object.0 page.0 past).bytes header.size c.address c.bytes
     number =
-        own.number ∙ ap (λ (host : ℕ). number_in (page_on header host object.0 page.0 past).bytes header.size own.address own.bytes) (same_host task.0 c.waits.at.host own.waits.at.host past c.waits.at.lives own.waits.at.lives)
-        ∙ ap (λ (a : ℕ). number_in (page_on header c.waits.at.host object.0 page.0 past).bytes header.size a own.bytes) alike.address
-        ∙ ap (λ (b : ℕ). number_in (page_on header c.waits.at.host object.0 page.0 past).bytes header.size c.address b) alike.bytes
+        own.number ∙ ap (λ (host : ℕ). number_at (page_on header host object.0 page.0 past).bytes header.size own.address own.bytes) (same_host task.0 c.waits.at.host own.waits.at.host past c.waits.at.lives own.waits.at.lives)
+        ∙ ap (λ (a : ℕ). number_at (page_on header c.waits.at.host object.0 page.0 past).bytes header.size a own.bytes) alike.address
+        ∙ ap (λ (b : ℕ). number_at (page_on header c.waits.at.host object.0 page.0 past).bytes header.size c.address b) alike.bytes
 
     same : is_private header outside c.waits.at.entry.region.0 ≡ true → (page_on header c.waits.at.host object.0 page.0 past).bytes ≡ flat_page header outside c.waits.at.entry.region.0 (page_at header.size c.address c.waits.at.entry) past
     same ours =

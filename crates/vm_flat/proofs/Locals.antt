@@ -23,11 +23,11 @@ use Rattle.vm_model.specs.Named.{declared, named}
 use Rattle.vm_legal.specs.Licences.{Caused, HasCause, MaySendUp}
 use Rattle.vm_legal.specs.Outside.{Outside, is_file, is_file_kept, is_private, is_said, zeros}
 use Rattle.vm_legal.specs.Living.{lives_on}
-use Rattle.vm_flat.specs.Words.{DownWord, Supplying, Unavailing, Erring, SpotEffect, Creates, Requests, Returns, TakesRequest, TakesReturn, Answers, Takes, Zeroes, Raises, Stores, Drops, Ends, StepEnds, Nothing}
+use Rattle.vm_flat.specs.Words.{SpotDownWord, Supplying, Unavailing, Erring, SpotEffect, Creates, Requests, Returns, TakesRequest, TakesReturn, Answers, Takes, Zeroes, Raises, Stores, Drops, Ends, StepEnds, Nothing}
 use Rattle.vm_flat.specs.Spot.{Spot, spot_after}
 use Rattle.vm_flat.specs.Locals.{SpotIsLocal}
 use Rattle.vm_flat.proofs.Regions.{eq_yes, eq_no}
-use Rattle.vm_flat.specs.Places.{sent_up, taken_up, sent_down, taken_down, spot}
+use Rattle.vm_flat.specs.Places.{effect_sent_up, effect_taken_up, effect_sent_down, effect_taken_down, spot}
 use Rattle.vm_model.proofs.Ports.{same_control}
 
 -- what the tie reads of a place
@@ -137,15 +137,15 @@ step_idle z s = record { here = refl; bytes = refl; dirty = refl; asked = refl; 
 nothing_idle : (z : List ℕ) (s : Spot) → IsIdle s (spot_after z s Nothing)
 nothing_idle z s = record { here = refl; bytes = refl; dirty = refl; asked = refl; absent = refl; file = refl; control = refl }
 
-taken_up_idle : (z : List ℕ) (s : Spot) (o p : ℕ) (own : Bool) (object : ℕ) (m : Message) → IsIdle s (spot_after z s (taken_up o p own object m))
+taken_up_idle : (z : List ℕ) (s : Spot) (o p : ℕ) (own : Bool) (object : ℕ) (m : Message) → IsIdle s (spot_after z s (effect_taken_up o p own object m))
 taken_up_idle z s o p own object (message.Request control page access) = idle_if z s (own && (object == o && page.0 == p)) TakesRequest StepEnds (record { here = refl; bytes = refl; dirty = refl; asked = refl; absent = refl; file = refl; control = refl }) (step_idle z s)
 taken_up_idle z s o p own object (message.Return control page dirty keep bytes) = idle_if z s (own && (object == o && page.0 == p)) (TakesReturn bytes) StepEnds (record { here = refl; bytes = refl; dirty = refl; asked = refl; absent = refl; file = refl; control = refl }) (step_idle z s)
 taken_up_idle z s o p own object m = step_idle z s
 
-answers_idle : (z : List ℕ) (s : Spot) (tells : Bool) (word : DownWord) → IsIdle s (spot_after z s (Answers tells word))
+answers_idle : (z : List ℕ) (s : Spot) (tells : Bool) (word : SpotDownWord) → IsIdle s (spot_after z s (Answers tells word))
 answers_idle z s tells word = record { here = refl; bytes = refl; dirty = refl; asked = refl; absent = refl; file = refl; control = refl }
 
-sent_down_idle : (z : List ℕ) (s : Spot) (o p : ℕ) (own tells : Bool) (object : ℕ) (m : Message) → IsIdle s (spot_after z s (sent_down o p own tells object m))
+sent_down_idle : (z : List ℕ) (s : Spot) (o p : ℕ) (own tells : Bool) (object : ℕ) (m : Message) → IsIdle s (spot_after z s (effect_sent_down o p own tells object m))
 sent_down_idle z s o p own tells object (message.Supply page lock precious bytes) = idle_if z s (own && (object == o && page.0 == p)) (Answers tells (Supplying bytes)) Nothing (answers_idle z s tells (Supplying bytes)) (nothing_idle z s)
 sent_down_idle z s o p own tells object (message.Unavailable page) = idle_if z s (own && (object == o && page.0 == p)) (Answers tells Unavailing) Nothing (answers_idle z s tells Unavailing) (nothing_idle z s)
 sent_down_idle z s o p own tells object (message.Error page reason) = idle_if z s (own && (object == o && page.0 == p)) (Answers tells Erring) Nothing (answers_idle z s tells Erring) (nothing_idle z s)
@@ -216,7 +216,7 @@ request z size file last live s page true false d k k' is i = i
 request z size file last live s page false c d k k' is i = i
 
 sent : (z : List ℕ) (size host o p : ℕ) (file : Bool) (last : ℕ) (s : Spot) (page : Local) (at : HostId) (object : ObjectId) (m : Message) (past : List Event) → SpotIsLocal file last (live_control host o past) s page
-    → SpotIsLocal file (control_after host o (event.Sent (Up at object) m) last) (live_after host o (event.Sent (Up at object) m) (live_control host o past)) (spot_after z s (sent_up o p (at.0 == host) (live_control host object.0 past) object.0 m))
+    → SpotIsLocal file (control_after host o (event.Sent (Up at object) m) last) (live_after host o (event.Sent (Up at object) m) (live_control host o past)) (spot_after z s (effect_sent_up o p (at.0 == host) (live_control host object.0 past) object.0 m))
     (local_after size (if at.0 == host && object.0 == o then L.sent_effect p (live_control host o past) m else Elsewhere) page)
 sent z size host o p file last s page at object (message.Init number bytes) past i = begins z size file last (live_control host o past) s page number (at.0 == host && object.0 == o) i
 sent z size host o p file last s page at object (message.Create number bytes) past i = begins z size file last (live_control host o past) s page number (at.0 == host && object.0 == o) i
@@ -232,7 +232,7 @@ sent z size host o p file last s page at object m past i = elsewhere size file l
 
 -- what the newest control takes
 
-heard : (z : List ℕ) (size : ℕ) (file : Bool) (last : ℕ) (live : Option ℕ) (s : Spot) (page : Local) (own n c d k b : Bool) (w : DownWord) (f : L.LocalEffect) → (c ≡ true → k ≡ (b && n)) → SpotIsLocal file last live (spot_after z s (Takes w)) (if b then local_after size f page else page) → SpotIsLocal file last live s page
+heard : (z : List ℕ) (size : ℕ) (file : Bool) (last : ℕ) (live : Option ℕ) (s : Spot) (page : Local) (own n c d k b : Bool) (w : SpotDownWord) (f : L.LocalEffect) → (c ≡ true → k ≡ (b && n)) → SpotIsLocal file last live (spot_after z s (Takes w)) (if b then local_after size f page else page) → SpotIsLocal file last live s page
     → SpotIsLocal file last live (spot_after z s (if (own && n) && (c && d) then Takes w else StepEnds)) (local_after size (if own && (c && k) then (if d then f else Elsewhere) else Elsewhere) page)
 heard z size file last live s page false n c d k b w f is at i = idle file last live s _ page (step_idle z s) i
 heard z size file last live s page true false false d k b w f is at i = idle file last live s _ page (step_idle z s) i
@@ -258,13 +258,13 @@ is_live last live s number is = ap (is_control number) (sym is) ∙ by_live (s.c
     by_live false = refl
 
 took : (z : List ℕ) (size host o p : ℕ) (file : Bool) (live : Option ℕ) (s : Spot) (page : Local) (at : HostId) (object : ObjectId) (number : ℕ) (m : Message) (past : List Event) → SpotIsLocal file (last_control host o past) live s page
-    → SpotIsLocal file (last_control host o past) live (spot_after z s (taken_down o p (at.0 == host && number == last_control host object.0 past) object.0 m)) (local_after size (if at.0 == host && (object.0 == o && is_control number live) then taken_effect p m else Elsewhere) page)
+    → SpotIsLocal file (last_control host o past) live (spot_after z s (effect_taken_down o p (at.0 == host && number == last_control host object.0 past) object.0 m)) (local_after size (if at.0 == host && (object.0 == o && is_control number live) then taken_effect p m else Elsewhere) page)
 took z size host o p file live s page at object number m past i = by_message m
   where
     lives : (object.0 == o) ≡ true → is_control number live ≡ (s.control == 1 && number == last_control host object.0 past)
     lives is = is_live (last_control host o past) live s number i.control ∙ ap (λ (k : ℕ). s.control == 1 && number == last_control host k past) (sym (number_is object.0 o is))
 
-    by_message : (m : Message) → SpotIsLocal file (last_control host o past) live (spot_after z s (taken_down o p (at.0 == host && number == last_control host object.0 past) object.0 m)) (local_after size (if at.0 == host && (object.0 == o && is_control number live) then taken_effect p m else Elsewhere) page)
+    by_message : (m : Message) → SpotIsLocal file (last_control host o past) live (spot_after z s (effect_taken_down o p (at.0 == host && number == last_control host object.0 past) object.0 m)) (local_after size (if at.0 == host && (object.0 == o && is_control number live) then taken_effect p m else Elsewhere) page)
     by_message (message.Supply index lock precious bytes) =
         heard z size file (last_control host o past) live s page (at.0 == host) (number == last_control host object.0 past) (object.0 == o) (index.0 == p) (is_control number live) (s.control == 1) (Supplying bytes) (L.TakesPage lock precious bytes) lives
         (supplied z size file (last_control host o past) live s page lock precious bytes (s.control == 1) s.asked page.asked refl refl refl i) i

@@ -15,9 +15,9 @@ use Rattle.vm_legal.specs.Living.{lives_on}
 use Rattle.vm_legal.specs.Outside.{Outside, is_file, is_said, start_page, zeros}
 use Rattle.vm_legal.specs.Pagers.{last_return, newer, returned_in}
 use Rattle.vm_legal.specs.Steps.{Letter, answers, is_answer, since, taken_letter}
-use Rattle.vm_flat.specs.Places.{sent_up, taken_up, sent_down, taken_down, spot}
+use Rattle.vm_flat.specs.Places.{effect_sent_up, effect_taken_up, effect_sent_down, effect_taken_down, spot}
 use Rattle.vm_flat.specs.Spot.{Spot, spot_after}
-use Rattle.vm_flat.specs.Words.{DownWord, Supplying, Unavailing, Erring, SpotEffect, Creates, TakesRequest, TakesReturn, Answers, Takes, Zeroes, Raises, Stores, Drops, Ends, StepEnds, Nothing}
+use Rattle.vm_flat.specs.Words.{SpotDownWord, Supplying, Unavailing, Erring, SpotEffect, Creates, TakesRequest, TakesReturn, Answers, Takes, Zeroes, Raises, Stores, Drops, Ends, StepEnds, Nothing}
 use Rattle.vm_flat.proofs.Lives.{itself}
 use Rattle.vm_flat.proofs.Sustained.{request_taken}
 
@@ -32,7 +32,7 @@ kept_if : (z : List ℕ) (s : Spot) (b : Bool) (e f : SpotEffect) → (b ≡ tru
 kept_if z s true e f one two = one refl
 kept_if z s false e f one two = two
 
-sent_up_kept : (z : List ℕ) (s : Spot) (o p : ℕ) (own : Bool) (live : Option ℕ) (object : ℕ) (m : Message) → (spot_after z s (sent_up o p own live object m)).kept ≡ s.kept
+sent_up_kept : (z : List ℕ) (s : Spot) (o p : ℕ) (own : Bool) (live : Option ℕ) (object : ℕ) (m : Message) → (spot_after z s (effect_sent_up o p own live object m)).kept ≡ s.kept
 sent_up_kept z s o p own live object (message.Init control size) = kept_if z s (own && object == o) Creates Nothing (λ b. refl) refl
 sent_up_kept z s o p own live object (message.Create control size) = kept_if z s (own && object == o) Creates Nothing (λ b. refl) refl
 sent_up_kept z s o p own live object (message.Request control page access) = kept_if z s (own && (object == o && page.0 == p)) _ Nothing (λ b. refl) refl
@@ -48,7 +48,7 @@ first : (a b : Bool) → (a && b) ≡ true → a ≡ true
 first true b is = refl
 first false b is = is
 
-answered_kept : (z : List ℕ) (s : Spot) (own tells here there : Bool) (word : DownWord) → (here ≡ true → tells ≡ false) → (spot_after z s (if own && (here && there) then Answers tells word else Nothing)).kept ≡ s.kept
+answered_kept : (z : List ℕ) (s : Spot) (own tells here there : Bool) (word : SpotDownWord) → (here ≡ true → tells ≡ false) → (spot_after z s (if own && (here && there) then Answers tells word else Nothing)).kept ≡ s.kept
 answered_kept z s own tells here there word silent =
     kept_if z s (own && (here && there)) (Answers tells word) Nothing (λ b. quiet tells (silent (first here there (second own (here && there) b)))) refl
   where
@@ -56,13 +56,13 @@ answered_kept z s own tells here there word silent =
     quiet false is = refl
     quiet true is = absurd (let bad : true ≡ false = is in cc)
 
-sent_down_kept : (z : List ℕ) (s : Spot) (o p : ℕ) (own tells : Bool) (object : ℕ) (m : Message) → ((object == o) ≡ true → tells ≡ false) → (spot_after z s (sent_down o p own tells object m)).kept ≡ s.kept
+sent_down_kept : (z : List ℕ) (s : Spot) (o p : ℕ) (own tells : Bool) (object : ℕ) (m : Message) → ((object == o) ≡ true → tells ≡ false) → (spot_after z s (effect_sent_down o p own tells object m)).kept ≡ s.kept
 sent_down_kept z s o p own tells object (message.Supply page lock precious bytes) silent = answered_kept z s own tells (object == o) (page.0 == p) (Supplying bytes) silent
 sent_down_kept z s o p own tells object (message.Unavailable page) silent = answered_kept z s own tells (object == o) (page.0 == p) Unavailing silent
 sent_down_kept z s o p own tells object (message.Error page reason) silent = answered_kept z s own tells (object == o) (page.0 == p) Erring silent
 sent_down_kept z s o p own tells object other silent = refl
 
-taken_down_kept : (z : List ℕ) (s : Spot) (o p : ℕ) (own : Bool) (object : ℕ) (m : Message) → (spot_after z s (taken_down o p own object m)).kept ≡ s.kept
+taken_down_kept : (z : List ℕ) (s : Spot) (o p : ℕ) (own : Bool) (object : ℕ) (m : Message) → (spot_after z s (effect_taken_down o p own object m)).kept ≡ s.kept
 taken_down_kept z s o p own object (message.Supply page lock precious bytes) = kept_if z s (own && (object == o && page.0 == p)) (Takes (Supplying bytes)) StepEnds (λ b. refl) refl
 taken_down_kept z s o p own object (message.Unavailable page) = kept_if z s (own && (object == o && page.0 == p)) (Takes Unavailing) StepEnds (λ b. refl) refl
 taken_down_kept z s o p own object (message.Error page reason) = kept_if z s (own && (object == o && page.0 == p)) (Takes Erring) StepEnds (λ b. refl) refl
@@ -74,7 +74,7 @@ either true new old none = ap (λ (x : Option (List ℕ)). newer x old) none
 either false new old none = refl
 
 taken_up_kept : (z : List ℕ) (s : Spot) (o p : ℕ) (own : Bool) (object : ℕ) (m : Message) (was first : Option (List ℕ)) → s.kept ≡ newer was first
-    → (spot_after z s (taken_up o p own object m)).kept ≡ newer (if own && object == o then newer (returned_in p m) was else was) first
+    → (spot_after z s (effect_taken_up o p own object m)).kept ≡ newer (if own && object == o then newer (returned_in p m) was else was) first
 taken_up_kept z s o p own object (message.Request control page access) was first is = kept_if z s (own && (object == o && page.0 == p)) TakesRequest StepEnds (λ b. refl) refl ∙ is ∙ ap (λ (x : Option (List ℕ)). newer x first) (sym (either (own && object == o) None was refl))
 taken_up_kept z s o p own object (message.Return control page dirty keep bytes) was first is = returned own (object == o) (page.0 == p)
   where
@@ -117,7 +117,7 @@ step_if : (z : List ℕ) (s : Spot) (b : Bool) (e f : SpotEffect) → (b ≡ tru
 step_if z s true e f one two = one refl
 step_if z s false e f one two = two
 
-sent_up_step : (z : List ℕ) (s : Spot) (o p : ℕ) (own : Bool) (live : Option ℕ) (object : ℕ) (m : Message) → (spot_after z s (sent_up o p own live object m)).step ≡ s.step
+sent_up_step : (z : List ℕ) (s : Spot) (o p : ℕ) (own : Bool) (live : Option ℕ) (object : ℕ) (m : Message) → (spot_after z s (effect_sent_up o p own live object m)).step ≡ s.step
 sent_up_step z s o p own live object (message.Init control size) = step_if z s (own && object == o) Creates Nothing (λ b. refl) refl
 sent_up_step z s o p own live object (message.Create control size) = step_if z s (own && object == o) Creates Nothing (λ b. refl) refl
 sent_up_step z s o p own live object (message.Request control page access) = step_if z s (own && (object == o && page.0 == p)) _ Nothing (λ b. refl) refl
@@ -125,12 +125,12 @@ sent_up_step z s o p own live object (message.Return control page dirty keep byt
 sent_up_step z s o p own live object (message.Terminate control) = step_if z s _ Ends Nothing (λ b. refl) refl
 sent_up_step z s o p own live object other = refl
 
-unanswered : (z : List ℕ) (s : Spot) (own here tells : Bool) (word : DownWord) → here ≡ false → (spot_after z s (if own && here then Answers tells word else Nothing)).step ≡ s.step
+unanswered : (z : List ℕ) (s : Spot) (own here tells : Bool) (word : SpotDownWord) → here ≡ false → (spot_after z s (if own && here then Answers tells word else Nothing)).step ≡ s.step
 unanswered z s true false tells word is = refl
 unanswered z s false here tells word is = refl
 unanswered z s true true tells word is = absurd (let bad : true ≡ false = is in cc)
 
-sent_down_step : (z : List ℕ) (s : Spot) (o p : ℕ) (own tells : Bool) (object : ℕ) (m : Message) → (object == o && is_answer p m) ≡ false → (spot_after z s (sent_down o p own tells object m)).step ≡ s.step
+sent_down_step : (z : List ℕ) (s : Spot) (o p : ℕ) (own tells : Bool) (object : ℕ) (m : Message) → (object == o && is_answer p m) ≡ false → (spot_after z s (effect_sent_down o p own tells object m)).step ≡ s.step
 sent_down_step z s o p own tells object (message.Supply page lock precious bytes) other = unanswered z s own (object == o && page.0 == p) tells (Supplying bytes) other
 sent_down_step z s o p own tells object (message.Unavailable page) other = unanswered z s own (object == o && page.0 == p) tells Unavailing other
 sent_down_step z s o p own tells object (message.Error page reason) other = unanswered z s own (object == o && page.0 == p) tells Erring other

@@ -16,12 +16,12 @@ use Rattle.vm_model.specs.declared.script.Header.{Header}
 use Rattle.vm_legal.specs.Outside.{Outside, is_private, is_said, zeros}
 use Rattle.vm_legal.specs.Living.{lives_on}
 use Rattle.vm_model.specs.Channels.{queue, up_port, down_port}
-use Rattle.vm_flat.specs.Words.{UpWord, Requesting, Returning, DownWord, Supplying, Unavailing, Erring, SpotEffect, Creates, Requests, Returns, Answers, Zeroes, Raises, Stores, Drops, Ends, Nothing}
+use Rattle.vm_flat.specs.Words.{SpotUpWord, Requesting, Returning, SpotDownWord, Supplying, Unavailing, Erring, SpotEffect, Creates, Requests, Returns, Answers, Zeroes, Raises, Stores, Drops, Ends, Nothing}
 use Rattle.vm_model.specs.Side.{rest}
 use Rattle.vm_model.specs.Server.{first}
 use Rattle.vm_flat.specs.Spot.{Spot, spot_after}
 use Rattle.vm_model.specs.Controls.{is_control, last_control, live_control}
-use Rattle.vm_flat.specs.Places.{at_place, sent_up, sent_down, spot}
+use Rattle.vm_flat.specs.Places.{at_place, effect_sent_up, effect_sent_down, spot}
 use Rattle.vm_flat.proofs.Sustained.{control}
 use Rattle.vm_legal.specs.Licences.{LockRequest, lock_taken}
 use Rattle.vm_flat.proofs.Sustained.{Sustained, Request, request_taken, MaySendUp, MaySendDown}
@@ -50,7 +50,7 @@ pub record Calm (s : Spot) : Type 0 where
   pub down : s.down ≡ []
   pub step : s.step ≡ false
 
-none_long : (q : List DownWord) → length q ≡ 0 → q ≡ []
+none_long : (q : List SpotDownWord) → length q ≡ 0 → q ≡ []
 none_long [] e = refl
 none_long (w ∷ q) e = absurd (omega (arith, e))
 
@@ -110,11 +110,11 @@ from_none : (n : ℕ) (q : List Message) → ((p : ℕ) → requests (up_words p
 from_none n [] none = tt
 from_none n (message.Request number page access ∷ q) none = absurd (some page.0 (up_words page.0 q) (none page.0))
   where
-    some : (p : ℕ) (w : List UpWord) → requests (if p == p then Requesting ∷ w else w) ≡ 0 → ⊥
+    some : (p : ℕ) (w : List SpotUpWord) → requests (if p == p then Requesting ∷ w else w) ≡ 0 → ⊥
     some p w e = let same : (p == p) ≡ true = grind (arith, nat_tests) in let e' : requests (if true then Requesting ∷ w else w) ≡ 0 = subst (λ (b : Bool). requests (if b then Requesting ∷ w else w) ≡ 0) same e in omega (arith, e')
 from_none n (message.Return number page dirty keep bytes ∷ q) none = from_none n q (λ p. fewer (page.0 == p) bytes (up_words p q) (none p))
   where
-    fewer : (b : Bool) (bytes : List ℕ) (w : List UpWord) → requests (if b then Returning bytes ∷ w else w) ≡ 0 → requests w ≡ 0
+    fewer : (b : Bool) (bytes : List ℕ) (w : List SpotUpWord) → requests (if b then Returning bytes ∷ w else w) ≡ 0 → requests w ≡ 0
     fewer true bytes w e = e
     fewer false bytes w e = e
 from_none n (other ∷ q) none = from_none n q none
@@ -190,7 +190,7 @@ step_if z s false E F e f is = f is
 step_place : (z : List ℕ) (s : Spot) (o p : ℕ) (own : Bool) (object page : ℕ) (E F : SpotEffect) → ((spot_after z s E).step ≡ true → s.step ≡ true) → ((spot_after z s F).step ≡ true → s.step ≡ true) → (spot_after z s (at_place o p own object page E F)).step ≡ true → s.step ≡ true
 step_place z s o p own object page E F e f is = step_if z s (own && (object == o && page == p)) E F e f is
 
-step_sent_up : (z : List ℕ) (s : Spot) (o p : ℕ) (own : Bool) (live : Option ℕ) (object : ℕ) (m : Message) → (spot_after z s (sent_up o p own live object m)).step ≡ true → s.step ≡ true
+step_sent_up : (z : List ℕ) (s : Spot) (o p : ℕ) (own : Bool) (live : Option ℕ) (object : ℕ) (m : Message) → (spot_after z s (effect_sent_up o p own live object m)).step ≡ true → s.step ≡ true
 step_sent_up z s o p own live object (message.Request control page access) is = step_place z s o p own object page.0 (Requests (is_control control live)) Nothing (λ e. e) (λ e. e) is
 step_sent_up z s o p own live object (message.Return control page dirty keep bytes) is = step_place z s o p own object page.0 (Returns keep bytes) Nothing (λ e. e) (λ e. e) is
 step_sent_up z s o p own live object (message.Init control size) is = step_if z s (own && object == o) Creates Nothing (λ e. e) (λ e. e) is
@@ -201,7 +201,7 @@ step_sent_up z s o p own live object m is = is
 false_true : false ≡ true → ⊥
 false_true e = cc
 
-step_sent_down : (z : List ℕ) (s : Spot) (o p : ℕ) (own tells : Bool) (object : ℕ) (m : Message) → (spot_after z s (sent_down o p own tells object m)).step ≡ true → s.step ≡ true
+step_sent_down : (z : List ℕ) (s : Spot) (o p : ℕ) (own tells : Bool) (object : ℕ) (m : Message) → (spot_after z s (effect_sent_down o p own tells object m)).step ≡ true → s.step ≡ true
 step_sent_down z s o p own tells object (message.Supply page lock precious bytes) is = step_place z s o p own object page.0 (Answers tells (Supplying bytes)) Nothing (λ e. absurd (false_true e)) (λ e. e) is
 step_sent_down z s o p own tells object (message.Unavailable page) is = step_place z s o p own object page.0 (Answers tells Unavailing) Nothing (λ e. absurd (false_true e)) (λ e. e) is
 step_sent_down z s o p own tells object (message.Error page reason) is = step_place z s o p own object page.0 (Answers tells Erring) Nothing (λ e. absurd (false_true e)) (λ e. e) is
@@ -271,7 +271,7 @@ Downs header outside past = (h o : ℕ) → is_private header outside o ≡ true
 pub downs_start : (header : Header) (outside : Outside) → Downs header outside []
 downs_start header outside h o ours k p = by_test (k == 0)
   where
-    by_test : (b : Bool) → ◌≡◌ {A = List DownWord} [] (if b then [] else [])
+    by_test : (b : Bool) → ◌≡◌ {A = List SpotDownWord} [] (if b then [] else [])
     by_test true = refl
     by_test false = refl
 
@@ -279,7 +279,7 @@ move_down_of : (b : Bool) (s t : Spot) → t.down ≡ s.down → down_of b s ≡
 move_down_of true s t e = sym e
 move_down_of false s t e = refl
 
-new_down : (b : Bool) (new n k : ℕ) (s t : Spot) (words : List DownWord) → t.down ≡ s.down → (b ≡ true → s.down ≡ []) → words ≡ down_of (k == n) s → words ≡ down_of (k == (if b then new else n)) t
+new_down : (b : Bool) (new n k : ℕ) (s t : Spot) (words : List SpotDownWord) → t.down ≡ s.down → (b ≡ true → s.down ≡ []) → words ≡ down_of (k == n) s → words ≡ down_of (k == (if b then new else n)) t
 new_down false new n k s t words same none is = is ∙ move_down_of (k == n) s t same
 new_down true new n k s t words same none is = is ∙ nothing (k == n) s (none refl) ∙ sym (nothing (k == new) t (same ∙ none refl))
   where

@@ -2,7 +2,7 @@
 use Rattle.std.proofs.Common.{◌≡◌, ℕ, ◌+◌, ◌≤◌, List, [], ◌∷◌, ◌++◌, arith, Bool, true, false, Option, Some, None, refl, ap, sym, length, if◌then◌else◌, ◌≢◌}
 use Rattle.std.proofs.lemmas.Bool.Decides.{nat_tests}
 use Rattle.std.specs.Prelude.{◌⊎◌}
-use Rattle.vm_flat.specs.Words.{DownWord, Supplying, Unavailing, Erring, SpotEffect, Creates, Requests, Returns, TakesRequest, TakesReturn, Answers, Takes, Zeroes, Raises, Stores, Drops, Ends, StepEnds, Nothing}
+use Rattle.vm_flat.specs.Words.{SpotDownWord, Supplying, Unavailing, Erring, SpotEffect, Creates, Requests, Returns, TakesRequest, TakesReturn, Answers, Takes, Zeroes, Raises, Stores, Drops, Ends, StepEnds, Nothing}
 use Rattle.vm_model.specs.Side.{rest}
 use Rattle.vm_flat.specs.Spot.{Spot, first_spot, spot_after}
 use Rattle.vm_flat.proofs.Allowed.{Passed, MayAnswer, May, content}
@@ -61,23 +61,23 @@ keep_takes_request z s ok may = grind (arith, nat_tests)
 pub keep_takes_return : (z : List ℕ) (s : Spot) (bytes : List ℕ) → Sound z s → May z s (TakesReturn bytes) → Sound z (spot_after z s (TakesReturn bytes))
 keep_takes_return z s bytes ok may = grind (arith, nat_tests)
 
-says : (z : List ℕ) (s : Spot) (w : DownWord) → Sound z s → MayAnswer z s w → Says (nothing z s) s.returned w
+says : (z : List ℕ) (s : Spot) (w : SpotDownWord) → Sound z s → MayAnswer z s w → Says (nothing z s) s.returned w
 says z s (Supplying bytes) ok may = grind (arith, latest_none)
 says z s Unavailing ok may = grind (arith, latest_none)
 says z s Erring ok may = tt
 
-steps : (z : List ℕ) (s : Spot) (w : DownWord) → MayAnswer z s w → s.step ≡ true
+steps : (z : List ℕ) (s : Spot) (w : SpotDownWord) → MayAnswer z s w → s.step ≡ true
 steps z s (Supplying bytes) may = may.0
 steps z s Unavailing may = may.0
 steps z s Erring may = may
 
-pub keep_answers : (z : List ℕ) (s : Spot) (w : DownWord) → Sound z s → May z s (Answers false w) → Sound z (spot_after z s (Answers false w))
+pub keep_answers : (z : List ℕ) (s : Spot) (w : SpotDownWord) → Sound z s → May z s (Answers false w) → Sound z (spot_after z s (Answers false w))
 keep_answers z s w ok may =
     let on : s.step ≡ true = steps z s w may in
     let carried : Carry (nothing z s) s.returned (s.down ++ w ∷ []) = carry_end (nothing z s) s.returned s.down w ok.coming (says z s w ok may) in
     grind (arith, nat_tests, length_end)
 
-pub keep_tells : (z : List ℕ) (s : Spot) (w : DownWord) → Sound z s → May z s (Answers true w) → Sound z (spot_after z s (Answers true w))
+pub keep_tells : (z : List ℕ) (s : Spot) (w : SpotDownWord) → Sound z s → May z s (Answers true w) → Sound z (spot_after z s (Answers true w))
 keep_tells z s (Supplying bytes) ok may =
     let down : length s.down ≡ 0 = grind (arith) in
     let up : returns s.up ≡ 0 = grind (arith) in
@@ -93,7 +93,7 @@ keep_tells z s Erring ok may =
     let carried : Carry (nothing z s) s.returned (s.down ++ Erring ∷ []) = carry_end (nothing z s) s.returned s.down Erring ok.coming tt in
     grind (arith, nat_tests, length_end)
 
-pub keep_takes : (z : List ℕ) (s : Spot) (w : DownWord) → Sound z s → May z s (Takes w) → Sound z (spot_after z s (Takes w))
+pub keep_takes : (z : List ℕ) (s : Spot) (w : SpotDownWord) → Sound z s → May z s (Takes w) → Sound z (spot_after z s (Takes w))
 keep_takes z s (Supplying bytes) ok may =
     let said : s.returned ≡ Some bytes = carry_first (nothing z s) s.returned s.down (Supplying bytes) may ok.coming in
     let carried : Carry (nothing z s) s.returned (rest s.down) = carry_rest (nothing z s) s.returned s.down ok.coming in
@@ -144,7 +144,7 @@ Saves s (Answers true word) = ⊥
 Saves s Drops = s.dirty ≡ false
 Saves s e = Unit {0}
 
-takes_saves : (z : List ℕ) (s : Spot) (w : DownWord) → Sound z s → May z s (Takes w) → content (spot_after z s (Takes w)) ≡ content s
+takes_saves : (z : List ℕ) (s : Spot) (w : SpotDownWord) → Sound z s → May z s (Takes w) → content (spot_after z s (Takes w)) ≡ content s
 takes_saves z s (Supplying bytes) ok may =
     let said : s.returned ≡ Some bytes = carry_first (nothing z s) s.returned s.down (Supplying bytes) may ok.coming in
     grind (arith, nat_tests)

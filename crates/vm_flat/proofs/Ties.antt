@@ -15,7 +15,7 @@ use Rattle.vm_flat.proofs.Uses.{in_use}
 use Rattle.vm_flat.specs.Words.{SpotEffect, Raises, Nothing}
 use Rattle.vm_flat.specs.Spot.{Spot, spot_after}
 use Rattle.vm_model.specs.Controls.{is_control, last_control, live_control}
-use Rattle.vm_flat.specs.Places.{sent_up, taken_up, sent_down, taken_down, effect_of, at_place, spot}
+use Rattle.vm_flat.specs.Places.{effect_sent_up, effect_taken_up, effect_sent_down, effect_taken_down, effect_of, at_place, spot}
 use Rattle.vm_flat.proofs.Sustained.{control}
 use Rattle.vm_legal.specs.Outside.{Outside}
 use Rattle.vm_flat.proofs.Deeds as D
@@ -112,7 +112,7 @@ link_is header outside host o (e ∷ past) = link_is header outside host o past
 
 -- places
 
-up_effect : (o p : ℕ) (own : Bool) (live : Option ℕ) (object : ℕ) (m : Message) (spots : ℕ → ℕ → Spot) → D.effect o p (up_deed own live object m) spots ≡ sent_up o p own live object m
+up_effect : (o p : ℕ) (own : Bool) (live : Option ℕ) (object : ℕ) (m : Message) (spots : ℕ → ℕ → Spot) → D.effect o p (up_deed own live object m) spots ≡ effect_sent_up o p own live object m
 up_effect o p own live object (message.Init control size) spots = refl
 up_effect o p own live object (message.Create control size) spots = refl
 up_effect o p own live object (message.Request control page access) spots = refl
@@ -120,18 +120,18 @@ up_effect o p own live object (message.Return control page dirty keep bytes) spo
 up_effect o p own live object (message.Terminate control) spots = refl
 up_effect o p own live object other spots = refl
 
-taken_up_effect : (o p : ℕ) (own : Bool) (object : ℕ) (m : Message) (spots : ℕ → ℕ → Spot) → D.effect o p (taken_up_deed own object m) spots ≡ taken_up o p own object m
+taken_up_effect : (o p : ℕ) (own : Bool) (object : ℕ) (m : Message) (spots : ℕ → ℕ → Spot) → D.effect o p (taken_up_deed own object m) spots ≡ effect_taken_up o p own object m
 taken_up_effect o p own object (message.Request control page access) spots = refl
 taken_up_effect o p own object (message.Return control page dirty keep bytes) spots = refl
 taken_up_effect o p own object other spots = refl
 
-down_effect : (o p : ℕ) (own tells : Bool) (object : ℕ) (m : Message) (spots : ℕ → ℕ → Spot) → D.effect o p (down_deed own tells object m) spots ≡ sent_down o p own tells object m
+down_effect : (o p : ℕ) (own tells : Bool) (object : ℕ) (m : Message) (spots : ℕ → ℕ → Spot) → D.effect o p (down_deed own tells object m) spots ≡ effect_sent_down o p own tells object m
 down_effect o p own tells object (message.Supply page lock precious bytes) spots = refl
 down_effect o p own tells object (message.Unavailable page) spots = refl
 down_effect o p own tells object (message.Error page reason) spots = refl
 down_effect o p own tells object other spots = refl
 
-taken_down_effect : (o p : ℕ) (own : Bool) (object : ℕ) (m : Message) (spots : ℕ → ℕ → Spot) → D.effect o p (taken_down_deed own object m) spots ≡ taken_down o p own object m
+taken_down_effect : (o p : ℕ) (own : Bool) (object : ℕ) (m : Message) (spots : ℕ → ℕ → Spot) → D.effect o p (taken_down_deed own object m) spots ≡ effect_taken_down o p own object m
 taken_down_effect o p own object (message.Supply page lock precious bytes) spots = refl
 taken_down_effect o p own object (message.Unavailable page) spots = refl
 taken_down_effect o p own object (message.Error page reason) spots = refl

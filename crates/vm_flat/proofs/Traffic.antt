@@ -1,7 +1,7 @@
 -- Deeds that leave regions and objects as they are, and change what one place has.
 use Rattle.std.proofs.Common.{false, ◌<◌, ◌≡◌, ℕ, suc, ◌≤◌, List, ◌∷◌, arith, Bool, true, ◌∙◌, inl, inr}
 use Rattle.std.specs.Prelude.{◌⊎◌}
-use Rattle.vm_flat.specs.Words.{DownWord, SpotEffect, Creates, Requests, Returns, TakesRequest, TakesReturn, Takes, Zeroes, Raises, Drops, Ends, StepEnds, Nothing}
+use Rattle.vm_flat.specs.Words.{SpotDownWord, SpotEffect, Creates, Requests, Returns, TakesRequest, TakesReturn, Takes, Zeroes, Raises, Drops, Ends, StepEnds, Nothing}
 use Rattle.vm_flat.specs.Spot.{spot_after}
 use Rattle.vm_flat.proofs.Deeds.{pages, Ground, covered, Deed, Line, Zeroed, Raised, Dropped, Created, Asked, Returned, TookRequest, TookReturn, Took, Terminated, Elsewhere, objects, link, spot}
 use Rattle.vm_flat.proofs.Causes.{Reach, Tops, Cause, Ours, Bottoms, Finds}
@@ -80,7 +80,7 @@ after_took_return z own o p bytes past w c =
           (rest_step z past w);
     }
 
-pub after_took : (z : Ground) (own : Bool) (o p : ℕ) (word : DownWord) (past : List Deed) → World z past → Cause z (Took own o p word) past → World z (Took own o p word ∷ past)
+pub after_took : (z : Ground) (own : Bool) (o p : ℕ) (word : SpotDownWord) (past : List Deed) → World z past → Cause z (Took own o p word) past → World z (Took own o p word ∷ past)
 after_took z own o p word past w c =
     record {
       shape = w.shape;

@@ -22,7 +22,7 @@ use Rattle.vm_legal.specs.Outside.{Outside, is_file, is_said, zeros}
 use Rattle.vm_legal.specs.Steps.{Asked, Letter, absence_taken, since, taken_letter}
 use Rattle.vm_legal.specs.Walks.{page_on}
 use Rattle.vm_flat.specs.Locals.{SpotIsLocal}
-use Rattle.vm_flat.specs.Places.{sent_up, sent_down, taken_down, spot}
+use Rattle.vm_flat.specs.Places.{effect_sent_up, effect_sent_down, effect_taken_down, spot}
 use Rattle.vm_flat.specs.Spot.{Spot, spot_after}
 use Rattle.vm_flat.specs.Words.{Supplying, Unavailing, Erring, SpotEffect, Creates, Answers, Takes, Zeroes, Raises, Stores, Drops, Ends, StepEnds, Nothing}
 use Rattle.vm_flat.proofs.Lives.{itself}
@@ -33,7 +33,7 @@ void_if : (z : List ℕ) (s : Spot) (b : Bool) (e f : SpotEffect) → (b ≡ tru
 void_if z s true e f one two = one refl
 void_if z s false e f one two = two
 
-sent_up_void : (z : List ℕ) (s : Spot) (o p : ℕ) (own : Bool) (live : Option ℕ) (object : ℕ) (m : Message) → (spot_after z s (sent_up o p own live object m)).void ≡ s.void
+sent_up_void : (z : List ℕ) (s : Spot) (o p : ℕ) (own : Bool) (live : Option ℕ) (object : ℕ) (m : Message) → (spot_after z s (effect_sent_up o p own live object m)).void ≡ s.void
 sent_up_void z s o p own live object (message.Init control size) = void_if z s (own && object == o) Creates Nothing (λ b. refl) refl
 sent_up_void z s o p own live object (message.Create control size) = void_if z s (own && object == o) Creates Nothing (λ b. refl) refl
 sent_up_void z s o p own live object (message.Request control page access) = void_if z s (own && (object == o && page.0 == p)) _ Nothing (λ b. refl) refl
@@ -76,7 +76,7 @@ number_is a b is = grind (arith, nat_tests)
 
 -- an answer cannot be sent in such a step
 sent_down_void : (header : Header) (outside : Outside) (doing : Command) (z : List ℕ) (s : Spot) (o p at object control : ℕ) (own tells : Bool) (m : Message) (past : List Event) (a : Asked)
-    → absence_taken header.size past ≡ Some a → ((object == o) ≡ true → MaySendDown header outside doing at object control m past) → (spot_after z s (sent_down o p own tells object m)).void ≡ s.void
+    → absence_taken header.size past ≡ Some a → ((object == o) ≡ true → MaySendDown header outside doing at object control m past) → (spot_after z s (effect_sent_down o p own tells object m)).void ≡ s.void
 sent_down_void header outside doing z s o p at object control own tells (message.Supply page lock precious bytes) past a is c =
     void_if z s (own && (object == o && page.0 == p)) (Answers tells (Supplying bytes)) Nothing (λ b. absurd (came_down header.size past a at object _ is (c (first (object == o) (page.0 == p) (second own _ b))).0.taken)) refl
 sent_down_void header outside doing z s o p at object control own tells (message.Unavailable page) past a is c =
@@ -120,7 +120,7 @@ came host o p at object page true is = record { counts = refl; host = ap (λ x. 
 came host o p at object page false is = not_absent _ is
 
 took_void : (header : Header) (outside : Outside) (host o p control : ℕ) (past : List Event) → is_file header o ≡ true → (is_control control (live_control host o past) && (page_on header host o p past).asked) ≡ true
-    → (spot_after (zeros header) (spot header outside host o p past) (taken_down o p (host == host && control == last_control host o past) o (message.Unavailable (record { 0 = p })))).void ≡ true
+    → (spot_after (zeros header) (spot header outside host o p past) (effect_taken_down o p (host == host && control == last_control host o past) o (message.Unavailable (record { 0 = p })))).void ≡ true
 took_void header outside host o p control past file counts =
     hears_void (zeros header) (spot header outside host o p past) ((host == host && control == last_control host o past) && (o == o && p == p))
     (rw (itself host, itself o, itself p, newest) refl) lives (i.asked ∙ second (is_control control (live_control host o past)) (page_on header host o p past).asked counts) (i.file ∙ file)
@@ -141,9 +141,9 @@ taken_void : (header : Header) (outside : Outside) (host o p : ℕ) (at : HostId
     → absence_taken header.size (event.Taken (Down at object control) m ∷ past) ≡ Some (absent host o p) → (spot header outside host o p (event.Taken (Down at object control) m ∷ past)).void ≡ true
 taken_void header outside host o p at object control (message.Unavailable page) past file is =
     let c : Came host o p at.0 object.0 page.0 (is_control control (live_control at.0 object.0 past) && (page_on header at.0 object.0 page.0 past).asked) = came host o p at.0 object.0 page.0 _ is in
-    subst (λ (h : ℕ). (spot_after (zeros header) (spot header outside host o p past) (taken_down o p (h == host && control == last_control host object.0 past) object.0 (message.Unavailable (record { 0 = page.0 })))).void ≡ true) (sym c.host)
-    (subst (λ (k : ℕ). (spot_after (zeros header) (spot header outside host o p past) (taken_down o p (host == host && control == last_control host k past) k (message.Unavailable (record { 0 = page.0 })))).void ≡ true) (sym c.object)
-    (subst (λ (q : ℕ). (spot_after (zeros header) (spot header outside host o p past) (taken_down o p (host == host && control == last_control host o past) o (message.Unavailable (record { 0 = q })))).void ≡ true) (sym c.page)
+    subst (λ (h : ℕ). (spot_after (zeros header) (spot header outside host o p past) (effect_taken_down o p (h == host && control == last_control host object.0 past) object.0 (message.Unavailable (record { 0 = page.0 })))).void ≡ true) (sym c.host)
+    (subst (λ (k : ℕ). (spot_after (zeros header) (spot header outside host o p past) (effect_taken_down o p (host == host && control == last_control host k past) k (message.Unavailable (record { 0 = page.0 })))).void ≡ true) (sym c.object)
+    (subst (λ (q : ℕ). (spot_after (zeros header) (spot header outside host o p past) (effect_taken_down o p (host == host && control == last_control host o past) o (message.Unavailable (record { 0 = q })))).void ≡ true) (sym c.page)
     (took_void header outside host o p control past file
     (subst (λ (h : ℕ). (is_control control (live_control h o past) && (page_on header h o p past).asked) ≡ true) c.host
     (subst (λ (k : ℕ). (is_control control (live_control at.0 k past) && (page_on header at.0 k p past).asked) ≡ true) c.object

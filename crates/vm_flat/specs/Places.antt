@@ -19,30 +19,30 @@ abbrev pub at_place : ℕ → ℕ → Bool → ℕ → ℕ → SpotEffect → Sp
 at_place o p own object page mine other = if own && (object == o && page == p) then mine else other
 
 -- the host's live control of the object comes in
-abbrev pub sent_up : ℕ → ℕ → Bool → Option ℕ → ℕ → Message → SpotEffect
-sent_up o p own live object (message.Init control size) = if own && object == o then Creates else Nothing
-sent_up o p own live object (message.Create control size) = if own && object == o then Creates else Nothing
-sent_up o p own live object (message.Request control page access) = at_place o p own object page.0 (Requests (is_control control live)) Nothing
-sent_up o p own live object (message.Return control page dirty keep bytes) = at_place o p own object page.0 (Returns keep bytes) Nothing
-sent_up o p own live object (message.Terminate control) = if (own && is_control control live) && object == o then Ends else Nothing
-sent_up o p own live object other = Nothing
+abbrev pub effect_sent_up : ℕ → ℕ → Bool → Option ℕ → ℕ → Message → SpotEffect
+effect_sent_up o p own live object (message.Init control size) = if own && object == o then Creates else Nothing
+effect_sent_up o p own live object (message.Create control size) = if own && object == o then Creates else Nothing
+effect_sent_up o p own live object (message.Request control page access) = at_place o p own object page.0 (Requests (is_control control live)) Nothing
+effect_sent_up o p own live object (message.Return control page dirty keep bytes) = at_place o p own object page.0 (Returns keep bytes) Nothing
+effect_sent_up o p own live object (message.Terminate control) = if (own && is_control control live) && object == o then Ends else Nothing
+effect_sent_up o p own live object other = Nothing
 
-abbrev pub taken_up : ℕ → ℕ → Bool → ℕ → Message → SpotEffect
-taken_up o p own object (message.Request control page access) = at_place o p own object page.0 TakesRequest StepEnds
-taken_up o p own object (message.Return control page dirty keep bytes) = at_place o p own object page.0 (TakesReturn bytes) StepEnds
-taken_up o p own object other = StepEnds
+abbrev pub effect_taken_up : ℕ → ℕ → Bool → ℕ → Message → SpotEffect
+effect_taken_up o p own object (message.Request control page access) = at_place o p own object page.0 TakesRequest StepEnds
+effect_taken_up o p own object (message.Return control page dirty keep bytes) = at_place o p own object page.0 (TakesReturn bytes) StepEnds
+effect_taken_up o p own object other = StepEnds
 
-abbrev pub sent_down : ℕ → ℕ → Bool → Bool → ℕ → Message → SpotEffect
-sent_down o p own tells object (message.Supply page lock precious bytes) = at_place o p own object page.0 (Answers tells (Supplying bytes)) Nothing
-sent_down o p own tells object (message.Unavailable page) = at_place o p own object page.0 (Answers tells Unavailing) Nothing
-sent_down o p own tells object (message.Error page reason) = at_place o p own object page.0 (Answers tells Erring) Nothing
-sent_down o p own tells object other = Nothing
+abbrev pub effect_sent_down : ℕ → ℕ → Bool → Bool → ℕ → Message → SpotEffect
+effect_sent_down o p own tells object (message.Supply page lock precious bytes) = at_place o p own object page.0 (Answers tells (Supplying bytes)) Nothing
+effect_sent_down o p own tells object (message.Unavailable page) = at_place o p own object page.0 (Answers tells Unavailing) Nothing
+effect_sent_down o p own tells object (message.Error page reason) = at_place o p own object page.0 (Answers tells Erring) Nothing
+effect_sent_down o p own tells object other = Nothing
 
-abbrev pub taken_down : ℕ → ℕ → Bool → ℕ → Message → SpotEffect
-taken_down o p own object (message.Supply page lock precious bytes) = at_place o p own object page.0 (Takes (Supplying bytes)) StepEnds
-taken_down o p own object (message.Unavailable page) = at_place o p own object page.0 (Takes Unavailing) StepEnds
-taken_down o p own object (message.Error page reason) = at_place o p own object page.0 (Takes Erring) StepEnds
-taken_down o p own object other = StepEnds
+abbrev pub effect_taken_down : ℕ → ℕ → Bool → ℕ → Message → SpotEffect
+effect_taken_down o p own object (message.Supply page lock precious bytes) = at_place o p own object page.0 (Takes (Supplying bytes)) StepEnds
+effect_taken_down o p own object (message.Unavailable page) = at_place o p own object page.0 (Takes Unavailing) StepEnds
+effect_taken_down o p own object (message.Error page reason) = at_place o p own object page.0 (Takes Erring) StepEnds
+effect_taken_down o p own object other = StepEnds
 
 -- What an event is to page p of object o on the host. What the host has of the other places comes in as a function.
 -- So does, of which objects the answers say what their files have. Of the answers those to the host's newest control count.
@@ -53,10 +53,10 @@ effect_of says host o p (event.Raised at lower lower_page upper upper_page) past
 effect_of says host o p (event.Stored task object page at size value) past spots = at_place o p (lives_on host task.0 past) object.0 page.0 (Stores at (little_endian_bytes size value)) Nothing
 effect_of says host o p (event.CopiedPage task page object object_page target) past spots = at_place o p (lives_on host task.0 past) target.0 page.0 (Raises (spots object.0 object_page.0).bytes) Nothing
 effect_of says host o p (event.Dropped at object page) past spots = at_place o p (at.0 == host) object.0 page.0 Drops Nothing
-effect_of says host o p (event.Sent (Up at object) m) past spots = sent_up o p (at.0 == host) (live_control host object.0 past) object.0 m
-effect_of says host o p (event.Sent (Down at object control) m) past spots = sent_down o p (at.0 == host && control == last_control host object.0 past) (says object.0) object.0 m
-effect_of says host o p (event.Taken (Up at object) m) past spots = taken_up o p (at.0 == host) object.0 m
-effect_of says host o p (event.Taken (Down at object control) m) past spots = taken_down o p (at.0 == host && control == last_control host object.0 past) object.0 m
+effect_of says host o p (event.Sent (Up at object) m) past spots = effect_sent_up o p (at.0 == host) (live_control host object.0 past) object.0 m
+effect_of says host o p (event.Sent (Down at object control) m) past spots = effect_sent_down o p (at.0 == host && control == last_control host object.0 past) (says object.0) object.0 m
+effect_of says host o p (event.Taken (Up at object) m) past spots = effect_taken_up o p (at.0 == host) object.0 m
+effect_of says host o p (event.Taken (Down at object control) m) past spots = effect_taken_down o p (at.0 == host && control == last_control host object.0 past) object.0 m
 effect_of says host o p e past spots = Nothing
 
 abbrev pub spot : Header → Outside → ℕ → ℕ → ℕ → List Event → Spot

@@ -2,12 +2,12 @@
 use Rattle.std.specs.Prelude.{not, ℕ, ◌==◌, List, [], ◌∷◌, ◌++◌, Bool, true, false, if◌then◌else◌, ◌&&◌, Option, Some, None}
 use Rattle.vm_base.specs.Pages.{with_bytes}
 use Rattle.vm_model.specs.Side.{rest}
-use Rattle.vm_flat.specs.Words.{UpWord, Requesting, Returning, DownWord, Supplying, Unavailing, Erring, SpotEffect, Creates, Requests, Returns, TakesRequest, TakesReturn, Answers, Takes, Zeroes, Raises, Stores, Drops, Ends, StepEnds, Nothing}
+use Rattle.vm_flat.specs.Words.{SpotUpWord, Requesting, Returning, SpotDownWord, Supplying, Unavailing, Erring, SpotEffect, Creates, Requests, Returns, TakesRequest, TakesReturn, Answers, Takes, Zeroes, Raises, Stores, Drops, Ends, StepEnds, Nothing}
 
 pub record Spot : Type 0 where
   -- what is on the way about the page, oldest first
-  pub up : List UpWord
-  pub down : List DownWord
+  pub up : List SpotUpWord
+  pub down : List SpotDownWord
   -- the object's control: 0 never made, 1 live, 2 ended
   pub control : ℕ
   pub here : Bool
@@ -44,7 +44,7 @@ first_spot file bytes =
     }
 
 -- what an answer says that the pager has
-abbrev pub answer_content : List ℕ → DownWord → Option (List ℕ) → Option (List ℕ)
+abbrev pub answer_content : List ℕ → SpotDownWord → Option (List ℕ) → Option (List ℕ)
 answer_content z (Supplying bytes) was = Some bytes
 answer_content z Unavailing was = Some z
 answer_content z Erring was = was
@@ -53,7 +53,7 @@ answer_content z Erring was = was
 abbrev pub hears : Spot → Bool
 hears s = s.control == 1 && s.asked
 
-abbrev pub spot_after_taking : Spot → DownWord → Bool → Spot
+abbrev pub spot_after_taking : Spot → SpotDownWord → Bool → Spot
 spot_after_taking s (Supplying bytes) b =
     record s {
       down = rest s.down;

@@ -2,15 +2,15 @@
 use Rattle.std.specs.Prelude.{ℕ, List, Bool}
 
 -- what goes up to the pager about a page
-pub data UpWord : Type 0 where
-  Requesting : UpWord
-  Returning : (bytes : List ℕ) → UpWord
+pub data SpotUpWord : Type 0 where
+  Requesting : SpotUpWord
+  Returning : (bytes : List ℕ) → SpotUpWord
 
 -- what comes down
-pub data DownWord : Type 0 where
-  Supplying : (bytes : List ℕ) → DownWord
-  Unavailing : DownWord
-  Erring : DownWord
+pub data SpotDownWord : Type 0 where
+  Supplying : (bytes : List ℕ) → SpotDownWord
+  Unavailing : SpotDownWord
+  Erring : SpotDownWord
 
 -- what an event does to one place
 pub data SpotEffect : Type 0 where
@@ -21,8 +21,8 @@ pub data SpotEffect : Type 0 where
   TakesRequest : SpotEffect
   TakesReturn : (bytes : List ℕ) → SpotEffect
   -- where the pager's files are not told, its answer says what the file has
-  Answers : (tells : Bool) → (word : DownWord) → SpotEffect
-  Takes : (word : DownWord) → SpotEffect
+  Answers : (tells : Bool) → (word : SpotDownWord) → SpotEffect
+  Takes : (word : SpotDownWord) → SpotEffect
   Zeroes : SpotEffect
   Raises : (bytes : List ℕ) → SpotEffect
   Stores : (at : ℕ) → (bytes : List ℕ) → SpotEffect

@@ -5,6 +5,7 @@ pub mod Inside
 pub mod LockNames
 pub mod Locks
 pub mod Pageouts
+pub mod Paying
 pub mod Served
 pub mod SoFar
 pub mod Stretched

@@ -4,7 +4,7 @@ use Rattle.vm_base.specs.Entries.{page_at}
 use Rattle.vm_model.specs.declared.event.Event.{Event}
 use Rattle.vm_model.specs.declared.event.Event.TheVariants as event
 use Rattle.vm_model.specs.declared.script.Header.{Header}
-use Rattle.vm_model.specs.Bytes.{number_in}
+use Rattle.vm_model.specs.Bytes.{number_at}
 use Rattle.vm_model.specs.Local.{CanRead, CanWrite}
 use Rattle.vm_model.specs.Waiting.{Loading, Storing}
 use Rattle.vm_legal.specs.Accesses.{Waits}
@@ -19,7 +19,7 @@ pub record AnswersOwn (header : Header) (task object page value : ℕ) (past : L
   pub bytes : ℕ
   pub waits : Waits header task (Loading address bytes) past
   pub readable : CanRead (page_on header waits.at.host object page past)
-  pub number : value ≡ number_in (page_on header waits.at.host object page past).bytes header.size address bytes
+  pub number : value ≡ number_at (page_on header waits.at.host object page past).bytes header.size address bytes
 
 -- a store carries the value with which it began, to the place that its address means in a page that its host can write
 pub record PutsOwn (header : Header) (task object page at size value : ℕ) (past : List Event) : Type 0 where
@@ -65,7 +65,7 @@ pub record AnswersFlat (header : Header) (outside : Outside) (task value : ℕ) 
   pub bytes : ℕ
   pub waits : Waits header task (Loading address bytes) past
   pub number : is_private header outside waits.at.entry.region.0 ≡ true
-      → value ≡ number_in (flat_page header outside waits.at.entry.region.0 (page_at header.size address waits.at.entry) past) header.size address bytes
+      → value ≡ number_at (flat_page header outside waits.at.entry.region.0 (page_at header.size address waits.at.entry) past) header.size address bytes
 
 abbrev pub FlatBytes : Header → Outside → Event → List Event → Type 0
 FlatBytes header outside (event.Loaded task object page value) past = AnswersFlat header outside task.0 value past

@@ -16,34 +16,34 @@ pub data FrameChange : Type 0 where
   Gives : FrameChange
   Keeps : FrameChange
 
-abbrev pub where_true : Bool → FrameChange → FrameChange
-where_true test change = if test then change else Keeps
+abbrev pub change_where : Bool → FrameChange → FrameChange
+change_where test change = if test then change else Keeps
 
 -- A request takes the frame for its page. A return that keeps no copy gives its frame back when its pager takes it.
-abbrev pub sent_up : Bool → Message → FrameChange
-sent_up here (message.Request control page access) = where_true here Takes
-sent_up here other = Keeps
+abbrev pub sent_up_change : Bool → Message → FrameChange
+sent_up_change here (message.Request control page access) = change_where here Takes
+sent_up_change here other = Keeps
 
-abbrev pub taken_up : Bool → Message → FrameChange
-taken_up here (message.Return control page dirty keep bytes) = where_true (here && not keep) Gives
-taken_up here other = Keeps
+abbrev pub taken_up_change : Bool → Message → FrameChange
+taken_up_change here (message.Return control page dirty keep bytes) = change_where (here && not keep) Gives
+taken_up_change here other = Keeps
 
 -- What a pager supplies stands in the frame that was asked for; where it has none, or fails, that frame is given back. Whether the
 -- page is asked comes in as a function.
-abbrev pub taken_down : (ℕ → Bool) → Message → FrameChange
-taken_down asked (message.Unavailable page) = where_true (asked page.0) Gives
-taken_down asked (message.Error page reason) = where_true (asked page.0) Gives
-taken_down asked other = Keeps
+abbrev pub taken_down_change : (ℕ → Bool) → Message → FrameChange
+taken_down_change asked (message.Unavailable page) = change_where (asked page.0) Gives
+taken_down_change asked (message.Error page reason) = change_where (asked page.0) Gives
+taken_down_change asked other = Keeps
 
 abbrev pub change : ℕ → ℕ → Event → List Event → FrameChange
-change size host (event.Zeroed at object page) past = where_true (at.0 == host) Takes
-change size host (event.Raised at lower lower_page upper upper_page) past = where_true (at.0 == host) Takes
-change size host (event.CopiedPage task page object object_page target) past = where_true (lives_on host task.0 past) Takes
-change size host (event.Dropped at object page) past = where_true (at.0 == host) Gives
-change size host (event.Sent (Up at object) m) past = sent_up (at.0 == host) m
-change size host (event.Taken (Up at object) m) past = taken_up (at.0 == host) m
+change size host (event.Zeroed at object page) past = change_where (at.0 == host) Takes
+change size host (event.Raised at lower lower_page upper upper_page) past = change_where (at.0 == host) Takes
+change size host (event.CopiedPage task page object object_page target) past = change_where (lives_on host task.0 past) Takes
+change size host (event.Dropped at object page) past = change_where (at.0 == host) Gives
+change size host (event.Sent (Up at object) m) past = sent_up_change (at.0 == host) m
+change size host (event.Taken (Up at object) m) past = taken_up_change (at.0 == host) m
 change size host (event.Taken (Down at object control) m) past =
-    taken_down (λ page. at.0 == host && (is_control control (live_control host object.0 past) && (local size host (record { object = object.0; page = page }) past).asked)) m
+    taken_down_change (λ page. at.0 == host && (is_control control (live_control host object.0 past) && (local size host (record { object = object.0; page = page }) past).asked)) m
 change size host e past = Keeps
 
 abbrev pub frames_after : FrameChange → ℕ → ℕ

@@ -33,7 +33,7 @@ use Rattle.vm_legal.specs.Outside.{Outside, is_file, is_said, is_wild, kind_of, 
 use Rattle.vm_legal.specs.Pagers.{LacksSlot, is_lost, known_control, last_return, newer, slot_at}
 use Rattle.vm_legal.specs.Reclaims.{Reclaims}
 use Rattle.vm_legal.specs.Steps.{Letter, absence_taken, answers, completes, error_taken, fails_reading, fails_task, gives_page, just_begun, readies, since, taken_letter, takings}
-use Rattle.vm_legal.specs.Undelivered.{oldest}
+use Rattle.vm_legal.specs.Undelivered.{oldest_channel}
 use Rattle.vm_legal.specs.Used.{in_use, is_filled}
 use Rattle.vm_legal.specs.Walks.{IsTop, Reach, Sinks, Walks, page_on, sight}
 
@@ -131,9 +131,9 @@ pub record Fails (header : Header) (task object page : ℕ) (past : List Event) 
   pub order : (other : ℕ) → since (fails_task other object page) past ≡ true → begun_at other past < begun_at task past
 
 -- 3 for a store on its top place, and 1 for everything else
-abbrev pub access_number : Access → ℕ → ℕ
-access_number access zero = if is_store access then 3 else 1
-access_number access (suc steps) = 1
+abbrev pub desired_access : Access → ℕ → ℕ
+desired_access access zero = if is_store access then 3 else 1
+desired_access access (suc steps) = 1
 
 -- the walk of a waiting access stops at a page that its pager, which is ready, may have, and nobody asked
 pub record Asks (header : Header) (host control object page wanted : ℕ) (past : List Event) : Type 0 where
@@ -143,7 +143,7 @@ pub record Asks (header : Header) (host control object page wanted : ℕ) (past 
   pub on_host : waits.at.host ≡ host
   pub unmarked : is_store access ≡ true → (region_of header waits.at.entry.region.0 past).mark ≡ false
   pub comes : Comes header host waits.at.entry.region.0 (page_of header task access past waits.at.entry) object page past
-  pub number : wanted ≡ access_number access comes.steps
+  pub number : wanted ≡ desired_access access comes.steps
   pub live : live_control host object past ≡ Some control
   pub ready : is_ready host object past ≡ true
   pub away : (page_on header host object page past).here ≡ false
@@ -224,7 +224,7 @@ pub record Unlocks (header : Header) (host control object page wanted : ℕ) (pa
   pub waits : Waits header task access past
   pub on_host : waits.at.host ≡ host
   pub comes : Comes header host waits.at.entry.region.0 (page_of header task access past waits.at.entry) object page past
-  pub number : wanted ≡ access_number access comes.steps
+  pub number : wanted ≡ desired_access access comes.steps
   pub live : live_control host object past ≡ Some control
   pub here : (page_on header host object page past).here ≡ true
   pub named : names (page_on header host object page past).lock (is_store access) ≡ true
@@ -423,7 +423,7 @@ pub record Drops (header : Header) (doing : Command) (host object page : ℕ) (p
 -- a message is taken for the command: `take` takes one of its channel, `settle` the oldest of all, up to its number
 abbrev pub MayTake : Command → Channel → List Event → Type 0
 MayTake (command.Take of) channel past = (channel ≡ of) × (takings past ≡ 0)
-MayTake (command.Settle count) channel past = (oldest past ≡ Some channel) × (takings past < count)
+MayTake (command.Settle count) channel past = (oldest_channel past ≡ Some channel) × (takings past < count)
 MayTake other channel past = ⊥
 
 -- the message that the step just took: nothing came behind it yet
@@ -450,9 +450,9 @@ pub record TakesRequest (host object page : ℕ) (past : List Event) : Type 0 wh
   pub is : just_taken past ≡ Some (record { channel = up host object; message = message.Request control (record { 0 = page }) access })
 
 -- which backing keeps the pages of the object
-abbrev pub KeepsPages : Header → Device → ℕ → Type 0
-KeepsPages header device.Paging object = named header ≤ object
-KeepsPages header device.Files object = is_file header object ≡ true
+abbrev pub IsBackingOf : Header → Device → ℕ → Type 0
+IsBackingOf header device.Paging object = named header ≤ object
+IsBackingOf header device.Files object = is_file header object ≡ true
 
 -- reading is tried only where there is a slot
 abbrev pub HasSlot : Header → Device → ℕ → ℕ → ℕ → List Event → Type 0
@@ -461,8 +461,8 @@ HasSlot header device.Files host object page past = Unit {0}
 
 -- a backing fails right behind the request, or the return, for which it was called
 abbrev pub DeviceFails : Header → Device → Way → ℕ → ℕ → List Event → Type 0
-DeviceFails header who way.Read object page past = KeepsPages header who object × ((host : ℕ) × TakesRequest host object page past × HasSlot header who host object page past)
-DeviceFails header who way.Write object page past = KeepsPages header who object × ((host : ℕ) × TakesReturn host object page past × HasSlot header who host object page past)
+DeviceFails header who way.Read object page past = IsBackingOf header who object × ((host : ℕ) × TakesRequest host object page past × HasSlot header who host object page past)
+DeviceFails header who way.Write object page past = IsBackingOf header who object × ((host : ℕ) × TakesReturn host object page past × HasSlot header who host object page past)
 
 -- there was no slot for a page whose return the step just took
 pub record NoSlotFor (header : Header) (object page : ℕ) (past : List Event) : Type 0 where

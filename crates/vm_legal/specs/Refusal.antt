@@ -25,34 +25,34 @@ use Rattle.vm_legal.specs.Undelivered.{is_made}
 use Rattle.vm_legal.specs.Used.{in_use}
 
 -- this code where the test holds, else what the later tests say
-abbrev pub where_true : Bool → Code → Option Code → Option Code
-where_true test code later = if test then Some code else later
+abbrev pub code_where : Bool → Code → Option Code → Option Code
+code_where test code later = if test then Some code else later
 
 -- the task lives, and has no access that waits
 abbrev pub acting : List Event → ℕ → Option Code → Option Code
-acting past task later = where_true (is_none (host_of task past)) NoSuchName (where_true (is_some (waiting task past)) Blocked later)
+acting past task later = code_where (is_none (host_of task past)) NoSuchName (code_where (is_some (waiting task past)) Blocked later)
 
 -- one entry, region and object more is too much
 abbrev pub is_full : Header → ℕ → List Event → Bool
 is_full header task past = nat_lt most_entries (length (entries_of header.size task past) + 1) || (nat_le most_regions (next_region header past) || nat_le most_objects (next_object header past + marked_regions header past))
 
 -- more entries than a task may have
-abbrev pub are_many : List Entry → Bool
-are_many rows = nat_lt most_entries (length rows)
+abbrev pub are_too_many : List Entry → Bool
+are_too_many rows = nat_lt most_entries (length rows)
 
 -- the region has a copy mark
-abbrev pub is_marked : Header → List Event → ℕ → Bool
-is_marked header past region = (region_of header region past).mark
+abbrev pub has_copy_mark : Header → List Event → ℕ → Bool
+has_copy_mark header past region = (region_of header region past).mark
 
 -- so many regions and marks of regions more, by a fork, are too much
 abbrev pub is_fork_full : Header → List Entry → List Event → Bool
 is_fork_full header rows past =
-    nat_lt most_regions (next_region header past + copies rows) || nat_lt most_objects (next_object header past + marked_regions header past + copies rows + new_marks (is_marked header past) rows)
+    nat_lt most_regions (next_region header past + copies rows) || nat_lt most_objects (next_object header past + marked_regions header past + copies rows + new_marks (has_copy_mark header past) rows)
 
 -- one region more is too much, with its object, or with its mark and the one of the region that it copies
 abbrev pub is_copy_full : Header → ℕ → List Event → Bool
 is_copy_full header source past =
-    nat_le most_regions (next_region header past) || nat_lt most_objects (next_object header past + marked_regions header past + copy_cost (nat_lt source (named header)) (is_marked header past source))
+    nat_le most_regions (next_region header past) || nat_lt most_objects (next_object header past + marked_regions header past + copy_cost (nat_lt source (named header)) (has_copy_mark header past source))
   where
     copy_cost : Bool → Bool → ℕ
     copy_cost true marked = 1
@@ -77,10 +77,10 @@ is_uncopied header own (Some entry) = is_wild header entry.region.0 || (nat_lt e
 abbrev pub copy_refusal : Header → ℕ → ℕ → ℕ → ℕ → List Event → Option Entry → Option Code
 copy_refusal header address bytes target to past None = Some InvalidAddress
 copy_refusal header address bytes target to past (Some entry) =
-    where_true (nat_lt (entry.address + entry.bytes) (address + bytes)) InvalidAddress
-    (where_true (not (allows need.Load entry.prot)) ProtectionFailure
-    (where_true (meets_range to bytes (entries_of header.size target past)) NoSpace
-    (where_true (nat_lt most_entries (length (entries_of header.size target past) + 1) || is_copy_full header entry.region.0 past) TableFull None)))
+    code_where (nat_lt (entry.address + entry.bytes) (address + bytes)) InvalidAddress
+    (code_where (not (allows need.Load entry.prot)) ProtectionFailure
+    (code_where (meets_range to bytes (entries_of header.size target past)) NoSpace
+    (code_where (nat_lt most_entries (length (entries_of header.size target past) + 1) || is_copy_full header entry.region.0 past) TableFull None)))
 
 -- an entry on a declared object, of which there are so many, has an address of the range
 abbrev pub meets_declared : ℕ → ℕ → ℕ → List Entry → Bool
@@ -98,59 +98,59 @@ is_empty [] = true
 is_empty (m ∷ more) = false
 
 abbrev pub refusal : Header → List Event → Command → Option Code
-refusal header past (command.Task task host) = where_true (is_some (host_of task.0 past)) NameTaken None
+refusal header past (command.Task task host) = code_where (is_some (host_of task.0 past)) NameTaken None
 refusal header past (command.Allocate task address bytes) =
     acting past task.0
-    (where_true (not (is_range header.size address bytes) || nat_lt most_pages (bytes / header.size)) InvalidArgument
-    (where_true (meets_range address bytes (entries_of header.size task.0 past)) NoSpace
-    (where_true (is_full header task.0 past) TableFull None)))
+    (code_where (not (is_range header.size address bytes) || nat_lt most_pages (bytes / header.size)) InvalidArgument
+    (code_where (meets_range address bytes (entries_of header.size task.0 past)) NoSpace
+    (code_where (is_full header task.0 past) TableFull None)))
 refusal header past (command.Load task address size) =
     acting past task.0
-    (where_true (not (address % size == 0)) InvalidArgument
+    (code_where (not (address % size == 0)) InvalidArgument
     (access_refusal need.Load (entry_at address (entries_of header.size task.0 past))))
 refusal header past (command.Store task address size value) =
     acting past task.0
-    (where_true (not (address % size == 0)) InvalidArgument
+    (code_where (not (address % size == 0)) InvalidArgument
     (access_refusal need.Store (entry_at address (entries_of header.size task.0 past))))
 refusal header past (command.Fork task child) =
-    where_true (is_none (host_of task.0 past)) NoSuchName
-    (where_true (is_some (host_of child.0 past)) NameTaken
-    (where_true (is_some (waiting task.0 past)) Blocked
-    (where_true (is_fork_full header (entries_of header.size task.0 past) past) TableFull None)))
+    code_where (is_none (host_of task.0 past)) NoSuchName
+    (code_where (is_some (host_of child.0 past)) NameTaken
+    (code_where (is_some (waiting task.0 past)) Blocked
+    (code_where (is_fork_full header (entries_of header.size task.0 past) past) TableFull None)))
 refusal header past (command.Exit task) = acting past task.0 None
 refusal header past (command.Deallocate task address bytes) =
     acting past task.0
-    (where_true (not (is_range header.size address bytes)) InvalidArgument
-    (where_true (are_many (removed header.size address bytes (entries_of header.size task.0 past))) TableFull None))
+    (code_where (not (is_range header.size address bytes)) InvalidArgument
+    (code_where (are_too_many (removed header.size address bytes (entries_of header.size task.0 past))) TableFull None))
 refusal header past (command.Protect task address bytes prot) =
     acting past task.0
-    (where_true (not (is_range header.size address bytes)) InvalidArgument
-    (where_true (not (is_mapped header.size address bytes (entries_of header.size task.0 past))) InvalidAddress
-    (where_true (are_many (protected header.size address bytes prot (entries_of header.size task.0 past))) TableFull None)))
+    (code_where (not (is_range header.size address bytes)) InvalidArgument
+    (code_where (not (is_mapped header.size address bytes (entries_of header.size task.0 past))) InvalidAddress
+    (code_where (are_too_many (protected header.size address bytes prot (entries_of header.size task.0 past))) TableFull None)))
 refusal header past (command.Inherit task address bytes inherit) =
     acting past task.0
-    (where_true (not (is_range header.size address bytes) || (is_copied inherit && meets_declared (length header.objects.items) address bytes (entries_of header.size task.0 past))) InvalidArgument
-    (where_true (not (is_mapped header.size address bytes (entries_of header.size task.0 past))) InvalidAddress
-    (where_true (are_many (inherited header.size address bytes inherit (entries_of header.size task.0 past))) TableFull None)))
-refusal header past (command.Wire host count) = where_true (nat_lt (frames_free header host.0 past) count) ResourceShortage None
-refusal header past (command.Unwire host count) = where_true (nat_lt (frames_wired host.0 past) count) InvalidArgument None
-refusal header past (command.Take channel) = where_true (not (is_made channel past)) NoSuchName (where_true (is_empty (queue channel past)) EmptyPort None)
+    (code_where (not (is_range header.size address bytes) || (is_copied inherit && meets_declared (length header.objects.items) address bytes (entries_of header.size task.0 past))) InvalidArgument
+    (code_where (not (is_mapped header.size address bytes (entries_of header.size task.0 past))) InvalidAddress
+    (code_where (are_too_many (inherited header.size address bytes inherit (entries_of header.size task.0 past))) TableFull None)))
+refusal header past (command.Wire host count) = code_where (nat_lt (frames_free header host.0 past) count) ResourceShortage None
+refusal header past (command.Unwire host count) = code_where (nat_lt (frames_wired host.0 past) count) InvalidArgument None
+refusal header past (command.Take channel) = code_where (not (is_made channel past)) NoSuchName (code_where (is_empty (queue channel past)) EmptyPort None)
 refusal header past (command.Map task address bytes object offset) =
     acting past task.0
-    (where_true (not (is_range header.size address bytes) || nat_lt (declared_pages header object.0) (offset + bytes / header.size)) InvalidArgument
-    (where_true (is_elsewhere header object.0 (host_of task.0 past) past) WrongHost
-    (where_true (meets_range address bytes (entries_of header.size task.0 past)) NoSpace
-    (where_true (nat_lt most_entries (length (entries_of header.size task.0 past) + 1)) TableFull None))))
+    (code_where (not (is_range header.size address bytes) || nat_lt (declared_pages header object.0) (offset + bytes / header.size)) InvalidArgument
+    (code_where (is_elsewhere header object.0 (host_of task.0 past) past) WrongHost
+    (code_where (meets_range address bytes (entries_of header.size task.0 past)) NoSpace
+    (code_where (nat_lt most_entries (length (entries_of header.size task.0 past) + 1)) TableFull None))))
 refusal header past (command.Copy task address bytes target to) =
-    where_true (is_none (host_of task.0 past) || is_none (host_of target.0 past)) NoSuchName
-    (where_true (is_some (waiting task.0 past) || is_some (waiting target.0 past)) Blocked
-    (where_true (not (is_range header.size address bytes && is_range header.size to bytes) || (nat_lt most_pages (bytes / header.size) || (not (same_host (host_of task.0 past) (host_of target.0 past))
+    code_where (is_none (host_of task.0 past) || is_none (host_of target.0 past)) NoSuchName
+    (code_where (is_some (waiting task.0 past) || is_some (waiting target.0 past)) Blocked
+    (code_where (not (is_range header.size address bytes && is_range header.size to bytes) || (nat_lt most_pages (bytes / header.size) || (not (same_host (host_of task.0 past) (host_of target.0 past))
     || is_uncopied header (task.0 == target.0) (entry_at address (entries_of header.size task.0 past))))) InvalidArgument
     (copy_refusal header address bytes target.0 to past (entry_at address (entries_of header.size task.0 past)))))
 refusal header past (command.Clean object page count flush) =
-    where_true (not (is_file header object.0) || (count == 0 || nat_lt (declared_pages header object.0) (page.0 + count))) InvalidArgument None
+    code_where (not (is_file header object.0) || (count == 0 || nat_lt (declared_pages header object.0) (page.0 + count))) InvalidArgument None
 refusal header past (command.Say host object m) =
-    where_true (is_none (live_control host.0 object.0 past)) NoSuchName (where_true (not (is_wild header object.0)) InvalidArgument None)
+    code_where (is_none (live_control host.0 object.0 past)) NoSuchName (code_where (not (is_wild header object.0)) InvalidArgument None)
 refusal header past (command.Settle count) = None
 refusal header past (command.Pageout host count) = None
 refusal header past (command.FailFiles count) = None

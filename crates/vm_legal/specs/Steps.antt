@@ -101,13 +101,13 @@ abbrev pub answers : ℕ → ℕ → Event → Bool
 answers o page (event.Sent (Down host object control) m) = object.0 == o && is_answer page m
 answers o page other = false
 
-abbrev pub is_ready : Message → Bool
-is_ready (message.Ready cache strategy) = true
-is_ready other = false
+abbrev pub is_ready_message : Message → Bool
+is_ready_message (message.Ready cache strategy) = true
+is_ready_message other = false
 
 -- the event says that the pager of the object is ready
 abbrev pub readies : ℕ → Event → Bool
-readies o (event.Sent (Down host object control) m) = object.0 == o && is_ready m
+readies o (event.Sent (Down host object control) m) = object.0 == o && is_ready_message m
 readies o other = false
 
 abbrev pub is_paging : Device → Bool

@@ -26,8 +26,8 @@ channel_of_first [] = None
 channel_of_first (letter ∷ letters) = Some letter.channel
 
 -- the channel of the undelivered message that was sent first
-abbrev pub oldest : List Event → Option Channel
-oldest past = channel_of_first (undelivered past)
+abbrev pub oldest_channel : List Event → Option Channel
+oldest_channel past = channel_of_first (undelivered past)
 
 -- the channel is up to an object from a host, or down to this control of it
 abbrev pub is_of_control : Channel → ℕ → ℕ → ℕ → Bool

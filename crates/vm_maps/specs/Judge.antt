@@ -1,10 +1,11 @@
 -- The codes that a task's entries give to a change and to an access.
-use Rattle.std.specs.Prelude.{ℕ, ◌+◌, ◌%◌, Bool, false, not, List, length, Option, Some, None, Result, Ok, Err, if◌then◌else◌, nat_lt}
+use Rattle.std.specs.Prelude.{ℕ, ◌+◌, ◌%◌, ◌≡◌, Bool, true, false, not, List, length, Option, Some, None, Result, Ok, Err, if◌then◌else◌, nat_lt}
 use Rattle.vm_base.specs.Entries.{allows, entry_at, inherited, is_mapped, is_range, meets_range, most_entries, page_at, protected, removed}
 use Rattle.vm_base.specs.declared.code.Code.{Code}
 use Rattle.vm_base.specs.declared.code.Code.TheVariants as code
 use Rattle.vm_base.specs.declared.entry.Entry.{Entry}
 use Rattle.vm_base.specs.declared.ids.Access.{Access}
+use Rattle.vm_maps.specs.Maps.{Mapped, entries_in, rows_in}
 use Rattle.vm_maps.specs.declared.change.MapChange.{MapChange}
 use Rattle.vm_maps.specs.declared.change.MapKind.{MapKind}
 use Rattle.vm_maps.specs.declared.change.MapKind.TheVariants as kind
@@ -53,3 +54,10 @@ looked_up_in size address need (Some row) =
 -- where an access of an address leads, or why it is refused
 abbrev pub looked_up : ℕ → ℕ → Access → List Entry → Result Place Code
 looked_up size address need rows = looked_up_in size address need (entry_at address rows)
+
+-- a task has an entry that holds the address, and allows the access
+pub record IsAllowed (maps : Mapped) (task address : ℕ) (need : Access) : Type 0 where
+  pub entry : Entry
+  pub lives : entries_in task maps ≡ Some (rows_in task maps)
+  pub found : entry_at address (rows_in task maps) ≡ Some entry
+  pub allowed : allows need entry.prot ≡ true

@@ -15,9 +15,9 @@ passed address [] = 0
 passed address (row ∷ rows) = if nat_le (row.address + row.bytes) address then suc (passed address rows) else 0
 
 -- from an address up to another there is no gap
-abbrev pub reaches : ℕ → ℕ → List Entry → Bool
-reaches from to [] = nat_le to from
-reaches from to (row ∷ rows) = nat_le to from || (nat_le row.address from && reaches (row.address + row.bytes) to rows)
+abbrev pub is_without_gap : ℕ → ℕ → List Entry → Bool
+is_without_gap from to [] = nat_le to from
+is_without_gap from to (row ∷ rows) = nat_le to from || (nat_le row.address from && is_without_gap (row.address + row.bytes) to rows)
 
 abbrev pub becomes_by : MapKind → MapChange → Entry → List Entry
 becomes_by kind.Enter change row = row ∷ []

@@ -1,7 +1,7 @@
 // Searches in a task's entries, which stand by rising address.
 ghost use Rattle.std.specs.Prelude.{◌≡◌, ◌+◌, ◌≤◌, ◌<◌, ◌^◌, drop, length, slice_get};
 ghost use Rattle.vm_base.specs.Entries.{InOrder, by_address, entry_at, meets_range};
-ghost use Rattle.vm_maps.specs.Rows.{cuts_at, passed, reaches};
+ghost use Rattle.vm_maps.specs.Rows.{cuts_at, is_without_gap, passed};
 
 use vm_base::{Entries, Entry};
 
@@ -82,7 +82,7 @@ pub fn count_cuts(entries: &Entries, address: u64) -> u32
 pub fn is_covered(entries: &Entries, from: u64, to: u64) -> bool
     requires { InOrder 0 (2 ^ 32) (by_address entries.now) }
     ensures { let rows = by_address entries.now in
-        result ≡ reaches from to (drop (passed from rows) rows) }
+        result ≡ is_without_gap from to (drop (passed from rows) rows) }
 {
     let mut i = count_passed(entries, from);
     let mut reached = from;

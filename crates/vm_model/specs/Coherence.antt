@@ -5,7 +5,7 @@ use Rattle.vm_model.specs.Words.{UpWord, Asking, Unlocking, Returning, Doing, En
 use Rattle.vm_model.specs.Side.{Side, side, can_read, can_write}
 use Rattle.vm_model.specs.Waiters.{Waiter, waiters, waiter_of}
 use Rattle.vm_model.specs.Server.{line, current}
-use Rattle.vm_model.specs.PageLicences.{Licensed}
+use Rattle.vm_model.specs.PageLicences.{ActsLicensed}
 
 -- at every moment, also inside a step
 abbrev pub Throughout : (List Act → Type 0) → List Act → Type 0
@@ -52,12 +52,12 @@ pub record Carries (page : List ℕ) (s : Side) : Type 0 where
 abbrev pub SameBytes : ℕ → List Act → Type 0
 SameBytes size past = (h : ℕ) → Carries (current size past) (side h past)
 
-abbrev pub Reads : List ℕ → ℕ → Option Waiter → Type 0
-Reads page value None = ⊥
-Reads page value (Some w) = value ≡ little_endian (slice_range page w.at (w.at + w.size))
+abbrev pub WaiterReads : List ℕ → ℕ → Option Waiter → Type 0
+WaiterReads page value None = ⊥
+WaiterReads page value (Some w) = value ≡ little_endian (slice_range page w.at (w.at + w.size))
 
 abbrev pub LoadReads : ℕ → ℕ → ActEffect → List Act → Type 0
-LoadReads size h (Loads task value) past = Reads (current size past) value (waiter_of task (waiters h past))
+LoadReads size h (Loads task value) past = WaiterReads (current size past) value (waiter_of task (waiters h past))
 LoadReads size h (Opens control ready) past = Unit {0}
 LoadReads size h (SendsUp control word) past = Unit {0}
 LoadReads size h (TakenUp word) past = Unit {0}
@@ -82,7 +82,7 @@ EachLoadReads size (a ∷ past) = LoadReads size a.host a.effect past × EachLoa
 -- A shared page behaves as one memory: each event has its cause, at every moment there is one writer and every copy
 -- has the same bytes, and each load answers them.
 pub record PageLegal (size : ℕ) (acts : List Act) : Type 0 where
-  pub licensed : Licensed size acts
+  pub licensed : ActsLicensed size acts
   pub one_writer : Throughout OneWriter acts
   pub same_bytes : Throughout (SameBytes size) acts
   pub loads : EachLoadReads size acts
@@ -104,8 +104,8 @@ StepsDone [] = Unit {0}
 StepsDone (a ∷ past) = (begins_step a.effect ≡ true → Done past) × StepsDone past
 
 -- an access that waits has asked, has an unlock outstanding, or waits for the control to be ready
-abbrev pub Prompt : List Act → Type 0
-Prompt past = (h : ℕ) → waiters h past ≢ [] →
+abbrev pub WaitersHaveAsked : List Act → Type 0
+WaitersHaveAsked past = (h : ℕ) → waiters h past ≢ [] →
     ((side h past).asked ≡ true) ⊎ (((0 < (side h past).right) × ((side h past).unlocking ≡ true)) ⊎ (((side h past).live ≡ true) × ((side h past).ready ≡ false)))
 
 -- where the server's line is not empty, a host is awaited

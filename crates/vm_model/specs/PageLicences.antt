@@ -2,7 +2,7 @@
 use Rattle.std.specs.Prelude.{◌≡◌, ◌≢◌, ◌+◌, ◌==◌, ◌&&◌, ◌||◌, if◌then◌else◌, ℕ, ◌<◌, ◌≤◌, List, [], ◌∷◌, Bool, true, false, Option, Some, None, slice_range}
 use Rattle.vm_base.specs.Pages.{little_endian}
 use Rattle.vm_model.specs.Words.{UpWord, Asking, Unlocking, Returning, Doing, Ending, OtherUp, DownWord, Supplying, Locking, Lacking, Failing, Readying, OtherDown, ActEffect, Opens, SendsUp, TakenUp, SentDown, TakesDown, Puts, Drops, Begins, Loads, Stores, Fails, BeginsCopy, Copies, EndsCopy, StepBegins, Nothing, Act}
-use Rattle.vm_model.specs.Side.{Side, side, fresh, can_read, can_write}
+use Rattle.vm_model.specs.Side.{Side, side, has_alone, can_read, can_write}
 use Rattle.vm_model.specs.Waiters.{Waiter, waiters, waiter_of, any_store, any_load, readers, any_reader}
 use Rattle.vm_model.specs.Server.{first, Wanting, wants_write, line, kept}
 
@@ -22,7 +22,7 @@ MaySend ws rs s (Unlocking access) =
 MaySend ws rs s (Returning dirty keep bytes) =
     (0 < s.right) × (s.dirty ≡ true) × (dirty ≡ true) × (bytes ≡ s.bytes) × (keep ≡ true → s.step ≡ 1)
 MaySend ws rs s (Doing control count) =
-    (s.control ≡ control) × (count ≡ 1) × (0 < s.step) × (s.step ≡ 2 → s.right ≡ 0) × (fresh s ≡ false)
+    (s.control ≡ control) × (count ≡ 1) × (0 < s.step) × (s.step ≡ 2 → s.right ≡ 0) × (has_alone s ≡ false)
 MaySend ws rs s (Ending control) = (s.control ≡ control) × (s.right ≡ 0) × (s.asked ≡ false)
 MaySend ws rs s OtherUp = Unit {0}
 
@@ -39,27 +39,27 @@ MayStore (Some w) s at size value =
     (w.store ≡ true) × (can_write s ≡ true) × (at ≡ w.at) × (size ≡ w.size) × (value ≡ w.value)
 
 -- what is taken is the oldest of its channel; no page is put into the host but by a supply, and no access fails
-abbrev pub May : List Waiter → List ℕ → Side → ActEffect → Type 0
-May ws rs s (Opens control ready) = (s.live ≡ false) × (control ≡ s.control + 1)
-May ws rs s (SendsUp control OtherUp) = Unit {0}
-May ws rs s (SendsUp control word) = (s.live ≡ true) × (s.control ≡ control) × MaySend ws rs s word
-May ws rs s (TakenUp OtherUp) = Unit {0}
-May ws rs s (TakenUp word) = first s.up ≡ Some word
-May ws rs s (SentDown control word) = ⊥
-May ws rs s (TakesDown control Readying) = Unit {0}
-May ws rs s (TakesDown control OtherDown) = Unit {0}
-May ws rs s (TakesDown control word) = s.control ≡ control → s.live ≡ true → first s.down ≡ Some word
-May ws rs s (Puts bytes dirty) = ⊥
-May ws rs s Drops = (0 < s.right) × (s.dirty ≡ false)
-May ws rs s (Begins task store at size value) = Unit {0}
-May ws rs s (Loads task value) = MayLoad (waiter_of task ws) s value
-May ws rs s (Stores task at size value) = MayStore (waiter_of task ws) s at size value
-May ws rs s (Fails task) = ⊥
-May ws rs s (BeginsCopy task times) = Unit {0}
-May ws rs s (Copies task) = Unit {0}
-May ws rs s (EndsCopy task) = Unit {0}
-May ws rs s StepBegins = Unit {0}
-May ws rs s Nothing = Unit {0}
+abbrev pub HostMay : List Waiter → List ℕ → Side → ActEffect → Type 0
+HostMay ws rs s (Opens control ready) = (s.live ≡ false) × (control ≡ s.control + 1)
+HostMay ws rs s (SendsUp control OtherUp) = Unit {0}
+HostMay ws rs s (SendsUp control word) = (s.live ≡ true) × (s.control ≡ control) × MaySend ws rs s word
+HostMay ws rs s (TakenUp OtherUp) = Unit {0}
+HostMay ws rs s (TakenUp word) = first s.up ≡ Some word
+HostMay ws rs s (SentDown control word) = ⊥
+HostMay ws rs s (TakesDown control Readying) = Unit {0}
+HostMay ws rs s (TakesDown control OtherDown) = Unit {0}
+HostMay ws rs s (TakesDown control word) = s.control ≡ control → s.live ≡ true → first s.down ≡ Some word
+HostMay ws rs s (Puts bytes dirty) = ⊥
+HostMay ws rs s Drops = (0 < s.right) × (s.dirty ≡ false)
+HostMay ws rs s (Begins task store at size value) = Unit {0}
+HostMay ws rs s (Loads task value) = MayLoad (waiter_of task ws) s value
+HostMay ws rs s (Stores task at size value) = MayStore (waiter_of task ws) s at size value
+HostMay ws rs s (Fails task) = ⊥
+HostMay ws rs s (BeginsCopy task times) = Unit {0}
+HostMay ws rs s (Copies task) = Unit {0}
+HostMay ws rs s (EndsCopy task) = Unit {0}
+HostMay ws rs s StepBegins = Unit {0}
+HostMay ws rs s Nothing = Unit {0}
 
 -- the server
 
@@ -103,9 +103,9 @@ ReplyCause size h control OtherDown past = Unit {0}
 
 abbrev pub Cause : ℕ → ℕ → ActEffect → List Act → Type 0
 Cause size h (SentDown control word) past = ReplyCause size h control word past
-Cause size h e past = May (waiters h past) (readers h past) (side h past) e
+Cause size h e past = HostMay (waiters h past) (readers h past) (side h past) e
 
 -- each act has its cause
-abbrev pub Licensed : ℕ → List Act → Type 0
-Licensed size [] = Unit {0}
-Licensed size (a ∷ past) = Cause size a.host a.effect past × Licensed size past
+abbrev pub ActsLicensed : ℕ → List Act → Type 0
+ActsLicensed size [] = Unit {0}
+ActsLicensed size (a ∷ past) = Cause size a.host a.effect past × ActsLicensed size past

@@ -4,7 +4,7 @@ use Rattle.vm_model.specs.declared.event.Event.{Event}
 use Rattle.vm_model.specs.Words.{Act, act_of, ActEffect, Begins, Opens}
 use Rattle.vm_model.specs.Side.{Side, side}
 use Rattle.vm_model.specs.TaskPlace.{task_host, means_page}
-use Rattle.vm_model.specs.PageLicences.{Licensed}
+use Rattle.vm_model.specs.PageLicences.{ActsLicensed}
 
 -- the events of page p of object o, newest first, with each task's host and the place that each beginning means
 abbrev pub page_part : ℕ → ℕ → ℕ → List Event → List Act
@@ -23,7 +23,7 @@ place size host o p history = side host (page_part size o p history)
 
 -- each page of an object has a licensed part
 abbrev pub PagesLicensed : ℕ → ℕ → List Event → Type 0
-PagesLicensed size o history = (p : ℕ) → Licensed size (page_part size o p history)
+PagesLicensed size o history = (p : ℕ) → ActsLicensed size (page_part size o p history)
 
 -- The page world: a world of one page of object 0, in which task h is the one task of host h.
 

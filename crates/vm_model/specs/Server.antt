@@ -18,16 +18,16 @@ abbrev pub wants_write : Wanting → Bool
 wants_write w = if w.upgrade then true else w.access == 3
 
 -- without the first request of the host
-abbrev pub without : ℕ → List Wanting → List Wanting
-without h [] = []
-without h (w ∷ ws) = if w.host == h then (if w.upgrade then w ∷ without h ws else ws) else w ∷ without h ws
+abbrev pub without_request : ℕ → List Wanting → List Wanting
+without_request h [] = []
+without_request h (w ∷ ws) = if w.host == h then (if w.upgrade then w ∷ without_request h ws else ws) else w ∷ without_request h ws
 
 -- a request joins; so does an unlock, to write, from a host that holds Read and isn't awaited
 abbrev pub joined : Side → ℕ → ActEffect → List Wanting → List Wanting
 joined s h (TakenUp (Asking asker access)) ws = ws ++ record { host = h; upgrade = false; access = access } ∷ []
 joined s h (TakenUp (Unlocking access)) ws =
     if s.holds == 1 && s.awaits == 0 then ws ++ record { host = h; upgrade = true; access = 3 } ∷ [] else ws
-joined s h (SentDown control (Supplying lock precious bytes)) ws = without h ws
+joined s h (SentDown control (Supplying lock precious bytes)) ws = without_request h ws
 joined s h e ws = ws
 
 -- an upgrade leaves where its host no longer holds Read

@@ -66,8 +66,8 @@ abbrev pub can_write : Side → Bool
 can_write s = s.right == 2
 
 -- the host has what nobody else has
-abbrev pub fresh : Side → Bool
-fresh s = nat_lt 0 s.right && s.dirty
+abbrev pub has_alone : Side → Bool
+has_alone s = nat_lt 0 s.right && s.dirty
 
 abbrev pub right_of : ℕ → ℕ
 right_of zero = 2
@@ -87,10 +87,10 @@ opened s control ready = record s { control = control; live = true; ready = read
 
 -- the host sends
 
-abbrev pub sent_up : Side → UpWord → Side
-sent_up s (Asking asker access) = record s { up = s.up ++ Asking asker access ∷ []; asked = true }
-sent_up s (Unlocking access) = record s { up = s.up ++ Unlocking access ∷ []; unlocking = true }
-sent_up s (Returning dirty keep bytes) =
+abbrev pub side_sent_up : Side → UpWord → Side
+side_sent_up s (Asking asker access) = record s { up = s.up ++ Asking asker access ∷ []; asked = true }
+side_sent_up s (Unlocking access) = record s { up = s.up ++ Unlocking access ∷ []; unlocking = true }
+side_sent_up s (Returning dirty keep bytes) =
     record s {
       up = s.up ++ Returning dirty keep bytes ∷ [];
       right = if keep then s.right else 0;
@@ -98,10 +98,10 @@ sent_up s (Returning dirty keep bytes) =
       precious = false;
       absent = false;
     }
-sent_up s (Doing control count) = record s { up = s.up ++ Doing control count ∷ []; step = 0 }
-sent_up s (Ending control) =
+side_sent_up s (Doing control count) = record s { up = s.up ++ Doing control count ∷ []; step = 0 }
+side_sent_up s (Ending control) =
     record s { up = s.up ++ Ending control ∷ []; live = false; ready = false; down = []; asked = false; step = 0 }
-sent_up s OtherUp = s
+side_sent_up s OtherUp = s
 
 -- the server takes
 
@@ -127,32 +127,32 @@ heard_up s (Doing control count) = done s control
 heard_up s (Ending control) = record s { holds = 0; awaits = if s.awaited_control == control then 0 else s.awaits }
 heard_up s OtherUp = s
 
-abbrev pub taken_up : Side → UpWord → Side
-taken_up s OtherUp = record s { step = 0 }
-taken_up s word = record (heard_up s word) { up = rest s.up; step = 0 }
+abbrev pub side_taken_up : Side → UpWord → Side
+side_taken_up s OtherUp = record s { step = 0 }
+side_taken_up s word = record (heard_up s word) { up = rest s.up; step = 0 }
 
 -- the server sends
 
-abbrev pub reaches : Side → ℕ → Bool
-reaches s control = s.live && s.control == control
+abbrev pub is_open_to : Side → ℕ → Bool
+is_open_to s control = s.live && s.control == control
 
 abbrev pub put_down : Side → ℕ → DownWord → List DownWord
-put_down s control word = if reaches s control then s.down ++ word ∷ [] else s.down
+put_down s control word = if is_open_to s control then s.down ++ word ∷ [] else s.down
 
-abbrev pub sent_down : Side → ℕ → DownWord → Side
-sent_down s control (Supplying lock precious bytes) =
+abbrev pub side_sent_down : Side → ℕ → DownWord → Side
+side_sent_down s control (Supplying lock precious bytes) =
     record s { down = put_down s control (Supplying lock precious bytes); holds = right_of lock; pending = s.pending - 1 }
-sent_down s control (Locking count returns flush lock reply) =
+side_sent_down s control (Locking count returns flush lock reply) =
     record s {
       down = put_down s control (Locking count returns flush lock reply);
       holds = if returns == 0 then 2 else s.holds;
       awaits = if reply then kind_of flush else s.awaits;
       awaited_control = if reply then control else s.awaited_control;
     }
-sent_down s control Lacking = record s { down = put_down s control Lacking }
-sent_down s control Failing = record s { down = put_down s control Failing }
-sent_down s control Readying = s
-sent_down s control OtherDown = s
+side_sent_down s control Lacking = record s { down = put_down s control Lacking }
+side_sent_down s control Failing = record s { down = put_down s control Failing }
+side_sent_down s control Readying = s
+side_sent_down s control OtherDown = s
 
 -- the host takes; an answer counts only where the page is asked
 
@@ -165,8 +165,8 @@ abbrev pub supplied : ℕ → Bool → ℕ → ℕ
 supplied right true lock = right_of lock
 supplied right false lock = right
 
-abbrev pub hears : Side → DownWord → Side
-hears s (Supplying lock precious bytes) =
+abbrev pub side_taken_down : Side → DownWord → Side
+side_taken_down s (Supplying lock precious bytes) =
     record s {
       down = rest s.down;
       right = supplied s.right s.asked lock;
@@ -178,7 +178,7 @@ hears s (Supplying lock precious bytes) =
       asked = false;
       step = 0;
     }
-hears s (Locking count returns flush lock reply) =
+side_taken_down s (Locking count returns flush lock reply) =
     record s {
       down = rest s.down;
       right = locked s.right flush lock;
@@ -186,20 +186,20 @@ hears s (Locking count returns flush lock reply) =
       unlocking = false;
       step = if reply then kind_of flush else 0;
     }
-hears s Lacking = record s { down = rest s.down; absent = if s.asked then true else s.absent; asked = false; step = 0 }
-hears s Failing = record s { down = rest s.down; asked = false; step = 0 }
-hears s Readying = record s { ready = true; step = 0 }
-hears s OtherDown = record s { step = 0 }
+side_taken_down s Lacking = record s { down = rest s.down; absent = if s.asked then true else s.absent; asked = false; step = 0 }
+side_taken_down s Failing = record s { down = rest s.down; asked = false; step = 0 }
+side_taken_down s Readying = record s { ready = true; step = 0 }
+side_taken_down s OtherDown = record s { step = 0 }
 
 abbrev pub put : Side → List ℕ → Bool → Side
 put s bytes dirty = record s { right = 2; lock = 0; bytes = bytes; dirty = dirty; precious = false; unlocking = false }
 
 abbrev pub side_after : Side → ActEffect → Side
 side_after s (Opens control ready) = opened s control ready
-side_after s (SendsUp control word) = sent_up s word
-side_after s (TakenUp word) = taken_up s word
-side_after s (SentDown control word) = sent_down s control word
-side_after s (TakesDown control word) = if reaches s control then hears s word else record s { step = 0 }
+side_after s (SendsUp control word) = side_sent_up s word
+side_after s (TakenUp word) = side_taken_up s word
+side_after s (SentDown control word) = side_sent_down s control word
+side_after s (TakesDown control word) = if is_open_to s control then side_taken_down s word else record s { step = 0 }
 side_after s (Puts bytes dirty) = put s bytes dirty
 side_after s Drops = record s { right = 0 }
 side_after s (Begins task store at size value) = s

@@ -43,9 +43,9 @@ abbrev pub is_sent : Event → Bool
 is_sent (event.Sent channel message) = true
 is_sent _ = false
 
-abbrev pub is_taken : Event → Bool
-is_taken (event.Taken channel message) = true
-is_taken _ = false
+abbrev pub is_taken_event : Event → Bool
+is_taken_event (event.Taken channel message) = true
+is_taken_event _ = false
 
 abbrev pub is_dropped : Event → Bool
 is_dropped (event.Dropped host object page) = true
@@ -83,7 +83,7 @@ summary_text history =
     ++ row (codes "copies") (count_of is_copy_ended history)
     ++ row (codes "failed") (count_of is_failed history)
     ++ row (codes "sent") (count_of is_sent history)
-    ++ row (codes "taken") (count_of is_taken history)
+    ++ row (codes "taken") (count_of is_taken_event history)
     ++ row (codes "dropped") (count_of is_dropped history)
     ++ row (codes "waiting") (waiting_of history)
     ++ row (codes "sum") (sum_of history)

@@ -1,7 +1,7 @@
 -- The text of a history: a line for each event, its fields behind the word, each behind a space.
 use Rattle.std.specs.Prelude.{ℕ, ◌+◌, ◌/◌, ◌%◌, Bool, List, [], ◌∷◌, ◌++◌, codes, decimal, if◌then◌else◌, ◌==◌, nat_lt}
 use Rattle.std.specs.List.{flat_map}
-use Rattle.vm_base.specs.Code.{number}
+use Rattle.vm_base.specs.Code.{code_number}
 use Rattle.vm_base.specs.Pages.{little_endian_bytes}
 use Rattle.vm_base.specs.declared.ids.Prot.{Prot}
 use Rattle.vm_base.specs.declared.ids.Inherit.{Inherit}
@@ -96,7 +96,7 @@ newline = codes "\n"
 -- the line of an event, with its line end
 unfoldable pub line_of : Event → List ℕ
 line_of (event.Line line) = codes "line" ++ field line ++ newline
-line_of (event.Refused code) = codes "refused" ++ field (number code) ++ newline
+line_of (event.Refused code) = codes "refused" ++ field (code_number code) ++ newline
 line_of (event.TaskMade task host) = codes "made" ++ field task.0 ++ field host.0 ++ newline
 line_of (event.TaskEnded task) = codes "ended" ++ field task.0 ++ newline
 line_of (event.RegionMade region object pages) =

@@ -87,10 +87,10 @@ down_word p (message.Ready cache strategy) = Readying
 down_word p m = OtherDown
 
 -- what a host sends up
-abbrev pub sent_effect : ℕ → Message → ActEffect
-sent_effect p (message.Init control size) = Opens control false
-sent_effect p (message.Create control size) = Opens control false
-sent_effect p m = SendsUp (control_of m) (up_word p m)
+abbrev pub sent_act_effect : ℕ → Message → ActEffect
+sent_act_effect p (message.Init control size) = Opens control false
+sent_act_effect p (message.Create control size) = Opens control false
+sent_act_effect p m = SendsUp (control_of m) (up_word p m)
 
 -- the effect on this host, if the event is of the place
 abbrev pub act_if : Bool → ℕ → ActEffect → Act
@@ -105,7 +105,7 @@ times_meant size means address (suc count) =
 -- What an event is to page p of object o. The rest of the history comes in as functions: the host of
 -- a task, whether an address of a task means the place, and the bytes that a host has of a place.
 abbrev pub act_of : ℕ → ℕ → ℕ → (ℕ → ℕ) → (ℕ → ℕ → Bool) → (ℕ → ℕ → ℕ → List ℕ) → Event → Act
-act_of size o p host_of means held (event.Sent (Up host object) m) = act_if (object.0 == o) host.0 (sent_effect p m)
+act_of size o p host_of means held (event.Sent (Up host object) m) = act_if (object.0 == o) host.0 (sent_act_effect p m)
 act_of size o p host_of means held (event.Sent (Down host object control) m) =
     act_if (object.0 == o) host.0 (SentDown control (down_word p m))
 act_of size o p host_of means held (event.Taken (Up host object) m) =

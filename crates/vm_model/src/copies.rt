@@ -1,6 +1,6 @@
 // Copies of messages.
 ghost use Rattle.std.specs.Prelude.{◌≡◌, ◌+◌, ◌<◌, length, true, false};
-ghost use Rattle.vm_model.specs.Copies.{has_page, HasPageOf, is_of_pages, is_from_pager};
+ghost use Rattle.vm_model.specs.Copies.{carries_page, HasPageOf, is_of_pages, is_from_pager};
 
 use crate::Message;
 use vm_base::{Buffers, PageBytes};
@@ -9,12 +9,12 @@ impl Message {
     /// The same message once more, without memory: the copy of its page, where it has one, stands in
     /// a buffer of the store.
     pub fn copy(&self, buffers: &mut Buffers) -> Message
-        requires buffer { has_page self.now ≡ true → 0 < buffers.old.count }
+        requires buffer { carries_page self.now ≡ true → 0 < buffers.old.count }
         requires size { HasPageOf buffers.old.size self.now }
         ensures same { result ≡ self.now }
         ensures size { buffers.new.size ≡ buffers.old.size }
-        ensures fewer { has_page self.now ≡ true → buffers.old.count ≡ buffers.new.count + 1 }
-        ensures kept { has_page self.now ≡ false → buffers.new ≡ buffers.old }
+        ensures fewer { carries_page self.now ≡ true → buffers.old.count ≡ buffers.new.count + 1 }
+        ensures kept { carries_page self.now ≡ false → buffers.new ≡ buffers.old }
     {
         match *self {
             Message::Return {
@@ -47,7 +47,7 @@ impl Message {
 
     // What is said of the whole object; else it is of pages.
     fn copy_of_object(&self) -> Message
-        requires { has_page self.now ≡ false }
+        requires { carries_page self.now ≡ false }
         ensures { result ≡ self.now }
     {
         match *self {

@@ -1,6 +1,6 @@
 // Why a script is refused.
 ghost use Rattle.std.specs.Prelude.{◌≡◌};
-ghost use Rattle.vm_model.specs.Fault.{number};
+ghost use Rattle.vm_model.specs.Fault.{fault_number};
 
 /// What is wrong with a line of a script. The numbers are this profile's.
 #[derive(Clone, Copy, Debug, PartialEq, Eq)]
@@ -24,7 +24,7 @@ pub enum ScriptFault {
 impl ScriptFault {
     /// The number that the answer to a faulty script has for the fault.
     pub fn number(self) -> u32
-        ensures { result ≡ number self }
+        ensures { result ≡ fault_number self }
     {
         match self {
             ScriptFault::TooLong => 1,

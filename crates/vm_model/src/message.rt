@@ -102,7 +102,7 @@ pub enum Message {
 }
 
 /// One sender and one port; its messages are taken in the order in which they were sent.
-#[derive(Clone, Copy, Debug, PartialEq, Eq)]
+#[derive(Clone, Copy, Debug, PartialEq, Eq, Hash)]
 pub enum Channel {
     /// From a host's kernel to the port of an object.
     Up {

@@ -6,13 +6,13 @@ use Rattle.std.proofs.lemmas.List.{drop-append-le, get_or-append-add, length-dro
 use Rattle.std.specs.List.{insert}
 use Rattle.std.specs.Prelude.{nat_lt, if◌then◌else◌}
 use Rattle.vm_objects.specs.Objects.{ObjectEntry, ObjectTable, PutsObject, SameMarks, absent_among, object_among, object_at}
-use Rattle.vm_objects.specs.Slots.{AllInside, AreObjectSlots, entries_of, objects_before}
+use Rattle.vm_objects.specs.Slots.{AllRangesInside, AreObjectSlots, object_entries, objects_before}
 use Rattle.vm_objects.specs.declared.row.ObjectRow.{ObjectRow}
 use Rattle.vm_objects.specs.declared.slot.Slot.{Slot}
 use Rattle.vm_objects.proofs.Marks.{mark_inside, mark_past}
 use Rattle.vm_objects.proofs.Ranges.{kept_inserted}
 
-entries_longer : (marks more : List Bool) (slots : List Slot) → AllInside (length marks) slots → entries_of (marks ++ more) slots ≡ entries_of marks slots
+entries_longer : (marks more : List Bool) (slots : List Slot) → AllRangesInside (length marks) slots → object_entries (marks ++ more) slots ≡ object_entries marks slots
 entries_longer marks more [] inside = refl
 entries_longer marks more (slot ∷ slots) inside =
     let front : drop slot.start (marks ++ more) ≡ drop slot.start marks ++ more = drop-append-le slot.start marks more (omega (arith, inside.0)) in
@@ -37,15 +37,15 @@ either true x y same = same refl
 either false x y same = refl
 
 objects_inserted : (o : ℕ) (new : Slot) (marks : List Bool) (slots : List Slot)
-    → object_among o (entries_of marks (insert slots (objects_before new.id.0 slots) new)) ≡ (if new.id.0 == o then Some new.row else object_among o (entries_of marks slots))
+    → object_among o (object_entries marks (insert slots (objects_before new.id.0 slots) new)) ≡ (if new.id.0 == o then Some new.row else object_among o (object_entries marks slots))
 objects_inserted o new marks [] = refl
 objects_inserted o new marks (slot ∷ slots) =
-    let behind : slot.id.0 < new.id.0 → object_among o (entries_of marks (insert (slot ∷ slots) (objects_before new.id.0 (slot ∷ slots)) new)) ≡ (if new.id.0 == o then Some new.row else object_among o (entries_of marks (slot ∷ slots)))
+    let behind : slot.id.0 < new.id.0 → object_among o (object_entries marks (insert (slot ∷ slots) (objects_before new.id.0 (slot ∷ slots)) new)) ≡ (if new.id.0 == o then Some new.row else object_among o (object_entries marks (slot ∷ slots)))
     = λ less.
     let yes : nat_lt slot.id.0 new.id.0 ≡ true = grind (arith, nat_tests) in
     let rest = objects_inserted o new marks slots in
     rw (yes, rest) (grind (arith, nat_tests)) in
-    let front : new.id.0 ≤ slot.id.0 → object_among o (entries_of marks (insert (slot ∷ slots) (objects_before new.id.0 (slot ∷ slots)) new)) ≡ (if new.id.0 == o then Some new.row else object_among o (entries_of marks (slot ∷ slots)))
+    let front : new.id.0 ≤ slot.id.0 → object_among o (object_entries marks (insert (slot ∷ slots) (objects_before new.id.0 (slot ∷ slots)) new)) ≡ (if new.id.0 == o then Some new.row else object_among o (object_entries marks (slot ∷ slots)))
     = λ le. let no : nat_lt slot.id.0 new.id.0 ≡ false = grind (arith, nat_tests) in rw no refl in
     ⊎_elim behind front (cases_lt slot.id.0 new.id.0)
 
@@ -58,23 +58,23 @@ none_absent o q (entry ∷ entries) none =
     let no : (entry.id == o) ≡ false = grind (arith, nat_tests, here) in
     rw no (none_absent o q entries (rw no at none))
 
-marks_inserted : (o q : ℕ) (new : Slot) (marks : List Bool) (slots : List Slot) → object_among new.id.0 (entries_of marks slots) ≡ None → get_or (take new.row.pages (drop new.start marks)) q false ≡ false
-    → absent_among o q (entries_of marks (insert slots (objects_before new.id.0 slots) new)) ≡ absent_among o q (entries_of marks slots)
+marks_inserted : (o q : ℕ) (new : Slot) (marks : List Bool) (slots : List Slot) → object_among new.id.0 (object_entries marks slots) ≡ None → get_or (take new.row.pages (drop new.start marks)) q false ≡ false
+    → absent_among o q (object_entries marks (insert slots (objects_before new.id.0 slots) new)) ≡ absent_among o q (object_entries marks slots)
 marks_inserted o q new marks [] none blank = grind (arith, nat_tests, blank)
 marks_inserted o q new marks (slot ∷ slots) none blank =
     let not_here : slot.id.0 ≢ new.id.0
     = λ e. let yes : (slot.id.0 == new.id.0) ≡ true = grind (arith, nat_tests) in let some : Some slot.row ≡ None = rw yes at none in cc in
-    let behind : slot.id.0 < new.id.0 → absent_among o q (entries_of marks (insert (slot ∷ slots) (objects_before new.id.0 (slot ∷ slots)) new)) ≡ absent_among o q (entries_of marks (slot ∷ slots))
+    let behind : slot.id.0 < new.id.0 → absent_among o q (object_entries marks (insert (slot ∷ slots) (objects_before new.id.0 (slot ∷ slots)) new)) ≡ absent_among o q (object_entries marks (slot ∷ slots))
     = λ less.
     let yes : nat_lt slot.id.0 new.id.0 ≡ true = grind (arith, nat_tests) in
     let no : (slot.id.0 == new.id.0) ≡ false = grind (arith, nat_tests) in
     let rest = marks_inserted o q new marks slots (rw no at none) blank in
     rw (yes, rest) refl in
-    let front : new.id.0 ≤ slot.id.0 → absent_among o q (entries_of marks (insert (slot ∷ slots) (objects_before new.id.0 (slot ∷ slots)) new)) ≡ absent_among o q (entries_of marks (slot ∷ slots))
+    let front : new.id.0 ≤ slot.id.0 → absent_among o q (object_entries marks (insert (slot ∷ slots) (objects_before new.id.0 (slot ∷ slots)) new)) ≡ absent_among o q (object_entries marks (slot ∷ slots))
     = λ le.
     let no : nat_lt slot.id.0 new.id.0 ≡ false = grind (arith, nat_tests) in
-    let same : new.id.0 ≡ o → false ≡ absent_among o q (entries_of marks (slot ∷ slots))
-    = λ e. sym (subst (λ (n : ℕ). absent_among n q (entries_of marks (slot ∷ slots)) ≡ false) e (none_absent new.id.0 q (entries_of marks (slot ∷ slots)) none)) in
+    let same : new.id.0 ≡ o → false ≡ absent_among o q (object_entries marks (slot ∷ slots))
+    = λ e. sym (subst (λ (n : ℕ). absent_among n q (object_entries marks (slot ∷ slots)) ≡ false) e (none_absent new.id.0 q (object_entries marks (slot ∷ slots)) none)) in
     rw (no, blank) (either (new.id.0 == o) false _ (λ yes. same (grind (arith, nat_tests, yes)))) in
     ⊎_elim behind front (cases_lt slot.id.0 new.id.0)
 
@@ -90,14 +90,14 @@ pub record Made (count : ℕ) (edited : List Slot) (table new : ObjectTable) (id
   pub object : PutsObject id (Some row) table new
   pub marks : SameMarks table new
 
-pub made : (slots found edited : List Slot) (marks longer : List Bool) (table new : ObjectTable) (slot : Slot) (i : ℕ) → entries_of marks slots ≡ table.entries → AreObjectSlots (length marks) slots → found ≡ slots → i ≡ objects_before slot.id.0 found
-    → object_at table slot.id.0 ≡ None → slot.start ≡ length marks → longer ≡ marks ++ replicate slot.row.pages false → edited ≡ insert slots i slot → new.entries ≡ entries_of longer edited
+pub made : (slots found edited : List Slot) (marks longer : List Bool) (table new : ObjectTable) (slot : Slot) (i : ℕ) → object_entries marks slots ≡ table.entries → AreObjectSlots (length marks) slots → found ≡ slots → i ≡ objects_before slot.id.0 found
+    → object_at table slot.id.0 ≡ None → slot.start ≡ length marks → longer ≡ marks ++ replicate slot.row.pages false → edited ≡ insert slots i slot → new.entries ≡ object_entries longer edited
     → Made (length longer) edited table new slot.id.0 slot.row
 made slots found edited marks longer table new slot i view kept same place absent start more is seen =
     let blank = replicate slot.row.pages false in
-    let absent : object_among slot.id.0 (entries_of marks slots) ≡ None = rw view absent in
-    let view_more : entries_of (marks ++ blank) slots ≡ entries_of marks slots = entries_longer marks blank slots kept.inside in
-    let still : object_among slot.id.0 (entries_of (marks ++ blank) slots) ≡ None = rw view_more absent in
+    let absent : object_among slot.id.0 (object_entries marks slots) ≡ None = rw view absent in
+    let view_more : object_entries (marks ++ blank) slots ≡ object_entries marks slots = entries_longer marks blank slots kept.inside in
+    let still : object_among slot.id.0 (object_entries (marks ++ blank) slots) ≡ None = rw view_more absent in
     let within : slot.start + slot.row.pages ≤ length (marks ++ blank) = omega (arith, start, length-append marks blank, length-replicate slot.row.pages false) in
     let whole : AreObjectSlots slot.start slots = rw start kept in
     record {

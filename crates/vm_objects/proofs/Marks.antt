@@ -5,7 +5,7 @@ use Rattle.std.proofs.lemmas.Bool.Decides.{nat_tests}
 use Rattle.std.proofs.lemmas.List.{get_or-drop, get_or_past, get_or-set_other, get_or-set_same, get_or-take, length-take}
 use Rattle.std.specs.Prelude.{if◌then◌else◌}
 use Rattle.vm_objects.specs.Objects.{absent_among, object_among}
-use Rattle.vm_objects.specs.Slots.{AllApart, AllInside, ApartFrom, AreApart, ById, entries_of}
+use Rattle.vm_objects.specs.Slots.{AllApart, AllRangesInside, ApartFrom, ById, RangesAreApart, object_entries}
 use Rattle.vm_objects.specs.declared.slot.Slot.{Slot}
 use Rattle.vm_objects.proofs.Places.{low_bound}
 use Rattle.vm_objects.proofs.Ranges.{SamePlace}
@@ -48,7 +48,7 @@ mark_written marks start pages p q b less within =
     grind (arith, nat_tests, here, other)
 
 marks_elsewhere : (o q k : ℕ) (b : Bool) (marks : List Bool) (one : Slot) (slots : List Slot) → ApartFrom one slots → one.start ≤ k → k < one.start + one.row.pages
-    → absent_among o q (entries_of (set marks k b) slots) ≡ absent_among o q (entries_of marks slots)
+    → absent_among o q (object_entries (set marks k b) slots) ≡ absent_among o q (object_entries marks slots)
 marks_elsewhere o q k b marks one [] apart low high = refl
 marks_elsewhere o q k b marks one (slot ∷ slots) apart low high =
     let rest = marks_elsewhere o q k b marks one slots apart.1 low high in
@@ -56,7 +56,7 @@ marks_elsewhere o q k b marks one (slot ∷ slots) apart low high =
     let here = mark_elsewhere marks slot.start slot.row.pages q k b outside in
     rw (rest, here) refl
 
-apart_at : (i : ℕ) (one : Slot) (slots : List Slot) (d : Slot) → ApartFrom one slots → i < length slots → AreApart one (get_or slots i d)
+apart_at : (i : ℕ) (one : Slot) (slots : List Slot) (d : Slot) → ApartFrom one slots → i < length slots → RangesAreApart one (get_or slots i d)
 apart_at i one [] d apart within = absurd (omega arith)
 apart_at zero one (slot ∷ slots) d apart within = apart.0
 apart_at (suc i) one (slot ∷ slots) d apart within = apart_at i one slots d apart.1 (omega arith)
@@ -67,8 +67,8 @@ choose true false b mark rest = refl
 choose false page b mark rest = refl
 
 -- a write of one mark of the object at a place
-pub marks_written : (from i p o q : ℕ) (b : Bool) (marks : List Bool) (slots : List Slot) (d : Slot) → ById from slots → AllInside (length marks) slots → AllApart slots → i < length slots → p < (get_or slots i d).row.pages
-    → absent_among o q (entries_of (set marks ((get_or slots i d).start + p) b) slots) ≡ (if ((get_or slots i d).id.0 == o) && (p == q) then b else absent_among o q (entries_of marks slots))
+pub marks_written : (from i p o q : ℕ) (b : Bool) (marks : List Bool) (slots : List Slot) (d : Slot) → ById from slots → AllRangesInside (length marks) slots → AllApart slots → i < length slots → p < (get_or slots i d).row.pages
+    → absent_among o q (object_entries (set marks ((get_or slots i d).start + p) b) slots) ≡ (if ((get_or slots i d).id.0 == o) && (p == q) then b else absent_among o q (object_entries marks slots))
 marks_written from i p o q b marks [] d by_id inside apart within less = absurd (omega arith)
 marks_written from zero p o q b marks (slot ∷ slots) d by_id inside apart within less =
     let here = mark_written marks slot.start slot.row.pages p q b less inside.0 in
@@ -82,12 +82,12 @@ marks_written from (suc i) p o q b marks (slot ∷ slots) d by_id inside apart w
     let high = low_bound (suc slot.id.0) i slots d by_id.1 (omega arith) in
     rw (here, rest) (grind (arith, nat_tests, high))
 
-pub objects_same : (o : ℕ) (one other : List Bool) (slots : List Slot) → object_among o (entries_of one slots) ≡ object_among o (entries_of other slots)
+pub objects_same : (o : ℕ) (one other : List Bool) (slots : List Slot) → object_among o (object_entries one slots) ≡ object_among o (object_entries other slots)
 objects_same o one other [] = refl
 objects_same o one other (slot ∷ slots) = let rest = objects_same o one other slots in rw rest refl
 
 pub objects_set : (from i o : ℕ) (new : Slot) (marks : List Bool) (slots : List Slot) (d : Slot) → ById from slots → i < length slots → (get_or slots i d).id.0 ≡ new.id.0
-    → object_among o (entries_of marks (set slots i new)) ≡ (if new.id.0 == o then Some new.row else object_among o (entries_of marks slots))
+    → object_among o (object_entries marks (set slots i new)) ≡ (if new.id.0 == o then Some new.row else object_among o (object_entries marks slots))
 objects_set from i o new marks [] d by_id within same = absurd (omega arith)
 objects_set from zero o new marks (slot ∷ slots) d by_id within same = grind (arith, nat_tests, same)
 objects_set from (suc i) o new marks (slot ∷ slots) d by_id within same =
@@ -96,7 +96,7 @@ objects_set from (suc i) o new marks (slot ∷ slots) d by_id within same =
     grind (arith, nat_tests, rest, high, same)
 
 pub marks_set : (i o q : ℕ) (new : Slot) (marks : List Bool) (slots : List Slot) (d : Slot) → i < length slots → SamePlace (get_or slots i d) new
-    → absent_among o q (entries_of marks (set slots i new)) ≡ absent_among o q (entries_of marks slots)
+    → absent_among o q (object_entries marks (set slots i new)) ≡ absent_among o q (object_entries marks slots)
 marks_set i o q new marks [] d within same = absurd (omega arith)
 marks_set zero o q new marks (slot ∷ slots) d within same = rw (same.id, same.start, same.pages) refl
 marks_set (suc i) o q new marks (slot ∷ slots) d within same = let rest = marks_set i o q new marks slots d (omega arith) same in rw rest refl

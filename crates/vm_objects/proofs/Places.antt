@@ -5,7 +5,7 @@ use Rattle.std.proofs.lemmas.Bool.Decides.{nat_tests}
 use Rattle.std.specs.List.Sorted.{IsNonDecreasingBy}
 use Rattle.std.specs.Prelude.{IsSome, nat_lt, slice_get, if◌then◌else◌}
 use Rattle.vm_objects.specs.Objects.{absent_among, object_among}
-use Rattle.vm_objects.specs.Slots.{ById, entries_of, objects_before}
+use Rattle.vm_objects.specs.Slots.{ById, object_entries, objects_before}
 use Rattle.vm_objects.specs.declared.row.ObjectRow.{ObjectRow}
 use Rattle.vm_objects.specs.declared.slot.Slot.{Slot}
 
@@ -33,7 +33,7 @@ rank_is id (suc i) (slot ∷ slots) within low high =
     let rest = rank_is id i slots (omega arith) (λ k d le less. low (suc k) d (omega arith) (omega arith)) (λ k d le less. high (suc k) d (omega arith) (omega arith)) in
     rw yes (ap suc rest)
 
-pub none_among : (from id : ℕ) (marks : List Bool) (slots : List Slot) → ById from slots → id < from → object_among id (entries_of marks slots) ≡ None
+pub none_among : (from id : ℕ) (marks : List Bool) (slots : List Slot) → ById from slots → id < from → object_among id (object_entries marks slots) ≡ None
 none_among from id marks [] by_id less = refl
 none_among from id marks (slot ∷ slots) by_id less =
     let rest = none_among (suc slot.id.0) id marks slots by_id.1 (omega (arith, by_id.0)) in
@@ -45,20 +45,20 @@ abbrev pub row_named : ℕ → Option Slot → Option ObjectRow
 row_named id None = None
 row_named id (Some slot) = if slot.id.0 == id then Some slot.row else None
 
-pub found_among : (from id : ℕ) (marks : List Bool) (slots : List Slot) → ById from slots → row_named id (slice_get slots (objects_before id slots)) ≡ object_among id (entries_of marks slots)
+pub found_among : (from id : ℕ) (marks : List Bool) (slots : List Slot) → ById from slots → row_named id (slice_get slots (objects_before id slots)) ≡ object_among id (object_entries marks slots)
 found_among from id marks [] by_id = refl
 found_among from id marks (slot ∷ slots) by_id =
-    let front : slot.id.0 < id → row_named id (slice_get (slot ∷ slots) (objects_before id (slot ∷ slots))) ≡ object_among id (entries_of marks (slot ∷ slots))
+    let front : slot.id.0 < id → row_named id (slice_get (slot ∷ slots) (objects_before id (slot ∷ slots))) ≡ object_among id (object_entries marks (slot ∷ slots))
     = λ less.
     let yes : nat_lt slot.id.0 id ≡ true = grind (arith, nat_tests) in
     let no : (slot.id.0 == id) ≡ false = grind (arith, nat_tests) in
     rw (yes, no) (found_among (suc slot.id.0) id marks slots by_id.1) in
-    let same : slot.id.0 ≡ id → row_named id (slice_get (slot ∷ slots) (objects_before id (slot ∷ slots))) ≡ object_among id (entries_of marks (slot ∷ slots))
+    let same : slot.id.0 ≡ id → row_named id (slice_get (slot ∷ slots) (objects_before id (slot ∷ slots))) ≡ object_among id (object_entries marks (slot ∷ slots))
     = λ e.
     let no : nat_lt slot.id.0 id ≡ false = grind (arith, nat_tests) in
     let yes : (slot.id.0 == id) ≡ true = grind (arith, nat_tests) in
     rw (no, yes) refl in
-    let behind : id < slot.id.0 → row_named id (slice_get (slot ∷ slots) (objects_before id (slot ∷ slots))) ≡ object_among id (entries_of marks (slot ∷ slots))
+    let behind : id < slot.id.0 → row_named id (slice_get (slot ∷ slots) (objects_before id (slot ∷ slots))) ≡ object_among id (object_entries marks (slot ∷ slots))
     = λ less.
     let no : nat_lt slot.id.0 id ≡ false = grind (arith, nat_tests) in
     let apart : (slot.id.0 == id) ≡ false = grind (arith, nat_tests) in
@@ -70,8 +70,8 @@ found_among from id marks (slot ∷ slots) by_id =
 pub record Stands (id : ℕ) (slots : List Slot) : Type 0 where
   pub within : objects_before id slots < length slots
   pub named : (d : Slot) → (get_or slots (objects_before id slots) d).id.0 ≡ id
-  pub object : (marks : List Bool) (d : Slot) → object_among id (entries_of marks slots) ≡ Some (get_or slots (objects_before id slots) d).row
-  pub mark : (marks : List Bool) (p : ℕ) (d : Slot) → absent_among id p (entries_of marks slots) ≡ get_or (take (get_or slots (objects_before id slots) d).row.pages (drop (get_or slots (objects_before id slots) d).start marks)) p false
+  pub object : (marks : List Bool) (d : Slot) → object_among id (object_entries marks slots) ≡ Some (get_or slots (objects_before id slots) d).row
+  pub mark : (marks : List Bool) (p : ℕ) (d : Slot) → absent_among id p (object_entries marks slots) ≡ get_or (take (get_or slots (objects_before id slots) d).row.pages (drop (get_or slots (objects_before id slots) d).start marks)) p false
 
 first_stands : (id : ℕ) (slot : Slot) (slots : List Slot) → slot.id.0 ≡ id → Stands id (slot ∷ slots)
 first_stands id slot slots same =
@@ -95,11 +95,11 @@ later_stands id slot slots less rest =
       mark = λ marks p d. rw (yes, no) (rest.mark marks p d);
     }
 
-pub stands : (from id : ℕ) (marks : List Bool) (slots : List Slot) → ById from slots → IsSome (object_among id (entries_of marks slots)) → Stands id slots
+pub stands : (from id : ℕ) (marks : List Bool) (slots : List Slot) → ById from slots → IsSome (object_among id (object_entries marks slots)) → Stands id slots
 stands from id marks [] by_id some = absurd (false≢true some)
 stands from id marks (slot ∷ slots) by_id some =
     let before : id < slot.id.0 → ⊥
-    = λ less. let none : object_among id (entries_of marks (slot ∷ slots)) ≡ None = none_among slot.id.0 id marks (slot ∷ slots) (omega arith, by_id.1) less in false≢true (rw none at some) in
+    = λ less. let none : object_among id (object_entries marks (slot ∷ slots)) ≡ None = none_among slot.id.0 id marks (slot ∷ slots) (omega arith, by_id.1) less in false≢true (rw none at some) in
     let behind : slot.id.0 < id → Stands id (slot ∷ slots)
     = λ less. let no : (slot.id.0 == id) ≡ false = grind (arith, nat_tests) in later_stands id slot slots less (stands (suc slot.id.0) id marks slots by_id.1 (rw no at some)) in
     ⊎_elim (λ same. first_stands id slot slots same) (⊎_elim behind (λ less. absurd (before less))) (cases_order slot.id.0 id)

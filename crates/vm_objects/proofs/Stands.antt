@@ -3,7 +3,7 @@ use Rattle.std.proofs.Common.{ℕ, ◌≡◌, ◌+◌, ◌<◌, ◌≤◌, Bool,
 use Rattle.std.proofs.lemmas.List.{get_or_read}
 use Rattle.std.specs.Prelude.{IsSome, slice_get}
 use Rattle.vm_objects.specs.Objects.{ObjectTable, PutsAbsent, PutsObject, SameMarks, SameObjects, absent_at, object_at}
-use Rattle.vm_objects.specs.Slots.{AreObjectSlots, entries_of, objects_before}
+use Rattle.vm_objects.specs.Slots.{AreObjectSlots, object_entries, objects_before}
 use Rattle.vm_objects.specs.declared.row.ObjectRow.{ObjectRow}
 use Rattle.vm_objects.specs.declared.slot.Slot.{Slot}
 use Rattle.vm_objects.proofs.Marks.{mark_inside, mark_past, marks_set, marks_written, objects_same, objects_set}
@@ -17,7 +17,7 @@ pub record StandsAt (slots : List Slot) (marks : List Bool) (table : ObjectTable
   pub object : (d : Slot) → object_at table id ≡ Some (get_or slots i d).row
   pub mark : (p : ℕ) (d : Slot) → absent_at table id p ≡ get_or (take (get_or slots i d).row.pages (drop (get_or slots i d).start marks)) p false
 
-pub stands_at : (slots found : List Slot) (marks : List Bool) (table : ObjectTable) (id i : ℕ) → entries_of marks slots ≡ table.entries → AreObjectSlots (length marks) slots → found ≡ slots → i ≡ objects_before id found → IsSome (object_at table id) → StandsAt slots marks table id i
+pub stands_at : (slots found : List Slot) (marks : List Bool) (table : ObjectTable) (id i : ℕ) → object_entries marks slots ≡ table.entries → AreObjectSlots (length marks) slots → found ≡ slots → i ≡ objects_before id found → IsSome (object_at table id) → StandsAt slots marks table id i
 stands_at slots found marks table id i view kept same place some =
     let stand = stands 0 id marks slots kept.by_id (rw (← view) at some) in
     record {
@@ -38,14 +38,14 @@ same_place slots marks table id i was row stand read pages = record {
   pages = rw (stand.object was) at pages;
 }
 
-pub object_put : (slots : List Slot) (marks : List Bool) (table new : ObjectTable) (id i : ℕ) (was : Slot) (row : ObjectRow) → entries_of marks slots ≡ table.entries → AreObjectSlots (length marks) slots → StandsAt slots marks table id i
-    → SamePlace (get_or slots i was) (record was { row = row }) → new.entries ≡ entries_of marks (set slots i (record was { row = row })) → PutsObject id (Some row) table new
+pub object_put : (slots : List Slot) (marks : List Bool) (table new : ObjectTable) (id i : ℕ) (was : Slot) (row : ObjectRow) → object_entries marks slots ≡ table.entries → AreObjectSlots (length marks) slots → StandsAt slots marks table id i
+    → SamePlace (get_or slots i was) (record was { row = row }) → new.entries ≡ object_entries marks (set slots i (record was { row = row })) → PutsObject id (Some row) table new
 object_put slots marks table new id i was row view kept stand same is =
     let named : was.id.0 ≡ id = sym same.id ∙ stand.named was in
     record { at = λ o. rw (is, ← view, ← named) (objects_set 0 i o (record was { row = row }) marks slots was kept.by_id stand.within same.id) }
 
-pub marks_put : (slots : List Slot) (marks : List Bool) (table new : ObjectTable) (id i : ℕ) (was : Slot) (row : ObjectRow) → entries_of marks slots ≡ table.entries → StandsAt slots marks table id i
-    → SamePlace (get_or slots i was) (record was { row = row }) → new.entries ≡ entries_of marks (set slots i (record was { row = row })) → SameMarks table new
+pub marks_put : (slots : List Slot) (marks : List Bool) (table new : ObjectTable) (id i : ℕ) (was : Slot) (row : ObjectRow) → object_entries marks slots ≡ table.entries → StandsAt slots marks table id i
+    → SamePlace (get_or slots i was) (record was { row = row }) → new.entries ≡ object_entries marks (set slots i (record was { row = row })) → SameMarks table new
 marks_put slots marks table new id i was row view stand same is =
     record { at = λ o p. rw (is, ← view) (marks_set i o p (record was { row = row }) marks slots was stand.within same) }
 
@@ -74,22 +74,22 @@ marks_at slots marks table id i p slot kept stand read inside =
       within = omega (arith, less, start, end);
     }
 
-pub mark_put : (slots : List Slot) (marks : List Bool) (table new : ObjectTable) (id i p : ℕ) (slot : Slot) (b : Bool) → entries_of marks slots ≡ table.entries → AreObjectSlots (length marks) slots → StandsAt slots marks table id i
-    → MarksAt slots (length marks) i p slot → new.entries ≡ entries_of (set marks (slot.start + p) b) slots → PutsAbsent id p b table new
+pub mark_put : (slots : List Slot) (marks : List Bool) (table new : ObjectTable) (id i p : ℕ) (slot : Slot) (b : Bool) → object_entries marks slots ≡ table.entries → AreObjectSlots (length marks) slots → StandsAt slots marks table id i
+    → MarksAt slots (length marks) i p slot → new.entries ≡ object_entries (set marks (slot.start + p) b) slots → PutsAbsent id p b table new
 mark_put slots marks table new id i p slot b view kept stand place is =
     record { at = λ o q. rw (is, ← view) (rw (place.start, stand.named slot) at (marks_written 0 i p o q b marks slots slot kept.by_id kept.inside kept.apart stand.within place.less)) }
 
-pub objects_kept : (slots : List Slot) (marks other : List Bool) (table new : ObjectTable) → entries_of marks slots ≡ table.entries → new.entries ≡ entries_of other slots → SameObjects table new
+pub objects_kept : (slots : List Slot) (marks other : List Bool) (table new : ObjectTable) → object_entries marks slots ≡ table.entries → new.entries ≡ object_entries other slots → SameObjects table new
 objects_kept slots marks other table new view is = record { at = λ o. rw (is, ← view) (objects_same o other marks slots) }
 
-pub found_here : (slots found : List Slot) (marks : List Bool) (table : ObjectTable) (id i : ℕ) (slot : Slot) → entries_of marks slots ≡ table.entries → AreObjectSlots (length marks) slots → found ≡ slots → i ≡ objects_before id found → slice_get slots i ≡ Some slot
+pub found_here : (slots found : List Slot) (marks : List Bool) (table : ObjectTable) (id i : ℕ) (slot : Slot) → object_entries marks slots ≡ table.entries → AreObjectSlots (length marks) slots → found ≡ slots → i ≡ objects_before id found → slice_get slots i ≡ Some slot
     → row_named id (Some slot) ≡ object_at table id
 found_here slots found marks table id i slot view kept same place is =
     let at : i ≡ objects_before id slots = place ∙ ap (objects_before id) same in
     let told = found_among 0 id marks slots kept.by_id in
     rw (← view, ← told, ← at, is) refl
 
-pub found_past : (slots found : List Slot) (marks : List Bool) (table : ObjectTable) (id i : ℕ) → entries_of marks slots ≡ table.entries → AreObjectSlots (length marks) slots → found ≡ slots → i ≡ objects_before id found → slice_get slots i ≡ None
+pub found_past : (slots found : List Slot) (marks : List Bool) (table : ObjectTable) (id i : ℕ) → object_entries marks slots ≡ table.entries → AreObjectSlots (length marks) slots → found ≡ slots → i ≡ objects_before id found → slice_get slots i ≡ None
     → None ≡ object_at table id
 found_past slots found marks table id i view kept same place is =
     let at : i ≡ objects_before id slots = place ∙ ap (objects_before id) same in

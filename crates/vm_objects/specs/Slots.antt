@@ -3,9 +3,9 @@ use Rattle.std.specs.Prelude.{ℕ, suc, ◌+◌, ◌≤◌, ◌⊎◌, Bool, Lis
 use Rattle.vm_objects.specs.Objects.{ObjectEntry}
 use Rattle.vm_objects.specs.declared.slot.Slot.{Slot}
 
-abbrev pub entries_of : List Bool → List Slot → List ObjectEntry
-entries_of marks [] = []
-entries_of marks (slot ∷ slots) = record { id = slot.id.0; row = slot.row; absent = take slot.row.pages (drop slot.start marks) } ∷ entries_of marks slots
+abbrev pub object_entries : List Bool → List Slot → List ObjectEntry
+object_entries marks [] = []
+object_entries marks (slot ∷ slots) = record { id = slot.id.0; row = slot.row; absent = take slot.row.pages (drop slot.start marks) } ∷ object_entries marks slots
 
 -- by rising number, from one on
 abbrev pub ById : ℕ → List Slot → Type 0
@@ -18,17 +18,17 @@ objects_before id [] = 0
 objects_before id (slot ∷ slots) = if nat_lt slot.id.0 id then suc (objects_before id slots) else 0
 
 -- the range of each object lies in so many marks
-abbrev pub AllInside : ℕ → List Slot → Type 0
-AllInside count [] = Unit {0}
-AllInside count (slot ∷ slots) = (slot.start + slot.row.pages ≤ count) × AllInside count slots
+abbrev pub AllRangesInside : ℕ → List Slot → Type 0
+AllRangesInside count [] = Unit {0}
+AllRangesInside count (slot ∷ slots) = (slot.start + slot.row.pages ≤ count) × AllRangesInside count slots
 
 -- the ranges of two objects have no mark in common
-abbrev pub AreApart : Slot → Slot → Type 0
-AreApart one other = (one.start + one.row.pages ≤ other.start) ⊎ (other.start + other.row.pages ≤ one.start)
+abbrev pub RangesAreApart : Slot → Slot → Type 0
+RangesAreApart one other = (one.start + one.row.pages ≤ other.start) ⊎ (other.start + other.row.pages ≤ one.start)
 
 abbrev pub ApartFrom : Slot → List Slot → Type 0
 ApartFrom one [] = Unit {0}
-ApartFrom one (slot ∷ slots) = AreApart one slot × ApartFrom one slots
+ApartFrom one (slot ∷ slots) = RangesAreApart one slot × ApartFrom one slots
 
 abbrev pub AllApart : List Slot → Type 0
 AllApart [] = Unit {0}
@@ -36,5 +36,5 @@ AllApart (slot ∷ slots) = ApartFrom slot slots × AllApart slots
 
 pub record AreObjectSlots (count : ℕ) (slots : List Slot) : Type 0 where
   pub by_id : ById 0 slots
-  pub inside : AllInside count slots
+  pub inside : AllRangesInside count slots
   pub apart : AllApart slots

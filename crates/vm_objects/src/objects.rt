@@ -28,10 +28,10 @@ impl Model for Objects {
 
     ghost Value = { ObjectTable };
 
-    ghost use Rattle.vm_objects.specs.Slots.{AreObjectSlots, entries_of};
+    ghost use Rattle.vm_objects.specs.Slots.{AreObjectSlots, object_entries};
 
     ghost view = { λ s. record {
-      entries = entries_of s.marks.items s.slots.items;
+      entries = object_entries s.marks.items s.slots.items;
       rows = vec_capacity s.slots - length s.slots.items;
       pages = vec_capacity s.marks - length s.marks.items;
     } };

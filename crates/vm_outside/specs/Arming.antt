@@ -22,8 +22,8 @@ abbrev pub Strikes : {B : Type 0} → Arming B → Arming B → Type 0
 Strikes old new = new ≡ record { inner = old.inner; left = 0; reached = next_count old.reached }
 
 -- a call went to the backing within, and brought an arming one call nearer
-abbrev pub Passes : {B : Type 0} → Arming B → Arming B → Type 0
-Passes old new = (new.left ≡ old.left - 1) × (new.reached ≡ old.reached)
+abbrev pub PassesOn : {B : Type 0} → Arming B → Arming B → Type 0
+PassesOn old new = (new.left ≡ old.left - 1) × (new.reached ≡ old.reached)
 
 -- a call left the arming as it was
 abbrev pub KeepsArming : {B : Type 0} → Arming B → Arming B → Type 0

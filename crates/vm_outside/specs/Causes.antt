@@ -14,24 +14,24 @@ abbrev pub sum_count : ℕ → ℕ → ℕ
 sum_count m n = min (m + n) (2 ^ 64 - 1)
 
 -- a count of faults rose, or stands at its last value
-abbrev pub Rose : ℕ → ℕ → Type 0
-Rose before now = next_count before ≤ now
+abbrev pub CountRises : ℕ → ℕ → Type 0
+CountRises before now = next_count before ≤ now
 
 -- a call that only reads or asks fails only where the count of faults rose in it, and any other answer leaves the count
-pub record HasCause {T : Type 0} (before now : ℕ) (result : Result T Failed) : Type 0 where
+pub record CallHasCause {T : Type 0} (before now : ℕ) (result : Result T Failed) : Type 0 where
   pub later : before ≤ now
-  pub failed : OnErr result (Rose before now)
+  pub failed : OnErr result (CountRises before now)
   pub spared : OnOk result (now ≡ before)
 
 -- a call that writes fails only where the count rose in it, and any other answer leaves the count, want of memory too
 pub record WriteHasCause (before now : ℕ) (result : Result (Unit {0}) WriteStop) : Type 0 where
   pub later : before ≤ now
-  pub failed : IsErrOf result stop.Failed → Rose before now
+  pub failed : IsErrOf result stop.Failed → CountRises before now
   pub spared : OnOk result (now ≡ before)
   pub same : IsErrOf result stop.NoMemory → now ≡ before
 
 -- what a sink holds after a write: the piece more, a first part of it more, or the same
-abbrev pub Wrote : Option (List ℕ) → Option (List ℕ) → Result (Unit {0}) WriteStop → List ℕ → Type 0
-Wrote old new (Ok done) piece = Appends old new piece
-Wrote old new (Err stop.Failed) piece = (n : ℕ) × Appends old new (take n piece)
-Wrote old new (Err stop.NoMemory) piece = Keeps old new
+abbrev pub WriteEffects : Option (List ℕ) → Option (List ℕ) → Result (Unit {0}) WriteStop → List ℕ → Type 0
+WriteEffects old new (Ok done) piece = Appends old new piece
+WriteEffects old new (Err stop.Failed) piece = (n : ℕ) × Appends old new (take n piece)
+WriteEffects old new (Err stop.NoMemory) piece = Keeps old new

@@ -1,8 +1,8 @@
 // A backing whose coming calls can be made to fail.
 ghost use Rattle.std.specs.Prelude.{◌≡◌, ◌≢◌, ◌-◌, ◌<◌, IsErr, IsErrOf, true, false};
 ghost use Rattle.vm_outside.specs.Areas.{LengthTold, ReadTold, WriteTold};
-ghost use Rattle.vm_outside.specs.Causes.{next_count, sum_count, HasCause, WriteHasCause};
-ghost use Rattle.vm_outside.specs.Arming.{armed_later_same, armed_later_more, ArmedLater, Strikes, Passes, KeepsArming};
+ghost use Rattle.vm_outside.specs.Causes.{next_count, sum_count, CallHasCause, WriteHasCause};
+ghost use Rattle.vm_outside.specs.Arming.{armed_later_same, armed_later_more, ArmedLater, Strikes, PassesOn, KeepsArming};
 
 use crate::Backing;
 use std::marker::Model;
@@ -105,14 +105,14 @@ impl<B: Backing> Backing for Armed<B> {
 
     fn length(&mut self, name: &str) -> Result<Option<u64>, Failed>
         ensures told { LengthTold (B.area self.old.inner) (B.area self.new.inner) name.now result }
-        ensures cause { HasCause (sum_count (B.faults self.old.inner) self.old.reached) (sum_count (B.faults self.new.inner) self.new.reached) result }
+        ensures cause { CallHasCause (sum_count (B.faults self.old.inner) self.old.reached) (sum_count (B.faults self.new.inner) self.new.reached) result }
         ensures later { B.later self.old.inner self.new.inner
             × ArmedLater self.old.left self.old.reached self.new.left self.new.reached }
 
         ensures fails { self.old.left ≡ 1 → IsErr result }
         ensures strikes { self.old.left ≡ 1 → Strikes self.old self.new }
-        ensures passes { self.old.left ≢ 1 → Passes self.old self.new }
-        ensures inner { self.old.left ≢ 1 → HasCause (B.faults self.old.inner) (B.faults self.new.inner) result }
+        ensures passes { self.old.left ≢ 1 → PassesOn self.old self.new }
+        ensures inner { self.old.left ≢ 1 → CallHasCause (B.faults self.old.inner) (B.faults self.new.inner) result }
     {
         if strikes(&mut self.left, &mut self.reached) {
             return Err(Failed);
@@ -124,14 +124,14 @@ impl<B: Backing> Backing for Armed<B> {
 
     fn read(&mut self, name: &str, at: u64, buf: &mut [u8]) -> Result<(), Failed>
         ensures told { ReadTold (B.area self.old.inner) (B.area self.new.inner) name.now at buf.new result }
-        ensures cause { HasCause (sum_count (B.faults self.old.inner) self.old.reached) (sum_count (B.faults self.new.inner) self.new.reached) result }
+        ensures cause { CallHasCause (sum_count (B.faults self.old.inner) self.old.reached) (sum_count (B.faults self.new.inner) self.new.reached) result }
         ensures later { B.later self.old.inner self.new.inner
             × ArmedLater self.old.left self.old.reached self.new.left self.new.reached }
 
         ensures fails { self.old.left ≡ 1 → IsErr result }
         ensures strikes { self.old.left ≡ 1 → Strikes self.old self.new }
-        ensures passes { self.old.left ≢ 1 → Passes self.old self.new }
-        ensures inner { self.old.left ≢ 1 → HasCause (B.faults self.old.inner) (B.faults self.new.inner) result }
+        ensures passes { self.old.left ≢ 1 → PassesOn self.old self.new }
+        ensures inner { self.old.left ≢ 1 → CallHasCause (B.faults self.old.inner) (B.faults self.new.inner) result }
     {
         if strikes(&mut self.left, &mut self.reached) {
             return Err(Failed);
@@ -151,7 +151,7 @@ impl<B: Backing> Backing for Armed<B> {
 
         ensures fails { self.old.left ≡ 1 → IsErrOf result WriteStop.Failed }
         ensures strikes { self.old.left ≡ 1 → Strikes self.old self.new }
-        ensures passes { self.old.left ≢ 1 → result ≢ Err WriteStop.NoMemory → Passes self.old self.new }
+        ensures passes { self.old.left ≢ 1 → result ≢ Err WriteStop.NoMemory → PassesOn self.old self.new }
         ensures uncounted { IsErrOf result WriteStop.NoMemory → KeepsArming self.old self.new }
         ensures inner { self.old.left ≢ 1 → WriteHasCause (B.faults self.old.inner) (B.faults self.new.inner) result }
     {

@@ -2,7 +2,7 @@
 ghost use Rattle.std.specs.Prelude.{ℕ, ◌≡◌, List, IsErrOf};
 ghost use Rattle.std.specs.declared.option.Option.{Option};
 ghost use Rattle.vm_outside.specs.Areas.{LengthTold, ReadTold, WriteTold};
-ghost use Rattle.vm_outside.specs.Causes.{HasCause, WriteHasCause};
+ghost use Rattle.vm_outside.specs.Causes.{CallHasCause, WriteHasCause};
 
 use vm_base::{Failed, WriteStop};
 
@@ -25,14 +25,14 @@ pub trait Backing {
     /// The length of an area in bytes, None where it is not there.
     fn length(&mut self, name: &str) -> Result<Option<u64>, Failed>
         ensures told { LengthTold (area self.old) (area self.new) name.now result }
-        ensures cause { HasCause (faults self.old) (faults self.new) result }
+        ensures cause { CallHasCause (faults self.old) (faults self.new) result }
         ensures later { later self.old self.new };
 
     /// Fills the buffer with the bytes of an area from `at` on. An area that is not there is read
     /// as an empty one.
     fn read(&mut self, name: &str, at: u64, buf: &mut [u8]) -> Result<(), Failed>
         ensures told { ReadTold (area self.old) (area self.new) name.now at buf.new result }
-        ensures cause { HasCause (faults self.old) (faults self.new) result }
+        ensures cause { CallHasCause (faults self.old) (faults self.new) result }
         ensures later { later self.old self.new };
 
     /// Writes bytes to an area from `at` on, and makes or lengthens the area for it. A call that

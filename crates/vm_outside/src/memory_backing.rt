@@ -2,7 +2,7 @@
 ghost use Rattle.std.specs.Prelude.{◌≡◌, ◌≢◌, List, ℕ, Some, None, IsErrOf, IsOk, IsOkUnless, OnOk, OnErr};
 ghost use Rattle.std.specs.Option.{option_copied};
 ghost use Rattle.vm_outside.specs.Areas.{LengthTold, ReadTold, WriteTold};
-ghost use Rattle.vm_outside.specs.Causes.{HasCause, WriteHasCause};
+ghost use Rattle.vm_outside.specs.Causes.{CallHasCause, WriteHasCause};
 
 use crate::Backing;
 use crate::areas::Areas;
@@ -61,7 +61,7 @@ impl Backing for SureBacking {
 
     fn length(&mut self, name: &str) -> Result<Option<u64>, Failed>
         ensures told { LengthTold (λ other. Some (area_of self.old other)) (λ other. Some (area_of self.new other)) name.now result }
-        ensures cause { HasCause 0 0 result }
+        ensures cause { CallHasCause 0 0 result }
         ensures later { Unit {0} }
         ensures sure { IsOk result }
     {
@@ -70,7 +70,7 @@ impl Backing for SureBacking {
 
     fn read(&mut self, name: &str, at: u64, buf: &mut [u8]) -> Result<(), Failed>
         ensures told { ReadTold (λ other. Some (area_of self.old other)) (λ other. Some (area_of self.new other)) name.now at buf.new result }
-        ensures cause { HasCause 0 0 result }
+        ensures cause { CallHasCause 0 0 result }
         ensures later { Unit {0} }
         ensures sure { IsOk result }
     {

@@ -1,6 +1,6 @@
 // Sinks in memory.
 ghost use Rattle.std.specs.Prelude.{◌≡◌, ◌↔◌, ◌++◌, [], IsTrue, IsErrOf, IsOkUnless, OnOk, Some};
-ghost use Rattle.vm_outside.specs.Causes.{Wrote, WriteHasCause};
+ghost use Rattle.vm_outside.specs.Causes.{WriteEffects, WriteHasCause};
 ghost use Rattle.vm_outside.specs.Plans.{fails_next, after_fault, after_pass};
 
 use crate::Sink;
@@ -47,7 +47,7 @@ impl Sink for SureSink {
     ghost faults = { λ s. 0 };
 
     fn write(&mut self, piece: &[u8]) -> Result<(), WriteStop>
-        ensures bytes { Wrote (Some self.old) (Some self.new) result piece.now }
+        ensures bytes { WriteEffects (Some self.old) (Some self.new) result piece.now }
         ensures cause { WriteHasCause 0 0 result }
         ensures sure { IsOkUnless result WriteStop.NoMemory }
     {
@@ -102,7 +102,7 @@ impl Sink for MemSink {
     /// Fails exactly where the number of this call is among those that fail, and then writes
     /// nothing. A call that finds no memory is not counted.
     fn write(&mut self, piece: &[u8]) -> Result<(), WriteStop>
-        ensures bytes { Wrote (Some self.old.bytes) (Some self.new.bytes) result piece.now }
+        ensures bytes { WriteEffects (Some self.old.bytes) (Some self.new.bytes) result piece.now }
         ensures cause { WriteHasCause self.old.plan.faults self.new.plan.faults result }
 
         ensures fails { IsErrOf result WriteStop.Failed ↔ IsTrue (fails_next self.old.plan) }

@@ -2,7 +2,7 @@
 ghost use Rattle.std.specs.Prelude.{◌≡◌, ◌≤◌, ◌<◌, ◌↔◌, ◌++◌, [], IsTrue, IsErr, OnOk, Ok, Some, length, take, drop, min};
 ghost use Rattle.std.specs.Io.{ReadsAtMost};
 ghost use Rattle.std.specs.Io.KnownBytes.{ReadConsumes};
-ghost use Rattle.vm_outside.specs.Causes.{HasCause};
+ghost use Rattle.vm_outside.specs.Causes.{CallHasCause};
 ghost use Rattle.vm_outside.specs.Plans.{fails_next, after_fault, after_pass};
 
 use crate::Source;
@@ -59,7 +59,7 @@ impl Source for SureSource {
     fn read(&mut self, buf: &mut [u8]) -> Result<usize, Failed>
         ensures bound { ReadsAtMost result buf.new }
         ensures bytes { ReadConsumes (Some self.old) (Some self.new) result buf.new }
-        ensures cause { HasCause 0 0 result }
+        ensures cause { CallHasCause 0 0 result }
         ensures sure { result ≡ Ok (min (length buf.new) (length self.old)) }
     {
         Ok(give(&self.bytes, &mut self.at, buf))
@@ -110,7 +110,7 @@ impl Source for MemSource {
     fn read(&mut self, buf: &mut [u8]) -> Result<usize, Failed>
         ensures bound { ReadsAtMost result buf.new }
         ensures bytes { ReadConsumes (Some self.old.bytes) (Some self.new.bytes) result buf.new }
-        ensures cause { HasCause self.old.plan.faults self.new.plan.faults result }
+        ensures cause { CallHasCause self.old.plan.faults self.new.plan.faults result }
 
         ensures fails { IsErr result ↔ IsTrue (fails_next self.old.plan) }
         ensures failed { IsErr result → self.new.plan ≡ after_fault self.old.plan }

@@ -2,7 +2,7 @@
 ghost use Rattle.std.specs.Prelude.{◌≡◌, ◌≢◌, ◌↔◌, List, ℕ, Some, None, IsTrue, IsErr, IsErrOf, OnOk, OnErr};
 ghost use Rattle.std.specs.Option.{option_copied};
 ghost use Rattle.vm_outside.specs.Areas.{LengthTold, ReadTold, WriteTold};
-ghost use Rattle.vm_outside.specs.Causes.{HasCause, WriteHasCause};
+ghost use Rattle.vm_outside.specs.Causes.{CallHasCause, WriteHasCause};
 ghost use Rattle.vm_outside.specs.Memory.{bytes_of, plan_of};
 ghost use Rattle.vm_outside.specs.Plans.{fails_next, after_fault, after_pass};
 
@@ -70,7 +70,7 @@ impl Backing for MemBacking {
     /// Fails exactly where the number of this call is among those that fail.
     fn length(&mut self, name: &str) -> Result<Option<u64>, Failed>
         ensures told { LengthTold (λ other. Some (bytes_of self.old other)) (λ other. Some (bytes_of self.new other)) name.now result }
-        ensures cause { HasCause (plan_of self.old).faults (plan_of self.new).faults result }
+        ensures cause { CallHasCause (plan_of self.old).faults (plan_of self.new).faults result }
         ensures later { Unit {0} }
 
         ensures fails { IsErr result ↔ IsTrue (fails_next (plan_of self.old)) }
@@ -87,7 +87,7 @@ impl Backing for MemBacking {
     /// Fails exactly where the number of this call is among those that fail.
     fn read(&mut self, name: &str, at: u64, buf: &mut [u8]) -> Result<(), Failed>
         ensures told { ReadTold (λ other. Some (bytes_of self.old other)) (λ other. Some (bytes_of self.new other)) name.now at buf.new result }
-        ensures cause { HasCause (plan_of self.old).faults (plan_of self.new).faults result }
+        ensures cause { CallHasCause (plan_of self.old).faults (plan_of self.new).faults result }
         ensures later { Unit {0} }
 
         ensures fails { IsErr result ↔ IsTrue (fails_next (plan_of self.old)) }

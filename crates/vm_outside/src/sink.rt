@@ -1,7 +1,7 @@
 // Where the text goes.
 ghost use Rattle.std.specs.Prelude.{ℕ, List};
 ghost use Rattle.std.specs.declared.option.Option.{Option};
-ghost use Rattle.vm_outside.specs.Causes.{Wrote, WriteHasCause};
+ghost use Rattle.vm_outside.specs.Causes.{WriteEffects, WriteHasCause};
 
 use vm_base::WriteStop;
 
@@ -16,6 +16,6 @@ pub trait Sink {
     /// Writes the piece whole, or says why not. Where it failed, a first part of the piece may have
     /// been written.
     fn write(&mut self, piece: &[u8]) -> Result<(), WriteStop>
-        ensures bytes { Wrote (written self.old) (written self.new) result piece.now }
+        ensures bytes { WriteEffects (written self.old) (written self.new) result piece.now }
         ensures cause { WriteHasCause (faults self.old) (faults self.new) result };
 }

@@ -1,7 +1,7 @@
 // A writer of std as a sink.
 ghost use Rattle.std.specs.Prelude.{◌≡◌, None, IsOkUnless, OnOk, OnErr};
 ghost use Rattle.std.specs.Io.KnownBytes.{Appends};
-ghost use Rattle.vm_outside.specs.Causes.{next_count, Wrote, WriteHasCause};
+ghost use Rattle.vm_outside.specs.Causes.{next_count, WriteEffects, WriteHasCause};
 
 use crate::Sink;
 use std::io::Write;
@@ -39,7 +39,7 @@ impl<W: Write> Sink for StdSink<W> {
     ghost faults = { λ s. s.faults };
 
     fn write(&mut self, piece: &[u8]) -> Result<(), WriteStop>
-        ensures bytes { Wrote None None result piece.now }
+        ensures bytes { WriteEffects None None result piece.now }
         ensures cause { WriteHasCause self.old.faults self.new.faults result }
 
         ensures passed { OnOk result (Appends (W.contents self.old.inner) (W.contents self.new.inner) piece.now) }

@@ -2,7 +2,7 @@
 ghost use Rattle.std.specs.Prelude.{◌≡◌, None, OnOk, OnErr};
 ghost use Rattle.std.specs.Io.{ReadsAtMost};
 ghost use Rattle.std.specs.Io.KnownBytes.{ReadConsumes};
-ghost use Rattle.vm_outside.specs.Causes.{next_count, HasCause};
+ghost use Rattle.vm_outside.specs.Causes.{next_count, CallHasCause};
 
 use crate::Source;
 use std::io::{ErrorKind, Read};
@@ -42,7 +42,7 @@ impl<R: Read> Source for StdSource<R> {
     fn read(&mut self, buf: &mut [u8]) -> Result<usize, Failed>
         ensures bound { ReadsAtMost result buf.new }
         ensures bytes { ReadConsumes None None result buf.new }
-        ensures cause { HasCause self.old.faults self.new.faults result }
+        ensures cause { CallHasCause self.old.faults self.new.faults result }
 
         ensures passed { ReadConsumes (R.remaining self.old.inner) (R.remaining self.new.inner) result buf.new }
         ensures none { OnOk result (self.new.faults ≡ self.old.faults) }

@@ -18,7 +18,7 @@ use Rattle.vm_parts.specs.declared.parts.HostParts.{HostParts}
 use Rattle.vm_pageout.specs.Laundry.{LaundryList}
 use Rattle.vm_pageout.specs.declared.answer.Reclaim.{Reclaim}
 use Rattle.vm_pageout.specs.declared.answer.Reclaim.TheVariants as reclaim
-use Rattle.vm_queues.specs.Queues.{AllSkipped, Queues, balanced, is_queued, is_skipped, removed, spared, victim_frame}
+use Rattle.vm_queues.specs.Queues.{AllSkipped, Queues, balanced, is_queued, is_skipped, queues_except, spared, victim_frame}
 use Rattle.vm_resident.specs.Resident.{PutsOwner, PutsRow, ResidentTable, owner_of, row_at}
 use Rattle.vm_resident.specs.declared.page_row.PageRow.{PageRow}
 
@@ -26,13 +26,13 @@ use Rattle.vm_resident.specs.declared.page_row.PageRow.{PageRow}
 abbrev pub queues_after_search : Queues → Queues
 queues_after_search queues = spared (balanced queues)
 
-abbrev pub with_control : PagerState → ObjectRow → ObjectRow
-with_control state.Without row = record row { control = row.control + 1; live = true; state = state.Sent }
-with_control told row = row
+abbrev pub row_with_control : PagerState → ObjectRow → ObjectRow
+row_with_control state.Without row = record row { control = row.control + 1; live = true; state = state.Sent }
+row_with_control told row = row
 
 -- the object with a pager: a control begins where it has none
 abbrev pub controlled : ObjectRow → ObjectRow
-controlled row = with_control row.state row
+controlled row = row_with_control row.state row
 
 -- a message to an object's pager
 abbrev pub sends : HostId → PageKey → Message → Event

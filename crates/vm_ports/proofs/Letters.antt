@@ -4,7 +4,7 @@ use Rattle.std.proofs.lemmas.Bool.Decides.{nat_tests}
 use Rattle.std.specs.List.{position, position_or_len, remove}
 use Rattle.std.specs.Prelude.{if◌then◌else◌, nat_lt}
 use Rattle.vm_ports.specs.declared.letter.Letter.{Letter}
-use Rattle.vm_ports.specs.Kept.{is_on}
+use Rattle.vm_ports.specs.Kept.{is_on_channel}
 use Rattle.vm_ports.specs.Ports.{AllAdded, KeepsOthers, queue, without_first}
 
 record IsPlace (n len i : ℕ) : Type 0 where
@@ -70,21 +70,21 @@ module _ {M : Type 0} where
   }
 
   first_step : (test : Bool) (ch : ℕ) (first : Letter M) (letters : List (Letter M)) → (first.channel.0 == ch) ≡ test
-      → (position_or_len (is_on ch) letters < length letters → IsFirst ch letters (position_or_len (is_on ch) letters))
-      → position_or_len (is_on ch) (first ∷ letters) < length (first ∷ letters) → IsFirst ch (first ∷ letters) (position_or_len (is_on ch) (first ∷ letters))
+      → (position_or_len (is_on_channel ch) letters < length letters → IsFirst ch letters (position_or_len (is_on_channel ch) letters))
+      → position_or_len (is_on_channel ch) (first ∷ letters) < length (first ∷ letters) → IsFirst ch (first ∷ letters) (position_or_len (is_on_channel ch) (first ∷ letters))
   first_step true ch first letters is rest less = rw is record { inside = omega arith; head = λ d. rw is refl; rest = rw is refl }
   first_step false ch first letters is rest less =
       let inside = rw is at less in
-      let count : 1 + position_or_len (is_on ch) letters ≡ suc (position_or_len (is_on ch) letters) = omega arith in
-      rw (is, count) (later ch first letters (position_or_len (is_on ch) letters) is (rest (omega (arith, inside))))
+      let count : 1 + position_or_len (is_on_channel ch) letters ≡ suc (position_or_len (is_on_channel ch) letters) = omega arith in
+      rw (is, count) (later ch first letters (position_or_len (is_on_channel ch) letters) is (rest (omega (arith, inside))))
 
-  first_at : (ch : ℕ) (letters : List (Letter M)) → position_or_len (is_on ch) letters < length letters → IsFirst ch letters (position_or_len (is_on ch) letters)
+  first_at : (ch : ℕ) (letters : List (Letter M)) → position_or_len (is_on_channel ch) letters < length letters → IsFirst ch letters (position_or_len (is_on_channel ch) letters)
   first_at ch [] less = absurd (omega arith)
   first_at ch (first ∷ letters) less = first_step (first.channel.0 == ch) ch first letters refl (first_at ch letters) less
 
-  pub found : (ch : ℕ) (letters : List (Letter M)) (i : ℕ) → Some i ≡ position (is_on ch) letters → IsFirst ch letters i
+  pub found : (ch : ℕ) (letters : List (Letter M)) (i : ℕ) → Some i ≡ position (is_on_channel ch) letters → IsFirst ch letters i
   found ch letters i is =
-      let at = place_is (position_or_len (is_on ch) letters) (length letters) i is in
+      let at = place_is (position_or_len (is_on_channel ch) letters) (length letters) i is in
       subst (IsFirst ch letters) at.same (first_at ch letters at.inside)
 
   -- the first letter of a channel was taken
@@ -94,7 +94,7 @@ module _ {M : Type 0} where
     pub others : KeepsOthers ch old new
     pub added : (n : ℕ) → AllAdded n old → AllAdded n new
 
-  pub took : (ch i : ℕ) (old new : List (Letter M)) (letter : Letter M) → Some i ≡ position (is_on ch) old → letter ≡ get_or old i letter → new ≡ remove old i → IsTaken ch old new letter
+  pub took : (ch i : ℕ) (old new : List (Letter M)) (letter : Letter M) → Some i ≡ position (is_on_channel ch) old → letter ≡ get_or old i letter → new ≡ remove old i → IsTaken ch old new letter
   took ch i old new letter place is rest =
       let there = found ch old i place in
       let letters : new ≡ without_first ch old = rest ∙ there.rest in
@@ -111,17 +111,17 @@ module _ {M : Type 0} where
     pub same : without_first ch letters ≡ letters
 
   absent_step : (test : Bool) (ch : ℕ) (first : Letter M) (letters : List (Letter M)) → (first.channel.0 == ch) ≡ test
-      → (length letters ≤ position_or_len (is_on ch) letters → IsAbsent ch letters)
-      → length (first ∷ letters) ≤ position_or_len (is_on ch) (first ∷ letters) → IsAbsent ch (first ∷ letters)
+      → (length letters ≤ position_or_len (is_on_channel ch) letters → IsAbsent ch letters)
+      → length (first ∷ letters) ≤ position_or_len (is_on_channel ch) (first ∷ letters) → IsAbsent ch (first ∷ letters)
   absent_step true ch first letters is rest all = let less = rw is at all in absurd (omega (arith, less))
   absent_step false ch first letters is rest all =
       let less = rw is at all in
       let none = rest (omega (arith, less)) in
       record { empty = rw is none.empty; same = rw is (ap (λ z. first ∷ z) none.same) }
 
-  absent_from : (ch : ℕ) (letters : List (Letter M)) → length letters ≤ position_or_len (is_on ch) letters → IsAbsent ch letters
+  absent_from : (ch : ℕ) (letters : List (Letter M)) → length letters ≤ position_or_len (is_on_channel ch) letters → IsAbsent ch letters
   absent_from ch [] all = record { empty = refl; same = refl }
   absent_from ch (first ∷ letters) all = absent_step (first.channel.0 == ch) ch first letters refl (absent_from ch letters) all
 
-  pub absent : (ch : ℕ) (letters : List (Letter M)) → None ≡ position (is_on ch) letters → IsAbsent ch letters
-  absent ch letters none = absent_from ch letters (place_none (position_or_len (is_on ch) letters) (length letters) none)
+  pub absent : (ch : ℕ) (letters : List (Letter M)) → None ≡ position (is_on_channel ch) letters → IsAbsent ch letters
+  absent ch letters none = absent_from ch letters (place_none (position_or_len (is_on_channel ch) letters) (length letters) none)

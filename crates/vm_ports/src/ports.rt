@@ -1,7 +1,7 @@
 // The channels and the letters on them.
 ghost use Rattle.std.specs.Prelude.{◌≡◌, ◌+◌, ◌≤◌, ◌<◌, ◌∷◌, [], ◌++◌, length, position, slice_get, IsOk, OnOk, OnErr, IfOk, IfErr, IfNone, MatchOption};
 ghost use Rattle.vm_ports.specs.Ports.{AllAdded, KeepsOthers, oldest, queue, spare_channels, without_first};
-ghost use Rattle.vm_ports.specs.Kept.{is_on};
+ghost use Rattle.vm_ports.specs.Kept.{is_on_channel};
 
 use crate::letter::{Letter, SendBack};
 use std::alloc::{AllocFailed, Global};
@@ -176,7 +176,7 @@ impl<M> Ports<M> {
 
 // Where the first letter of a channel stands.
 fn place<M>(letters: &VecDeque<Letter<M>>, ch: ChannelId) -> Option<usize>
-    ensures { result ≡ position (is_on ch.0) letters.now.items }
+    ensures { result ≡ position (is_on_channel ch.0) letters.now.items }
 {
     letters.iter().position(|letter| letter.channel == ch)
 }

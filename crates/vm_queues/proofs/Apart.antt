@@ -4,14 +4,14 @@ use Rattle.std.proofs.lemmas.Bool.Decides.{nat_tests}
 use Rattle.std.proofs.lemmas.List.{get_or-set_other}
 use Rattle.std.specs.Prelude.{filter, not}
 use Rattle.vm_base.specs.declared.ids.FrameNo.{FrameNo}
-use Rattle.vm_queues.specs.Queues.{has_page, is_skipped, marked, without}
-use Rattle.vm_queues.specs.Kept.{AreApart, pages, without_frame}
+use Rattle.vm_queues.specs.Queues.{has_page, is_skipped, marked, pages_except}
+use Rattle.vm_queues.specs.Kept.{FramesAreApart, pages, without_frame}
 
 pub skipped_append : (xs ys : List FrameNo) (f : ℕ) → is_skipped (xs ++ ys) f ≡ (is_skipped xs f || is_skipped ys f)
 skipped_append [] ys f = refl
 skipped_append (x ∷ xs) ys f = let rest = skipped_append xs ys f in grind (arith, nat_tests)
 
-pub apart_push : (n : ℕ) (fs : List FrameNo) (f : FrameNo) → AreApart n fs → f.0 < n → is_skipped fs f.0 ≡ false → AreApart n (fs ++ f ∷ [])
+pub apart_push : (n : ℕ) (fs : List FrameNo) (f : FrameNo) → FramesAreApart n fs → f.0 < n → is_skipped fs f.0 ≡ false → FramesAreApart n (fs ++ f ∷ [])
 apart_push n [] f apart less new = (less, refl, tt)
 apart_push n (g ∷ fs) f apart less new =
     let others : is_skipped fs f.0 ≡ false = grind (arith, nat_tests) in
@@ -26,7 +26,7 @@ pub record Stands (n f : ℕ) (left right : List FrameNo) : Type 0 where
   pub front : is_skipped left f ≡ false
   pub behind : is_skipped right f ≡ false
 
-pub stands : (n : ℕ) (left : List FrameNo) (f : FrameNo) (right : List FrameNo) → AreApart n (left ++ f ∷ right) → Stands n f.0 left right
+pub stands : (n : ℕ) (left : List FrameNo) (f : FrameNo) (right : List FrameNo) → FramesAreApart n (left ++ f ∷ right) → Stands n f.0 left right
 stands n [] f right apart = record { inside = apart.0; front = refl; behind = apart.1 }
 stands n (g ∷ left) f right apart =
     let rest = stands n left f right apart.2 in
@@ -35,7 +35,7 @@ stands n (g ∷ left) f right apart =
     let front = rest.front in
     record { inside = rest.inside; front = grind (arith, nat_tests); behind = rest.behind }
 
-pub inside : (n : ℕ) (fs : List FrameNo) (f : ℕ) → AreApart n fs → is_skipped fs f ≡ true → f < n
+pub inside : (n : ℕ) (fs : List FrameNo) (f : ℕ) → FramesAreApart n fs → is_skipped fs f ≡ true → f < n
 inside n [] f apart there = absurd (cc)
 inside n (g ∷ fs) f apart there =
     let less = apart.0 in
@@ -56,21 +56,21 @@ still_none f g (x ∷ fs) none =
     let rest = still_none f g fs others in
     grind (arith, nat_tests)
 
-apart_cons : (test : Bool) (n f : ℕ) (g : FrameNo) (fs : List FrameNo) → (g.0 == f) ≡ test → g.0 < n → is_skipped fs g.0 ≡ false → AreApart n (without_frame f fs) → AreApart n (without_frame f (g ∷ fs))
+apart_cons : (test : Bool) (n f : ℕ) (g : FrameNo) (fs : List FrameNo) → (g.0 == f) ≡ test → g.0 < n → is_skipped fs g.0 ≡ false → FramesAreApart n (without_frame f fs) → FramesAreApart n (without_frame f (g ∷ fs))
 apart_cons true n f g fs is less once rest = rw is rest
 apart_cons false n f g fs is less once rest = rw is (less, still_none f g.0 fs once, rest)
 
-pub apart_without : (n f : ℕ) (fs : List FrameNo) → AreApart n fs → AreApart n (without_frame f fs)
+pub apart_without : (n f : ℕ) (fs : List FrameNo) → FramesAreApart n fs → FramesAreApart n (without_frame f fs)
 apart_without n f [] apart = tt
 apart_without n f (g ∷ fs) apart = apart_cons (g.0 == f) n f g fs refl apart.0 apart.1 (apart_without n f fs apart.2)
 
-below_cons : (test : Bool) (n : ℕ) (g : FrameNo) (fs : List FrameNo) → (g.0 == n) ≡ test → g.0 < suc n → is_skipped fs g.0 ≡ false → AreApart n (without_frame n fs) → AreApart n (without_frame n (g ∷ fs))
+below_cons : (test : Bool) (n : ℕ) (g : FrameNo) (fs : List FrameNo) → (g.0 == n) ≡ test → g.0 < suc n → is_skipped fs g.0 ≡ false → FramesAreApart n (without_frame n fs) → FramesAreApart n (without_frame n (g ∷ fs))
 below_cons true n g fs is less once rest = rw is rest
 below_cons false n g fs is less once rest =
     let lower : g.0 < n = grind (arith, nat_tests) in
     rw is (lower, still_none n g.0 fs once, rest)
 
-below_without : (n : ℕ) (fs : List FrameNo) → AreApart (suc n) fs → AreApart n (without_frame n fs)
+below_without : (n : ℕ) (fs : List FrameNo) → FramesAreApart (suc n) fs → FramesAreApart n (without_frame n fs)
 below_without n [] apart = tt
 below_without n (g ∷ fs) apart = below_cons (g.0 == n) n g fs refl apart.0 apart.1 (below_without n fs apart.2)
 
@@ -81,12 +81,12 @@ length_cons true n f g fs is once rest =
     rw is (omega (arith, all))
 length_cons false n f g fs is once rest = rw is (omega (arith, rest))
 
-length_without : (n f : ℕ) (fs : List FrameNo) → AreApart n fs → length fs ≤ suc (length (without_frame f fs))
+length_without : (n f : ℕ) (fs : List FrameNo) → FramesAreApart n fs → length fs ≤ suc (length (without_frame f fs))
 length_without n f [] apart = omega arith
 length_without n f (g ∷ fs) apart = length_cons (g.0 == f) n f g fs refl apart.1 (length_without n f fs apart.2)
 
 -- no more frames than there are numbers
-pub apart_fits : (n : ℕ) (fs : List FrameNo) → AreApart n fs → length fs ≤ n
+pub apart_fits : (n : ℕ) (fs : List FrameNo) → FramesAreApart n fs → length fs ≤ n
 apart_fits n [] apart = omega arith
 apart_fits zero (f ∷ fs) apart = absurd (omega (arith, apart.0))
 apart_fits (suc n) (f ∷ fs) apart =
@@ -117,11 +117,11 @@ pub pages_marked : (marks : List Bool) (f : ℕ) (fs : List FrameNo) → f < len
 pages_marked marks f [] inside = refl
 pages_marked marks f (g ∷ fs) inside = rw (mark_set marks f g.0 inside, pages_marked marks f fs inside) refl
 
-pages_cons : (test : Bool) (marks : List Bool) (f : ℕ) (g : FrameNo) (fs : List FrameNo) → (g.0 == f) ≡ test → pages marks (without_frame f fs) ≡ without f (pages marks fs) → pages marks (without_frame f (g ∷ fs)) ≡ without f (pages marks (g ∷ fs))
+pages_cons : (test : Bool) (marks : List Bool) (f : ℕ) (g : FrameNo) (fs : List FrameNo) → (g.0 == f) ≡ test → pages marks (without_frame f fs) ≡ pages_except f (pages marks fs) → pages marks (without_frame f (g ∷ fs)) ≡ pages_except f (pages marks (g ∷ fs))
 pages_cons true marks f g fs is rest = rw is rest
 pages_cons false marks f g fs is rest = rw (is, rest) refl
 
-pub pages_without : (marks : List Bool) (f : ℕ) (fs : List FrameNo) → pages marks (without_frame f fs) ≡ without f (pages marks fs)
+pub pages_without : (marks : List Bool) (f : ℕ) (fs : List FrameNo) → pages marks (without_frame f fs) ≡ pages_except f (pages marks fs)
 pages_without marks f [] = refl
 pages_without marks f (g ∷ fs) = pages_cons (g.0 == f) marks f g fs refl (pages_without marks f fs)
 

@@ -4,7 +4,7 @@ use Rattle.std.proofs.lemmas.Bool.Decides.{nat_tests}
 use Rattle.std.proofs.lemmas.List.{append_assoc, map-append, take-append-drop}
 use Rattle.std.specs.Prelude.{MatchOption, if◌then◌else◌}
 use Rattle.vm_base.specs.declared.ids.FrameNo.{FrameNo}
-use Rattle.vm_queues.specs.Queues.{AllSkipped, GainsPage, KeepsPages, LosesPage, Page, Queues, added, balanced, cleared, first_unskipped, fresh, from_unreferenced, has_page, is_queued, is_skipped, marked, referenced_front, removed, shortage, spared, victim_frame, with_deactivated, with_reference, without}
+use Rattle.vm_queues.specs.Queues.{AllSkipped, GainsPage, KeepsPages, LosesPage, Page, Queues, added, balanced, cleared, first_unskipped, from_unreferenced, has_page, is_queued, is_skipped, marked, new_page, pages_except, queues_except, referenced_front, shortage, spared, victim_frame, with_deactivated, with_reference}
 use Rattle.vm_queues.proofs.Balance.{queues}
 
 has_append : (xs ys : List Page) (f : ℕ) → has_page (xs ++ ys) f ≡ (has_page xs f || has_page ys f)
@@ -77,8 +77,8 @@ or_last false false = refl
 pub queued_added : (f : ℕ) (q new : Queues) → new ≡ added f q → GainsPage f q new
 queued_added f q new is = λ other.
     ap (λ r. is_queued r other) is
-    ∙ ap (λ z. has_page z other) (sym (append_assoc q.inactive q.active (fresh f ∷ [])))
-    ∙ has_append (q.inactive ++ q.active) (fresh f ∷ []) other
+    ∙ ap (λ z. has_page z other) (sym (append_assoc q.inactive q.active (new_page f ∷ [])))
+    ∙ has_append (q.inactive ++ q.active) (new_page f ∷ []) other
     ∙ or_last (has_page (q.inactive ++ q.active) other) (f == other)
 
 has_marked : (f : ℕ) (xs : List Page) (other : ℕ) → has_page (map (marked f) xs) other ≡ has_page xs other
@@ -91,7 +91,7 @@ queued_touched f q new is = λ other.
     ∙ ap (λ z. has_page z other) (sym (map-append (marked f) q.inactive q.active))
     ∙ has_marked f (q.inactive ++ q.active) other
 
-has_without : (f : ℕ) (xs : List Page) (other : ℕ) → has_page (without f xs) other ≡ (if f == other then false else has_page xs other)
+has_without : (f : ℕ) (xs : List Page) (other : ℕ) → has_page (pages_except f xs) other ≡ (if f == other then false else has_page xs other)
 has_without f [] other = grind (arith, nat_tests)
 has_without f (x ∷ xs) other = let rest = has_without f xs other in grind (arith, nat_tests)
 
@@ -99,12 +99,12 @@ neither : (test x y : Bool) → ((if test then false else x) || (if test then fa
 neither true x y = refl
 neither false x y = refl
 
-pub queued_removed : (f : ℕ) (q new : Queues) → new ≡ removed f q → LosesPage f q new
+pub queued_removed : (f : ℕ) (q new : Queues) → new ≡ queues_except f q → LosesPage f q new
 queued_removed f q new is = λ other.
     let test = f == other in
     ap (λ r. is_queued r other) is
-    ∙ has_append (without f q.inactive) (without f q.active) other
-    ∙ ap (λ b. b || has_page (without f q.active) other) (has_without f q.inactive other)
+    ∙ has_append (pages_except f q.inactive) (pages_except f q.active) other
+    ∙ ap (λ b. b || has_page (pages_except f q.active) other) (has_without f q.inactive other)
     ∙ ap (λ b. (if test then false else has_page q.inactive other) || b) (has_without f q.active other)
     ∙ neither test (has_page q.inactive other) (has_page q.active other)
     ∙ ap (λ b. if test then false else b) (sym (has_append q.inactive q.active other))

@@ -5,25 +5,25 @@ use Rattle.vm_base.specs.declared.ids.FrameNo.{FrameNo}
 use Rattle.vm_queues.specs.declared.lists.Lists.{Lists}
 use Rattle.vm_queues.specs.Queues.{Page, Queues, is_skipped}
 
-abbrev pub page_of : List Bool → FrameNo → Page
-page_of marks f = record { frame = f.0; referenced = get_or marks f.0 false }
+abbrev pub queued_page : List Bool → FrameNo → Page
+queued_page marks f = record { frame = f.0; referenced = get_or marks f.0 false }
 
 abbrev pub pages : List Bool → List FrameNo → List Page
-pages marks frames = map (page_of marks) frames
+pages marks frames = map (queued_page marks) frames
 
-abbrev pub seen : Lists → Queues
-seen lists = record { active = pages lists.marks.items lists.active.items; inactive = pages lists.marks.items lists.inactive.items; frames = length lists.marks.items }
+abbrev pub page_lists : Lists → Queues
+page_lists lists = record { active = pages lists.marks.items lists.active.items; inactive = pages lists.marks.items lists.inactive.items; frames = length lists.marks.items }
 
 -- each frame is below a number, and stands there once
-abbrev pub AreApart : ℕ → List FrameNo → Type 0
-AreApart n [] = Unit {0}
-AreApart n (f ∷ fs) = (f.0 < n) × (is_skipped fs f.0 ≡ false) × AreApart n fs
+abbrev pub FramesAreApart : ℕ → List FrameNo → Type 0
+FramesAreApart n [] = Unit {0}
+FramesAreApart n (f ∷ fs) = (f.0 < n) × (is_skipped fs f.0 ≡ false) × FramesAreApart n fs
 
 abbrev pub all_frames : Lists → List FrameNo
 all_frames lists = lists.inactive.items ++ lists.active.items
 
 pub record ArePageLists (lists : Lists) : Type 0 where
-  pub apart : AreApart (length lists.marks.items) (all_frames lists)
+  pub apart : FramesAreApart (length lists.marks.items) (all_frames lists)
   pub active : length lists.marks.items ≤ deque_capacity lists.active
   pub inactive : length lists.marks.items ≤ deque_capacity lists.inactive
   pub few : length lists.marks.items < 2 ^ 32

@@ -13,11 +13,11 @@ pub record Queues : Type 0 where
   pub inactive : List Page
   pub frames : ℕ
 
-abbrev pub fresh : ℕ → Page
-fresh f = record { frame = f; referenced = false }
+abbrev pub new_page : ℕ → Page
+new_page f = record { frame = f; referenced = false }
 
 abbrev pub cleared : Page → Page
-cleared page = fresh page.frame
+cleared page = new_page page.frame
 
 abbrev pub has_page : List Page → ℕ → Bool
 has_page [] f = false
@@ -28,7 +28,7 @@ abbrev pub is_queued : Queues → ℕ → Bool
 is_queued queues f = has_page (queues.inactive ++ queues.active) f
 
 abbrev pub added : ℕ → Queues → Queues
-added f queues = record queues { active = queues.active ++ fresh f ∷ [] }
+added f queues = record queues { active = queues.active ++ new_page f ∷ [] }
 
 abbrev pub marked : ℕ → Page → Page
 marked f page = record { frame = page.frame; referenced = (page.frame == f) || page.referenced }
@@ -36,12 +36,12 @@ marked f page = record { frame = page.frame; referenced = (page.frame == f) || p
 abbrev pub with_reference : ℕ → Queues → Queues
 with_reference f queues = record queues { active = map (marked f) queues.active; inactive = map (marked f) queues.inactive }
 
-abbrev pub without : ℕ → List Page → List Page
-without f [] = []
-without f (page ∷ pages) = if page.frame == f then without f pages else page ∷ without f pages
+abbrev pub pages_except : ℕ → List Page → List Page
+pages_except f [] = []
+pages_except f (page ∷ pages) = if page.frame == f then pages_except f pages else page ∷ pages_except f pages
 
-abbrev pub removed : ℕ → Queues → Queues
-removed f queues = record queues { active = without f queues.active; inactive = without f queues.inactive }
+abbrev pub queues_except : ℕ → Queues → Queues
+queues_except f queues = record queues { active = pages_except f queues.active; inactive = pages_except f queues.inactive }
 
 -- the first active pages go to the inactive back, their marks cleared
 abbrev pub with_deactivated : ℕ → Queues → Queues

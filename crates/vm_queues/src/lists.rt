@@ -1,7 +1,7 @@
 // The two lists and the marks, and the moves between the lists.
 ghost use Rattle.std.specs.Prelude.{◌≡◌, ◌<◌, ◌≤◌, ◌++◌, ◌∷◌, ℕ, [], Bool, List, true, false, IfOk, get_or, length, replicate};
-ghost use Rattle.vm_queues.specs.Queues.{balanced, first_unskipped, is_skipped, needs_none, one_spared, removed, spared, victim_frame, with_deactivated};
-ghost use Rattle.vm_queues.specs.Kept.{ArePageLists, front_referenced, pages, seen, without_frame};
+ghost use Rattle.vm_queues.specs.Queues.{balanced, first_unskipped, is_skipped, needs_none, one_spared, queues_except, spared, victim_frame, with_deactivated};
+ghost use Rattle.vm_queues.specs.Kept.{ArePageLists, front_referenced, page_lists, pages, without_frame};
 ghost use Rattle.std.specs.VecDeque.{deque_capacity};
 
 use std::alloc::Global;
@@ -20,7 +20,7 @@ pub struct Lists {
 /// Lists with room for so many frames, so that no later call takes memory; it fails for want of it.
 pub fn empty(alloc: Global, frames: u32) -> Result<Lists, NoMemory>
     ensures kept { IfOk result (λ lists. ArePageLists lists) }
-    ensures seen { IfOk result (λ lists. seen lists ≡ record { active = []; inactive = []; frames = frames }) }
+    ensures seen { IfOk result (λ lists. page_lists lists ≡ record { active = []; inactive = []; frames = frames }) }
 {
     let active = VecDeque::with_capacity(alloc, frames as usize)?;
     let inactive = VecDeque::with_capacity(alloc, frames as usize)?;
@@ -37,7 +37,7 @@ fn age(lists: &mut Lists)
     requires kept { ArePageLists lists.old }
     requires some { 0 < length lists.old.active.items }
     ensures kept { ArePageLists lists.new }
-    ensures moved { seen lists.new ≡ with_deactivated 1 (seen lists.old) }
+    ensures moved { page_lists lists.new ≡ with_deactivated 1 (page_lists lists.old) }
 {
     if let Some(frame) = lists.active.pop_front() {
         lists.marks[frame.0 as usize] = false;
@@ -50,7 +50,7 @@ fn spare_front(lists: &mut Lists)
     requires kept { ArePageLists lists.old }
     requires some { 0 < length lists.old.inactive.items }
     ensures kept { ArePageLists lists.new }
-    ensures spared { seen lists.new ≡ one_spared (seen lists.old) }
+    ensures spared { page_lists lists.new ≡ one_spared (page_lists lists.old) }
 {
     if let Some(frame) = lists.inactive.pop_front() {
         lists.marks[frame.0 as usize] = false;
@@ -63,8 +63,8 @@ fn spare_front(lists: &mut Lists)
 pub fn balance(lists: &mut Lists)
     requires { ArePageLists lists.old }
     ensures kept { ArePageLists lists.new }
-    ensures balanced { seen lists.new ≡ balanced (seen lists.old) }
-    ensures done { needs_none (seen lists.new) }
+    ensures balanced { page_lists lists.new ≡ balanced (page_lists lists.old) }
+    ensures done { needs_none (page_lists lists.new) }
 {
     'balance: while 3 * lists.inactive.len() < lists.active.len() + lists.inactive.len() {
         age(lists);
@@ -74,7 +74,7 @@ pub fn balance(lists: &mut Lists)
 // Whether the inactive front is referenced.
 fn is_front_referenced(lists: &Lists) -> bool
     requires { ArePageLists lists.now }
-    ensures { result ≡ front_referenced (seen lists.now) }
+    ensures { result ≡ front_referenced (page_lists lists.now) }
 {
     match lists.inactive.front() {
         Some(frame) => lists.marks[frame.0 as usize],
@@ -85,9 +85,9 @@ fn is_front_referenced(lists: &Lists) -> bool
 /// Moves referenced inactive fronts to the active back, and balances again behind each.
 pub fn spare(lists: &mut Lists)
     requires kept { ArePageLists lists.old }
-    requires balanced { needs_none (seen lists.old) }
+    requires balanced { needs_none (page_lists lists.old) }
     ensures kept { ArePageLists lists.new }
-    ensures spared { seen lists.new ≡ spared (seen lists.old) }
+    ensures spared { page_lists lists.new ≡ spared (page_lists lists.old) }
 {
     'spare: while is_front_referenced(lists) {
         spare_front(lists);
@@ -106,7 +106,7 @@ fn take_off(frames: &mut VecDeque<FrameNo>, f: FrameNo)
 pub fn drop_frame(lists: &mut Lists, f: FrameNo)
     requires { ArePageLists lists.old }
     ensures kept { ArePageLists lists.new }
-    ensures removed { seen lists.new ≡ removed f.0 (seen lists.old) }
+    ensures removed { page_lists lists.new ≡ queues_except f.0 (page_lists lists.old) }
 {
     take_off(&mut lists.active, f);
     take_off(&mut lists.inactive, f);
@@ -138,7 +138,7 @@ fn first_unskipped(frames: &VecDeque<FrameNo>, skip: &[FrameNo]) -> Option<Frame
 
 /// The first frame that isn't skipped, inactive ones first.
 pub fn choose(lists: &Lists, skip: &[FrameNo]) -> Option<FrameNo>
-    ensures { result ≡ victim_frame skip.now (seen lists.now) }
+    ensures { result ≡ victim_frame skip.now (page_lists lists.now) }
 {
     match first_unskipped(&lists.inactive, skip) {
         Some(frame) => Some(frame),

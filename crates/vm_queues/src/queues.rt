@@ -1,6 +1,6 @@
 // The queues of the pages that are here.
 ghost use Rattle.std.specs.Prelude.{◌≡◌, ◌<◌, ℕ, [], true, false, IfOk, MatchOption, if◌then◌else◌};
-ghost use Rattle.vm_queues.specs.Queues.{AllSkipped, GainsPage, IsEmpty, KeepsPages, LosesPage, Queues, added, balanced, is_queued, is_skipped, removed, spared, victim_frame, with_reference};
+ghost use Rattle.vm_queues.specs.Queues.{AllSkipped, GainsPage, IsEmpty, KeepsPages, LosesPage, Queues, added, balanced, is_queued, is_skipped, queues_except, spared, victim_frame, with_reference};
 
 use crate::lists::{Lists, balance, choose, drop_frame, empty, spare};
 use std::alloc::Global;
@@ -19,11 +19,11 @@ pub struct PageQueues {
 
 impl Model for PageQueues {
     ghost use Rattle.vm_queues.specs.Queues.{Queues};
-    ghost use Rattle.vm_queues.specs.Kept.{ArePageLists, seen};
+    ghost use Rattle.vm_queues.specs.Kept.{ArePageLists, page_lists};
 
     ghost Value = { Queues };
 
-    ghost view = { λ s. seen s.lists };
+    ghost view = { λ s. page_lists s.lists };
 
     ghost invariant = { λ s. ArePageLists s.lists };
 }
@@ -61,7 +61,7 @@ impl PageQueues {
     /// Takes a page off its list.
     pub fn remove(&mut self, f: FrameNo)
         requires { is_queued self.old f.0 ≡ true }
-        ensures queues { self.new ≡ removed f.0 self.old }
+        ensures queues { self.new ≡ queues_except f.0 self.old }
         ensures pages { LosesPage f.0 self.old self.new }
     {
         drop_frame(&mut self.lists, f);

@@ -24,7 +24,7 @@ use Rattle.vm_legal.specs.Debts.{IsPaid}
 use Rattle.vm_legal.proofs.Served.{paged_may, paged_supplied}
 use Rattle.vm_legal.specs.Licences.{HasCause, MaySendDown, MaySendUp, OwesAnswer}
 use Rattle.vm_legal.specs.Outside.{Outside}
-use Rattle.vm_legal.specs.Steps.{answers, is_answer, is_ready as says_ready, readies, since, taken_letter}
+use Rattle.vm_legal.specs.Steps.{answers, is_answer, is_ready_message as says_ready, readies, since, taken_letter}
 use Rattle.vm_legal.specs.Walks.{page_on}
 use Rattle.vm_quiet.specs.Carried.{is_request, opens}
 use Rattle.vm_quiet.specs.Places.{AllPaged}

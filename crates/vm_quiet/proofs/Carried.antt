@@ -11,7 +11,7 @@ use Rattle.vm_model.specs.Moments.{BeforeSteps, EachEvent}
 use Rattle.vm_legal.specs.Debts.{IsPaid}
 use Rattle.vm_legal.specs.Licences.{HasCause}
 use Rattle.vm_legal.specs.Outside.{Outside}
-use Rattle.vm_legal.specs.Steps.{answers, is_answer, is_ready as says_ready, readies}
+use Rattle.vm_legal.specs.Steps.{answers, is_answer, is_ready_message as says_ready, readies}
 use Rattle.vm_quiet.specs.Carried.{IsCarried, IsUndelivered, is_request, opens}
 use Rattle.vm_quiet.specs.Places.{AllPaged}
 use Rattle.vm_quiet.proofs.Letters.{never}

@@ -19,7 +19,7 @@ use Rattle.vm_model.specs.Moments.{EachEvent}
 use Rattle.vm_model.specs.Server.{first}
 use Rattle.vm_model.specs.Tasks.{host_of}
 use Rattle.vm_model.specs.Words.{in_range}
-use Rattle.vm_legal.specs.Frames.{Takes, Gives, frames_after, frames_held, returns_out, where_true}
+use Rattle.vm_legal.specs.Frames.{Takes, Gives, frames_after, frames_held, returns_out, change_where}
 use Rattle.vm_legal.specs.Licences.{HasCause, MaySendUp}
 use Rattle.vm_legal.specs.Outside.{Outside}
 use Rattle.vm_legal.specs.Walks.{page_on}
@@ -80,11 +80,11 @@ less_if : (own : Bool) (U V : ℕ → ℕ → Bool) (n a b : ℕ) → (own ≡ t
 less_if true U V n a b there new h = held_less U V n a b (there refl) new h
 less_if false U V n a b there new h = held_same U V n new h
 
-takes : (own : Bool) (n r f : ℕ) → n + r ≡ f → (if own then n + 1 else n) + r ≡ frames_after (where_true own Takes) f
+takes : (own : Bool) (n r f : ℕ) → n + r ≡ f → (if own then n + 1 else n) + r ≡ frames_after (change_where own Takes) f
 takes true n r f e = omega (arith, e)
 takes false n r f e = e
 
-gives : (own : Bool) (U : ℕ → ℕ → Bool) (n a b r f : ℕ) → (own ≡ true → U a b ≡ true) → Held U n → n + r ≡ f → (if own then n - 1 else n) + r ≡ frames_after (where_true own Gives) f
+gives : (own : Bool) (U : ℕ → ℕ → Bool) (n a b r f : ℕ) → (own ≡ true → U a b ≡ true) → Held U n → n + r ≡ f → (if own then n - 1 else n) + r ≡ frames_after (change_where own Gives) f
 gives true U n a b r f there h e = omega (arith, e, held_some U n a b (there refl) h)
 gives false U n a b r f there h e = e
 
@@ -247,7 +247,7 @@ count_end : (header : Header) (host : ℕ) (at : HostId) (object : ObjectId) (co
     → ((o p : ℕ) → V o p ≡ (if at.0 == host && (object.0 == o && is_control control (live_control host o past)) then (if page == p then (if (page_on header host o p past).asked then false else framed header host past o p) else framed header host past o p) else framed header host past o p))
     → (count : Count header host past) → Held V (if at.0 == host && (is_control control (live_control host object.0 past) && (page_on header host object.0 page past).asked) then count.number - 1 else count.number)
     × ((if at.0 == host && (is_control control (live_control host object.0 past) && (page_on header host object.0 page past).asked) then count.number - 1 else count.number) + returns_out host past
-    ≡ frames_after (where_true (at.0 == host && (is_control control (live_control host object.0 past) && (page_on header host object.0 page past).asked)) Gives) (frames_held header.size host past))
+    ≡ frames_after (change_where (at.0 == host && (is_control control (live_control host object.0 past) && (page_on header host object.0 page past).asked)) Gives) (frames_held header.size host past))
 count_end header host at object control page past V base new count =
     let own : Bool = at.0 == host && (is_control control (live_control host object.0 past) && (page_on header host object.0 page past).asked) in (
       less_if own (framed header host past) V count.number object.0 page there_is
@@ -304,7 +304,7 @@ count_taken header host at object (message.Return control page dirty keep bytes)
       sum = by (at.0 == host && not keep) count.number (returns_out host past) (frames_held header.size host past) (λ is. some_out host (Up at object) (message.Return control page dirty keep bytes) past head is base.returns) count.sum;
     }
   where
-    by : (b : Bool) (n r f : ℕ) → (b ≡ true → 0 < r) → n + r ≡ f → n + (if b then r - 1 else r) ≡ frames_after (where_true b Gives) f
+    by : (b : Bool) (n r f : ℕ) → (b ≡ true → 0 < r) → n + r ≡ f → n + (if b then r - 1 else r) ≡ frames_after (change_where b Gives) f
     by true n r f some e = omega (arith, some refl, e)
     by false n r f some e = e
 count_taken header host at object m past base head count = taken_same header host at object m past refl refl count

@@ -14,7 +14,7 @@ use Rattle.vm_legal.specs.Undelivered.{undelivered}
 use Rattle.vm_legal.specs.Frames.{frames_held, frames_of, frames_wired, returns_out}
 use Rattle.vm_legal.specs.Outside.{Outside}
 use Rattle.vm_legal.specs.Prompt.{AnAnswer, AReady, AnUnlock, Awaits, IsExhausted, HostIsFull, Prompt, WaitsForPager}
-use Rattle.vm_legal.specs.Steps.{answers, is_answer, is_ready as says_ready, readies}
+use Rattle.vm_legal.specs.Steps.{answers, is_answer, is_ready_message as says_ready, readies}
 use Rattle.vm_legal.specs.Walks.{page_on}
 use Rattle.vm_quiet.specs.Carried.{is_request, opens}
 use Rattle.vm_quiet.specs.Places.{AllPaged, has_frame}

@@ -8,7 +8,7 @@ use Rattle.vm_model.specs.declared.script.Header.{Header}
 use Rattle.vm_model.specs.Channels.{queue, up_port, down_port}
 use Rattle.vm_model.specs.Controls.{live_control}
 use Rattle.vm_legal.specs.Accesses.{is_ready}
-use Rattle.vm_legal.specs.Steps.{is_answer, is_ready as says_ready}
+use Rattle.vm_legal.specs.Steps.{is_answer, is_ready_message as says_ready}
 use Rattle.vm_legal.specs.Walks.{page_on}
 
 -- the request of a control for a page

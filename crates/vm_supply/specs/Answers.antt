@@ -25,11 +25,11 @@ use Rattle.vm_supply.specs.declared.woken.Woken.{Woken}
 use Rattle.vm_supply.specs.declared.woken.Woken.TheVariants as woken
 
 -- the accesses that a lock's number prohibits: 1 reading, 2 writing, 3 both
-abbrev pub lock_of : ℕ → Lock
-lock_of number = record { read = number == 1 || number == 3; write = number == 2 || number == 3 }
+abbrev pub lock_numbered : ℕ → Lock
+lock_numbered number = record { read = number == 1 || number == 3; write = number == 2 || number == 3 }
 
 -- the number is made up of what it prohibits
-pub lock_of-prohibits : (number : ℕ) → number < 4 → (if (lock_of number).read then 1 else 0) + (if (lock_of number).write then 2 else 0) ≡ number
+pub lock_of-prohibits : (number : ℕ) → number < 4 → (if (lock_numbered number).read then 1 else 0) + (if (lock_numbered number).write then 2 else 0) ≡ number
 lock_of-prohibits number few = grind (arith, nat_tests)
 
 -- an answer of a pager, where a page has so many bytes
@@ -41,39 +41,39 @@ IsAnswer size (message.Error page reason) = Unit {0}
 IsAnswer size other = ⊥
 
 -- what an answer comes to
-pub data Outcome : Type 0 where
+pub data AnswerOutcome : Type 0 where
   -- nothing
-  Discarded : Outcome
+  Discarded : AnswerOutcome
   -- the pager is ready
-  Readied : Outcome
+  Readied : AnswerOutcome
   -- a page has come with these bytes
-  Supplied : (page : PageNo) → (lock : ℕ) → (precious : Bool) → (bytes : List ℕ) → Outcome
+  Supplied : (page : PageNo) → (lock : ℕ) → (precious : Bool) → (bytes : List ℕ) → AnswerOutcome
   -- a page has come as zeros
-  Zeroed : (page : PageNo) → Outcome
+  Zeroed : (page : PageNo) → AnswerOutcome
   -- the pager is known not to have a page
-  Lacked : (page : PageNo) → Outcome
+  Lacked : (page : PageNo) → AnswerOutcome
   -- the pager can't give a page
-  Failed : (page : PageNo) → Outcome
+  Failed : (page : PageNo) → AnswerOutcome
 
 -- a second ready comes to nothing
-abbrev pub ready_outcome : PagerState → Outcome
+abbrev pub ready_outcome : PagerState → AnswerOutcome
 ready_outcome state.Without = Readied
 ready_outcome state.Sent = Readied
 ready_outcome state.Ready = Discarded
 
 -- what the default pager doesn't have is noted; what another pager doesn't have is zeros
-abbrev pub unavailable_outcome : ObjectKind → PageNo → Outcome
+abbrev pub unavailable_outcome : ObjectKind → PageNo → AnswerOutcome
 unavailable_outcome kind.Temp page = Lacked page
 unavailable_outcome kind.File page = Zeroed page
 unavailable_outcome kind.Shared page = Zeroed page
 unavailable_outcome kind.Wild page = Zeroed page
 
 -- an answer of a page counts only where the page is asked
-abbrev pub where_asked : Option PageRow → Outcome → Outcome
+abbrev pub where_asked : Option PageRow → AnswerOutcome → AnswerOutcome
 where_asked row outcome = if is_some (asked_row row) then outcome else Discarded
 
 -- what an answer of a live control comes to, where the object's pages have these rows
-abbrev pub live_outcome : ObjectRow → (ℕ → Option PageRow) → Message → Outcome
+abbrev pub live_outcome : ObjectRow → (ℕ → Option PageRow) → Message → AnswerOutcome
 live_outcome known rows (message.Ready cache strategy) = ready_outcome known.state
 live_outcome known rows (message.Supply page lock precious bytes) = where_asked (rows page.0) (Supplied page lock precious bytes)
 live_outcome known rows (message.Unavailable page) = where_asked (rows page.0) (unavailable_outcome known.kind page)
@@ -81,12 +81,12 @@ live_outcome known rows (message.Error page reason) = where_asked (rows page.0) 
 live_outcome known rows other = Discarded
 
 -- a control is live where it is the latest of an object that the host knows, and in use
-abbrev pub outcome_of : Option ObjectRow → ℕ → (ℕ → Option PageRow) → Message → Outcome
+abbrev pub outcome_of : Option ObjectRow → ℕ → (ℕ → Option PageRow) → Message → AnswerOutcome
 outcome_of None control rows message = Discarded
 outcome_of (Some known) control rows message = if known.live && known.control == control then live_outcome known rows message else Discarded
 
 -- what an answer for a control comes to on a host
-abbrev pub outcome_on : HostParts → ObjectId → ℕ → Message → Outcome
+abbrev pub outcome_on : HostParts → ObjectId → ℕ → Message → AnswerOutcome
 outcome_on parts object control message = outcome_of (object_at parts.objects object.0) control (row_at parts.resident object.0) message
 
 -- the pager of an object is ready now
@@ -105,7 +105,7 @@ pub record Supplies (key : PageKey) (lock : ℕ) (precious : Bool) (bytes : List
   pub woken : who ≡ woken.Page key
   pub was : PageRow
   pub asked : asked_row (row_at old.resident key.object.0 key.page.0) ≡ Some was
-  pub page : FillsPage key was (lock_of lock) precious bytes old new
+  pub page : FillsPage key was (lock_numbered lock) precious bytes old new
   pub objects : new.objects ≡ old.objects
   pub events : after ≡ before
 
@@ -130,7 +130,7 @@ pub record Lacks (key : PageKey) (who : Woken) (old new : HostParts) (before aft
   pub events : after ≡ before
 
 -- a page couldn't be given
-pub record Fails (key : PageKey) (who : Woken) (old new : HostParts) (before after : List Event) : Type 0 where
+pub record FailsPage (key : PageKey) (who : Woken) (old new : HostParts) (before after : List Event) : Type 0 where
   pub woken : who ≡ woken.Fails key
   pub was : PageRow
   pub asked : asked_row (row_at old.resident key.object.0 key.page.0) ≡ Some was
@@ -142,10 +142,10 @@ abbrev pub key_of : ObjectId → PageNo → PageKey
 key_of object page = record { object = object; page = page }
 
 -- whom an answer wakes, what it changes, and what it tells
-abbrev pub AnswerEffects : HostId → ObjectId → Outcome → Woken → HostParts → HostParts → List Event → List Event → Type 0
+abbrev pub AnswerEffects : HostId → ObjectId → AnswerOutcome → Woken → HostParts → HostParts → List Event → List Event → Type 0
 AnswerEffects host object Discarded who old new before after = (who ≡ woken.Nobody) × (new ≡ old) × (after ≡ before)
 AnswerEffects host object Readied who old new before after = Readies object who old new before after
 AnswerEffects host object (Supplied page lock precious bytes) who old new before after = Supplies (key_of object page) lock precious bytes who old new before after
 AnswerEffects host object (Zeroed page) who old new before after = Zeroes host (key_of object page) who old new before after
 AnswerEffects host object (Lacked page) who old new before after = Lacks (key_of object page) who old new before after
-AnswerEffects host object (Failed page) who old new before after = Fails (key_of object page) who old new before after
+AnswerEffects host object (Failed page) who old new before after = FailsPage (key_of object page) who old new before after

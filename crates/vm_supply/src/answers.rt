@@ -5,7 +5,7 @@ ghost use Rattle.vm_model.specs.declared.event.Event.{Event};
 ghost use Rattle.vm_objects.specs.Objects.{object_at};
 ghost use Rattle.vm_parts.specs.Fits.{Fit};
 ghost use Rattle.vm_resident.specs.Resident.{row_at};
-ghost use Rattle.vm_supply.specs.Answers.{AnswerEffects, Failed, IsAnswer, Lacked, Supplied, Zeroed, lock_of, outcome_on, ready_outcome, where_asked};
+ghost use Rattle.vm_supply.specs.Answers.{AnswerEffects, Failed, IsAnswer, Lacked, Supplied, Zeroed, lock_numbered, outcome_on, ready_outcome, where_asked};
 
 use crate::Woken;
 use vm_base::{HostId, Lock, NoMemory, ObjectId, ObjectKind, PageBytes, PageKey, PageNo};
@@ -89,7 +89,7 @@ fn ready(parts: &mut HostParts, object: ObjectId, state: PagerState) -> Woken
 
 // The accesses that a lock's number prohibits.
 fn lock_of(number: u32) -> Lock
-    ensures { result ≡ lock_of number }
+    ensures { result ≡ lock_numbered number }
 {
     Lock {
         read: number == 1 || number == 3,

@@ -8,10 +8,10 @@ use Rattle.vm_model.specs.declared.script.Script.{Script}
 use Rattle.vm_text.specs.declared.meaning.HeaderWord.{HeaderWord}
 use Rattle.vm_text.specs.declared.meaning.HeaderWord.TheVariants as heads
 use Rattle.vm_text.specs.declared.meaning.CommandWord.{CommandWord}
-use Rattle.vm_text.specs.Forms.{Heading, header_words, command_words, again, header_form, hosts_line, frames_line, page_line, slots_line, command_form, host_of, page_size}
-use Rattle.vm_text.specs.Script.{Reading, nothing_read, Whole, whole_of, header_line, command_line, line_read, lines_read, script_of, seen}
-use Rattle.vm_text.specs.Unbuilt.{are_many, is_unbuilt_header, is_unbuilt, unbuilt_from, IsBuilt}
-use Rattle.vm_text.specs.Words.{◌>>=◌, lines_of, words_of, is_comment, word_in, one_word, two_words, number_of, number_in, within}
+use Rattle.vm_text.specs.Forms.{Heading, header_words, command_words, stands_already, header_form, hosts_line, frames_line, page_line, slots_line, command_form, host_in_word, page_size}
+use Rattle.vm_text.specs.Script.{Reading, nothing_read, Whole, whole_of, header_line, command_line, line_read, lines_read, script_of, whole_script}
+use Rattle.vm_text.specs.Unbuilt.{names_several, is_unbuilt_header, is_unbuilt, unbuilt_from, IsBuilt}
+use Rattle.vm_text.specs.Words.{◌>>=◌, lines_of, words_of, is_comment, word_in, one_word, two_words, number_of, number_between, within}
 
 -- at most one host so far, and no object
 record SoFar (heading : Heading) : Type 0 where
@@ -40,12 +40,12 @@ one_at_most (Ok number) n few is =
     omega (arith, b, same)
 one_at_most (Err fault) n few is = absurd (cc)
 
-hosts_ok : (old new : Heading) (line : List (List ℕ)) → hosts_line old line ≡ Ok new → are_many line ≡ false → SoFar old → SoFar new
+hosts_ok : (old new : Heading) (line : List (List ℕ)) → hosts_line old line ≡ Ok new → names_several line ≡ false → SoFar old → SoFar new
 hosts_ok old new [] is few so = absurd (cc)
 hosts_ok old new (a ∷ []) is few so = absurd (cc)
 hosts_ok old new (a ∷ b ∷ []) is few so =
-    let one = bound (number_in 1 8 a) _ new is in
-    let two = bound (number_in 2 4096 b) _ new one.2 in
+    let one = bound (number_between 1 8 a) _ new is in
+    let two = bound (number_between 2 4096 b) _ new one.2 in
     let new_is : record old { frames = replicate one.0 two.0 } ≡ new = cc in
     let less = one_at_most (number_of a) one.0 few one.1 in
     let made : SoFar (record old { frames = replicate one.0 two.0 }) = record { few = rw (length-replicate one.0 two.0) less; none = so.none } in
@@ -55,8 +55,8 @@ hosts_ok old new (a ∷ b ∷ c ∷ line) is few so = absurd (cc)
 frames_ok : (old new : Heading) (line : List (List ℕ)) → frames_line old line ≡ Ok new → SoFar old → SoFar new
 frames_ok old new line is so =
     let one = bound (two_words line) _ new is in
-    let two = bound (host_of old one.0.0) _ new one.2 in
-    let three = bound (number_in 2 4096 one.0.1) _ new two.2 in
+    let two = bound (host_in_word old one.0.0) _ new one.2 in
+    let three = bound (number_between 2 4096 one.0.1) _ new two.2 in
     let new_is : record old { frames = slice_set old.frames two.0.0 three.0 } ≡ new = cc in
     let made : SoFar (record old { frames = slice_set old.frames two.0.0 three.0 }) = record { few = rw (length-set old.frames two.0.0 three.0) so.few; none = so.none } in
     subst SoFar new_is made
@@ -72,7 +72,7 @@ page_ok old new line is so =
 slots_ok : (old new : Heading) (line : List (List ℕ)) → slots_line old line ≡ Ok new → SoFar old → SoFar new
 slots_ok old new line is so =
     let one = bound (one_word line) _ new is in
-    let two = bound (number_in 0 65536 one.0) _ new one.2 in
+    let two = bound (number_between 0 65536 one.0) _ new one.2 in
     let new_is : record old { slots = Some two.0 } ≡ new = cc in
     let made : SoFar (record old { slots = Some two.0 }) = record { few = so.few; none = so.none } in
     subst SoFar new_is made
@@ -88,7 +88,7 @@ header_ok old new heads.Wild line is built so = absurd (cc)
 
 header_line_ok : (old new : Reading) (word : HeaderWord) (line : List (List ℕ)) → header_line old word line ≡ Ok new → is_unbuilt_header word line ≡ false → SoFar old.heading → SoFar new.heading
 header_line_ok old new word line is built so =
-    let read = passed (nat_lt 0 (length old.commands) || again old.heading word) _ _ new is in
+    let read = passed (nat_lt 0 (length old.commands) || stands_already old.heading word) _ _ new is in
     let one = bound (header_form old.heading word line) _ new read in
     let new_is : record old { heading = one.0 } ≡ new = cc in
     subst (λ (r : Reading). SoFar r.heading) new_is (header_ok old.heading one.0 word line one.1 built so)
@@ -118,11 +118,11 @@ line_ok number old new (word ∷ line) is built so =
     commented number old new (is_comment word) _ is (λ meant. meant_ok number old new (word_in header_words word) (word_in command_words word) line meant built so) so
 
 -- one host at the least, and at the most
-ended : (number : ℕ) (reading : Reading) (script : Script) → lines_read number reading [] ≡ Ok (seen script) → SoFar reading.heading → IsBuilt script.header
+ended : (number : ℕ) (reading : Reading) (script : Script) → lines_read number reading [] ≡ Ok (whole_script script) → SoFar reading.heading → IsBuilt script.header
 ended number reading script is so =
-    let end = reached (nat_lt 0 (length reading.heading.frames)) (Ok (whole_of reading (number - 1))) _ (seen script) is in
+    let end = reached (nat_lt 0 (length reading.heading.frames)) (Ok (whole_of reading (number - 1))) _ (whole_script script) is in
     let some = ltb-true 0 (length reading.heading.frames) end.0 in
-    let whole : whole_of reading (number - 1) ≡ seen script = cc in
+    let whole : whole_of reading (number - 1) ≡ whole_script script = cc in
     let frames : length reading.heading.frames ≡ length (reverse script.header.frames.items) = ap (λ (w : Whole). length w.frames) whole in
     let count = length-reverse script.header.frames.items in
     record {
@@ -135,19 +135,19 @@ passed_over true n more is = absurd (cc)
 passed_over false n more is = (refl, is)
 
 line_first : (number : ℕ) (reading : Reading) (line : List ℕ) (lines : List (List ℕ)) (script : Script) (read : Result Reading ScriptFault) → line_read number reading (words_of line) ≡ read
-    → ◌≡◌ {A = Result Whole (ℕ × ScriptFault)} (elim read [ Ok more ↦ lines_read (number + 1) more lines | Err fault ↦ Err (number, fault) ]) (Ok (seen script))
-    → is_unbuilt (words_of line) ≡ false → SoFar reading.heading → (more : Reading) × (lines_read (number + 1) more lines ≡ Ok (seen script)) × SoFar more.heading
+    → ◌≡◌ {A = Result Whole (ℕ × ScriptFault)} (elim read [ Ok more ↦ lines_read (number + 1) more lines | Err fault ↦ Err (number, fault) ]) (Ok (whole_script script))
+    → is_unbuilt (words_of line) ≡ false → SoFar reading.heading → (more : Reading) × (lines_read (number + 1) more lines ≡ Ok (whole_script script)) × SoFar more.heading
 line_first number reading line lines script (Ok more) was is built so = (more, is, line_ok number reading more (words_of line) was built so)
 line_first number reading line lines script (Err fault) was is built so = absurd (cc)
 
-lines_ok : (number : ℕ) (reading : Reading) (lines : List (List ℕ)) (script : Script) → lines_read number reading lines ≡ Ok (seen script) → unbuilt_from number lines ≡ None → SoFar reading.heading → IsBuilt script.header
+lines_ok : (number : ℕ) (reading : Reading) (lines : List (List ℕ)) (script : Script) → lines_read number reading lines ≡ Ok (whole_script script) → unbuilt_from number lines ≡ None → SoFar reading.heading → IsBuilt script.header
 lines_ok number reading [] script is none so = ended number reading script is so
 lines_ok number reading (line ∷ lines) script is none so =
     let over = passed_over (is_unbuilt (words_of line)) number (unbuilt_from (number + 1) lines) none in
-    let read = passed (nat_lt 20000 number) _ _ (seen script) is in
+    let read = passed (nat_lt 20000 number) _ _ (whole_script script) is in
     let first = line_first number reading line lines script (line_read number reading (words_of line)) refl read over.0 so in
     lines_ok (number + 1) first.0 lines script first.1 over.1 first.2
 
-pub built : (bytes : List ℕ) (script : Script) → unbuilt_from 1 (lines_of bytes) ≡ None → script_of bytes ≡ Ok (seen script) → IsBuilt script.header
+pub built : (bytes : List ℕ) (script : Script) → unbuilt_from 1 (lines_of bytes) ≡ None → script_of bytes ≡ Ok (whole_script script) → IsBuilt script.header
 built bytes script none is =
-    lines_ok 1 nothing_read (lines_of bytes) script (passed (nat_lt 1048576 (length bytes)) _ _ (seen script) is) none (record { few = omega arith; none = refl })
+    lines_ok 1 nothing_read (lines_of bytes) script (passed (nat_lt 1048576 (length bytes)) _ _ (whole_script script) is) none (record { few = omega arith; none = refl })

@@ -21,8 +21,8 @@ use Rattle.vm_text.specs.declared.meaning.HeaderWord.{HeaderWord}
 use Rattle.vm_text.specs.declared.meaning.HeaderWord.TheVariants as heads
 use Rattle.vm_text.specs.declared.meaning.CommandWord.{CommandWord}
 use Rattle.vm_text.specs.Words.{is_comment, word_in, words_of, lines_of, one_word, two_words}
-use Rattle.vm_text.specs.Forms.{Heading, size_of, declared_at, new_name, header_words, command_words, again, object_line, header_form}
-use Rattle.vm_text.specs.Script.{Reading, Whole, nothing_read, header_line, command_line, line_read, lines_read, script_of, seen, IsRead}
+use Rattle.vm_text.specs.Forms.{Heading, size_of, declared_at, new_name, header_words, command_words, stands_already, object_line, header_form}
+use Rattle.vm_text.specs.Script.{Reading, Whole, nothing_read, header_line, command_line, line_read, lines_read, script_of, whole_script, IsRead}
 use Rattle.vm_text.proofs.Ranges.{Reads, read, stopped, ◌andthen◌, any, tested, untested, either, between, upto, page_sized, hosted, InReach, command_kept}
 
 record HeadingKept (heading : Heading) : Type 0 where
@@ -48,7 +48,7 @@ All-set P xs i x all is = λ k d less.
       | false ↦ λ other. let away : k ≢ i = grind (arith, nat_tests) in rw (get_or-set_other xs i k x d away) (all k d within)
     ] refl
 
-few : (again : Bool) (n : ℕ) → (again || nat_le 8192 n) ≡ false → n < 8192
+few : (stands_already : Bool) (n : ℕ) → (stands_already || nat_le 8192 n) ≡ false → n < 8192
 few true n isnt = absurd (cc)
 few false n isnt = grind (arith, nat_tests)
 
@@ -78,7 +78,7 @@ header_kept heading heads.Wild line kept = object_kept kinds.Wild heading line k
 -- the commands stand under a header that changes no more
 late_kept : (number : ℕ) (heading : Heading) (commands : List Numbered) (word : HeaderWord) (line : List (List ℕ)) → HeadingKept heading
     → Reads (ReadingKept number) (header_line (record { heading = heading; commands = commands }) word line)
-late_kept number heading [] word line kept = untested (again heading word) _ _ λ _. header_kept heading word line kept andthen λ more is.
+late_kept number heading [] word line kept = untested (stands_already heading word) _ _ λ _. header_kept heading word line kept andthen λ more is.
     read (record { heading = is; commands = All-nil (λ numbered. InReach more numbered.command); rising = tt })
 late_kept number heading (command ∷ commands) word line kept =
     let some : nat_lt 0 (suc (length commands)) ≡ true = grind (arith, nat_tests) in
@@ -177,7 +177,7 @@ value_of (read is) = is
 
 pub script_kept : (read : Result Script ScriptError) (bytes : List ℕ) → IsRead read (script_of bytes) → IfOk read KeepsRanges
 script_kept (Ok script) bytes is =
-    let kept : WholeKept (seen script) = value_of (subst (λ r. Reads WholeKept r) is (whole_kept bytes)) in
+    let kept : WholeKept (whole_script script) = value_of (subst (λ r. Reads WholeKept r) is (whole_kept bytes)) in
     let hosts = length-reverse script.header.frames.items in
     record {
       size = kept.size;

@@ -3,7 +3,7 @@ use Rattle.std.proofs.Common.{◌≡◌, ℕ, zero, suc, ◌+◌, ◌<◌, ◌�
 use Rattle.std.proofs.lemmas.List.{take_all, drop_all}
 use Rattle.std.proofs.lemmas.Bool.Decides.{nat_tests}
 use Rattle.std.specs.List.{position, position_or_len}
-use Rattle.vm_text.specs.Words.{onto, pieces, is_line_feed, is_space, without_last, lines_of, filled, words_of, Leads}
+use Rattle.vm_text.specs.Words.{onto, pieces, is_line_feed, is_space, without_last, lines_of, without_empty_words, words_of, HasNoSpaceInFront}
 
 both : (t : Bool) → (t ≡ true) ⊎ (t ≡ false)
 both true = inl refl
@@ -50,8 +50,8 @@ cut_at parts bytes (Some i) is =
     (place.1, rw (from_there (i + 1) bytes, place.0) (parted parts bytes (omega (arith, place.1, place.0))))
 
 skipped_on : (b : ℕ) (bs : List ℕ) (t : Bool) → is_space b ≡ t
-    → (words_of (drop (position_or_len (λ b. not (is_space b)) bs) bs) ≡ words_of bs) × Leads (drop (position_or_len (λ b. not (is_space b)) bs) bs)
-    → (words_of (drop (position_or_len (λ b. not (is_space b)) (b ∷ bs)) (b ∷ bs)) ≡ words_of (b ∷ bs)) × Leads (drop (position_or_len (λ b. not (is_space b)) (b ∷ bs)) (b ∷ bs))
+    → (words_of (drop (position_or_len (λ b. not (is_space b)) bs) bs) ≡ words_of bs) × HasNoSpaceInFront (drop (position_or_len (λ b. not (is_space b)) bs) bs)
+    → (words_of (drop (position_or_len (λ b. not (is_space b)) (b ∷ bs)) (b ∷ bs)) ≡ words_of (b ∷ bs)) × HasNoSpaceInFront (drop (position_or_len (λ b. not (is_space b)) (b ∷ bs)) (b ∷ bs))
 skipped_on b bs true is more =
     let n = position_or_len (λ b. not (is_space b)) bs in
     let here : drop (position_or_len (λ b. not (is_space b)) (b ∷ bs)) (b ∷ bs) ≡ drop n bs = rw (is, one-add) refl in
@@ -61,21 +61,21 @@ skipped_on b bs false is more =
     let here : drop (position_or_len (λ b. not (is_space b)) (b ∷ bs)) (b ∷ bs) ≡ b ∷ bs = rw is refl in
     rw here (refl, is)
 
-pub skipped : (bytes : List ℕ) → (words_of (drop (position_or_len (λ b. not (is_space b)) bytes) bytes) ≡ words_of bytes) × Leads (drop (position_or_len (λ b. not (is_space b)) bytes) bytes)
+pub skipped : (bytes : List ℕ) → (words_of (drop (position_or_len (λ b. not (is_space b)) bytes) bytes) ≡ words_of bytes) × HasNoSpaceInFront (drop (position_or_len (λ b. not (is_space b)) bytes) bytes)
 skipped [] = (refl, tt)
 skipped (b ∷ bs) = skipped_on b bs (is_space b) refl (skipped bs)
 
-pub word_first : (text : List ℕ) (r : Option ℕ) → Leads text → 0 < length text → r ≡ position is_space text
+pub word_first : (text : List ℕ) (r : Option ℕ) → HasNoSpaceInFront text → 0 < length text → r ≡ position is_space text
     → MatchOption r (words_of text ≡ text ∷ []) (λ i. (i < length text) × (words_of text ≡ take i text ∷ words_of (take (length text - (i + 1)) (drop (i + 1) text))))
 word_first [] r leads some is = absurd (omega arith)
-word_first (b ∷ bs) None leads some is = ap filled (cut_at is_space (b ∷ bs) None is)
+word_first (b ∷ bs) None leads some is = ap without_empty_words (cut_at is_space (b ∷ bs) None is)
 word_first (b ∷ bs) (Some zero) leads some is =
     let place = placed is_space (b ∷ bs) (Some zero) is in
     let here : position_or_len is_space (b ∷ bs) ≡ 1 + position_or_len is_space bs = rw leads refl in
     absurd (omega (arith, place.0, here))
 word_first (b ∷ bs) (Some (suc i)) leads some is =
     let both = cut_at is_space (b ∷ bs) (Some (suc i)) is in
-    (both.0, ap filled both.1)
+    (both.0, ap without_empty_words both.1)
 
 last_of : (line : List ℕ) → 0 < length line → without_last (line ∷ []) ≡ line ∷ []
 last_of [] some = absurd (omega arith)
@@ -107,7 +107,7 @@ all_spaces bytes is =
     sym (skipped bytes).0 ∙ rw none refl
 
 -- the line from its first word on
-pub from_first : (bytes : List ℕ) (i : ℕ) → position (λ b. not (is_space b)) bytes ≡ Some i → (words_of (take (length bytes - i) (drop i bytes)) ≡ words_of bytes) × Leads (take (length bytes - i) (drop i bytes))
+pub from_first : (bytes : List ℕ) (i : ℕ) → position (λ b. not (is_space b)) bytes ≡ Some i → (words_of (take (length bytes - i) (drop i bytes)) ≡ words_of bytes) × HasNoSpaceInFront (take (length bytes - i) (drop i bytes))
 from_first bytes i is =
     let place = placed (λ b. not (is_space b)) bytes (Some i) (sym is) in
     rw (from_there i bytes, place.0) (skipped bytes)

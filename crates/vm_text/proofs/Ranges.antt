@@ -18,9 +18,9 @@ use Rattle.vm_text.specs.declared.meaning.CommandWord.TheVariants as says
 use Rattle.vm_text.specs.declared.meaning.MessageWord.{MessageWord}
 use Rattle.vm_text.specs.declared.meaning.MessageWord.TheVariants as sends
 use Rattle.vm_text.specs.Words
-use Rattle.vm_text.specs.Words.{◌>>=◌, pieces, is_dot, number_of, within, number_in, number_below, page_with, pair_bytes, are_pairs, page_of, word_in}
+use Rattle.vm_text.specs.Words.{◌>>=◌, pieces, is_dot, number_of, within, number_between, number_below, page_with, pair_bytes, are_pairs, page_bytes_of, word_in}
 use Rattle.vm_text.specs.Forms
-use Rattle.vm_text.specs.Forms.{Heading, size_of, declared_at, object_of, host_of, task_of, new_name, one_of, page_size, access_size, lock_of, range_of, page_number, two_parts, three_parts, up_of, down_of, channel_of, receiver_of, message_words, message_form, nothing_said, command_form, host_count}
+use Rattle.vm_text.specs.Forms.{Heading, size_of, declared_at, object_of, host_in_word, task_of, new_name, one_of, page_size, access_size, lock_in_words, range_of, page_number, two_parts, three_parts, up_of, down_of, channel_of, receiver_of, message_words, message_form, nothing_said, command_form, host_count}
 
 -- what is read, if anything is, is so
 pub data Reads {A E : Type 0} (P : A → Type 0) : Result A E → Type 0 where
@@ -53,14 +53,14 @@ either false r s one two = two
 pub below : (limit : ℕ) (word : List ℕ) → Reads (λ number. number < limit) (number_below limit word)
 below limit word = any (number_of word) andthen λ number _. tested (nat_lt number limit) _ _ λ is. read (grind (arith, nat_tests))
 
-pub between : (least most : ℕ) (word : List ℕ) → Reads (IsBetween least most) (number_in least most word)
+pub between : (least most : ℕ) (word : List ℕ) → Reads (IsBetween least most) (number_between least most word)
 between least most word = any (number_of word) andthen λ number _. tested (nat_le least number && nat_le number most) _ _ λ is.
     let parts = and_parts (nat_le least number) (nat_le number most) is in
     let low = parts.0 in
     let high = parts.1 in
     read (grind (arith, nat_tests), grind (arith, nat_tests))
 
-pub upto : (most : ℕ) (word : List ℕ) → Reads (λ number. number ≤ most) (number_in 0 most word)
+pub upto : (most : ℕ) (word : List ℕ) → Reads (λ number. number ≤ most) (number_between 0 most word)
 upto most word = any (number_of word) andthen λ number _. tested (nat_le 0 number && nat_le number most) _ _ λ is.
     let parts = and_parts (nat_le 0 number) (nat_le number most) is in
     let high = parts.1 in
@@ -97,7 +97,7 @@ page_sized word = any (number_of word) andthen λ number _. listed IsPageSize (1
 pub access_sized : (word : List ℕ) → Reads IsAccessSize (access_size word)
 access_sized word = any (number_of word) andthen λ number _. listed IsAccessSize (1 ∷ 2 ∷ 4 ∷ 8 ∷ []) number (inl refl, (inr (inl refl), (inr (inr (inl refl)), (inr (inr (inr refl)), tt))))
 
-pub locked : (word : List ℕ) → Reads (λ lock. (lock ≤ 3) ⊎ (lock ≡ 8)) (lock_of word)
+pub locked : (word : List ℕ) → Reads (λ lock. (lock ≤ 3) ⊎ (lock ≡ 8)) (lock_in_words word)
 locked word = any (number_of word) andthen λ number _. listed (λ lock. (lock ≤ 3) ⊎ (lock ≡ 8)) (0 ∷ 1 ∷ 2 ∷ 3 ∷ 8 ∷ []) number
     (inl (omega arith), (inl (omega arith), (inl (omega arith), (inl (omega arith), (inr refl, tt)))))
 
@@ -113,7 +113,7 @@ spellable size value (inr (inr (inr is))) most = let h : value ≤ 256 ^ 8 - 1 =
 tasked : (word : List ℕ) → Reads IsTask (task_of word)
 tasked word = below 1024 word andthen λ task is. read is
 
-pub hosted : (heading : Heading) (word : List ℕ) → Reads (IsHost (length heading.frames)) (host_of heading word)
+pub hosted : (heading : Heading) (word : List ℕ) → Reads (IsHost (length heading.frames)) (host_in_word heading word)
 hosted heading word = below (length heading.frames) word andthen λ host is. read is
 
 paged : (most : ℕ) (word : List ℕ) → Reads (λ page. page.0 ≤ most) (page_number most word)
@@ -157,7 +157,7 @@ received heading host name = hosted heading host andthen λ h one. named heading
 padded : (size : ℕ) (bytes : List ℕ) → length bytes ≤ size → length (page_with size bytes) ≡ size
 padded size bytes short = rw (length-append bytes (replicate (size - length bytes) 0), length-replicate {A = ℕ} (size - length bytes) 0) (omega arith)
 
-whole_page : (size : ℕ) (word : List ℕ) → Reads (λ bytes. length bytes ≡ size) (page_of size word)
+whole_page : (size : ℕ) (word : List ℕ) → Reads (λ bytes. length bytes ≡ size) (page_bytes_of size word)
 whole_page size word = either (bytes_eq word (45 ∷ [])) _ _ (read (padded size [] (omega arith))) (tested (are_pairs word) _ _ λ _.
     tested (nat_le (length (pair_bytes word)) size) _ _ λ is. read (padded size (pair_bytes word) (grind (arith, nat_tests))))
 

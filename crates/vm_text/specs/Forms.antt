@@ -29,7 +29,7 @@ use Rattle.vm_text.specs.declared.meaning.HeaderWord.{HeaderWord}
 use Rattle.vm_text.specs.declared.meaning.HeaderWord.TheVariants as heads
 use Rattle.vm_text.specs.declared.meaning.MessageWord.{MessageWord}
 use Rattle.vm_text.specs.declared.meaning.MessageWord.TheVariants as sends
-use Rattle.vm_text.specs.Words.{◌>>=◌, pieces, is_dot, one_word, two_words, three_words, four_words, five_words, six_words, number_of, number_in, number_below, flag_of, page_of, word_in}
+use Rattle.vm_text.specs.Words.{◌>>=◌, pieces, is_dot, one_word, two_words, three_words, four_words, five_words, six_words, number_of, number_between, number_below, flag_of, page_bytes_of, word_in}
 
 -- What the header lines have said so far. The frames are those of each host, from host 0 on, and none
 -- before the line with the hosts. The objects have the newest first.
@@ -67,14 +67,14 @@ task_of word = do
   task ← number_below most_tasks word
   Ok (record { 0 = task })
 
-abbrev pub host_of : Heading → List ℕ → Result HostId ScriptFault
-host_of heading word = do
+abbrev pub host_in_word : Heading → List ℕ → Result HostId ScriptFault
+host_in_word heading word = do
   host ← number_below (length heading.frames) word
   Ok (record { 0 = host })
 
 abbrev pub page_number : ℕ → List ℕ → Result PageNo ScriptFault
 page_number most word = do
-  page ← number_in 0 most word
+  page ← number_between 0 most word
   Ok (record { 0 = page })
 
 -- the number of the object that has this name
@@ -107,19 +107,19 @@ abbrev pub access_size : List ℕ → Result ℕ ScriptFault
 access_size word = number_of word >>= one_of (1 ∷ 2 ∷ 4 ∷ 8 ∷ [])
 
 -- the lock of a lock_request, where 8 leaves the lock as it is
-abbrev pub lock_of : List ℕ → Result ℕ ScriptFault
-lock_of word = number_of word >>= one_of (0 ∷ 1 ∷ 2 ∷ 3 ∷ 8 ∷ [])
+abbrev pub lock_in_words : List ℕ → Result ℕ ScriptFault
+lock_in_words word = number_of word >>= one_of (0 ∷ 1 ∷ 2 ∷ 3 ∷ 8 ∷ [])
 
 -- 1 to read, 2 to write
 abbrev pub prot_of : List ℕ → Result Prot ScriptFault
 prot_of word = do
-  number ← number_in 0 3 word
+  number ← number_between 0 3 word
   Ok (record { read = number % 2 == 1; write = nat_le 2 number })
 
 -- 0 shares, 1 copies, 2 leaves out
 abbrev pub inherit_of : List ℕ → Result Inherit ScriptFault
 inherit_of word = do
-  number ← number_in 0 2 word
+  number ← number_between 0 2 word
   Ok (if number == 0 then inherits.Share else (if number == 1 then inherits.Copy else inherits.Never))
 
 -- a task, an address and a length in bytes
@@ -127,7 +127,7 @@ abbrev pub range_of : List ℕ → List ℕ → List ℕ → Result (TaskId × �
 range_of task address bytes = do
   owner ← task_of task
   start ← number_below address_end address
-  size ← number_in 0 address_end bytes
+  size ← number_between 0 address_end bytes
   Ok (owner, start, size)
 
 abbrev pub one_part : List (List ℕ) → Result (List ℕ) ScriptFault
@@ -146,7 +146,7 @@ three_parts _ = Err UnknownWord
 abbrev pub up_of : Heading → List ℕ → Result Channel ScriptFault
 up_of heading word = do
   p ← two_parts (pieces is_dot word)
-  host ← host_of heading p.0
+  host ← host_in_word heading p.0
   object ← number_below most_objects p.1
   Ok (channels.Up host (record { 0 = object }))
 
@@ -154,7 +154,7 @@ up_of heading word = do
 abbrev pub down_of : Heading → List ℕ → Result Channel ScriptFault
 down_of heading word = do
   p ← three_parts (pieces is_dot word)
-  host ← host_of heading p.0
+  host ← host_in_word heading p.0
   object ← number_below most_objects p.1
   control ← number_below (2 ^ 32) p.2
   Ok (channels.Down host (record { 0 = object }) control)
@@ -175,15 +175,15 @@ header_words =
 abbrev pub hosts_line : Heading → List (List ℕ) → Result Heading ScriptFault
 hosts_line heading line = do
   w ← two_words line
-  hosts ← number_in 1 most_hosts w.0
-  frames ← number_in least_frames most_frames w.1
+  hosts ← number_between 1 most_hosts w.0
+  frames ← number_between least_frames most_frames w.1
   Ok (record heading { frames = replicate hosts frames })
 
 abbrev pub frames_line : Heading → List (List ℕ) → Result Heading ScriptFault
 frames_line heading line = do
   w ← two_words line
-  host ← host_of heading w.0
-  frames ← number_in least_frames most_frames w.1
+  host ← host_in_word heading w.0
+  frames ← number_between least_frames most_frames w.1
   Ok (record heading { frames = slice_set heading.frames host.0 frames })
 
 abbrev pub page_line : Heading → List (List ℕ) → Result Heading ScriptFault
@@ -195,22 +195,22 @@ page_line heading line = do
 abbrev pub slots_line : Heading → List (List ℕ) → Result Heading ScriptFault
 slots_line heading line = do
   w ← one_word line
-  slots ← number_in 0 most_slots w
+  slots ← number_between 0 most_slots w
   Ok (record heading { slots = Some slots })
 
 abbrev pub object_line : ObjectKind → Heading → List (List ℕ) → Result Heading ScriptFault
 object_line kind heading line = do
   w ← two_words line
   name ← new_name heading w.0
-  pages ← number_in 1 most_pages w.1
+  pages ← number_between 1 most_pages w.1
   Ok (record heading { objects = record { name = name; kind = kind; pages = pages } ∷ heading.objects })
 
 -- what stands once stands already
-abbrev pub again : Heading → HeaderWord → Bool
-again heading heads.Hosts = nat_lt 0 (length heading.frames)
-again heading heads.Page = is_some heading.size
-again heading heads.Slots = is_some heading.slots
-again heading _ = false
+abbrev pub stands_already : Heading → HeaderWord → Bool
+stands_already heading heads.Hosts = nat_lt 0 (length heading.frames)
+stands_already heading heads.Page = is_some heading.size
+stands_already heading heads.Slots = is_some heading.slots
+stands_already heading _ = false
 
 -- a header line behind no command
 abbrev pub header_form : Heading → HeaderWord → List (List ℕ) → Result Heading ScriptFault
@@ -242,7 +242,7 @@ abbrev pub task_line : Heading → List (List ℕ) → Result Command ScriptFaul
 task_line heading line = do
   w ← two_words line
   task ← task_of w.0
-  host ← host_of heading w.1
+  host ← host_in_word heading w.1
   Ok (commands.Task task host)
 
 abbrev pub fork_line : List (List ℕ) → Result Command ScriptFault
@@ -269,7 +269,7 @@ map_line heading line = do
   w ← five_words line
   range ← range_of w.0 w.1 w.2
   object ← object_of heading w.3
-  offset ← number_in 0 most_pages w.4
+  offset ← number_between 0 most_pages w.4
   Ok (commands.Map range.0 range.1 range.2 object offset)
 
 abbrev pub deallocate_line : List (List ℕ) → Result Command ScriptFault
@@ -306,7 +306,7 @@ store_line line = do
   task ← task_of w.0
   address ← number_below address_end w.1
   size ← access_size w.2
-  value ← number_in 0 (256 ^ size - 1) w.3
+  value ← number_between 0 (256 ^ size - 1) w.3
   Ok (commands.Store task address size value)
 
 abbrev pub copy_line : List (List ℕ) → Result Command ScriptFault
@@ -326,14 +326,14 @@ take_line heading line = do
 abbrev pub settle_line : List (List ℕ) → Result Command ScriptFault
 settle_line line = do
   w ← one_word line
-  count ← number_in 0 most_takings w
+  count ← number_between 0 most_takings w
   Ok (commands.Settle count)
 
 abbrev pub host_count : Heading → List (List ℕ) → Result (HostId × ℕ) ScriptFault
 host_count heading line = do
   w ← two_words line
-  host ← host_of heading w.0
-  count ← number_in 0 most_frames w.1
+  host ← host_in_word heading w.0
+  count ← number_between 0 most_frames w.1
   Ok (host, count)
 
 abbrev pub pageout_line : Heading → List (List ℕ) → Result Command ScriptFault
@@ -356,7 +356,7 @@ clean_line heading line = do
   w ← four_words line
   object ← object_of heading w.0
   page ← page_number most_pages w.1
-  count ← number_in 0 most_pages w.2
+  count ← number_between 0 most_pages w.2
   flush ← flag_of w.3
   Ok (commands.Clean object page count flush)
 
@@ -370,7 +370,7 @@ abbrev pub fail_line : List (List ℕ) → Result Command ScriptFault
 fail_line line = do
   w ← two_words line
   files ← is_files w.0
-  count ← number_in 1 most_calls w.1
+  count ← number_between 1 most_calls w.1
   Ok (if files then commands.FailFiles count else commands.FailPaging count)
 
 -- ---- messages that a script says
@@ -383,7 +383,7 @@ message_words =
 -- the host and the object that a message goes to
 abbrev pub receiver_of : Heading → List ℕ → List ℕ → Result (HostId × ObjectId) ScriptFault
 receiver_of heading host name = do
-  h ← host_of heading host
+  h ← host_in_word heading host
   o ← object_of heading name
   Ok (h, o)
 
@@ -392,7 +392,7 @@ ready_said heading host name line = do
   w ← two_words line
   to ← receiver_of heading host name
   cache ← flag_of w.0
-  strategy ← number_in 0 3 w.1
+  strategy ← number_between 0 3 w.1
   Ok (commands.Say to.0 to.1 (messages.Ready cache strategy))
 
 abbrev pub supply_said : Heading → List ℕ → List ℕ → List (List ℕ) → Result Command ScriptFault
@@ -400,9 +400,9 @@ supply_said heading host name line = do
   w ← four_words line
   to ← receiver_of heading host name
   page ← page_number last_page w.0
-  lock ← number_in 0 3 w.1
+  lock ← number_between 0 3 w.1
   precious ← flag_of w.2
-  bytes ← page_of (size_of heading) w.3
+  bytes ← page_bytes_of (size_of heading) w.3
   Ok (commands.Say to.0 to.1 (messages.Supply page lock precious bytes))
 
 abbrev pub unavailable_said : Heading → List ℕ → List ℕ → List (List ℕ) → Result Command ScriptFault
@@ -425,10 +425,10 @@ lock_said heading host name line = do
   w ← six_words line
   to ← receiver_of heading host name
   page ← page_number last_page w.0
-  count ← number_in 0 most_pages w.1
-  returns ← number_in 0 2 w.2
+  count ← number_between 0 most_pages w.1
+  returns ← number_between 0 2 w.2
   flush ← flag_of w.3
-  lock ← lock_of w.4
+  lock ← lock_in_words w.4
   reply ← flag_of w.5
   Ok (commands.Say to.0 to.1 (messages.Lock page count returns flush lock reply))
 

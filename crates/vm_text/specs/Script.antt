@@ -12,7 +12,7 @@ use Rattle.vm_text.specs.declared.error.LineStop.{LineStop}
 use Rattle.vm_text.specs.declared.error.LineStop.TheVariants as stops
 use Rattle.vm_text.specs.declared.meaning.HeaderWord.{HeaderWord}
 use Rattle.vm_text.specs.declared.meaning.CommandWord.{CommandWord}
-use Rattle.vm_text.specs.Forms.{Heading, size_of, slots_of, header_words, again, header_form, command_words, command_form}
+use Rattle.vm_text.specs.Forms.{Heading, size_of, slots_of, header_words, stands_already, header_form, command_words, command_form}
 use Rattle.vm_text.specs.Words.{◌>>=◌, lines_of, words_of, is_comment, word_in}
 
 -- what the lines have said so far, the newest command first
@@ -25,7 +25,7 @@ nothing_read = record { heading = record { size = None; slots = None; frames = [
 
 abbrev pub header_line : Reading → HeaderWord → List (List ℕ) → Result Reading ScriptFault
 header_line reading word line =
-    if nat_lt 0 (length reading.commands) || again reading.heading word then Err HeaderLate
+    if nat_lt 0 (length reading.commands) || stands_already reading.heading word then Err HeaderLate
     else (header_form reading.heading word line >>= λ heading. Ok (record reading { heading = heading }))
 
 abbrev pub command_line : ℕ → Reading → CommandWord → List (List ℕ) → Result Reading ScriptFault
@@ -83,8 +83,8 @@ script_of bytes =
     if nat_lt most_script_bytes (length bytes) then Err (0, TooLong) else lines_read 1 nothing_read (lines_of bytes)
 
 -- a script, seen as one that was read
-abbrev pub seen : Script → Whole
-seen script = record {
+abbrev pub whole_script : Script → Whole
+whole_script script = record {
   size = script.header.size;
   slots = script.header.slots;
   frames = reverse script.header.frames.items;
@@ -95,7 +95,7 @@ seen script = record {
 
 -- what reading returned, beside what the bytes spell, unless memory ran out
 abbrev pub IsRead : Result Script ScriptError → Result Whole (ℕ × ScriptFault) → Type 0
-IsRead (Ok script) read = read ≡ Ok (seen script)
+IsRead (Ok script) read = read ≡ Ok (whole_script script)
 IsRead (Err errors.NoMemory) read = Unit {0}
 IsRead (Err (errors.Bad line kind)) read = read ≡ Err (line, kind)
 

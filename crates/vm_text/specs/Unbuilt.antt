@@ -8,13 +8,13 @@ use Rattle.vm_text.specs.Forms.{header_words}
 use Rattle.vm_text.specs.Words.{lines_of, words_of, number_of, word_in}
 
 -- more hosts than one
-abbrev pub are_many : List (List ℕ) → Bool
-are_many [] = false
-are_many (hosts ∷ line) = elim (number_of hosts) [ Ok number ↦ nat_lt 1 number | Err fault ↦ false ]
+abbrev pub names_several : List (List ℕ) → Bool
+names_several [] = false
+names_several (hosts ∷ line) = elim (number_of hosts) [ Ok number ↦ nat_lt 1 number | Err fault ↦ false ]
 
 -- a header line of several hosts, or one that declares an object
 abbrev pub is_unbuilt_header : HeaderWord → List (List ℕ) → Bool
-is_unbuilt_header heads.Hosts line = are_many line
+is_unbuilt_header heads.Hosts line = names_several line
 is_unbuilt_header heads.File line = true
 is_unbuilt_header heads.Shared line = true
 is_unbuilt_header heads.Wild line = true

@@ -47,18 +47,18 @@ without_last (piece ∷ pieces) = piece ∷ without_last pieces
 abbrev pub lines_of : List ℕ → List (List ℕ)
 lines_of bytes = without_last (pieces is_line_feed bytes)
 
-abbrev pub filled : List (List ℕ) → List (List ℕ)
-filled [] = []
-filled ([] ∷ pieces) = filled pieces
-filled (piece ∷ pieces) = piece ∷ filled pieces
+abbrev pub without_empty_words : List (List ℕ) → List (List ℕ)
+without_empty_words [] = []
+without_empty_words ([] ∷ pieces) = without_empty_words pieces
+without_empty_words (piece ∷ pieces) = piece ∷ without_empty_words pieces
 
 abbrev pub words_of : List ℕ → List (List ℕ)
-words_of line = filled (pieces is_space line)
+words_of line = without_empty_words (pieces is_space line)
 
 -- no space stands in front
-abbrev pub Leads : List ℕ → Type 0
-Leads [] = Unit {0}
-Leads (byte ∷ bytes) = is_space byte ≡ false
+abbrev pub HasNoSpaceInFront : List ℕ → Type 0
+HasNoSpaceInFront [] = Unit {0}
+HasNoSpaceInFront (byte ∷ bytes) = is_space byte ≡ false
 
 -- a line whose first word begins with # is a comment
 abbrev pub is_comment : List ℕ → Bool
@@ -113,15 +113,15 @@ abbrev pub within : ℕ → ℕ → ℕ → Result ℕ ScriptFault
 within least most number = if nat_le least number && nat_le number most then Ok number else Err OutOfRange
 
 -- a number from the least to the most
-abbrev pub number_in : ℕ → ℕ → List ℕ → Result ℕ ScriptFault
-number_in least most word = number_of word >>= within least most
+abbrev pub number_between : ℕ → ℕ → List ℕ → Result ℕ ScriptFault
+number_between least most word = number_of word >>= within least most
 
 -- a number below the limit
 abbrev pub number_below : ℕ → List ℕ → Result ℕ ScriptFault
 number_below limit word = number_of word >>= λ number. if nat_lt number limit then Ok number else Err OutOfRange
 
 abbrev pub flag_of : List ℕ → Result Bool ScriptFault
-flag_of word = number_in 0 1 word >>= λ number. Ok (number == 1)
+flag_of word = number_between 0 1 word >>= λ number. Ok (number == 1)
 
 -- ---- bytes
 
@@ -153,8 +153,8 @@ abbrev pub page_with : ℕ → List ℕ → List ℕ
 page_with size bytes = bytes ++ replicate (size - length bytes) 0
 
 -- pairs of hexadecimal digits, or - for none
-abbrev pub page_of : ℕ → List ℕ → Result (List ℕ) ScriptFault
-page_of size word =
+abbrev pub page_bytes_of : ℕ → List ℕ → Result (List ℕ) ScriptFault
+page_bytes_of size word =
     if bytes_eq word (45 ∷ []) then Ok (page_with size [])
     else (if are_pairs word
     then (if nat_le (length (pair_bytes word)) size then Ok (page_with size (pair_bytes word)) else Err OutOfRange)

@@ -1,6 +1,6 @@
 // What the header lines of a script say.
 ghost use Rattle.std.specs.Prelude.{◌≡◌, [], None, nat_lt, length, reverse, IfOk};
-ghost use Rattle.vm_text.specs.Forms.{host_of, object_of, size_of, hosts_line, frames_line, page_line, slots_line, new_name, object_line, again, header_form, IsHeader};
+ghost use Rattle.vm_text.specs.Forms.{host_in_word, object_of, size_of, hosts_line, frames_line, page_line, slots_line, new_name, object_line, stands_already, header_form, IsHeader};
 ghost use Rattle.vm_text.specs.Stops.{LeavesValue};
 ghost use Rattle.vm_text.specs.Words.{words_of};
 
@@ -59,7 +59,7 @@ impl<'a> Heading<'a> {
 
     /// A host, by its number; `OutOfRange` where there are fewer hosts.
     pub fn host_of(&self, word: &[u8]) -> Result<HostId, ScriptFault>
-        ensures { result ≡ host_of self.now word.now }
+        ensures { result ≡ host_in_word self.now word.now }
     {
         let host = number_below(word, self.frames.len() as u64)?;
         Ok(HostId(host as u32))
@@ -155,7 +155,7 @@ impl<'a> Heading<'a> {
 
     /// Whether the line stands already, where it may stand once.
     pub fn again(&self, word: HeaderWord) -> bool
-        ensures { result ≡ again self.now word }
+        ensures { result ≡ stands_already self.now word }
     {
         match word {
             HeaderWord::Hosts => self.has_hosts(),

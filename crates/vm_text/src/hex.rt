@@ -1,7 +1,7 @@
 // The bytes of a page, spelled in hexadecimal.
 ghost use Rattle.std.specs.Prelude.{◌≡◌, ◌+◌, ◌*◌, ◌≤◌, ◌<◌, false, length, IsTrue, MatchOption};
 ghost use Rattle.vm_text.specs.Stops.{Gives};
-ghost use Rattle.vm_text.specs.Words.{is_hex, hex_value, are_pairs, pair_bytes, page_with, SpellsBytes, page_of};
+ghost use Rattle.vm_text.specs.Words.{is_hex, hex_value, are_pairs, pair_bytes, page_with, SpellsBytes, page_bytes_of};
 
 use crate::error::LineStop;
 use std::alloc::Global;
@@ -90,7 +90,7 @@ fn fill_page(page: &mut PageBytes, word: &[u8], count: usize, buffer: &mut [u8])
 
 /// A page that begins with the bytes of the word and goes on with zeros.
 pub fn page_of(alloc: Global, size: PageSize, word: &[u8]) -> Result<PageBytes, LineStop>
-    ensures { Gives result (page_of size word.now) }
+    ensures { Gives result (page_bytes_of size word.now) }
 {
     if word == b"-".as_slice() {
         return Ok(PageBytes::zero(alloc, size)?);

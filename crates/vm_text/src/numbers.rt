@@ -1,6 +1,6 @@
 // The numbers that words spell.
 ghost use Rattle.std.specs.Prelude.{◌≡◌, ◌≤◌, ◌<◌, ◌∷◌, [], IfOk};
-ghost use Rattle.vm_text.specs.Words.{digits_behind, number_of, number_in, number_below, flag_of};
+ghost use Rattle.vm_text.specs.Words.{digits_behind, number_of, number_between, number_below, flag_of};
 
 use vm_model::ScriptFault;
 
@@ -37,7 +37,7 @@ pub fn number_of(word: &[u8]) -> Result<u64, ScriptFault>
 /// A number from `least` to `most`; `OutOfRange` where it is another one, and `BadNumber` where the
 /// word spells none.
 pub fn number_in(word: &[u8], least: u64, most: u64) -> Result<u64, ScriptFault>
-    ensures exact { result ≡ number_in least most word.now }
+    ensures exact { result ≡ number_between least most word.now }
     ensures range { IfOk result (λ number. (least ≤ number) × (number ≤ most)) }
 {
     let number = number_of(word)?;
@@ -49,7 +49,7 @@ pub fn number_in(word: &[u8], least: u64, most: u64) -> Result<u64, ScriptFault>
 
 /// As `number_in`, where `least` and `most` have 32 bits.
 pub fn count_in(word: &[u8], least: u32, most: u32) -> Result<u32, ScriptFault>
-    ensures exact { result ≡ number_in least most word.now }
+    ensures exact { result ≡ number_between least most word.now }
     ensures range { IfOk result (λ number. (least ≤ number) × (number ≤ most)) }
 {
     let number = number_in(word, u64::from(least), u64::from(most))?;

@@ -1,8 +1,8 @@
 // What a word of a command can be.
 ghost use Rattle.std.specs.Prelude.{◌≡◌, ◌^◌, ◌-◌, [], ◌∷◌, IfOk};
 ghost use Rattle.vm_base.specs.Pages.{IsAccessSize};
-ghost use Rattle.vm_text.specs.Forms.{task_of, page_number, page_size, access_size, lock_of, prot_of, inherit_of, range_of};
-ghost use Rattle.vm_text.specs.Words.{number_in};
+ghost use Rattle.vm_text.specs.Forms.{task_of, page_number, page_size, access_size, lock_in_words, prot_of, inherit_of, range_of};
+ghost use Rattle.vm_text.specs.Words.{number_between};
 
 use crate::numbers::{count_below, count_in, number_below, number_in, number_of};
 use vm_base::limits::{MOST_PAGE_BYTES, MOST_TASKS};
@@ -56,7 +56,7 @@ pub fn access_size(word: &[u8]) -> Result<u32, ScriptFault>
 /// A number that `size` bytes can spell.
 pub fn value_of(word: &[u8], size: u32) -> Result<u64, ScriptFault>
     requires { IsAccessSize size }
-    ensures { result ≡ number_in 0 (256 ^ size - 1) word.now }
+    ensures { result ≡ number_between 0 (256 ^ size - 1) word.now }
 {
     match size {
         1 => number_in(word, 0, 0xff),
@@ -69,7 +69,7 @@ pub fn value_of(word: &[u8], size: u32) -> Result<u64, ScriptFault>
 /// The lock of a lock_request: the sum of 1, which prohibits reading, and 2, which prohibits writing,
 /// or 8, which leaves the lock as it is.
 pub fn lock_of(word: &[u8]) -> Result<u32, ScriptFault>
-    ensures { result ≡ lock_of word.now }
+    ensures { result ≡ lock_in_words word.now }
 {
     match number_of(word)? {
         0 => Ok(0),

@@ -1,8 +1,8 @@
 // The header lines for which nothing is built.
 ghost use Rattle.std.specs.Prelude.{◌≡◌, None, Ok};
 ghost use Rattle.vm_model.specs.declared.script.Script.{Script};
-ghost use Rattle.vm_text.specs.Script.{script_of, seen};
-ghost use Rattle.vm_text.specs.Unbuilt.{are_many, is_unbuilt, unbuilt_of, IsBuilt};
+ghost use Rattle.vm_text.specs.Script.{script_of, whole_script};
+ghost use Rattle.vm_text.specs.Unbuilt.{names_several, is_unbuilt, unbuilt_of, IsBuilt};
 ghost use Rattle.vm_text.specs.Words.{words_of};
 
 use crate::lookup::header_word;
@@ -12,7 +12,7 @@ use crate::words::{line_at, word_at};
 use vm_model::limits::MOST_SCRIPT_BYTES;
 
 fn are_many(line: &[u8]) -> bool
-    ensures { result ≡ are_many (words_of line.now) }
+    ensures { result ≡ names_several (words_of line.now) }
 {
     let Some((hosts, _)) = word_at(line) else {
         return false;
@@ -43,7 +43,7 @@ fn is_unbuilt(line: &[u8]) -> bool
 pub fn unbuilt_header(bytes: &[u8]) -> Option<u32>
     ensures exact { result ≡ unbuilt_of bytes.now }
     // A script that is read has one host and no object then.
-    ensures built { result ≡ None → (script : Script) → script_of bytes.now ≡ Ok (seen script) → IsBuilt script.header }
+    ensures built { result ≡ None → (script : Script) → script_of bytes.now ≡ Ok (whole_script script) → IsBuilt script.header }
 {
     if bytes.len() > MOST_SCRIPT_BYTES {
         return None;

@@ -1,6 +1,6 @@
 // The lines and words of a script.
 ghost use Rattle.std.specs.Prelude.{◌≡◌, ◌==◌, ◌<◌, ◌∷◌, [], length, not, position, MatchOption};
-ghost use Rattle.vm_text.specs.Words.{Leads, Sees, one_word, two_words, three_words, four_words, five_words, six_words, is_space, pieces, lines_of, words_of};
+ghost use Rattle.vm_text.specs.Words.{HasNoSpaceInFront, Sees, one_word, two_words, three_words, four_words, five_words, six_words, is_space, pieces, lines_of, words_of};
 
 use vm_model::ScriptFault;
 
@@ -30,7 +30,7 @@ fn letter_at(bytes: &[u8]) -> Option<usize>
 
 fn without_spaces(line: &[u8]) -> &[u8]
     ensures same { words_of result.now ≡ words_of line.now }
-    ensures leads { Leads result.now }
+    ensures leads { HasNoSpaceInFront result.now }
 {
     match letter_at(line) {
         Some(start) => &line[start..],

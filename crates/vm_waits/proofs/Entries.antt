@@ -6,7 +6,7 @@ use Rattle.std.proofs.lemmas.Bool.Decides.{nat_tests}
 use Rattle.std.proofs.lemmas.Option.{none-some, same_Some}
 use Rattle.std.specs.Prelude.{option_map, if◌then◌else◌}
 use Rattle.vm_waits.proofs.Rows.{no_row_passes, none_passes}
-use Rattle.vm_waits.specs.Waits.{EachOnce, PutsEntry, Waked, again, entry, is_again, is_frame, queued, with_on, woken}
+use Rattle.vm_waits.specs.Waits.{EachOnce, PutsEntry, Waked, count_again, entry, is_again, is_frame, queued, with_on, woken}
 use Rattle.vm_waits.specs.declared.waiting.On.{On}
 use Rattle.vm_waits.specs.declared.waiting.On.TheVariants as on
 use Rattle.vm_waits.specs.declared.waiting.Waiting.{Waiting}
@@ -52,10 +52,10 @@ waked_wants test None new waked = ap (option_map (λ (w : Waiting). w.want)) wak
 waked_wants test (Some was) new waked = ap (option_map (λ (w : Waiting). w.want)) waked ∙ ap Some (woken_want (test was.on) was)
 
 -- nothing is to be run again
-pub none_again : (rows : List Waiting) (t : ℕ) (w : Waiting) → again rows ≡ 0 → entry rows t ≡ Some w → is_again w.on ≡ false
+pub none_again : (rows : List Waiting) (t : ℕ) (w : Waiting) → count_again rows ≡ 0 → entry rows t ≡ Some w → is_again w.on ≡ false
 none_again rows t w none is = none_passes is_again rows t w none is
 
-pub again_none : (rows : List Waiting) → EachOnce rows → ((t : ℕ) (w : Waiting) → entry rows t ≡ Some w → is_again w.on ≡ false) → again rows ≡ 0
+pub again_none : (rows : List Waiting) → EachOnce rows → ((t : ℕ) (w : Waiting) → entry rows t ≡ Some w → is_again w.on ≡ false) → count_again rows ≡ 0
 again_none rows once fails = no_row_passes is_again rows once fails
 
 -- nothing waits for a frame

@@ -5,13 +5,13 @@ use Rattle.std.proofs.lemmas.Bool.Decides.{nat_tests}
 use Rattle.std.specs.Prelude.{filter, not, if◌then◌else◌}
 use Rattle.vm_base.specs.declared.ids.TaskId.{TaskId}
 use Rattle.vm_waits.specs.Kept.{EachListedOnce}
-use Rattle.vm_waits.specs.Waits.{is_listed, one, others}
+use Rattle.vm_waits.specs.Waits.{is_listed, one, queue_without}
 
-filter_step : (test : Bool) (t : ℕ) (x : TaskId) (xs : List TaskId) → (x.0 == t) ≡ test → filter (λ (other : TaskId). not (other.0 == t)) xs ≡ others t xs → filter (λ (other : TaskId). not (other.0 == t)) (x ∷ xs) ≡ others t (x ∷ xs)
+filter_step : (test : Bool) (t : ℕ) (x : TaskId) (xs : List TaskId) → (x.0 == t) ≡ test → filter (λ (other : TaskId). not (other.0 == t)) xs ≡ queue_without t xs → filter (λ (other : TaskId). not (other.0 == t)) (x ∷ xs) ≡ queue_without t (x ∷ xs)
 filter_step true t x xs is rest = rw is rest
 filter_step false t x xs is rest = rw (is, rest) refl
 
-pub filtered : (t : ℕ) (queue : List TaskId) → filter (λ (other : TaskId). not (other.0 == t)) queue ≡ others t queue
+pub filtered : (t : ℕ) (queue : List TaskId) → filter (λ (other : TaskId). not (other.0 == t)) queue ≡ queue_without t queue
 filtered t [] = refl
 filtered t (x ∷ xs) = filter_step (x.0 == t) t x xs refl (filtered t xs)
 
@@ -26,7 +26,7 @@ once_push (x ∷ xs) task once absent =
     let no : (task.0 == x.0) ≡ false = grind (arith, nat_tests) in
     (rw (listed_push xs task x.0, no) once.0, once_push xs task once.1 rest)
 
-pub listed_others : (t : ℕ) (queue : List TaskId) (u : ℕ) → is_listed u (others t queue) ≡ (if t == u then false else is_listed u queue)
+pub listed_others : (t : ℕ) (queue : List TaskId) (u : ℕ) → is_listed u (queue_without t queue) ≡ (if t == u then false else is_listed u queue)
 listed_others t [] u = grind (arith, nat_tests)
 listed_others t (x ∷ xs) u =
     let rest = listed_others t xs u in
@@ -35,7 +35,7 @@ listed_others t (x ∷ xs) u =
     (λ (no : (x.0 == t) ≡ false). rw no (grind (arith, nat_tests, rest)))
     (cases_Bool (x.0 == t))
 
-pub once_others : (t : ℕ) (queue : List TaskId) → EachListedOnce queue → EachListedOnce (others t queue)
+pub once_others : (t : ℕ) (queue : List TaskId) → EachListedOnce queue → EachListedOnce (queue_without t queue)
 once_others t [] once = tt
 once_others t (x ∷ xs) once =
     ⊎_elim
@@ -45,7 +45,7 @@ once_others t (x ∷ xs) once =
     rw no (rw (listed_others t xs x.0, apart) once.0, once_others t xs once.1))
     (cases_Bool (x.0 == t))
 
-pub same_others : (t : ℕ) (queue : List TaskId) → is_listed t queue ≡ false → others t queue ≡ queue
+pub same_others : (t : ℕ) (queue : List TaskId) → is_listed t queue ≡ false → queue_without t queue ≡ queue
 same_others t [] absent = refl
 same_others t (x ∷ xs) absent =
     let no : (x.0 == t) ≡ false = grind (arith, nat_tests) in
@@ -53,7 +53,7 @@ same_others t (x ∷ xs) absent =
     let rest = same_others t xs more in
     rw (no, rest) refl
 
-pub length_others : (t : ℕ) (queue : List TaskId) → EachListedOnce queue → length (others t queue) + one (is_listed t queue) ≡ length queue
+pub length_others : (t : ℕ) (queue : List TaskId) → EachListedOnce queue → length (queue_without t queue) + one (is_listed t queue) ≡ length queue
 length_others t [] once = omega arith
 length_others t (x ∷ xs) once =
     let rest = length_others t xs once.1 in

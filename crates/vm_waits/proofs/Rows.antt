@@ -5,8 +5,8 @@ use Rattle.std.proofs.lemmas.Bool.Decides.{nat_tests}
 use Rattle.std.proofs.lemmas.Option.{none-some, same_Some, slice_get_read}
 use Rattle.std.specs.List.{remove}
 use Rattle.std.specs.Prelude.{option_map, slice_get, if◌then◌else◌}
-use Rattle.vm_waits.specs.Kept.{closer, spot}
-use Rattle.vm_waits.specs.Waits.{EachOnce, counted, entry, oldest, one, turned, with_on, without, woken}
+use Rattle.vm_waits.specs.Kept.{closer, row_place}
+use Rattle.vm_waits.specs.Waits.{EachOnce, count_rows, entry, oldest_row, one, rows_without, turned, with_on, woken}
 use Rattle.vm_waits.specs.declared.waiting.On.{On}
 use Rattle.vm_waits.specs.declared.waiting.On.TheVariants as on
 use Rattle.vm_waits.specs.declared.waiting.Waiting.{Waiting}
@@ -51,14 +51,14 @@ spot_step true false n o apart = refl
 spot_step false true n o apart = refl
 spot_step false false n o apart = refl
 
-pub spot_push : (rows : List Waiting) (w : Waiting) (t : ℕ) → entry rows w.task.0 ≡ None → spot t (rows ++ w ∷ []) ≡ (if w.task.0 == t then Some (length rows) else spot t rows)
+pub spot_push : (rows : List Waiting) (w : Waiting) (t : ℕ) → entry rows w.task.0 ≡ None → row_place t (rows ++ w ∷ []) ≡ (if w.task.0 == t then Some (length rows) else row_place t rows)
 spot_push [] w t none = refl
 spot_push (x ∷ xs) w t none =
     let apart = none_split (x.task.0 == w.task.0) x (entry xs w.task.0) none in
     let other : (x.task.0 == w.task.0) ≡ false = apart.0 in
-    rw (spot_push xs w t apart.1) (spot_step (x.task.0 == t) (w.task.0 == t) (length xs) (spot t xs) (λ yes. grind (arith, nat_tests)))
+    rw (spot_push xs w t apart.1) (spot_step (x.task.0 == t) (w.task.0 == t) (length xs) (row_place t xs) (λ yes. grind (arith, nat_tests)))
 
-pub counted_push : (test : On → Bool) (rows : List Waiting) (w : Waiting) → counted test (rows ++ w ∷ []) ≡ counted test rows + one (test w.on)
+pub counted_push : (test : On → Bool) (rows : List Waiting) (w : Waiting) → count_rows test (rows ++ w ∷ []) ≡ count_rows test rows + one (test w.on)
 counted_push test [] w = omega arith
 counted_push test (x ∷ xs) w = omega (arith, counted_push test xs w)
 
@@ -71,12 +71,12 @@ row_later : (x : Waiting) (xs : List Waiting) (o : Option ℕ) → row_at (x ∷
 row_later x xs None = refl
 row_later x xs (Some i) = refl
 
-pub entry_spot : (rows : List Waiting) (t : ℕ) → entry rows t ≡ row_at rows (spot t rows)
+pub entry_spot : (rows : List Waiting) (t : ℕ) → entry rows t ≡ row_at rows (row_place t rows)
 entry_spot [] t = refl
 entry_spot (x ∷ xs) t =
     ⊎_elim
     (λ (yes : (x.task.0 == t) ≡ true). rw yes refl)
-    (λ (no : (x.task.0 == t) ≡ false). rw (no, row_later x xs (spot t xs)) (entry_spot xs t))
+    (λ (no : (x.task.0 == t) ≡ false). rw (no, row_later x xs (row_place t xs)) (entry_spot xs t))
     (cases_Bool (x.task.0 == t))
 
 -- one behind the first
@@ -89,20 +89,20 @@ next_of : (o : Option ℕ) (n : ℕ) → option_map suc o ≡ Some n → IsNext 
 next_of None n is = absurd (none-some n is)
 next_of (Some at) n is = record { at = at; is = refl; next = sym (same_Some (suc at) n is) }
 
-pub spot_within : (rows : List Waiting) (t at : ℕ) → spot t rows ≡ Some at → at < length rows
+pub spot_within : (rows : List Waiting) (t at : ℕ) → row_place t rows ≡ Some at → at < length rows
 spot_within [] t at is = absurd (none-some at is)
 spot_within (x ∷ xs) t at is =
-    some_split (x.task.0 == t) 0 at (option_map suc (spot t xs)) is
+    some_split (x.task.0 == t) 0 at (option_map suc (row_place t xs)) is
     (λ (here : (x.task.0 == t) ≡ true) (same : 0 ≡ at). omega (arith, same))
-    (λ (no : (x.task.0 == t) ≡ false) (more : option_map suc (spot t xs) ≡ Some at).
-    let next = next_of (spot t xs) at more in
+    (λ (no : (x.task.0 == t) ≡ false) (more : option_map suc (row_place t xs) ≡ Some at).
+    let next = next_of (row_place t xs) at more in
     omega (arith, next.next, spot_within xs t next.at next.is))
 
 -- the row where a task's stands
-pub entry_at : (rows : List Waiting) (t at : ℕ) (w : Waiting) → spot t rows ≡ Some at → w ≡ get_or rows at w → entry rows t ≡ Some w
+pub entry_at : (rows : List Waiting) (t at : ℕ) (w : Waiting) → row_place t rows ≡ Some at → w ≡ get_or rows at w → entry rows t ≡ Some w
 entry_at rows t at w is read = entry_spot rows t ∙ ap (row_at rows) is ∙ slice_get_read rows (length rows) at w refl (spot_within rows t at is) read
 
-pub spot_none : (rows : List Waiting) (t : ℕ) → entry rows t ≡ None → spot t rows ≡ None
+pub spot_none : (rows : List Waiting) (t : ℕ) → entry rows t ≡ None → row_place t rows ≡ None
 spot_none [] t none = refl
 spot_none (x ∷ xs) t none =
     let apart = none_split (x.task.0 == t) x (entry xs t) none in
@@ -121,7 +121,7 @@ entry_map f (x ∷ xs) t keeps =
     (λ (no : (x.task.0 == t) ≡ false). let now : ((f x).task.0 == t) ≡ false = same ∙ no in rw (now, no) (entry_map f xs t keeps))
     (cases_Bool (x.task.0 == t))
 
-pub spot_map : (f : Waiting → Waiting) (rows : List Waiting) (t : ℕ) → Keeps f → spot t (map f rows) ≡ spot t rows
+pub spot_map : (f : Waiting → Waiting) (rows : List Waiting) (t : ℕ) → Keeps f → row_place t (map f rows) ≡ row_place t rows
 spot_map f [] t keeps = refl
 spot_map f (x ∷ xs) t keeps = rw (keeps x, spot_map f xs t keeps) refl
 
@@ -149,19 +149,19 @@ unturned t reason (x ∷ xs) none =
 absent_behind : (x : Waiting) (xs : List Waiting) (t : ℕ) → (x.task.0 == t) ≡ true → entry xs x.task.0 ≡ None → entry xs t ≡ None
 absent_behind x xs t here none = let same : x.task.0 ≡ t = grind (arith, nat_tests) in ap (entry xs) (sym same) ∙ none
 
-pub set_turned : (t at : ℕ) (rows : List Waiting) (d : Waiting) (reason : On) → EachOnce rows → spot t rows ≡ Some at → d ≡ get_or rows at d → set rows at (with_on d reason) ≡ map (turned t reason) rows
+pub set_turned : (t at : ℕ) (rows : List Waiting) (d : Waiting) (reason : On) → EachOnce rows → row_place t rows ≡ Some at → d ≡ get_or rows at d → set rows at (with_on d reason) ≡ map (turned t reason) rows
 set_turned t at [] d reason once is read = absurd (none-some at is)
 set_turned t at (x ∷ xs) d reason once is read =
-    some_split (x.task.0 == t) 0 at (option_map suc (spot t xs)) is
+    some_split (x.task.0 == t) 0 at (option_map suc (row_place t xs)) is
     (λ (yes : (x.task.0 == t) ≡ true) (same : 0 ≡ at).
     let here : d ≡ x = read ∙ ap (λ (i : ℕ). get_or (x ∷ xs) i d) (sym same) in
     rw (← same, yes, here, unturned t reason xs (absent_behind x xs t yes once.0)) refl)
-    (λ (no : (x.task.0 == t) ≡ false) (more : option_map suc (spot t xs) ≡ Some at).
-    let next = next_of (spot t xs) at more in
+    (λ (no : (x.task.0 == t) ≡ false) (more : option_map suc (row_place t xs) ≡ Some at).
+    let next = next_of (row_place t xs) at more in
     let there : d ≡ get_or xs next.at d = read ∙ ap (λ (i : ℕ). get_or (x ∷ xs) i d) next.next in
     rw (next.next, no) (ap (λ z. x ∷ z) (set_turned t next.at xs d reason once.1 next.is there)))
 
-pub counted_turned : (test : On → Bool) (t : ℕ) (reason : On) (rows : List Waiting) (was : Waiting) → EachOnce rows → entry rows t ≡ Some was → counted test (map (turned t reason) rows) + one (test was.on) ≡ counted test rows + one (test reason)
+pub counted_turned : (test : On → Bool) (t : ℕ) (reason : On) (rows : List Waiting) (was : Waiting) → EachOnce rows → entry rows t ≡ Some was → count_rows test (map (turned t reason) rows) + one (test was.on) ≡ count_rows test rows + one (test reason)
 counted_turned test t reason [] was once is = absurd (none-some was is)
 counted_turned test t reason (x ∷ xs) was once is =
     some_split (x.task.0 == t) x was (entry xs t) is
@@ -169,22 +169,22 @@ counted_turned test t reason (x ∷ xs) was once is =
     (λ (no : (x.task.0 == t) ≡ false) (more : entry xs t ≡ Some was). rw no (omega (arith, counted_turned test t reason xs was once.1 more)))
 
 -- the rows without a task's
-unlisted : (t : ℕ) (rows : List Waiting) → entry rows t ≡ None → without t rows ≡ rows
+unlisted : (t : ℕ) (rows : List Waiting) → entry rows t ≡ None → rows_without t rows ≡ rows
 unlisted t [] none = refl
 unlisted t (x ∷ xs) none =
     let apart = none_split (x.task.0 == t) x (entry xs t) none in
     rw (apart.0) (ap (λ z. x ∷ z) (unlisted t xs apart.1))
 
-pub remove_without : (t at : ℕ) (rows : List Waiting) → EachOnce rows → spot t rows ≡ Some at → remove rows at ≡ without t rows
+pub remove_without : (t at : ℕ) (rows : List Waiting) → EachOnce rows → row_place t rows ≡ Some at → remove rows at ≡ rows_without t rows
 remove_without t at [] once is = absurd (none-some at is)
 remove_without t at (x ∷ xs) once is =
-    some_split (x.task.0 == t) 0 at (option_map suc (spot t xs)) is
+    some_split (x.task.0 == t) 0 at (option_map suc (row_place t xs)) is
     (λ (yes : (x.task.0 == t) ≡ true) (same : 0 ≡ at). rw (← same, yes, unlisted t xs (absent_behind x xs t yes once.0)) refl)
-    (λ (no : (x.task.0 == t) ≡ false) (more : option_map suc (spot t xs) ≡ Some at).
-    let next = next_of (spot t xs) at more in
+    (λ (no : (x.task.0 == t) ≡ false) (more : option_map suc (row_place t xs) ≡ Some at).
+    let next = next_of (row_place t xs) at more in
     rw (next.next, no) (ap (λ z. x ∷ z) (remove_without t next.at xs once.1 next.is)))
 
-pub entry_without : (t : ℕ) (rows : List Waiting) (u : ℕ) → entry (without t rows) u ≡ (if t == u then None else entry rows u)
+pub entry_without : (t : ℕ) (rows : List Waiting) (u : ℕ) → entry (rows_without t rows) u ≡ (if t == u then None else entry rows u)
 entry_without t [] u = grind (arith, nat_tests)
 entry_without t (x ∷ xs) u =
     let more = entry_without t xs u in
@@ -193,7 +193,7 @@ entry_without t (x ∷ xs) u =
     (λ (no : (x.task.0 == t) ≡ false). rw no (grind (arith, nat_tests, more)))
     (cases_Bool (x.task.0 == t))
 
-pub once_without : (t : ℕ) (rows : List Waiting) → EachOnce rows → EachOnce (without t rows)
+pub once_without : (t : ℕ) (rows : List Waiting) → EachOnce rows → EachOnce (rows_without t rows)
 once_without t [] once = tt
 once_without t (x ∷ xs) once =
     ⊎_elim
@@ -203,7 +203,7 @@ once_without t (x ∷ xs) once =
     rw no (rw (entry_without t xs x.task.0, other) once.0, once_without t xs once.1))
     (cases_Bool (x.task.0 == t))
 
-pub counted_without : (test : On → Bool) (t : ℕ) (rows : List Waiting) (was : Waiting) → EachOnce rows → entry rows t ≡ Some was → counted test (without t rows) + one (test was.on) ≡ counted test rows
+pub counted_without : (test : On → Bool) (t : ℕ) (rows : List Waiting) (was : Waiting) → EachOnce rows → entry rows t ≡ Some was → count_rows test (rows_without t rows) + one (test was.on) ≡ count_rows test rows
 counted_without test t [] was once is = absurd (none-some was is)
 counted_without test t (x ∷ xs) was once is =
     some_split (x.task.0 == t) x was (entry xs t) is
@@ -224,19 +224,19 @@ closer_first : (o : Option ℕ) → o ≡ option_map (closer 0) (option_map suc 
 closer_first None = refl
 closer_first (Some at) = let e : closer 0 (suc at) ≡ at = grind (arith, nat_tests) in ap Some (sym e)
 
-pub spot_without : (t at : ℕ) (rows : List Waiting) (u : ℕ) → EachOnce rows → spot t rows ≡ Some at → spot u (without t rows) ≡ (if t == u then None else option_map (closer at) (spot u rows))
+pub spot_without : (t at : ℕ) (rows : List Waiting) (u : ℕ) → EachOnce rows → row_place t rows ≡ Some at → row_place u (rows_without t rows) ≡ (if t == u then None else option_map (closer at) (row_place u rows))
 spot_without t at [] u once is = absurd (none-some at is)
 spot_without t at (x ∷ xs) u once is =
-    some_split (x.task.0 == t) 0 at (option_map suc (spot t xs)) is
+    some_split (x.task.0 == t) 0 at (option_map suc (row_place t xs)) is
     (λ (yes : (x.task.0 == t) ≡ true) (same : 0 ≡ at).
     let absent = absent_behind x xs t yes once.0 in
     rw (← same, yes, unlisted t xs absent)
     (⊎_elim
     (λ (here : (t == u) ≡ true). let one : t ≡ u = grind (arith, nat_tests) in rw here (spot_none xs u (ap (entry xs) (sym one) ∙ absent)))
-    (λ (other : (t == u) ≡ false). let no : (x.task.0 == u) ≡ false = grind (arith, nat_tests) in rw (other, no) (closer_first (spot u xs)))
+    (λ (other : (t == u) ≡ false). let no : (x.task.0 == u) ≡ false = grind (arith, nat_tests) in rw (other, no) (closer_first (row_place u xs)))
     (cases_Bool (t == u))))
-    (λ (no : (x.task.0 == t) ≡ false) (more : option_map suc (spot t xs) ≡ Some at).
-    let next = next_of (spot t xs) at more in
+    (λ (no : (x.task.0 == t) ≡ false) (more : option_map suc (row_place t xs) ≡ Some at).
+    let next = next_of (row_place t xs) at more in
     let rest = spot_without t next.at xs u once.1 next.is in
     rw (next.next, no, rest)
     (⊎_elim
@@ -244,12 +244,12 @@ spot_without t at (x ∷ xs) u once is =
     (λ (apart : (t == u) ≡ false).
     ⊎_elim
     (λ (mine : (x.task.0 == u) ≡ true). rw (apart, mine) (ap Some (closer_none next.at)))
-    (λ (other : (x.task.0 == u) ≡ false). rw (apart, other) (closer_later next.at (spot u xs)))
+    (λ (other : (x.task.0 == u) ≡ false). rw (apart, other) (closer_later next.at (row_place u xs)))
     (cases_Bool (x.task.0 == u)))
     (cases_Bool (t == u))))
 
 -- rows that are woken
-pub counted_woken : (test count : On → Bool) (n : Bool) (rows : List Waiting) → ((reason : On) → test reason ≡ true → count reason ≡ false) → count on.Again ≡ n → counted count (map (woken test) rows) ≡ counted count rows + (if n then counted test rows else 0)
+pub counted_woken : (test count : On → Bool) (n : Bool) (rows : List Waiting) → ((reason : On) → test reason ≡ true → count reason ≡ false) → count on.Again ≡ n → count_rows count (map (woken test) rows) ≡ count_rows count rows + (if n then count_rows test rows else 0)
 counted_woken test count n [] apart is = grind (arith, nat_tests)
 counted_woken test count n (x ∷ xs) apart is =
     let more = counted_woken test count n xs apart is in
@@ -274,23 +274,23 @@ pub record Passes (test : On → Bool) (rows : List Waiting) (w : Waiting) : Typ
 itself : (x : Waiting) (xs : List Waiting) → entry (x ∷ xs) x.task.0 ≡ Some x
 itself x xs = let same : (x.task.0 == x.task.0) ≡ true = grind (arith, nat_tests) in rw same refl
 
-pub oldest_some : (test : On → Bool) (rows : List Waiting) (w : Waiting) → EachOnce rows → oldest test rows ≡ Some w → Passes test rows w
+pub oldest_some : (test : On → Bool) (rows : List Waiting) (w : Waiting) → EachOnce rows → oldest_row test rows ≡ Some w → Passes test rows w
 oldest_some test [] w once is = absurd (none-some w is)
 oldest_some test (x ∷ xs) w once is =
-    some_split (test x.on) x w (oldest test xs) is
+    some_split (test x.on) x w (oldest_row test xs) is
     (λ (passes : test x.on ≡ true) (same : x ≡ w). subst (Passes test (x ∷ xs)) same (record { row = itself x xs; passes = passes }))
-    (λ (fails : test x.on ≡ false) (more : oldest test xs ≡ Some w).
+    (λ (fails : test x.on ≡ false) (more : oldest_row test xs ≡ Some w).
     let rest = oldest_some test xs w once.1 more in
     record { row = first_apart x xs w once.0 rest.row; passes = rest.passes })
 
-pub oldest_none : (test : On → Bool) (rows : List Waiting) → oldest test rows ≡ None → counted test rows ≡ 0
+pub oldest_none : (test : On → Bool) (rows : List Waiting) → oldest_row test rows ≡ None → count_rows test rows ≡ 0
 oldest_none test [] is = refl
 oldest_none test (x ∷ xs) is =
-    let fails = none_split (test x.on) x (oldest test xs) is in
+    let fails = none_split (test x.on) x (oldest_row test xs) is in
     let rest = oldest_none test xs fails.1 in
     rw (fails.0) (omega (arith, rest))
 
-pub none_passes : (test : On → Bool) (rows : List Waiting) (t : ℕ) (w : Waiting) → counted test rows ≡ 0 → entry rows t ≡ Some w → test w.on ≡ false
+pub none_passes : (test : On → Bool) (rows : List Waiting) (t : ℕ) (w : Waiting) → count_rows test rows ≡ 0 → entry rows t ≡ Some w → test w.on ≡ false
 none_passes test [] t w none is = absurd (none-some w is)
 none_passes test (x ∷ xs) t w none is =
     ⊎_elim
@@ -302,14 +302,14 @@ none_passes test (x ∷ xs) t w none is =
     (λ (no : (x.task.0 == t) ≡ false) (more : entry xs t ≡ Some w). none_passes test xs t w (omega (arith, rest)) more))
     (cases_Bool (test x.on))
 
-pub no_row_passes : (test : On → Bool) (rows : List Waiting) → EachOnce rows → ((t : ℕ) (w : Waiting) → entry rows t ≡ Some w → test w.on ≡ false) → counted test rows ≡ 0
+pub no_row_passes : (test : On → Bool) (rows : List Waiting) → EachOnce rows → ((t : ℕ) (w : Waiting) → entry rows t ≡ Some w → test w.on ≡ false) → count_rows test rows ≡ 0
 no_row_passes test [] once fails = refl
 no_row_passes test (x ∷ xs) once fails =
     let first = fails x.task.0 x (itself x xs) in
     let rest = no_row_passes test xs once.1 (λ t w is. fails w.task.0 w (first_apart x xs w once.0 (ap (entry xs) (entry_task xs t w is) ∙ is))) in
     rw first (omega (arith, rest))
 
-pub counted_within : (test : On → Bool) (rows : List Waiting) → counted test rows ≤ length rows
+pub counted_within : (test : On → Bool) (rows : List Waiting) → count_rows test rows ≤ length rows
 counted_within test [] = omega arith
 counted_within test (x ∷ xs) =
     let rest = counted_within test xs in
@@ -318,7 +318,7 @@ counted_within test (x ∷ xs) =
     (λ (fails : test x.on ≡ false). rw fails (omega (arith, rest)))
     (cases_Bool (test x.on))
 
-pub length_without : (t : ℕ) (rows : List Waiting) (was : Waiting) → EachOnce rows → entry rows t ≡ Some was → length (without t rows) + 1 ≡ length rows
+pub length_without : (t : ℕ) (rows : List Waiting) (was : Waiting) → EachOnce rows → entry rows t ≡ Some was → length (rows_without t rows) + 1 ≡ length rows
 length_without t [] was once is = absurd (none-some was is)
 length_without t (x ∷ xs) was once is =
     some_split (x.task.0 == t) x was (entry xs t) is

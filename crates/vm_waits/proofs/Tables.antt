@@ -13,8 +13,8 @@ use Rattle.vm_waits.proofs.Lines.{length_others, listed_others, listed_push, onc
 use Rattle.vm_waits.proofs.Lines as line
 use Rattle.vm_waits.proofs.Places.{by_task_closed, by_task_inserted, by_task_removed, found_closed, found_inserted, found_removed, known}
 use Rattle.vm_waits.proofs.Rows.{Keeps, counted_push, counted_turned, counted_without, counted_woken, entry_map, entry_push, entry_spot, entry_task, entry_without, length_without, none_passes, once_map, once_push, once_without, oldest_none, oldest_some, row_at, spot_map, spot_none, spot_push, spot_without, turned_keeps, woken_keeps}
-use Rattle.vm_waits.specs.Kept.{AreFound, AreQueued, closed, closer, noted_place, places_before, spot}
-use Rattle.vm_waits.specs.Waits.{EachOnce, PutsEntry, Waked, counted, entry, first, is_again, is_frame, is_listed, oldest, one, others, queued, turned, waits_for_frame, with_on, without, woken, woken_page, woken_ready}
+use Rattle.vm_waits.specs.Kept.{AreFound, AreQueued, closed, closer, noted_place, places_before, row_place}
+use Rattle.vm_waits.specs.Waits.{EachOnce, PutsEntry, Waked, count_rows, entry, first_in_queue, is_again, is_frame, is_listed, oldest_row, one, queue_without, queued, rows_without, turned, waits_for_frame, with_on, woken, woken_page, woken_ready}
 use Rattle.vm_waits.specs.declared.place.Place.{Place}
 use Rattle.vm_waits.specs.declared.waiting.On.{On}
 use Rattle.vm_waits.specs.declared.waiting.On.TheVariants as on
@@ -42,7 +42,7 @@ holds_there None x P is some = absurd some
 holds_there (Some y) x P is some = let same = same_Some y x is in rw (← same) some
 
 -- what the places tell is what the rows have
-pub spot_got : (rows : List Waiting) (places : List Place) (t at : ℕ) → AreFound rows places → Some at ≡ noted_place t places → spot t rows ≡ Some at
+pub spot_got : (rows : List Waiting) (places : List Place) (t at : ℕ) → AreFound rows places → Some at ≡ noted_place t places → row_place t rows ≡ Some at
 spot_got rows places t at kept is = sym (kept.leads t) ∙ sym is
 
 pub none_got : (rows : List Waiting) (places : List Place) (t : ℕ) → AreFound rows places → None ≡ noted_place t places → entry rows t ≡ None
@@ -110,7 +110,7 @@ pub puts_turned : (t : ℕ) (reason : On) (rows : List Waiting) (was : Waiting) 
 puts_turned t reason rows was is = record { at = λ u. entry_turned t reason rows was u is }
 
 pub lined_off : (t : ℕ) (reason : On) (rows : List Waiting) (queue : List TaskId) (was : Waiting) → AreQueued rows queue → EachOnce rows → entry rows t ≡ Some was → is_frame reason ≡ false
-    → AreQueued (map (turned t reason) rows) (others t queue)
+    → AreQueued (map (turned t reason) rows) (queue_without t queue)
 lined_off t reason rows queue was kept once is other = record {
   listed = λ u. rw (listed_others t queue u, entry_turned t reason rows was u is)
       (⊎_elim
@@ -143,15 +143,15 @@ lined_on task rows queue was kept once is other = record {
 }
 
 -- where a task's row stands that has one
-some_spot : (rows : List Waiting) (t : ℕ) (was : Waiting) (o : Option ℕ) → spot t rows ≡ o → entry rows t ≡ Some was → IsSome o
+some_spot : (rows : List Waiting) (t : ℕ) (was : Waiting) (o : Option ℕ) → row_place t rows ≡ o → entry rows t ≡ Some was → IsSome o
 some_spot rows t was None spots is = absurd (none-some was (sym (entry_spot rows t ∙ ap (row_at rows) spots) ∙ is))
 some_spot rows t was (Some at) spots is = refl
 
 pub some_found : (rows : List Waiting) (places : List Place) (t : ℕ) (was : Waiting) → AreFound rows places → entry rows t ≡ Some was → IsSome (noted_place t places)
-some_found rows places t was kept is = rw (kept.leads t) (some_spot rows t was (spot t rows) refl is)
+some_found rows places t was kept is = rw (kept.leads t) (some_spot rows t was (row_place t rows) refl is)
 
 -- the place at a task's rank leads to its row
-pub spot_known : (t i : ℕ) (rows : List Waiting) (places : List Place) (was : Waiting) (d : Place) → AreFound rows places → entry rows t ≡ Some was → i ≡ places_before t places → d ≡ get_or places i d → spot t rows ≡ Some d.at
+pub spot_known : (t i : ℕ) (rows : List Waiting) (places : List Place) (was : Waiting) (d : Place) → AreFound rows places → entry rows t ≡ Some was → i ≡ places_before t places → d ≡ get_or places i d → row_place t rows ≡ Some d.at
 spot_known t i rows places was d kept is place read =
     let stands = known t i places kept.sorted place (some_found rows places t was kept is) in
     sym (kept.leads t) ∙ stands.is d ∙ ap (λ (z : Place). Some z.at) (sym read)
@@ -164,21 +164,21 @@ gone : (test : Bool) (at : ℕ) (o : Option ℕ) → option_map (closer at) (if 
 gone true at o = refl
 gone false at o = refl
 
-pub found_without : (t at i : ℕ) (rows : List Waiting) (places : List Place) (was : Waiting) (d : Place) → AreFound rows places → entry rows t ≡ Some was → i ≡ places_before t places → at ≡ (get_or places i d).at → AreFound (without t rows) (map (closed at) (remove places i))
+pub found_without : (t at i : ℕ) (rows : List Waiting) (places : List Place) (was : Waiting) (d : Place) → AreFound rows places → entry rows t ≡ Some was → i ≡ places_before t places → at ≡ (get_or places i d).at → AreFound (rows_without t rows) (map (closed at) (remove places i))
 found_without t at i rows places was d kept is place read =
     let stands = known t i places kept.sorted place (some_found rows places t was kept is) in
-    let spots : spot t rows ≡ Some at = sym (kept.leads t) ∙ stands.is d ∙ ap Some (sym read) in
+    let spots : row_place t rows ≡ Some at = sym (kept.leads t) ∙ stands.is d ∙ ap Some (sym read) in
     let fewer = length-remove places i stands.within in
     let same = length-map (remove places i) (closed at) in
     let left = length_without t rows was kept.once is in
     record {
       once = once_without t rows kept.once;
       sorted = by_task_closed 0 at (remove places i) (by_task_removed 0 i places kept.sorted stands.within);
-      leads = λ u. rw (found_closed at u (remove places i), found_removed 0 i u places d kept.sorted stands.within, stands.named d, spot_without t at rows u kept.once spots, kept.leads u) (gone (t == u) at (spot u rows));
+      leads = λ u. rw (found_closed at u (remove places i), found_removed 0 i u places d kept.sorted stands.within, stands.named d, spot_without t at rows u kept.once spots, kept.leads u) (gone (t == u) at (row_place u rows));
       even = omega (arith, fewer, same, left, kept.even);
     }
 
-pub lined_without : (t : ℕ) (rows : List Waiting) (queue : List TaskId) (was : Waiting) → AreQueued rows queue → EachOnce rows → entry rows t ≡ Some was → AreQueued (without t rows) (others t queue)
+pub lined_without : (t : ℕ) (rows : List Waiting) (queue : List TaskId) (was : Waiting) → AreQueued rows queue → EachOnce rows → entry rows t ≡ Some was → AreQueued (rows_without t rows) (queue_without t queue)
 lined_without t rows queue was kept once is = record {
   listed = λ u. rw (listed_others t queue u, entry_without t rows u)
       (⊎_elim
@@ -217,7 +217,7 @@ pub waked : (test : On → Bool) (rows : List Waiting) (t : ℕ) → Waked test 
 waked test rows t = rw (entry_map (woken test) rows t (woken_keeps test)) (waked_by test (entry rows t))
 
 -- the oldest row that passes a test
-pub matched : (test : On → Bool) (rows : List Waiting) (o : Option Waiting) → EachOnce rows → o ≡ oldest test rows → MatchOption o (counted test rows ≡ 0) (λ w. (entry rows w.task.0 ≡ Some w) × (test w.on ≡ true))
+pub matched : (test : On → Bool) (rows : List Waiting) (o : Option Waiting) → EachOnce rows → o ≡ oldest_row test rows → MatchOption o (count_rows test rows ≡ 0) (λ w. (entry rows w.task.0 ≡ Some w) × (test w.on ≡ true))
 matched test rows None once is = oldest_none test rows (sym is)
 matched test rows (Some w) once is = let row = oldest_some test rows w once (sym is) in (row.row, row.passes)
 
@@ -236,7 +236,7 @@ first_of : (rows : List Waiting) (task : TaskId) (o : Option Waiting) → entry 
 first_of rows task None is frame = absurd (false≢true frame)
 first_of rows task (Some w) is frame = record { it = w; row = is; frame = frame }
 
-pub front : (rows : List Waiting) (queue : List TaskId) (task : TaskId) → AreQueued rows queue → first queue ≡ Some task → IsFront rows task
+pub front : (rows : List Waiting) (queue : List TaskId) (task : TaskId) → AreQueued rows queue → first_in_queue queue ≡ Some task → IsFront rows task
 front rows [] task kept is = absurd (none-some task is)
 front rows (x ∷ xs) task kept is =
     let same : x ≡ task = same_Some x task is in
@@ -247,8 +247,8 @@ front rows (x ∷ xs) task kept is =
     itself task = grind (arith, nat_tests)
 
 -- what is got of the first task is the front of the queue
-pub fronted : (rows : List Waiting) (queue : List TaskId) (task : TaskId) (o : Option Waiting) → AreQueued rows queue → first queue ≡ Some task → o ≡ entry rows task.0
-    → MatchOption o (queue ≡ []) (λ w. first queue ≡ Some w.task) × MatchOption o (queued rows ≡ 0) (λ w. (entry rows w.task.0 ≡ Some w) × (is_frame w.on ≡ true))
+pub fronted : (rows : List Waiting) (queue : List TaskId) (task : TaskId) (o : Option Waiting) → AreQueued rows queue → first_in_queue queue ≡ Some task → o ≡ entry rows task.0
+    → MatchOption o (queue ≡ []) (λ w. first_in_queue queue ≡ Some w.task) × MatchOption o (queued rows ≡ 0) (λ w. (entry rows w.task.0 ≡ Some w) × (is_frame w.on ≡ true))
 fronted rows queue task None kept is got = let row = front rows queue task kept is in absurd (none-some row.it (got ∙ row.row))
 fronted rows queue task (Some w) kept is got =
     let row = front rows queue task kept is in
@@ -257,11 +257,11 @@ fronted rows queue task (Some w) kept is got =
     let tasks : task ≡ w.task = ap (λ (n : ℕ). record { 0 = n }) (sym named) in
     (is ∙ ap Some tasks, (ap (entry rows) named ∙ sym got, ap (λ (z : Waiting). is_frame z.on) same ∙ row.frame))
 
-pub first_read : (queue : List TaskId) → slice_get queue 0 ≡ first queue
+pub first_read : (queue : List TaskId) → slice_get queue 0 ≡ first_in_queue queue
 first_read [] = refl
 first_read (x ∷ xs) = refl
 
-pub next_matched : (test : On → Bool) (rows : List Waiting) (o : Option Waiting) → EachOnce rows → o ≡ oldest test rows
+pub next_matched : (test : On → Bool) (rows : List Waiting) (o : Option Waiting) → EachOnce rows → o ≡ oldest_row test rows
     → MatchOption o ((t : ℕ) → IfSome (entry rows t) (λ w. test w.on ≡ false)) (λ w. (entry rows w.task.0 ≡ Some w) × (test w.on ≡ true))
 next_matched test rows None once is = λ t. if_some (entry rows t) (λ w. test w.on ≡ false) (λ w row. none_passes test rows t w (oldest_none test rows (sym is)) row)
 next_matched test rows (Some w) once is = let row = oldest_some test rows w once (sym is) in (row.row, row.passes)

@@ -21,9 +21,9 @@ noted_place t [] = None
 noted_place t (place ∷ places) = if place.task.0 == t then Some place.at else noted_place t places
 
 -- where a task's row stands
-abbrev pub spot : ℕ → List Waiting → Option ℕ
-spot t [] = None
-spot t (w ∷ ws) = if w.task.0 == t then Some 0 else option_map suc (spot t ws)
+abbrev pub row_place : ℕ → List Waiting → Option ℕ
+row_place t [] = None
+row_place t (w ∷ ws) = if w.task.0 == t then Some 0 else option_map suc (row_place t ws)
 
 -- where a row stands once one at a place was taken out
 abbrev pub closer : ℕ → ℕ → ℕ
@@ -41,7 +41,7 @@ EachListedOnce (task ∷ tasks) = (is_listed task.0 tasks ≡ false) × EachList
 pub record AreFound (rows : List Waiting) (places : List Place) : Type 0 where
   pub once : EachOnce rows
   pub sorted : ByTask 0 places
-  pub leads : (t : ℕ) → noted_place t places ≡ spot t rows
+  pub leads : (t : ℕ) → noted_place t places ≡ row_place t rows
   pub even : length places ≡ length rows
 
 -- the queue has the tasks that wait for a frame

@@ -69,41 +69,41 @@ abbrev pub one_frame : On → ℕ
 one_frame reason = one (is_frame reason)
 
 -- how many rows' reasons pass a test
-abbrev pub counted : (On → Bool) → List Waiting → ℕ
-counted test [] = 0
-counted test (w ∷ ws) = one (test w.on) + counted test ws
+abbrev pub count_rows : (On → Bool) → List Waiting → ℕ
+count_rows test [] = 0
+count_rows test (w ∷ ws) = one (test w.on) + count_rows test ws
 
 -- how many are to be run again
-abbrev pub again : List Waiting → ℕ
-again rows = counted is_again rows
+abbrev pub count_again : List Waiting → ℕ
+count_again rows = count_rows is_again rows
 
 -- how many wait for a frame
 abbrev pub queued : List Waiting → ℕ
-queued rows = counted is_frame rows
+queued rows = count_rows is_frame rows
 
 -- the oldest row whose reason passes a test
-abbrev pub oldest : (On → Bool) → List Waiting → Option Waiting
-oldest test [] = None
-oldest test (w ∷ ws) = if test w.on then Some w else oldest test ws
+abbrev pub oldest_row : (On → Bool) → List Waiting → Option Waiting
+oldest_row test [] = None
+oldest_row test (w ∷ ws) = if test w.on then Some w else oldest_row test ws
 
 -- the task that is first in the queue
-abbrev pub first : List TaskId → Option TaskId
-first [] = None
-first (task ∷ tasks) = Some task
+abbrev pub first_in_queue : List TaskId → Option TaskId
+first_in_queue [] = None
+first_in_queue (task ∷ tasks) = Some task
 
 abbrev pub is_listed : ℕ → List TaskId → Bool
 is_listed t [] = false
 is_listed t (task ∷ tasks) = task.0 == t || is_listed t tasks
 
 -- the queue without a task
-abbrev pub others : ℕ → List TaskId → List TaskId
-others t [] = []
-others t (task ∷ tasks) = if task.0 == t then others t tasks else task ∷ others t tasks
+abbrev pub queue_without : ℕ → List TaskId → List TaskId
+queue_without t [] = []
+queue_without t (task ∷ tasks) = if task.0 == t then queue_without t tasks else task ∷ queue_without t tasks
 
 -- the rows without a task's
-abbrev pub without : ℕ → List Waiting → List Waiting
-without t [] = []
-without t (w ∷ ws) = if w.task.0 == t then without t ws else w ∷ without t ws
+abbrev pub rows_without : ℕ → List Waiting → List Waiting
+rows_without t [] = []
+rows_without t (w ∷ ws) = if w.task.0 == t then rows_without t ws else w ∷ rows_without t ws
 
 abbrev pub with_on : Waiting → On → Waiting
 with_on w reason = record { task = w.task; want = w.want; on = reason }

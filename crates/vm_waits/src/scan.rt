@@ -1,7 +1,7 @@
 // Walks along the rows, and along the queue.
 ghost use Rattle.std.specs.Prelude.{◌≡◌, map};
 ghost use Rattle.std.specs.Vec.{vec_capacity};
-ghost use Rattle.vm_waits.specs.Waits.{is_again, oldest, others, woken, woken_page, woken_ready};
+ghost use Rattle.vm_waits.specs.Waits.{is_again, oldest_row, queue_without, woken, woken_page, woken_ready};
 
 use crate::{On, Waiting};
 use vm_base::{ObjectId, PageKey, TaskId};
@@ -38,7 +38,7 @@ pub fn is_on_ready(on: On, object: ObjectId) -> bool
 
 /// The oldest row that is to be run again.
 pub fn oldest_again(rows: &[Waiting]) -> Option<Waiting>
-    ensures { result ≡ oldest is_again rows.now }
+    ensures { result ≡ oldest_row is_again rows.now }
 {
     'all: for row in rows {
         if is_on_again(row.on) {
@@ -50,7 +50,7 @@ pub fn oldest_again(rows: &[Waiting]) -> Option<Waiting>
 
 /// The oldest row that waits for a page.
 pub fn oldest_on(rows: &[Waiting], key: PageKey) -> Option<Waiting>
-    ensures { result ≡ oldest (woken_page key) rows.now }
+    ensures { result ≡ oldest_row (woken_page key) rows.now }
 {
     'all: for row in rows {
         if is_on_page(row.on, key) {
@@ -110,7 +110,7 @@ pub fn wake_for_ready(rows: &mut Vec<Waiting>, object: ObjectId)
 
 /// Takes a task out of the queue, if it stands there.
 pub fn take_off(queue: &mut Vec<TaskId>, task: TaskId)
-    ensures tasks { queue.new.items ≡ others task.0 queue.old.items }
+    ensures tasks { queue.new.items ≡ queue_without task.0 queue.old.items }
     ensures capacity { vec_capacity queue.new ≡ vec_capacity queue.old }
 {
     queue.retain(|other| other.0 != task.0);

@@ -1,6 +1,6 @@
 // The waiting accesses of a host, and the queue for its frames.
 ghost use Rattle.std.specs.Prelude.{ℕ, ◌≡◌, ◌+◌, ◌<◌, ◌≤◌, ◌++◌, ◌∷◌, [], true, false, length, map, nat_lt, IfSome, IsOk, IsSome, IsSomeAnd, MatchOption, None, OnErr, OnOk, Some};
-ghost use Rattle.vm_waits.specs.Waits.{EachOnce, PutsEntry, Waked, again, counted, entry, first, is_again, is_frame, is_listed, oldest, one_again, one_frame, others, queued, turned, waits_for_frame, with_on, without, woken, woken_page, woken_ready};
+ghost use Rattle.vm_waits.specs.Waits.{EachOnce, PutsEntry, Waked, count_again, count_rows, entry, first_in_queue, is_again, is_frame, is_listed, oldest_row, one_again, one_frame, queue_without, queued, rows_without, turned, waits_for_frame, with_on, woken, woken_page, woken_ready};
 ghost use Rattle.vm_waits.specs.Kept.{AreQueued};
 ghost use Rattle.vm_waits.specs.declared.waiting.On.TheVariants.{Again, Frame};
 
@@ -82,7 +82,7 @@ impl Waits {
         requires room { 0 < self.old.room }
         ensures rows { self.new.rows ≡ self.old.rows ++ (record { task = task; want = want; on = Again }) ∷ [] }
         ensures entry { PutsEntry task.0 (Some (record { task = task; want = want; on = Again })) self.old.rows self.new.rows }
-        ensures again { again self.new.rows ≡ again self.old.rows + 1 }
+        ensures again { count_again self.new.rows ≡ count_again self.old.rows + 1 }
         ensures queued { queued self.new.rows ≡ queued self.old.rows }
         ensures queue { self.new.queue ≡ self.old.queue }
         ensures room { self.old.room ≡ self.new.room + 1 }
@@ -108,8 +108,8 @@ impl Waits {
 
     /// The oldest access that is to be run again; None exactly where none is.
     pub fn next_again(&self) -> Option<Waiting>
-        ensures oldest { result ≡ oldest is_again self.now.rows }
-        ensures row { MatchOption result (again self.now.rows ≡ 0)
+        ensures oldest { result ≡ oldest_row is_again self.now.rows }
+        ensures row { MatchOption result (count_again self.now.rows ≡ 0)
             (λ w. (entry self.now.rows w.task.0 ≡ Some w) × (is_again w.on ≡ true)) }
         ensures line { AreQueued self.now.rows self.now.queue }
     {
@@ -118,7 +118,7 @@ impl Waits {
 
     /// The access that is first in the queue for frames; None exactly where the queue is empty.
     pub fn front(&self) -> Option<Waiting>
-        ensures first { MatchOption result (self.now.queue ≡ []) (λ w. first self.now.queue ≡ Some w.task) }
+        ensures first { MatchOption result (self.now.queue ≡ []) (λ w. first_in_queue self.now.queue ≡ Some w.task) }
         ensures row { MatchOption result (queued self.now.rows ≡ 0)
             (λ w. (entry self.now.rows w.task.0 ≡ Some w) × (is_frame w.on ≡ true)) }
         ensures line { AreQueued self.now.rows self.now.queue }
@@ -137,7 +137,7 @@ impl Waits {
 
     /// The oldest access that waits for a page; None exactly where none does.
     pub fn next_on(&self, key: PageKey) -> Option<Waiting>
-        ensures oldest { result ≡ oldest (woken_page key) self.now.rows }
+        ensures oldest { result ≡ oldest_row (woken_page key) self.now.rows }
         ensures row { MatchOption result
             ((t : ℕ) → IfSome (entry self.now.rows t) (λ w. woken_page key w.on ≡ false))
             (λ w. (entry self.now.rows w.task.0 ≡ Some w) × (woken_page key w.on ≡ true)) }
@@ -155,10 +155,10 @@ impl Waits {
         ensures entry { IfSome (entry self.old.rows task.0) (λ was.
             PutsEntry task.0 (Some (with_on was on)) self.old.rows self.new.rows) }
         ensures again { IfSome (entry self.old.rows task.0) (λ was.
-            again self.new.rows + one_again was.on ≡ again self.old.rows + one_again on) }
+            count_again self.new.rows + one_again was.on ≡ count_again self.old.rows + one_again on) }
         ensures queued { IfSome (entry self.old.rows task.0) (λ was.
             queued self.new.rows + one_frame was.on ≡ queued self.old.rows) }
-        ensures queue { self.new.queue ≡ others task.0 self.old.queue }
+        ensures queue { self.new.queue ≡ queue_without task.0 self.old.queue }
         ensures room { self.new.room ≡ self.old.room }
     {
         let at = known_place(&self.places, task);
@@ -173,7 +173,7 @@ impl Waits {
         ensures entry { IfSome (entry self.old.rows task.0) (λ was.
             PutsEntry task.0 (Some (with_on was Frame)) self.old.rows self.new.rows) }
         ensures again { IfSome (entry self.old.rows task.0) (λ was.
-            again self.new.rows + one_again was.on ≡ again self.old.rows) }
+            count_again self.new.rows + one_again was.on ≡ count_again self.old.rows) }
         ensures queued { queued self.new.rows ≡ queued self.old.rows + 1 }
         ensures queue { self.new.queue ≡ self.old.queue ++ task ∷ [] }
         ensures room { self.new.room ≡ self.old.room }
@@ -186,14 +186,14 @@ impl Waits {
     /// A task's access waits no more; it leaves the queue if it was there.
     pub fn remove(&mut self, task: TaskId)
         requires { IsSome (entry self.old.rows task.0) }
-        ensures rows { self.new.rows ≡ without task.0 self.old.rows }
+        ensures rows { self.new.rows ≡ rows_without task.0 self.old.rows }
         ensures entry { PutsEntry task.0 None self.old.rows self.new.rows }
         ensures again { IfSome (entry self.old.rows task.0) (λ was.
-            again self.new.rows + one_again was.on ≡ again self.old.rows) }
+            count_again self.new.rows + one_again was.on ≡ count_again self.old.rows) }
         ensures queued { IfSome (entry self.old.rows task.0) (λ was.
             queued self.new.rows + one_frame was.on ≡ queued self.old.rows) }
         ensures length { length self.new.rows + 1 ≡ length self.old.rows }
-        ensures queue { self.new.queue ≡ others task.0 self.old.queue }
+        ensures queue { self.new.queue ≡ queue_without task.0 self.old.queue }
         ensures room { self.new.room ≡ self.old.room + 1 }
     {
         let i = find(&self.places, task);
@@ -208,7 +208,7 @@ impl Waits {
     pub fn wake_page(&mut self, key: PageKey)
         ensures rows { self.new.rows ≡ map (woken (woken_page key)) self.old.rows }
         ensures entry { (t : ℕ) → Waked (woken_page key) (entry self.old.rows t) (entry self.new.rows t) }
-        ensures again { again self.new.rows ≡ again self.old.rows + counted (woken_page key) self.old.rows }
+        ensures again { count_again self.new.rows ≡ count_again self.old.rows + count_rows (woken_page key) self.old.rows }
         ensures queued { queued self.new.rows ≡ queued self.old.rows }
         ensures queue { self.new.queue ≡ self.old.queue }
         ensures room { self.new.room ≡ self.old.room }
@@ -220,7 +220,7 @@ impl Waits {
     pub fn wake_ready(&mut self, object: ObjectId)
         ensures rows { self.new.rows ≡ map (woken (woken_ready object.0)) self.old.rows }
         ensures entry { (t : ℕ) → Waked (woken_ready object.0) (entry self.old.rows t) (entry self.new.rows t) }
-        ensures again { again self.new.rows ≡ again self.old.rows + counted (woken_ready object.0) self.old.rows }
+        ensures again { count_again self.new.rows ≡ count_again self.old.rows + count_rows (woken_ready object.0) self.old.rows }
         ensures queued { queued self.new.rows ≡ queued self.old.rows }
         ensures queue { self.new.queue ≡ self.old.queue }
         ensures room { self.new.room ≡ self.old.room }

@@ -3,7 +3,7 @@ use Rattle.std.proofs.lemmas.List.{length-set}
 use Rattle.std.specs.Vec.{with_item}
 use Rattle.vm_base.proofs.Results.{pushed}
 use Rattle.vm_queues.specs.declared.lists.Lists.{Lists}
-use Rattle.vm_queues.specs.Kept.{AreApart}
+use Rattle.vm_queues.specs.Kept.{FramesAreApart}
 use Rattle.vm_queues.proofs.Apart.{stands}
 use Rattle.vm_queues.proofs.Moves.{Ages, aged_apart, aged_seen, all_fit, kept_so}
 use Rattle.vm_queues.proofs.lists.age.Goals as goal
@@ -11,7 +11,7 @@ use Rattle.vm_queues.proofs.lists.age.Goals as goal
 pub index_mut-requires : goal.index_mut-requires
 index_mut-requires c =
     let old = c.args.lists.now in
-    let apart = subst (λ z. AreApart (length old.marks.items) (old.inactive.items ++ z)) c.in-Some.ensures.items c.requires.kept.apart in
+    let apart = subst (λ z. FramesAreApart (length old.marks.items) (old.inactive.items ++ z)) c.in-Some.ensures.items c.requires.kept.apart in
     omega (arith, (stands _ old.inactive.items c.in-Some.frame c.pop_front.new.self.items apart).inside, old.marks.ok.0)
 
 pub returns-in-Some-clause-kept : goal.returns-in-Some-clause-kept

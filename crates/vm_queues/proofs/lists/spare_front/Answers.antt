@@ -3,14 +3,14 @@ use Rattle.std.proofs.lemmas.List.{length-set}
 use Rattle.std.specs.Vec.{with_item}
 use Rattle.vm_base.proofs.Results.{pushed}
 use Rattle.vm_queues.specs.declared.lists.Lists.{Lists}
-use Rattle.vm_queues.specs.Kept.{AreApart}
+use Rattle.vm_queues.specs.Kept.{FramesAreApart}
 use Rattle.vm_queues.proofs.Moves.{Spares, all_fit, kept_so, spared_apart, spared_seen}
 use Rattle.vm_queues.proofs.lists.spare_front.Goals as goal
 
 pub index_mut-requires : goal.index_mut-requires
 index_mut-requires c =
     let old = c.args.lists.now in
-    let apart = subst (λ z. AreApart (length old.marks.items) (z ++ old.active.items)) c.in-Some.ensures.items c.requires.kept.apart in
+    let apart = subst (λ z. FramesAreApart (length old.marks.items) (z ++ old.active.items)) c.in-Some.ensures.items c.requires.kept.apart in
     omega (arith, apart.0, old.marks.ok.0)
 
 pub returns-in-Some-clause-kept : goal.returns-in-Some-clause-kept

@@ -2,7 +2,7 @@ use Rattle.std.proofs.Common.{◌≡◌, ◌∙◌, ◌<◌, false, length, refl
 use Rattle.std.proofs.lemmas.List.{length-set}
 use Rattle.std.specs.Vec.{with_item}
 use Rattle.vm_base.proofs.Results.{pushed}
-use Rattle.vm_queues.specs.Kept.{all_frames, seen}
+use Rattle.vm_queues.specs.Kept.{all_frames, page_lists}
 use Rattle.vm_queues.specs.Queues.{Queues, added, is_queued, is_skipped}
 use Rattle.vm_queues.specs.declared.lists.Lists.{Lists}
 use Rattle.vm_queues.proofs.Moves.{Adds, added_apart, added_seen, kept_so, queued_is, room_for_one}
@@ -30,4 +30,4 @@ returns c =
     let new : Lists = record { active = c.push_back.new.self; inactive = lists.inactive; marks = with_item lists.marks c.args.f.0 false } in
     let adds : Adds c.args.f lists new = record { inactive = refl; active = pushed _ _ _ _ c.push_back.ensures.items ok; marks = refl } in
     let is = added_seen c.args.f lists new adds inside none ∙ ap (added c.args.f.0) c.self.view_is in
-    record { queues = is; pages = queued_added c.args.f.0 c.args.self.now (seen new) is }
+    record { queues = is; pages = queued_added c.args.f.0 c.args.self.now (page_lists new) is }

@@ -1,14 +1,14 @@
 use Rattle.std.proofs.Common.{◌∙◌, ap}
-use Rattle.vm_queues.specs.Kept.{seen}
+use Rattle.vm_queues.specs.Kept.{page_lists}
 use Rattle.vm_queues.specs.Queues.{balanced, spared}
 use Rattle.vm_queues.proofs.Queued.{chosen_stands, queued_victim}
 use Rattle.vm_queues.proofs.queues.PageQueues.victim.Goals as goal
 
 pub returns-clause-pages : goal.returns-clause-pages
-returns-clause-pages c = queued_victim c.args.self.now (seen c.spare.new.lists) (c.spare.ensures.spared ∙ ap spared (c.balance.ensures.balanced ∙ ap balanced c.self.view_is))
+returns-clause-pages c = queued_victim c.args.self.now (page_lists c.spare.new.lists) (c.spare.ensures.spared ∙ ap spared (c.balance.ensures.balanced ∙ ap balanced c.self.view_is))
 
 pub returns-clause-none : goal.returns-clause-none
 returns-clause-none c =
-    let new = seen c.spare.new.lists in
+    let new = page_lists c.spare.new.lists in
     chosen_stands c.args.skip.now new c.args.self.now c.choose.result c.choose.ensures
     (queued_victim c.args.self.now new (c.spare.ensures.spared ∙ ap spared (c.balance.ensures.balanced ∙ ap balanced c.self.view_is)))

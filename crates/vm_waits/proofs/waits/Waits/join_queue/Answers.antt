@@ -3,7 +3,7 @@ use Rattle.std.proofs.lemmas.List.{length-map}
 use Rattle.std.specs.Prelude.{IsSome}
 use Rattle.vm_waits.proofs.Rows.{counted_turned, counted_within, set_turned, spot_within, turned_keeps}
 use Rattle.vm_waits.proofs.Tables.{found_mapped, holds_there, if_some, is_there, lined_on, puts_turned, some_found, there}
-use Rattle.vm_waits.specs.Kept.{noted_place, spot}
+use Rattle.vm_waits.specs.Kept.{noted_place, row_place}
 use Rattle.vm_waits.specs.Waits.{entry, is_again, is_frame, one, turned, with_on}
 use Rattle.vm_waits.specs.declared.waiting.On.TheVariants as on
 use Rattle.vm_waits.proofs.waits.Waits.join_queue.Goals as goal
@@ -22,7 +22,7 @@ index_mut-requires c =
     let some : IsSome (entry c.args.self.now.rows c.args.task.0) = is_there (entry c.args.self.now.rows c.args.task.0) (λ w. is_frame w.on ≡ false) c.requires in
     let was = there (entry old.rows.items c.args.task.0) (rw (← c.self.view_is) at some) in
     let other : is_frame was.it.on ≡ false = holds_there (entry old.rows.items c.args.task.0) was.it (λ w. is_frame w.on ≡ false) was.is (rw (← c.self.view_is) at c.requires) in
-    let spots : spot c.args.task.0 old.rows.items ≡ Some c.known_place-at.result = sym (c.self.invariant.0.leads c.args.task.0) ∙ ap (noted_place c.args.task.0) (sym c.deref.ensures.value) ∙ c.known_place-at.ensures in
+    let spots : row_place c.args.task.0 old.rows.items ≡ Some c.known_place-at.result = sym (c.self.invariant.0.leads c.args.task.0) ∙ ap (noted_place c.args.task.0) (sym c.deref.ensures.value) ∙ c.known_place-at.ensures in
     omega (arith, spot_within old.rows.items c.args.task.0 c.known_place-at.result spots, old.rows.ok.0)
 
 pub invariant_of-self : goal.invariant_of-self
@@ -31,7 +31,7 @@ invariant_of-self c =
     let some : IsSome (entry c.args.self.now.rows c.args.task.0) = is_there (entry c.args.self.now.rows c.args.task.0) (λ w. is_frame w.on ≡ false) c.requires in
     let was = there (entry old.rows.items c.args.task.0) (rw (← c.self.view_is) at some) in
     let other : is_frame was.it.on ≡ false = holds_there (entry old.rows.items c.args.task.0) was.it (λ w. is_frame w.on ≡ false) was.is (rw (← c.self.view_is) at c.requires) in
-    let spots : spot c.args.task.0 old.rows.items ≡ Some c.known_place-at.result = sym (c.self.invariant.0.leads c.args.task.0) ∙ ap (noted_place c.args.task.0) (sym c.deref.ensures.value) ∙ c.known_place-at.ensures in
+    let spots : row_place c.args.task.0 old.rows.items ≡ Some c.known_place-at.result = sym (c.self.invariant.0.leads c.args.task.0) ∙ ap (noted_place c.args.task.0) (sym c.deref.ensures.value) ∙ c.known_place-at.ensures in
     let rows : set old.rows.items c.known_place-at.result (with_on c.index_mut.result.now on.Frame) ≡ map (turned c.args.task.0 on.Frame) old.rows.items = set_turned c.args.task.0 c.known_place-at.result old.rows.items c.index_mut.result.now on.Frame c.self.invariant.0.once spots c.index_mut.ensures.value in
     let fits = c.self.invariant.2 in
     let long = length-map old.rows.items (turned c.args.task.0 on.Frame) in
@@ -56,7 +56,7 @@ returns-clause-rows c =
     let some : IsSome (entry c.args.self.now.rows c.args.task.0) = is_there (entry c.args.self.now.rows c.args.task.0) (λ w. is_frame w.on ≡ false) c.requires in
     let was = there (entry old.rows.items c.args.task.0) (rw (← c.self.view_is) at some) in
     let other : is_frame was.it.on ≡ false = holds_there (entry old.rows.items c.args.task.0) was.it (λ w. is_frame w.on ≡ false) was.is (rw (← c.self.view_is) at c.requires) in
-    let spots : spot c.args.task.0 old.rows.items ≡ Some c.known_place-at.result = sym (c.self.invariant.0.leads c.args.task.0) ∙ ap (noted_place c.args.task.0) (sym c.deref.ensures.value) ∙ c.known_place-at.ensures in
+    let spots : row_place c.args.task.0 old.rows.items ≡ Some c.known_place-at.result = sym (c.self.invariant.0.leads c.args.task.0) ∙ ap (noted_place c.args.task.0) (sym c.deref.ensures.value) ∙ c.known_place-at.ensures in
     let rows : set old.rows.items c.known_place-at.result (with_on c.index_mut.result.now on.Frame) ≡ map (turned c.args.task.0 on.Frame) old.rows.items = set_turned c.args.task.0 c.known_place-at.result old.rows.items c.index_mut.result.now on.Frame c.self.invariant.0.once spots c.index_mut.ensures.value in
     rw (rows, ← c.self.view_is) refl
 
@@ -66,7 +66,7 @@ returns-clause-entry c =
     let some : IsSome (entry c.args.self.now.rows c.args.task.0) = is_there (entry c.args.self.now.rows c.args.task.0) (λ w. is_frame w.on ≡ false) c.requires in
     let was = there (entry old.rows.items c.args.task.0) (rw (← c.self.view_is) at some) in
     let other : is_frame was.it.on ≡ false = holds_there (entry old.rows.items c.args.task.0) was.it (λ w. is_frame w.on ≡ false) was.is (rw (← c.self.view_is) at c.requires) in
-    let spots : spot c.args.task.0 old.rows.items ≡ Some c.known_place-at.result = sym (c.self.invariant.0.leads c.args.task.0) ∙ ap (noted_place c.args.task.0) (sym c.deref.ensures.value) ∙ c.known_place-at.ensures in
+    let spots : row_place c.args.task.0 old.rows.items ≡ Some c.known_place-at.result = sym (c.self.invariant.0.leads c.args.task.0) ∙ ap (noted_place c.args.task.0) (sym c.deref.ensures.value) ∙ c.known_place-at.ensures in
     let rows : set old.rows.items c.known_place-at.result (with_on c.index_mut.result.now on.Frame) ≡ map (turned c.args.task.0 on.Frame) old.rows.items = set_turned c.args.task.0 c.known_place-at.result old.rows.items c.index_mut.result.now on.Frame c.self.invariant.0.once spots c.index_mut.ensures.value in
     rw (rows, ← c.self.view_is) (if_some (entry old.rows.items c.args.task.0) _ (λ one is. puts_turned c.args.task.0 on.Frame old.rows.items one is))
 
@@ -76,7 +76,7 @@ returns-clause-again c =
     let some : IsSome (entry c.args.self.now.rows c.args.task.0) = is_there (entry c.args.self.now.rows c.args.task.0) (λ w. is_frame w.on ≡ false) c.requires in
     let was = there (entry old.rows.items c.args.task.0) (rw (← c.self.view_is) at some) in
     let other : is_frame was.it.on ≡ false = holds_there (entry old.rows.items c.args.task.0) was.it (λ w. is_frame w.on ≡ false) was.is (rw (← c.self.view_is) at c.requires) in
-    let spots : spot c.args.task.0 old.rows.items ≡ Some c.known_place-at.result = sym (c.self.invariant.0.leads c.args.task.0) ∙ ap (noted_place c.args.task.0) (sym c.deref.ensures.value) ∙ c.known_place-at.ensures in
+    let spots : row_place c.args.task.0 old.rows.items ≡ Some c.known_place-at.result = sym (c.self.invariant.0.leads c.args.task.0) ∙ ap (noted_place c.args.task.0) (sym c.deref.ensures.value) ∙ c.known_place-at.ensures in
     let rows : set old.rows.items c.known_place-at.result (with_on c.index_mut.result.now on.Frame) ≡ map (turned c.args.task.0 on.Frame) old.rows.items = set_turned c.args.task.0 c.known_place-at.result old.rows.items c.index_mut.result.now on.Frame c.self.invariant.0.once spots c.index_mut.ensures.value in
     rw (rows, ← c.self.view_is) (if_some (entry old.rows.items c.args.task.0) _ (λ was is. let count = counted_turned is_again c.args.task.0 on.Frame old.rows.items was c.self.invariant.0.once is in omega (arith, count)))
 
@@ -86,7 +86,7 @@ returns-clause-queued c =
     let some : IsSome (entry c.args.self.now.rows c.args.task.0) = is_there (entry c.args.self.now.rows c.args.task.0) (λ w. is_frame w.on ≡ false) c.requires in
     let was = there (entry old.rows.items c.args.task.0) (rw (← c.self.view_is) at some) in
     let other : is_frame was.it.on ≡ false = holds_there (entry old.rows.items c.args.task.0) was.it (λ w. is_frame w.on ≡ false) was.is (rw (← c.self.view_is) at c.requires) in
-    let spots : spot c.args.task.0 old.rows.items ≡ Some c.known_place-at.result = sym (c.self.invariant.0.leads c.args.task.0) ∙ ap (noted_place c.args.task.0) (sym c.deref.ensures.value) ∙ c.known_place-at.ensures in
+    let spots : row_place c.args.task.0 old.rows.items ≡ Some c.known_place-at.result = sym (c.self.invariant.0.leads c.args.task.0) ∙ ap (noted_place c.args.task.0) (sym c.deref.ensures.value) ∙ c.known_place-at.ensures in
     let rows : set old.rows.items c.known_place-at.result (with_on c.index_mut.result.now on.Frame) ≡ map (turned c.args.task.0 on.Frame) old.rows.items = set_turned c.args.task.0 c.known_place-at.result old.rows.items c.index_mut.result.now on.Frame c.self.invariant.0.once spots c.index_mut.ensures.value in
     let none = ap one other in
     let count = counted_turned is_frame c.args.task.0 on.Frame old.rows.items was.it c.self.invariant.0.once was.is in
@@ -98,7 +98,7 @@ returns-clause-queue c =
     let some : IsSome (entry c.args.self.now.rows c.args.task.0) = is_there (entry c.args.self.now.rows c.args.task.0) (λ w. is_frame w.on ≡ false) c.requires in
     let was = there (entry old.rows.items c.args.task.0) (rw (← c.self.view_is) at some) in
     let other : is_frame was.it.on ≡ false = holds_there (entry old.rows.items c.args.task.0) was.it (λ w. is_frame w.on ≡ false) was.is (rw (← c.self.view_is) at c.requires) in
-    let spots : spot c.args.task.0 old.rows.items ≡ Some c.known_place-at.result = sym (c.self.invariant.0.leads c.args.task.0) ∙ ap (noted_place c.args.task.0) (sym c.deref.ensures.value) ∙ c.known_place-at.ensures in
+    let spots : row_place c.args.task.0 old.rows.items ≡ Some c.known_place-at.result = sym (c.self.invariant.0.leads c.args.task.0) ∙ ap (noted_place c.args.task.0) (sym c.deref.ensures.value) ∙ c.known_place-at.ensures in
     let rows : set old.rows.items c.known_place-at.result (with_on c.index_mut.result.now on.Frame) ≡ map (turned c.args.task.0 on.Frame) old.rows.items = set_turned c.args.task.0 c.known_place-at.result old.rows.items c.index_mut.result.now on.Frame c.self.invariant.0.once spots c.index_mut.ensures.value in
     let fits = c.self.invariant.2 in
     let long = length-map old.rows.items (turned c.args.task.0 on.Frame) in

@@ -2,8 +2,8 @@ use Rattle.std.proofs.Common.{◌≡◌, ◌∙◌, Some, map, refl, ap, arith}
 use Rattle.std.specs.List.{remove}
 use Rattle.vm_waits.proofs.Rows.{counted_without, entry_without, length_without, remove_without, spot_within}
 use Rattle.vm_waits.proofs.Tables.{found_without, if_some, lined_without, spot_known, there, within_known}
-use Rattle.vm_waits.specs.Kept.{closed, places_before, spot}
-use Rattle.vm_waits.specs.Waits.{entry, is_again, is_frame, without}
+use Rattle.vm_waits.specs.Kept.{closed, places_before, row_place}
+use Rattle.vm_waits.specs.Waits.{entry, is_again, is_frame, rows_without}
 use Rattle.vm_waits.specs.declared.place.Place.{Place}
 use Rattle.vm_waits.proofs.waits.Waits.remove.Goals as goal
 
@@ -19,7 +19,7 @@ remove-requires c =
     let old = c.self.inside in
     let was = there (entry old.rows.items c.args.task.0) (rw (← c.self.view_is) at c.requires) in
     let place : c.find-i.result ≡ places_before c.args.task.0 old.places.items = c.find-i.ensures.value ∙ ap (places_before c.args.task.0) c.deref.ensures.value in
-    let spots : spot c.args.task.0 old.rows.items ≡ Some c.remove-place.result.at = spot_known c.args.task.0 c.find-i.result old.rows.items old.places.items was.it c.remove-place.result c.self.invariant.0 was.is place c.remove-place.ensures.value in
+    let spots : row_place c.args.task.0 old.rows.items ≡ Some c.remove-place.result.at = spot_known c.args.task.0 c.find-i.result old.rows.items old.places.items was.it c.remove-place.result c.self.invariant.0 was.is place c.remove-place.ensures.value in
     omega (arith, spot_within old.rows.items c.args.task.0 c.remove-place.result.at spots, old.rows.ok.0)
 
 pub invariant_of-self : goal.invariant_of-self
@@ -27,8 +27,8 @@ invariant_of-self c =
     let old = c.self.inside in
     let was = there (entry old.rows.items c.args.task.0) (rw (← c.self.view_is) at c.requires) in
     let place : c.find-i.result ≡ places_before c.args.task.0 old.places.items = c.find-i.ensures.value ∙ ap (places_before c.args.task.0) c.deref.ensures.value in
-    let spots : spot c.args.task.0 old.rows.items ≡ Some c.remove-place.result.at = spot_known c.args.task.0 c.find-i.result old.rows.items old.places.items was.it c.remove-place.result c.self.invariant.0 was.is place c.remove-place.ensures.value in
-    let rows : c.remove.new.self.items ≡ without c.args.task.0 old.rows.items = c.remove.ensures.items ∙ remove_without c.args.task.0 c.remove-place.result.at old.rows.items c.self.invariant.0.once spots in
+    let spots : row_place c.args.task.0 old.rows.items ≡ Some c.remove-place.result.at = spot_known c.args.task.0 c.find-i.result old.rows.items old.places.items was.it c.remove-place.result c.self.invariant.0 was.is place c.remove-place.ensures.value in
+    let rows : c.remove.new.self.items ≡ rows_without c.args.task.0 old.rows.items = c.remove.ensures.items ∙ remove_without c.args.task.0 c.remove-place.result.at old.rows.items c.self.invariant.0.once spots in
     let places : c.close_gap.new.places.items ≡ map (closed c.remove-place.result.at) (remove old.places.items c.find-i.result) = c.close_gap.ensures.items ∙ ap (map (closed c.remove-place.result.at)) c.remove-place.ensures.items in
     let queue = c.take_off.ensures.tasks in
     let fits = c.self.invariant.2 in
@@ -49,8 +49,8 @@ returns-clause-rows c =
     let old = c.self.inside in
     let was = there (entry old.rows.items c.args.task.0) (rw (← c.self.view_is) at c.requires) in
     let place : c.find-i.result ≡ places_before c.args.task.0 old.places.items = c.find-i.ensures.value ∙ ap (places_before c.args.task.0) c.deref.ensures.value in
-    let spots : spot c.args.task.0 old.rows.items ≡ Some c.remove-place.result.at = spot_known c.args.task.0 c.find-i.result old.rows.items old.places.items was.it c.remove-place.result c.self.invariant.0 was.is place c.remove-place.ensures.value in
-    let rows : c.remove.new.self.items ≡ without c.args.task.0 old.rows.items = c.remove.ensures.items ∙ remove_without c.args.task.0 c.remove-place.result.at old.rows.items c.self.invariant.0.once spots in
+    let spots : row_place c.args.task.0 old.rows.items ≡ Some c.remove-place.result.at = spot_known c.args.task.0 c.find-i.result old.rows.items old.places.items was.it c.remove-place.result c.self.invariant.0 was.is place c.remove-place.ensures.value in
+    let rows : c.remove.new.self.items ≡ rows_without c.args.task.0 old.rows.items = c.remove.ensures.items ∙ remove_without c.args.task.0 c.remove-place.result.at old.rows.items c.self.invariant.0.once spots in
     rw (rows, ← c.self.view_is) refl
 
 pub returns-clause-entry : goal.returns-clause-entry
@@ -58,8 +58,8 @@ returns-clause-entry c =
     let old = c.self.inside in
     let was = there (entry old.rows.items c.args.task.0) (rw (← c.self.view_is) at c.requires) in
     let place : c.find-i.result ≡ places_before c.args.task.0 old.places.items = c.find-i.ensures.value ∙ ap (places_before c.args.task.0) c.deref.ensures.value in
-    let spots : spot c.args.task.0 old.rows.items ≡ Some c.remove-place.result.at = spot_known c.args.task.0 c.find-i.result old.rows.items old.places.items was.it c.remove-place.result c.self.invariant.0 was.is place c.remove-place.ensures.value in
-    let rows : c.remove.new.self.items ≡ without c.args.task.0 old.rows.items = c.remove.ensures.items ∙ remove_without c.args.task.0 c.remove-place.result.at old.rows.items c.self.invariant.0.once spots in
+    let spots : row_place c.args.task.0 old.rows.items ≡ Some c.remove-place.result.at = spot_known c.args.task.0 c.find-i.result old.rows.items old.places.items was.it c.remove-place.result c.self.invariant.0 was.is place c.remove-place.ensures.value in
+    let rows : c.remove.new.self.items ≡ rows_without c.args.task.0 old.rows.items = c.remove.ensures.items ∙ remove_without c.args.task.0 c.remove-place.result.at old.rows.items c.self.invariant.0.once spots in
     rw (rows, ← c.self.view_is) record { at = entry_without c.args.task.0 old.rows.items }
 
 pub returns-clause-again : goal.returns-clause-again
@@ -67,8 +67,8 @@ returns-clause-again c =
     let old = c.self.inside in
     let was = there (entry old.rows.items c.args.task.0) (rw (← c.self.view_is) at c.requires) in
     let place : c.find-i.result ≡ places_before c.args.task.0 old.places.items = c.find-i.ensures.value ∙ ap (places_before c.args.task.0) c.deref.ensures.value in
-    let spots : spot c.args.task.0 old.rows.items ≡ Some c.remove-place.result.at = spot_known c.args.task.0 c.find-i.result old.rows.items old.places.items was.it c.remove-place.result c.self.invariant.0 was.is place c.remove-place.ensures.value in
-    let rows : c.remove.new.self.items ≡ without c.args.task.0 old.rows.items = c.remove.ensures.items ∙ remove_without c.args.task.0 c.remove-place.result.at old.rows.items c.self.invariant.0.once spots in
+    let spots : row_place c.args.task.0 old.rows.items ≡ Some c.remove-place.result.at = spot_known c.args.task.0 c.find-i.result old.rows.items old.places.items was.it c.remove-place.result c.self.invariant.0 was.is place c.remove-place.ensures.value in
+    let rows : c.remove.new.self.items ≡ rows_without c.args.task.0 old.rows.items = c.remove.ensures.items ∙ remove_without c.args.task.0 c.remove-place.result.at old.rows.items c.self.invariant.0.once spots in
     rw (rows, ← c.self.view_is) (if_some (entry old.rows.items c.args.task.0) _ (λ one is. counted_without is_again c.args.task.0 old.rows.items one c.self.invariant.0.once is))
 
 pub returns-clause-queued : goal.returns-clause-queued
@@ -76,6 +76,6 @@ returns-clause-queued c =
     let old = c.self.inside in
     let was = there (entry old.rows.items c.args.task.0) (rw (← c.self.view_is) at c.requires) in
     let place : c.find-i.result ≡ places_before c.args.task.0 old.places.items = c.find-i.ensures.value ∙ ap (places_before c.args.task.0) c.deref.ensures.value in
-    let spots : spot c.args.task.0 old.rows.items ≡ Some c.remove-place.result.at = spot_known c.args.task.0 c.find-i.result old.rows.items old.places.items was.it c.remove-place.result c.self.invariant.0 was.is place c.remove-place.ensures.value in
-    let rows : c.remove.new.self.items ≡ without c.args.task.0 old.rows.items = c.remove.ensures.items ∙ remove_without c.args.task.0 c.remove-place.result.at old.rows.items c.self.invariant.0.once spots in
+    let spots : row_place c.args.task.0 old.rows.items ≡ Some c.remove-place.result.at = spot_known c.args.task.0 c.find-i.result old.rows.items old.places.items was.it c.remove-place.result c.self.invariant.0 was.is place c.remove-place.ensures.value in
+    let rows : c.remove.new.self.items ≡ rows_without c.args.task.0 old.rows.items = c.remove.ensures.items ∙ remove_without c.args.task.0 c.remove-place.result.at old.rows.items c.self.invariant.0.once spots in
     rw (rows, ← c.self.view_is) (if_some (entry old.rows.items c.args.task.0) _ (λ one is. counted_without is_frame c.args.task.0 old.rows.items one c.self.invariant.0.once is))

@@ -2,7 +2,7 @@ use Rattle.std.proofs.Common.{◌≡◌, ◌∙◌, Some, map, set, refl, sym, a
 use Rattle.std.proofs.lemmas.List.{length-map}
 use Rattle.vm_waits.proofs.Rows.{counted_turned, set_turned, spot_within, turned_keeps}
 use Rattle.vm_waits.proofs.Tables.{found_mapped, if_some, lined_off, puts_turned, some_found, there}
-use Rattle.vm_waits.specs.Kept.{noted_place, spot}
+use Rattle.vm_waits.specs.Kept.{noted_place, row_place}
 use Rattle.vm_waits.specs.Waits.{entry, is_again, is_frame, one, turned, with_on}
 use Rattle.vm_waits.proofs.waits.Waits.set_on.Goals as goal
 
@@ -18,7 +18,7 @@ index_mut-requires c =
     let old = c.self.inside in
     let was = there (entry old.rows.items c.args.task.0) (rw (← c.self.view_is) at c.requires.there) in
     let other = c.requires.other in
-    let spots : spot c.args.task.0 old.rows.items ≡ Some c.known_place-at.result = sym (c.self.invariant.0.leads c.args.task.0) ∙ ap (noted_place c.args.task.0) (sym c.deref.ensures.value) ∙ c.known_place-at.ensures in
+    let spots : row_place c.args.task.0 old.rows.items ≡ Some c.known_place-at.result = sym (c.self.invariant.0.leads c.args.task.0) ∙ ap (noted_place c.args.task.0) (sym c.deref.ensures.value) ∙ c.known_place-at.ensures in
     omega (arith, spot_within old.rows.items c.args.task.0 c.known_place-at.result spots, old.rows.ok.0)
 
 pub invariant_of-self : goal.invariant_of-self
@@ -26,7 +26,7 @@ invariant_of-self c =
     let old = c.self.inside in
     let was = there (entry old.rows.items c.args.task.0) (rw (← c.self.view_is) at c.requires.there) in
     let other = c.requires.other in
-    let spots : spot c.args.task.0 old.rows.items ≡ Some c.known_place-at.result = sym (c.self.invariant.0.leads c.args.task.0) ∙ ap (noted_place c.args.task.0) (sym c.deref.ensures.value) ∙ c.known_place-at.ensures in
+    let spots : row_place c.args.task.0 old.rows.items ≡ Some c.known_place-at.result = sym (c.self.invariant.0.leads c.args.task.0) ∙ ap (noted_place c.args.task.0) (sym c.deref.ensures.value) ∙ c.known_place-at.ensures in
     let rows : set old.rows.items c.known_place-at.result (with_on c.index_mut.result.now c.args.on) ≡ map (turned c.args.task.0 c.args.on) old.rows.items = set_turned c.args.task.0 c.known_place-at.result old.rows.items c.index_mut.result.now c.args.on c.self.invariant.0.once spots c.index_mut.ensures.value in
     let queue = c.take_off.ensures.tasks in
     let fits = c.self.invariant.2 in
@@ -47,7 +47,7 @@ returns-clause-rows c =
     let old = c.self.inside in
     let was = there (entry old.rows.items c.args.task.0) (rw (← c.self.view_is) at c.requires.there) in
     let other = c.requires.other in
-    let spots : spot c.args.task.0 old.rows.items ≡ Some c.known_place-at.result = sym (c.self.invariant.0.leads c.args.task.0) ∙ ap (noted_place c.args.task.0) (sym c.deref.ensures.value) ∙ c.known_place-at.ensures in
+    let spots : row_place c.args.task.0 old.rows.items ≡ Some c.known_place-at.result = sym (c.self.invariant.0.leads c.args.task.0) ∙ ap (noted_place c.args.task.0) (sym c.deref.ensures.value) ∙ c.known_place-at.ensures in
     let rows : set old.rows.items c.known_place-at.result (with_on c.index_mut.result.now c.args.on) ≡ map (turned c.args.task.0 c.args.on) old.rows.items = set_turned c.args.task.0 c.known_place-at.result old.rows.items c.index_mut.result.now c.args.on c.self.invariant.0.once spots c.index_mut.ensures.value in
     rw (rows, ← c.self.view_is) refl
 
@@ -56,7 +56,7 @@ returns-clause-entry c =
     let old = c.self.inside in
     let was = there (entry old.rows.items c.args.task.0) (rw (← c.self.view_is) at c.requires.there) in
     let other = c.requires.other in
-    let spots : spot c.args.task.0 old.rows.items ≡ Some c.known_place-at.result = sym (c.self.invariant.0.leads c.args.task.0) ∙ ap (noted_place c.args.task.0) (sym c.deref.ensures.value) ∙ c.known_place-at.ensures in
+    let spots : row_place c.args.task.0 old.rows.items ≡ Some c.known_place-at.result = sym (c.self.invariant.0.leads c.args.task.0) ∙ ap (noted_place c.args.task.0) (sym c.deref.ensures.value) ∙ c.known_place-at.ensures in
     let rows : set old.rows.items c.known_place-at.result (with_on c.index_mut.result.now c.args.on) ≡ map (turned c.args.task.0 c.args.on) old.rows.items = set_turned c.args.task.0 c.known_place-at.result old.rows.items c.index_mut.result.now c.args.on c.self.invariant.0.once spots c.index_mut.ensures.value in
     rw (rows, ← c.self.view_is) (if_some (entry old.rows.items c.args.task.0) _ (λ one is. puts_turned c.args.task.0 c.args.on old.rows.items one is))
 
@@ -65,7 +65,7 @@ returns-clause-again c =
     let old = c.self.inside in
     let was = there (entry old.rows.items c.args.task.0) (rw (← c.self.view_is) at c.requires.there) in
     let other = c.requires.other in
-    let spots : spot c.args.task.0 old.rows.items ≡ Some c.known_place-at.result = sym (c.self.invariant.0.leads c.args.task.0) ∙ ap (noted_place c.args.task.0) (sym c.deref.ensures.value) ∙ c.known_place-at.ensures in
+    let spots : row_place c.args.task.0 old.rows.items ≡ Some c.known_place-at.result = sym (c.self.invariant.0.leads c.args.task.0) ∙ ap (noted_place c.args.task.0) (sym c.deref.ensures.value) ∙ c.known_place-at.ensures in
     let rows : set old.rows.items c.known_place-at.result (with_on c.index_mut.result.now c.args.on) ≡ map (turned c.args.task.0 c.args.on) old.rows.items = set_turned c.args.task.0 c.known_place-at.result old.rows.items c.index_mut.result.now c.args.on c.self.invariant.0.once spots c.index_mut.ensures.value in
     rw (rows, ← c.self.view_is) (if_some (entry old.rows.items c.args.task.0) _ (λ one is. counted_turned is_again c.args.task.0 c.args.on old.rows.items one c.self.invariant.0.once is))
 
@@ -74,7 +74,7 @@ returns-clause-queued c =
     let old = c.self.inside in
     let was = there (entry old.rows.items c.args.task.0) (rw (← c.self.view_is) at c.requires.there) in
     let other = c.requires.other in
-    let spots : spot c.args.task.0 old.rows.items ≡ Some c.known_place-at.result = sym (c.self.invariant.0.leads c.args.task.0) ∙ ap (noted_place c.args.task.0) (sym c.deref.ensures.value) ∙ c.known_place-at.ensures in
+    let spots : row_place c.args.task.0 old.rows.items ≡ Some c.known_place-at.result = sym (c.self.invariant.0.leads c.args.task.0) ∙ ap (noted_place c.args.task.0) (sym c.deref.ensures.value) ∙ c.known_place-at.ensures in
     let rows : set old.rows.items c.known_place-at.result (with_on c.index_mut.result.now c.args.on) ≡ map (turned c.args.task.0 c.args.on) old.rows.items = set_turned c.args.task.0 c.known_place-at.result old.rows.items c.index_mut.result.now c.args.on c.self.invariant.0.once spots c.index_mut.ensures.value in
     let none = ap one other in
     rw (rows, ← c.self.view_is) (if_some (entry old.rows.items c.args.task.0) _ (λ was is. let count = counted_turned is_frame c.args.task.0 c.args.on old.rows.items was c.self.invariant.0.once is in omega (arith, count, none)))
