@@ -1,1 +1,1 @@
-mod Regions
+mod Tables

@@ -1,21 +1,75 @@
--- The regions of a host, as contracts see them.
-use Rattle.std.specs.Prelude.{ℕ, ◌≡◌, ◌==◌, List, [], ◌∷◌, Option, Some, None, if◌then◌else◌}
-use Rattle.vm_shadow.specs.declared.kept_region.KeptRegion.{KeptRegion}
+-- The regions of a host and the shadows under them, as contracts see them.
+use Rattle.std.specs.Map.{lookup}
+use Rattle.std.specs.Prelude.{ℕ, suc, ◌≡◌, ◌+◌, ◌<◌, ◌≤◌, ◌==◌, true, false, List, Option, Some, None, if◌then◌else◌}
+use Rattle.vm_base.specs.declared.ids.ObjectId.{ObjectId}
+use Rattle.vm_base.specs.declared.ids.PageKey.{PageKey}
+use Rattle.vm_base.specs.declared.ids.RegionId.{RegionId}
 use Rattle.vm_shadow.specs.declared.region_row.RegionRow.{RegionRow}
+use Rattle.vm_shadow.specs.declared.shadow_row.ShadowRow.{ShadowRow}
 
--- the regions, and how many further ones are made without memory
+-- the row of each region, what stands under each object, and how many further regions and shadows together are made without memory
 pub record ChainTable : Type 0 where
-  pub regions : List KeptRegion
+  pub regions : List (RegionId × RegionRow)
+  pub shadows : List (ObjectId × ShadowRow)
   pub spare : ℕ
-
-abbrev pub region_among : ℕ → List KeptRegion → Option RegionRow
-region_among r [] = None
-region_among r (kept ∷ rest) = if kept.region.0 == r then Some kept.row else region_among r rest
 
 -- the row of a region, where it is there
 abbrev pub region_at : ChainTable → ℕ → Option RegionRow
-region_at table r = region_among r table.regions
+region_at table r = lookup (λ id. r == id.0) table.regions
 
--- one region has this row now, or is gone, and each other is as it was
+-- what stands under an object, where it is a shadow
+abbrev pub shadow_at : ChainTable → ℕ → Option ShadowRow
+shadow_at table o = lookup (λ id. o == id.0) table.shadows
+
+-- nothing has changed but that there may be more room
+pub record SameChains (old new : ChainTable) : Type 0 where
+  pub regions : region_at new ≡ region_at old
+  pub shadows : shadow_at new ≡ shadow_at old
+  pub spare : old.spare ≤ new.spare
+
+-- one region has this row now, or is gone; each other is as it was, and so is what stands under each object
 pub record PutsRegion (region : ℕ) (row : Option RegionRow) (old new : ChainTable) : Type 0 where
   pub at : (r : ℕ) → region_at new r ≡ (if region == r then row else region_at old r)
+  pub shadows : shadow_at new ≡ shadow_at old
+
+-- the place under a page of an object, which has this under it
+abbrev pub place_under : Option ShadowRow → ℕ → Option PageKey
+place_under None page = None
+place_under (Some row) page = Some (record { object = row.under; page = record { 0 = page + row.shift } })
+
+-- a copy of some pages of a region: over the same object, so much further on, and marked
+abbrev pub copy_of : RegionRow → ℕ → ℕ → RegionRow
+copy_of row offset pages = record { top = row.top; shift = row.shift + offset; pages = pages; marked = true; entries = 0 }
+
+-- a symmetric copy of a region with this row: the copy is there, and both are marked
+pub record CopiesRegion (source copy offset pages : ℕ) (row : RegionRow) (old new : ChainTable) : Type 0 where
+  pub at : (r : ℕ) → region_at new r ≡ (if copy == r then Some (copy_of row offset pages) else (if source == r then Some (record row { marked = true }) else region_at old r))
+  pub shadows : shadow_at new ≡ shadow_at old
+
+-- a region with this row gets an object of its own over its old top, and has no mark any more
+pub record ShadowsRegion (region : ℕ) (object : ObjectId) (row : RegionRow) (old new : ChainTable) : Type 0 where
+  pub at : (r : ℕ) → region_at new r ≡ (if region == r then Some (record row { top = object; shift = 0; marked = false }) else region_at old r)
+  pub under : (o : ℕ) → shadow_at new o ≡ (if object.0 == o then Some (record { under = row.top; shift = row.shift }) else shadow_at old o)
+
+-- nothing stands under the object any more; each region is as it was
+pub record DropsShadow (object : ℕ) (old new : ChainTable) : Type 0 where
+  pub at : (o : ℕ) → shadow_at new o ≡ (if object == o then None else shadow_at old o)
+  pub regions : region_at new ≡ region_at old
+
+-- the regions have numbers below this
+abbrev pub RegionsBelow : ℕ → ChainTable → Type 0
+RegionsBelow n table = (r : ℕ) → n ≤ r → region_at table r ≡ None
+
+-- the objects that the chains name have numbers below this
+pub record ObjectsBelow (n : ℕ) (table : ChainTable) : Type 0 where
+  pub tops : (r : ℕ) (row : RegionRow) → region_at table r ≡ Some row → row.top.0 < n
+  pub shadows : (o : ℕ) (row : ShadowRow) → shadow_at table o ≡ Some row → o < n
+
+-- a backing object has the smaller number
+abbrev pub IsOlderUnder : ChainTable → Type 0
+IsOlderUnder table = (o : ℕ) (row : ShadowRow) → shadow_at table o ≡ Some row → row.under.0 < o
+
+-- the chain from an object down has so many objects
+pub data IsDeep (table : ChainTable) : ℕ → ℕ → Type 0 where
+  Last : (o : ℕ) → shadow_at table o ≡ None → IsDeep table o 1
+  Over : (o n : ℕ) (row : ShadowRow) → shadow_at table o ≡ Some row → IsDeep table row.under.0 n → IsDeep table o (suc n)

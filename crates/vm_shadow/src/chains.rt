@@ -1,54 +1,70 @@
-// The regions of a host.
-ghost use Rattle.std.specs.Prelude.{ℕ, ◌≡◌, ◌+◌, ◌<◌, ◌≤◌, Some, None, IfSome, IsOk, IsSome, IsSomeAnd, OnErr, OnOk};
-ghost use Rattle.vm_shadow.specs.Chains.{PutsRegion, region_at};
+// The regions of a host, and the shadows under them.
+ghost use Rattle.std.specs.Option.{option_map};
+ghost use Rattle.std.specs.Prelude.{ℕ, ◌≡◌, ◌+◌, ◌-◌, ◌<◌, ◌≤◌, ◌^◌, Some, None, true, if◌then◌else◌, IfOk, IfSome, IsOk, IsSome, IsSomeAnd, OnErr, OnOk};
+ghost use Rattle.vm_shadow.specs.Chains.{CopiesRegion, DropsShadow, IsDeep, ObjectsBelow, PutsRegion, RegionsBelow, SameChains, ShadowsRegion, place_under, region_at, shadow_at};
 
-use crate::RegionRow;
-use crate::kept_region::{KeptRegion, find};
+use crate::{Ids, RegionRow, ShadowRow};
+use indexmap::IndexMap;
 use std::alloc::Global;
 use std::marker::Model;
-use vm_base::{NoMemory, ObjectId, RegionId};
+use vm_base::{NoMemory, ObjectId, PageKey, PageNo, RegionId};
 
-/// The regions of a host. Contracts see each region with its row, and the number of further
-/// regions that are made without memory.
+/// The regions of a host, and the shadows of their chains. Contracts see each region with its row,
+/// what stands under each object that is a shadow, and the number of further regions and shadows
+/// together that are made without memory.
 ///
-/// Only `reserve` and `make_region` take memory. A region stays until it is dropped, and only one to
-/// which no entry leads can be dropped.
+/// Only `reserve`, `make_region`, `symmetric` and `shadow_over` take memory. A region stays until it
+/// is dropped, and only one to which no entry leads can be dropped; what stands under an object stays
+/// until the object is dropped. A backing object always has the smaller number, so each chain ends.
 #[derive(Drop)]
 pub struct Chains {
-    // By rising number.
-    regions: Vec<KeptRegion>,
+    regions: IndexMap<RegionId, RegionRow>,
+    // What stands under each object that is a shadow.
+    shadows: IndexMap<ObjectId, ShadowRow>,
 }
 
 impl Model for Chains {
-    ghost use Rattle.std.specs.Prelude.{◌-◌, length, vec_capacity};
-    ghost use Rattle.vm_shadow.specs.Chains.{ChainTable};
-    ghost use Rattle.vm_shadow.specs.Kept.{ByRegion};
+    ghost use Rattle.std.specs.Prelude.{min};
+    ghost use Rattle.indexmap.specs.IndexMap.{spare};
+    ghost use Rattle.vm_shadow.specs.Chains.{ChainTable, IsOlderUnder};
 
     ghost Value = { ChainTable };
 
-    ghost view = { λ s. record { regions = s.regions.items; spare = vec_capacity s.regions - length s.regions.items } };
+    ghost view = { λ s. record {
+      regions = s.regions.entries;
+      shadows = s.shadows.entries;
+      spare = min (spare s.regions) (spare s.shadows);
+    } };
 
-    ghost invariant = { λ s. ByRegion 0 s.regions.items };
+    ghost invariant = { λ s. IsOlderUnder (record {
+      regions = s.regions.entries;
+      shadows = s.shadows.entries;
+      spare = min (spare s.regions) (spare s.shadows);
+    }) };
 }
 
 impl Chains {
-    /// No region is there yet.
+    /// No region and no shadow is there yet.
     pub fn new(alloc: Global) -> Chains
-        ensures { (r : ℕ) → region_at result r ≡ None }
+        ensures regions { (r : ℕ) → region_at result r ≡ None }
+        ensures shadows { (o : ℕ) → shadow_at result o ≡ None }
     {
         Chains {
-            regions: Vec::new(alloc),
+            regions: IndexMap::new(alloc),
+            shadows: IndexMap::new(alloc),
         }
     }
 
-    /// Makes room for so many further regions; it fails for want of memory alone.
+    /// Makes room for so many further regions and shadows together; it fails for want of memory
+    /// alone.
     pub fn reserve(&mut self, rows: u32) -> Result<(), NoMemory>
-        ensures same { self.new.regions ≡ self.old.regions }
+        ensures same { (region_at self.new ≡ region_at self.old) × (shadow_at self.new ≡ shadow_at self.old) }
         ensures room { OnOk result (rows ≤ self.new.spare) }
         ensures kept { self.old.spare ≤ self.new.spare }
         ensures succeeds { rows ≤ self.old.spare → IsOk result }
     {
         self.regions.reserve(rows as usize)?;
+        self.shadows.reserve(rows as usize)?;
         Ok(())
     }
 
@@ -56,13 +72,11 @@ impl Chains {
     pub fn make_region(&mut self, region: RegionId, row: RegionRow) -> Result<(), NoMemory>
         requires { region_at self.old region.0 ≡ None }
         ensures ok { OnOk result (PutsRegion region.0 (Some row) self.old self.new) }
-        ensures err { OnErr result (self.new ≡ self.old) }
+        ensures err { OnErr result (SameChains self.old self.new) }
         ensures succeeds { 0 < self.old.spare → IsOk result }
         ensures spare { self.old.spare ≤ self.new.spare + 1 }
     {
-        self.regions.reserve(1)?;
-        let i = find(&self.regions, region);
-        self.regions.insert(i, KeptRegion { region, row })?;
+        self.regions.insert(region, row)?;
         Ok(())
     }
 
@@ -70,15 +84,7 @@ impl Chains {
     pub fn region(&self, region: RegionId) -> Option<RegionRow>
         ensures { result ≡ region_at self.now region.0 }
     {
-        let i = find(&self.regions, region);
-        let Some(kept) = self.regions.get(i) else {
-            return None;
-        };
-        if kept.region.0 == region.0 {
-            Some(kept.row)
-        } else {
-            None
-        }
+        self.regions.get(&region).copied()
     }
 
     /// Sets the number of entries that lead to a region.
@@ -88,9 +94,112 @@ impl Chains {
             PutsRegion region.0 (Some (record row { entries = entries })) self.old self.new) }
         ensures spare { self.new.spare ≡ self.old.spare }
     {
-        let i = find(&self.regions, region);
-        let kept = &mut self.regions[i];
-        kept.row.entries = entries;
+        let row = self.regions.get_mut(&region).unwrap();
+        row.entries = entries;
+    }
+
+    /// What stands under an object; None where it is no shadow.
+    pub fn backing(&self, object: ObjectId) -> Option<ShadowRow>
+        ensures value { result ≡ shadow_at self.now object.0 }
+        ensures older { IfSome result (λ row. row.under.0 < object.0) }
+    {
+        self.shadows.get(&object).copied()
+    }
+
+    /// The page under a page of a shadow, one step down the chain; None where its object is no shadow.
+    pub fn below(&self, key: PageKey) -> Option<PageKey>
+        requires { IfSome (shadow_at self.now key.object.0) (λ row. key.page.0 + row.shift < 2 ^ 32) }
+        ensures value { result ≡ place_under (shadow_at self.now key.object.0) key.page.0 }
+        ensures older { IfSome result (λ under. under.object.0 < key.object.0) }
+    {
+        let row = self.backing(key.object)?;
+        Some(PageKey {
+            object: row.under,
+            page: PageNo(key.page.0 + row.shift),
+        })
+    }
+
+    /// Makes a symmetric copy of so many pages of a region, from one of its pages on: a new region
+    /// over the same object, to which no entry leads yet. Both are marked, so whoever writes to one of
+    /// them shadows it first. It fails for want of memory alone.
+    pub fn symmetric(
+        &mut self,
+        source: RegionId,
+        offset: u32,
+        pages: u32,
+        ids: &mut Ids,
+    ) -> Result<RegionId, NoMemory>
+        requires there { IsSomeAnd (region_at self.old source.0) (λ row. offset + pages ≤ row.pages) }
+        requires shift { IfSome (region_at self.old source.0) (λ row. row.shift + offset < 2 ^ 32) }
+        requires below { RegionsBelow ids.old.next_region self.old }
+        requires regions { ids.old.next_region + 1 < 2 ^ 32 }
+        requires marks { ids.old.marks + 2 < 2 ^ 32 }
+
+        ensures copy { IfOk result (λ copy. copy.0 ≡ ids.old.next_region) }
+        ensures ok { OnOk result (IfSome (region_at self.old source.0) (λ row.
+            CopiesRegion source.0 ids.old.next_region offset pages row self.old self.new)) }
+        ensures ids { OnOk result (IfSome (region_at self.old source.0) (λ row. ids.new ≡ record ids.old {
+          next_region = ids.old.next_region + 1;
+          marks = ids.old.marks + (if row.marked then 1 else 2);
+        })) }
+
+        ensures err { OnErr result (SameChains self.old self.new) }
+        ensures same_ids { OnErr result (ids.new ≡ ids.old) }
+        ensures succeeds { 0 < self.old.spare → IsOk result }
+        ensures spare { self.old.spare ≤ self.new.spare + 1 }
+    {
+        let row = self.regions[&source];
+        let copy = RegionId(ids.next_region);
+        let shared = RegionRow {
+            shift: row.shift + offset,
+            pages,
+            marked: true,
+            entries: 0,
+            ..row
+        };
+        self.regions.insert(copy, shared)?;
+        let copied = self.regions.get_mut(&source).unwrap();
+        copied.marked = true;
+        ids.next_region += 1;
+        ids.marks += if row.marked { 1 } else { 2 };
+        Ok(copy)
+    }
+
+    /// Gives a marked region a new object of its own, a shadow over its old top. It fails for want of
+    /// memory alone.
+    pub fn shadow_over(&mut self, region: RegionId, ids: &mut Ids) -> Result<ObjectId, NoMemory>
+        requires marked { IsSomeAnd (region_at self.old region.0) (λ row. row.marked ≡ true) }
+        requires below { ObjectsBelow ids.old.next_object self.old }
+        requires objects { ids.old.next_object + 1 < 2 ^ 32 }
+        requires marks { 0 < ids.old.marks }
+
+        ensures object { IfOk result (λ object. object.0 ≡ ids.old.next_object) }
+        ensures ok { IfOk result (λ object. IfSome (region_at self.old region.0) (λ row.
+            ShadowsRegion region.0 object row self.old self.new)) }
+        ensures ids { OnOk result (ids.new ≡ record ids.old {
+          next_object = ids.old.next_object + 1;
+          marks = ids.old.marks - 1;
+        }) }
+
+        ensures err { OnErr result (SameChains self.old self.new) }
+        ensures same_ids { OnErr result (ids.new ≡ ids.old) }
+        ensures succeeds { 0 < self.old.spare → IsOk result }
+        ensures spare { self.old.spare ≤ self.new.spare + 1 }
+    {
+        let row = self.regions[&region];
+        let object = ObjectId(ids.next_object);
+        let under = ShadowRow {
+            under: row.top,
+            shift: row.shift,
+        };
+        self.shadows.insert(object, under)?;
+        let shadowed = self.regions.get_mut(&region).unwrap();
+        shadowed.top = object;
+        shadowed.shift = 0;
+        shadowed.marked = false;
+        ids.next_object += 1;
+        ids.marks -= 1;
+        Ok(object)
     }
 
     /// Drops a region to which no entry leads, and gives its top object.
@@ -98,10 +207,33 @@ impl Chains {
         requires { IsSomeAnd (region_at self.old region.0) (λ row. row.entries ≡ 0) }
         ensures top { IfSome (region_at self.old region.0) (λ row. result ≡ row.top) }
         ensures dropped { PutsRegion region.0 None self.old self.new }
-        ensures spare { self.new.spare ≡ self.old.spare + 1 }
+        ensures spare { self.old.spare ≤ self.new.spare }
     {
-        let i = find(&self.regions, region);
-        let kept = self.regions.remove(i);
-        kept.row.top
+        self.regions.swap_remove(&region).unwrap().top
+    }
+
+    /// Forgets what stands under an object that goes, and gives the object under it; None where it is no
+    /// shadow. Whoever drops an object sees to it that no region and no other object is over it.
+    pub fn drop_object(&mut self, object: ObjectId) -> Option<ObjectId>
+        ensures under { result ≡ option_map (λ row. row.under) (shadow_at self.old object.0) }
+        ensures dropped { DropsShadow object.0 self.old self.new }
+        ensures spare { self.old.spare ≤ self.new.spare }
+    {
+        let row = self.shadows.swap_remove(&object)?;
+        Some(row.under)
+    }
+
+    /// The number of objects in the chain of a region, from its top down.
+    pub fn depth(&self, region: RegionId) -> u32
+        requires { IsSomeAnd (region_at self.now region.0) (λ row. row.top.0 + 1 < 2 ^ 32) }
+        ensures { IfSome (region_at self.now region.0) (λ row. IsDeep self.now row.top.0 result) }
+    {
+        let mut object = self.regions[&region].top;
+        let mut depth = 1;
+        'down: while let Some(row) = self.backing(object) {
+            object = row.under;
+            depth += 1;
+        }
+        depth
     }
 }

@@ -1,0 +1,63 @@
+-- What regions and shadows are after a write.
+use Rattle.std.proofs.Common.{◌≡◌, ◌∙◌, sym, subst, ℕ, ◌+◌, ◌<◌, ◌≤◌, ◌==◌, true, false, List, Option, Some, None, if◌then◌else◌, IfSome, IsSome, IsSomeAnd, arith, refl}
+use Rattle.std.proofs.lemmas.Bool.Decides.{nat_tests}
+use Rattle.std.specs.Map.{lookup}
+use Rattle.vm_base.specs.declared.ids.ObjectId.{ObjectId}
+use Rattle.vm_shadow.specs.Chains.{ChainTable, CopiesRegion, IsDeep, IsOlderUnder, Over, PutsRegion, RegionsBelow, copy_of, region_at, shadow_at}
+use Rattle.vm_shadow.specs.declared.region_row.RegionRow.{RegionRow}
+use Rattle.vm_shadow.specs.declared.shadow_row.ShadowRow.{ShadowRow}
+
+pub some_of : {A : Type 0} (o : Option A) (x : A) → o ≡ Some x → IsSome o
+some_of o x is = rw is refl
+
+-- what holds of the row that is there
+pub row_told : {A : Type 0} (o : Option A) (x : A) (P : A → Type 0) → o ≡ Some x → P x → IfSome o P
+row_told o x P is told = rw is told
+
+pub row_has : {A : Type 0} (o : Option A) (x : A) (P : A → Type 0) → o ≡ Some x → IfSome o P → P x
+row_has o x P is told = rw is at told
+
+pub row_must : {A : Type 0} (o : Option A) (x : A) (P : A → Type 0) → o ≡ Some x → IsSomeAnd o P → P x
+row_must o x P is told = rw is at told
+
+pub same_row : {A : Type 0} (o : Option A) (x y : A) → o ≡ Some x → o ≡ Some y → x ≡ y
+same_row o x y one other = let both : Some x ≡ Some y = sym one ∙ other in cc
+
+-- a region that is there has a number below the next one
+pub region_below : (n r : ℕ) (row : RegionRow) (table : ChainTable) → RegionsBelow n table → region_at table r ≡ Some row → r < n
+region_below n r row table below is =
+    let none : n ≤ r → region_at table r ≡ None = below r in
+    grind (arith, none, is)
+
+pub region_copied : (old mid new : ChainTable) (source copy offset pages : ℕ) (row found : RegionRow) → RegionsBelow copy old → region_at old source ≡ Some row
+    → PutsRegion copy (Some (copy_of row offset pages)) old mid → region_at mid source ≡ Some found → PutsRegion source (Some (record found { marked = true })) mid new
+    → CopiesRegion source copy offset pages row old new
+region_copied old mid new source copy offset pages row found below is put there marks =
+    let less = region_below copy source row old below is in
+    let other : (copy == source) ≡ false = grind (arith, nat_tests) in
+    let kept : region_at mid source ≡ Some row = rw other at (put.at source) ∙ is in
+    let same : found ≡ row = same_row (region_at mid source) found row there kept in
+    let at : (r : ℕ) → region_at new r ≡ (if copy == r then Some (copy_of row offset pages) else (if source == r then Some (record row { marked = true }) else region_at old r))
+    = λ r. rw (← same) (grind (arith, nat_tests, marks.at r, put.at r, other)) in
+    record { at = at; shadows = marks.shadows ∙ put.shadows }
+
+-- the shadows as they are kept: a backing object has the smaller number
+abbrev pub AreOlderUnder : List (ObjectId × ShadowRow) → Type 0
+AreOlderUnder shadows = (o : ℕ) (row : ShadowRow) → lookup (λ id. o == id.0) shadows ≡ Some row → row.under.0 < o
+
+-- so has what was found under an object
+pub older_found : (table : ChainTable) (o : ℕ) (found : Option ShadowRow) → IsOlderUnder table → found ≡ shadow_at table o → IfSome found (λ row. row.under.0 < o)
+older_found table o None older is = tt
+older_found table o (Some row) older is = older o row (sym is)
+
+pub older_dropped : (old new : List (ObjectId × ShadowRow)) (object : ℕ) → AreOlderUnder old
+    → ((o : ℕ) → lookup (λ id. o == id.0) new ≡ (if object == o then None else lookup (λ id. o == id.0) old)) → AreOlderUnder new
+older_dropped old new object older at o row is = grind (arith, nat_tests, at o, older o row, is)
+
+pub older_shadowed : (old new : List (ObjectId × ShadowRow)) (object : ℕ) (under : ShadowRow) → AreOlderUnder old → under.under.0 < object
+    → ((o : ℕ) → lookup (λ id. o == id.0) new ≡ (if object == o then Some under else lookup (λ id. o == id.0) old)) → AreOlderUnder new
+older_shadowed old new object under older less at o row is = grind (arith, nat_tests, at o, older o row, is)
+
+-- one object more on the way down
+pub deep_over : (table : ChainTable) (o : ℕ) (row : ShadowRow) (n : ℕ) → shadow_at table o ≡ Some row → IsDeep table row.under.0 n → IsDeep table o (n + 1)
+deep_over table o row n is deep = subst (λ (m : ℕ). IsDeep table o m) (omega arith) (Over o n row is deep)

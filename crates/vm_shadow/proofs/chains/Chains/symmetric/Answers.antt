@@ -1,0 +1,25 @@
+use Rattle.std.proofs.Common.{◌≡◌, ◌∙◌, ◌+◌, ◌<◌, ◌^◌, sym, ap, refl, Some, true, arith}
+use Rattle.std.specs.Option.{option_copied_mut}
+use Rattle.vm_shadow.proofs.Tables.{region_copied, row_has, row_told, some_of}
+use Rattle.vm_shadow.specs.Chains.{ChainTable, PutsRegion, copy_of, region_at}
+use Rattle.vm_shadow.specs.declared.region_row.RegionRow.{RegionRow}
+use Rattle.vm_shadow.proofs.chains.Chains.symmetric.Goals as goal
+
+pub overflow_add-shared : goal.overflow_add-shared
+overflow_add-shared c =
+    let is : region_at c.args.self.now c.args.source.0 ≡ Some c.index-row.result.now = rw (← c.self.view_is) c.index-row.ensures in
+    let small : c.index-row.result.now.shift + c.args.offset < 2 ^ 32 = row_has _ _ _ is c.requires.shift in
+    omega (arith, small)
+
+pub returns-clause-ok : goal.returns-clause-ok
+returns-clause-ok c =
+    let row : RegionRow = c.index-row.result.now in
+    let found : RegionRow = c.unwrap-copied.result.now in
+    let marked : RegionRow = record found { marked = true } in
+    let mid : ChainTable = record { regions = c.insert.new.self.entries; shadows = c.self.inside.shadows.entries; spare = 0 } in
+    let is : region_at c.args.self.now c.args.source.0 ≡ Some row = rw (← c.self.view_is) c.index-row.ensures in
+    let put : PutsRegion c.args.ids.now.next_region (Some (copy_of row c.args.offset c.args.pages)) c.args.self.now mid
+    = rw (← c.self.view_is) record { at = λ r. c.in_ok-insert.ensures.updates.0 (record { 0 = r }); shadows = refl } in
+    let there : region_at mid c.args.source.0 ≡ Some found = sym c.get_mut.ensures.value ∙ ap option_copied_mut c.unwrap-copied.ensures in
+    let marks = (c.get_mut.follows.holds marked).3 (some_of _ _ there) in
+    row_told _ _ _ is (region_copied c.args.self.now mid _ _ _ _ _ row found c.requires.below is put there record { at = λ r. marks.0 (record { 0 = r }); shadows = refl })
