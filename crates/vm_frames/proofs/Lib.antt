@@ -1,2 +1,3 @@
+mod Copies
 pub mod Spares
 mod Tables

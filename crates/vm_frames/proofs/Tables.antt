@@ -4,7 +4,7 @@ use Rattle.std.proofs.lemmas.Bool.Decides.{nat_tests}
 use Rattle.std.proofs.lemmas.List.{get_or-set_same, length-replicate, length-set, reverse-append}
 use Rattle.vm_base.specs.declared.ids.FrameNo.{FrameNo}
 use Rattle.vm_frames.specs.Frames.{Claims, FrameTable, Releases, claimed, free, is_claimed}
-use Rattle.vm_frames.specs.Kept.{AreFrames, frames_from, seen}
+use Rattle.vm_frames.specs.Kept.{AreFrames, frame_table, frames_from}
 use Rattle.vm_frames.proofs.Spares.{all_spare, claim_there, count_all, count_claimed, count_none, count_released, mark_set, mark_there, not_spare, spare_kept, unclaimed}
 
 pub reverse_push : (old new : List FrameNo) (f : FrameNo) → new ≡ old ++ f ∷ [] → reverse new ≡ f ∷ reverse old
@@ -28,12 +28,12 @@ new_kept n most size rest is room few =
 pub roomier : (all : List (List ℕ)) (marks : List Bool) (rest : List FrameNo) (most more out : ℕ) → AreFrames all marks rest most out → most ≤ more → AreFrames all marks rest more out
 roomier all marks rest most more out kept le = record { pages = kept.pages; spare = kept.spare; counted = kept.counted; wired = kept.wired; room = omega (arith, kept.room); few = kept.few }
 
-pub claim_kept : (all : List (List ℕ)) (marks : List Bool) (rest : List FrameNo) (most out : ℕ) (f : FrameNo) (table : FrameTable) → AreFrames all marks (f ∷ rest) most out → seen all marks out ≡ table → 0 < free table
+pub claim_kept : (all : List (List ℕ)) (marks : List Bool) (rest : List FrameNo) (most out : ℕ) (f : FrameNo) (table : FrameTable) → AreFrames all marks (f ∷ rest) most out → frame_table all marks out ≡ table → 0 < free table
     → AreFrames all (set marks f.0 true) rest most out
 claim_kept all marks rest most out f table kept view some =
     let more = count_claimed marks f.0 kept.spare.0 in
     let long = length-set marks f.0 true in
-    let some : 0 < free (seen all marks out) = rw (← view) at some in
+    let some : 0 < free (frame_table all marks out) = rw (← view) at some in
     let counted = kept.counted in
     record {
       pages = omega (arith, kept.pages, long);
@@ -44,13 +44,13 @@ claim_kept all marks rest most out f table kept view some =
       few = omega (arith, kept.few, long);
     }
 
-pub claims : (all : List (List ℕ)) (marks : List Bool) (rest : List FrameNo) (most out : ℕ) (f : FrameNo) (table : FrameTable) → AreFrames all marks (f ∷ rest) most out → seen all marks out ≡ table → 0 < free table
-    → Claims f.0 table (seen all (set marks f.0 true) out)
+pub claims : (all : List (List ℕ)) (marks : List Bool) (rest : List FrameNo) (most out : ℕ) (f : FrameNo) (table : FrameTable) → AreFrames all marks (f ∷ rest) most out → frame_table all marks out ≡ table → 0 < free table
+    → Claims f.0 table (frame_table all (set marks f.0 true) out)
 claims all marks rest most out f table kept view some =
     let inside = claim_there marks f.0 kept.spare.0 in
     let more = count_claimed marks f.0 kept.spare.0 in
     let long = length-set marks f.0 true in
-    let some : 0 < free (seen all marks out) = rw (← view) at some in
+    let some : 0 < free (frame_table all marks out) = rw (← view) at some in
     rw (← view) record {
       inside = inside;
       fresh = unclaimed marks f.0 kept.spare.0;
@@ -76,8 +76,8 @@ release_kept all marks rest most out f kept is =
       few = omega (arith, kept.few, long);
     }
 
-pub releases : (all : List (List ℕ)) (marks : List Bool) (rest : List FrameNo) (most out : ℕ) (f : FrameNo) (table : FrameTable) → AreFrames all marks rest most out → seen all marks out ≡ table → is_claimed table f.0 ≡ true
-    → Releases f.0 table (seen all (set marks f.0 false) out)
+pub releases : (all : List (List ℕ)) (marks : List Bool) (rest : List FrameNo) (most out : ℕ) (f : FrameNo) (table : FrameTable) → AreFrames all marks rest most out → frame_table all marks out ≡ table → is_claimed table f.0 ≡ true
+    → Releases f.0 table (frame_table all (set marks f.0 false) out)
 releases all marks rest most out f table kept view claimed =
     let is : get_or marks f.0 false ≡ true = rw (← view) at claimed in
     let inside = mark_there marks f.0 is in

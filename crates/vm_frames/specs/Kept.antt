@@ -25,5 +25,5 @@ abbrev pub frames_from : ℕ → ℕ → List FrameNo
 frames_from low zero = []
 frames_from low (suc n) = record { 0 = low } ∷ frames_from (suc low) n
 
-abbrev pub seen : List (List ℕ) → List Bool → ℕ → FrameTable
-seen all marks out = record { pages = all; claims = marks; wired = out }
+abbrev pub frame_table : List (List ℕ) → List Bool → ℕ → FrameTable
+frame_table all marks out = record { pages = all; claims = marks; wired = out }

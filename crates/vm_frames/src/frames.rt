@@ -1,5 +1,5 @@
 // The frames of a host.
-ghost use Rattle.std.specs.Prelude.{◌≡◌, ◌+◌, ◌≤◌, true, false, IfOk, IsSome, MatchOption, get_or, if◌then◌else◌, length, nat_le, replicate, reverse, vec_capacity};
+ghost use Rattle.std.specs.Prelude.{◌≡◌, ◌≢◌, ◌+◌, ◌<◌, ◌≤◌, [], true, false, IfOk, IsSome, MatchOption, get_or, if◌then◌else◌, length, nat_le, replicate, reverse, set, vec_capacity};
 ghost use Rattle.std.specs.Borrow.{sem};
 ghost use Rattle.vm_frames.specs.Frames.{Claims, FrameTable, Releases, claimed, free, frame_count, held, is_claimed, page_in};
 ghost use Rattle.vm_frames.specs.Kept.{frames_from};
@@ -36,7 +36,7 @@ impl Model for Frames {
 }
 
 impl Frames {
-    ghost use Rattle.vm_frames.specs.Lending.{LendsPage};
+    ghost use Rattle.vm_frames.specs.Lending.{LendsPage, with_page};
 
     /// So many frames of zeros, none claimed and none wired; it fails for want of memory alone.
     pub fn new(alloc: Global, n: u32, size: PageSize) -> Result<Frames, NoMemory>
@@ -93,6 +93,17 @@ impl Frames {
         &mut self.pages[f.0 as usize]
     }
 
+    /// Copies the bytes of a claimed frame into another one, without memory.
+    pub fn copy(&mut self, from: FrameNo, to: FrameNo)
+        requires from { is_claimed self.old from.0 ≡ true }
+        requires to { is_claimed self.old to.0 ≡ true }
+        requires apart { from.0 ≢ to.0 }
+        requires sized { length (page_in self.old from.0) ≡ length (page_in self.old to.0) }
+        ensures { self.new ≡ with_page self.old to.0 (page_in self.old from.0) }
+    {
+        copy_page(&mut self.pages, from.0 as usize, to.0 as usize);
+    }
+
     /// Wires `n` more frames, if so many are free; false exactly where fewer are.
     pub fn wire(&mut self, n: u32) -> bool
         ensures enough { result ≡ nat_le n (free self.old) }
@@ -132,6 +143,23 @@ impl Frames {
         ensures { result ≡ self.now.wired }
     {
         self.wired
+    }
+}
+
+// Copies one page over another one as long.
+fn copy_page(pages: &mut [PageBytes], from: usize, to: usize)
+    requires from { from < length pages.old }
+    requires to { to < length pages.old }
+    requires apart { from ≢ to }
+    requires sized { length (get_or pages.old from []) ≡ length (get_or pages.old to []) }
+    ensures { pages.new ≡ set pages.old to (get_or pages.old from []) }
+{
+    if from < to {
+        let (front, back) = pages.split_at_mut(to);
+        back[0].fill(front[from].as_slice());
+    } else {
+        let (front, back) = pages.split_at_mut(from);
+        front[to].fill(back[0].as_slice());
     }
 }
 

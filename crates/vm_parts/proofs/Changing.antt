@@ -7,13 +7,14 @@ use Rattle.vm_base.specs.declared.ids.FrameNo.{FrameNo}
 use Rattle.vm_base.specs.declared.ids.PageKey.{PageKey}
 use Rattle.vm_frames.specs.Frames.{Claims, FrameTable, frame_count, is_claimed, page_in}
 use Rattle.vm_frames.specs.Lending.{with_page}
-use Rattle.vm_queues.specs.Queues.{LosesPage, Queues, is_queued, removed}
+use Rattle.vm_frames.proofs.Spares.{mark_there}
+use Rattle.vm_queues.specs.Queues.{LosesPage, Queues, is_queued, queues_except}
 use Rattle.vm_resident.specs.Resident.{PutsOwner, PutsRow, owner_of, row_at, ResidentTable, owner_among, row_among}
 use Rattle.vm_resident.specs.declared.page_row.PageRow.{PageRow}
 use Rattle.vm_parts.specs.Changes.{Changes, Removes, with_frame, led}
 use Rattle.vm_parts.specs.Fits.{Fit}
 use Rattle.vm_parts.specs.declared.parts.HostParts.{HostParts}
-use Rattle.vm_parts.proofs.Rows.{claimed_inside, same_case, set_cases}
+use Rattle.vm_parts.proofs.Rows.{same_case, set_cases}
 
 -- the frame of a page
 pub record Holds (frame : ℕ) (parts : HostParts) : Type 0 where
@@ -26,7 +27,7 @@ pub record Holds (frame : ℕ) (parts : HostParts) : Type 0 where
 pub holds : (parts : HostParts) (o p : ℕ) (row : PageRow) → Fit parts → row_at parts.resident o p ≡ Some row → Holds row.frame.0 parts
 holds parts o p row fit found =
     let held = fit.held o p row found in
-    let inside = claimed_inside parts.frames.claims row.frame.0 held in
+    let inside = mark_there parts.frames.claims row.frame.0 held in
     let pages = fit.pages in
     let count = fit.count in
     record { claimed = held; inside = inside; there = omega arith; queued = omega arith; sized = fit.all_sized row.frame.0 inside }
@@ -96,7 +97,7 @@ claimed_for key frame now bytes lists old new mid fit absent same claims frames 
 
 -- a page has gone, and its frame stays claimed
 pub removes : (key : PageKey) (row : PageRow) (old new : HostParts) → Fit old → row_at old.resident key.object.0 key.page.0 ≡ Some row → new.frames ≡ old.frames
-    → PutsRow key.object.0 key.page.0 None old.resident new.resident → PutsOwner row.frame.0 None old.resident new.resident → new.queues ≡ removed row.frame.0 old.queues → LosesPage row.frame.0 old.queues new.queues → Removes key row old new
+    → PutsRow key.object.0 key.page.0 None old.resident new.resident → PutsOwner row.frame.0 None old.resident new.resident → new.queues ≡ queues_except row.frame.0 old.queues → LosesPage row.frame.0 old.queues new.queues → Removes key row old new
 removes key row old new fit found frames put owner queues loses =
     let f = row.frame.0 in
     let has = holds old key.object.0 key.page.0 row fit found in

@@ -4,15 +4,16 @@ use Rattle.std.specs.Prelude.{if◌then◌else◌, ◌⊎◌, is_some}
 use Rattle.vm_base.specs.declared.ids.FrameNo.{FrameNo}
 use Rattle.vm_base.specs.declared.ids.PageKey.{PageKey}
 use Rattle.vm_frames.specs.Frames.{FrameTable, Releases, frame_count, is_claimed, page_in}
+use Rattle.vm_frames.proofs.Spares.{mark_there}
 use Rattle.vm_objects.specs.Objects.{ObjectTable, PutsObject, object_at}
 use Rattle.vm_objects.specs.declared.row.ObjectRow.{ObjectRow}
 use Rattle.vm_queues.specs.Queues.{KeepsPages, Queues, is_queued}
 use Rattle.vm_resident.specs.Resident.{ResidentTable, owner_among, owner_of, page_key, row_among, row_at}
 use Rattle.vm_resident.specs.declared.page_row.PageRow.{PageRow}
 use Rattle.vm_parts.specs.Changes.{Changes, IsIn, is_here, led}
-use Rattle.vm_parts.specs.Fits.{Fit, object_pages, pages_kept}
+use Rattle.vm_parts.specs.Fits.{Fit, object_pages, pages_of_row}
 use Rattle.vm_parts.specs.declared.parts.HostParts.{HostParts}
-use Rattle.vm_parts.proofs.Rows.{IsOther, IsPut, claimed_inside, one_case, row_cases, set_cases, some_is}
+use Rattle.vm_parts.proofs.Rows.{IsOther, IsPut, one_case, row_cases, set_cases, some_is}
 
 -- a row in the frame
 in_frame : (frame : FrameNo) (now : Option PageRow) (row : PageRow) → IsIn frame now → now ≡ Some row → row.frame.0 ≡ frame.0
@@ -142,7 +143,7 @@ fit_released parts fs f fit mine none releases =
     }
   where
     claims : (g : ℕ) → is_claimed fs g ≡ (if f == g then false else is_claimed parts.frames g)
-    claims g = ap (λ z. is_claimed z g) releases.is ∙ set_cases parts.frames.claims f false false (claimed_inside parts.frames.claims f mine) g
+    claims g = ap (λ z. is_claimed z g) releases.is ∙ set_cases parts.frames.claims f false false (mark_there parts.frames.claims f mine) g
 
     count : frame_count fs ≡ frame_count parts.frames
     count = ap frame_count releases.is ∙ length-set parts.frames.claims f false
@@ -185,8 +186,8 @@ fit_objects parts os fit same = fit_within parts os fit (λ o p r is. subst (λ 
 pub same_pages : (os os2 : ObjectTable) (id : ℕ) (row row2 : ObjectRow) → object_at os id ≡ Some row → row2.pages ≡ row.pages
     → PutsObject id (Some row2) os os2 → (o : ℕ) → object_pages os2 o ≡ object_pages os o
 same_pages os os2 id row row2 found same put o = elim (one_case id o (Some row2) (object_at os o) (object_at os2 o) (put.at o)) [
-  | inl now ↦ ap pages_kept now.1 ∙ (same ∙ sym (ap pages_kept (sym (ap (object_at os) now.0) ∙ found)))
-  | inr that ↦ ap pages_kept that.1
+  | inl now ↦ ap pages_of_row now.1 ∙ (same ∙ sym (ap pages_of_row (sym (ap (object_at os) now.0) ∙ found)))
+  | inr that ↦ ap pages_of_row that.1
 ]
 
 -- there is more room

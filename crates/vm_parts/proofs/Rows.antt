@@ -71,12 +71,6 @@ set_cases xs f x d inside g = elim (eqb_tells f g) [
   | inr apart ↦ rw apart.0 (get_or-set_other xs f g x d (λ e. apart.1 (sym e)))
 ]
 
--- a claimed frame is one of them
-pub claimed_inside : (claims : List Bool) (f : ℕ) → get_or claims f false ≡ true → f < length claims
-claimed_inside [] f is = absurd (let bad : false ≡ true = is in cc)
-claimed_inside (b ∷ claims) zero is = omega arith
-claimed_inside (b ∷ claims) (suc f) is = let later = claimed_inside claims f is in omega arith
-
 -- two pages don't share a frame
 pub not_shared : (rs : ResidentTable) (o p o2 p2 : ℕ) (r r2 : PageRow) → IsOwned rs → row_at rs o p ≡ Some r → row_at rs o2 p2 ≡ Some r2 → (o ≡ o2 → p ≡ p2 → ⊥) → r.frame.0 ≡ r2.frame.0 → ⊥
 not_shared rs o p o2 p2 r r2 owned is is2 apart same =

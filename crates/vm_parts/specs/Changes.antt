@@ -4,7 +4,7 @@ use Rattle.vm_base.specs.declared.ids.FrameNo.{FrameNo}
 use Rattle.vm_base.specs.declared.ids.Lock.{Lock}
 use Rattle.vm_base.specs.declared.ids.PageKey.{PageKey}
 use Rattle.vm_frames.specs.Frames.{FrameTable, claimed, frame_count, free, is_claimed, page_in}
-use Rattle.vm_queues.specs.Queues.{Queues, added, is_queued, removed}
+use Rattle.vm_queues.specs.Queues.{Queues, added, is_queued, queues_except}
 use Rattle.vm_resident.specs.Resident.{PutsOwner, PutsRow, owner_of, row_at}
 use Rattle.vm_resident.specs.declared.page_row.PageRow.{PageRow}
 use Rattle.vm_parts.specs.declared.parts.HostParts.{HostParts}
@@ -86,6 +86,10 @@ AsksPage key frame old new = Changes key frame None (Some (asking_row frame)) tr
 abbrev pub Brings : PageKey → FrameNo → HostParts → HostParts → Type 0
 Brings key frame old new = Changes key frame None (Some (clean_row frame unlocked false)) true (replicate old.buffers.size 0) (added frame.0 old.queues) old new
 
+-- a copy of another page, with these bytes, has come into a frame that was free; it is dirty
+abbrev pub RaisesPage : PageKey → FrameNo → List ℕ → HostParts → HostParts → Type 0
+RaisesPage key frame bytes old new = Changes key frame None (Some (record (clean_row frame unlocked false) { dirty = true })) true bytes (added frame.0 old.queues) old new
+
 -- a page that was asked has come into the frame that it held, with these bytes
 abbrev pub FillsPage : PageKey → PageRow → Lock → Bool → List ℕ → HostParts → HostParts → Type 0
 FillsPage key was lock precious bytes old new = Changes key was.frame (Some was) (Some (clean_row was.frame lock precious)) true bytes (added was.frame.0 old.queues) old new
@@ -94,14 +98,18 @@ FillsPage key was lock precious bytes old new = Changes key was.frame (Some was)
 abbrev pub Writes : PageKey → PageRow → List ℕ → HostParts → HostParts → Type 0
 Writes key row bytes old new = Changes key row.frame (Some row) (Some (record row { dirty = true })) true bytes old.queues old new
 
+-- an unlock of a page that is here is outstanding
+abbrev pub NotesUnlock : PageKey → PageRow → HostParts → HostParts → Type 0
+NotesUnlock key row old new = Changes key row.frame (Some row) (Some (record row { unlock_sent = true })) true (page_in old.frames row.frame.0) old.queues old new
+
 -- a page that was asked is asked no more, and its frame is free
 abbrev pub Cancels : PageKey → PageRow → HostParts → HostParts → Type 0
 Cancels key was old new = Changes key was.frame (Some was) None false (page_in old.frames was.frame.0) old.queues old new
 
 -- a page that was here has gone, and its frame stays claimed
 abbrev pub Removes : PageKey → PageRow → HostParts → HostParts → Type 0
-Removes key row old new = Changes key row.frame (Some row) None true (page_in old.frames row.frame.0) (removed row.frame.0 old.queues) old new
+Removes key row old new = Changes key row.frame (Some row) None true (page_in old.frames row.frame.0) (queues_except row.frame.0 old.queues) old new
 
 -- a page that was here has gone, and its frame is free
 abbrev pub Discards : PageKey → PageRow → HostParts → HostParts → Type 0
-Discards key row old new = Changes key row.frame (Some row) None false (page_in old.frames row.frame.0) (removed row.frame.0 old.queues) old new
+Discards key row old new = Changes key row.frame (Some row) None false (page_in old.frames row.frame.0) (queues_except row.frame.0 old.queues) old new

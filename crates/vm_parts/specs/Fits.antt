@@ -8,13 +8,13 @@ use Rattle.vm_resident.specs.Resident.{IsOwned, owner_of, row_at}
 use Rattle.vm_resident.specs.declared.page_row.PageRow.{PageRow}
 use Rattle.vm_parts.specs.declared.parts.HostParts.{HostParts}
 
-abbrev pub pages_kept : Option ObjectRow → ℕ
-pages_kept None = 0
-pages_kept (Some row) = row.pages
+abbrev pub pages_of_row : Option ObjectRow → ℕ
+pages_of_row None = 0
+pages_of_row (Some row) = row.pages
 
 -- the pages of an object, none where it isn't known
 abbrev pub object_pages : ObjectTable → ℕ → ℕ
-object_pages objects o = pages_kept (object_at objects o)
+object_pages objects o = pages_of_row (object_at objects o)
 
 -- Each row has a claimed frame that no other row has; that frame is on a list exactly where its page is here, and no other
 -- frame is on a list. The row's page is one of its object. All frames are as long as the buffers.

@@ -14,7 +14,7 @@ use vm_objects::Objects;
 use vm_queues::PageQueues;
 use vm_resident::{PageRow, Resident};
 
-const UNLOCKED: Lock = Lock {
+pub const UNLOCKED: Lock = Lock {
     read: false,
     write: false,
 };
