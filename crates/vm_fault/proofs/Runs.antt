@@ -1,0 +1,129 @@
+-- An access is run: its region has an object of its own where it needs one, and then its walk begins at the top.
+use Rattle.std.proofs.lemmas.Option.{MatchOption-at_some}
+use Rattle.std.proofs.Common.{◌≡◌, ℕ, ◌+◌, ◌%◌, ◌<◌, ◌≤◌, ◌&&◌, Bool, true, false, List, Some, refl, ap, sym, ◌∙◌, subst, Result, Ok, Err}
+use Rattle.std.specs.Prelude.{IfOk, IfSome, OnOk}
+use Rattle.vm_base.specs.Entries.{entry_at}
+use Rattle.vm_base.specs.Pages.{IsPageSize, access_fits}
+use Rattle.vm_base.specs.declared.entry.Entry.{Entry}
+use Rattle.vm_base.specs.declared.failure.NoMemory.{NoMemory}
+use Rattle.vm_base.specs.declared.ids.PageKey.{PageKey}
+use Rattle.vm_base.specs.declared.ids.RegionId.{RegionId}
+use Rattle.vm_fault.specs.Faults.{CanFault, FaultState, Faulted, KeepsPlan, Prepares}
+use Rattle.vm_fault.specs.Stops.{CanGo, Goes, Stands}
+use Rattle.vm_fault.specs.Walks.{ChainsFit, is_storing}
+use Rattle.vm_fault.specs.declared.running.Running.{Running}
+use Rattle.vm_fault.specs.declared.step.FaultStep.{FaultStep}
+use Rattle.vm_fault.specs.declared.walking.Spot.{Spot}
+use Rattle.vm_maps.specs.Judge.{place_at}
+use Rattle.vm_maps.specs.Maps.{Mapped, rows_in}
+use Rattle.vm_maps.specs.declared.place.Place.{Place}
+use Rattle.vm_model.specs.declared.event.Event.{Event}
+use Rattle.vm_objects.specs.Objects.{ObjectTable}
+use Rattle.vm_parts.specs.Fits.{Fit, object_pages, pages_of_row}
+use Rattle.vm_parts.specs.declared.parts.HostParts.{HostParts}
+use Rattle.vm_parts.proofs.Rows.{if_true}
+use Rattle.vm_shadow.specs.Chains.{region_at}
+use Rattle.vm_shadow.specs.declared.region_row.RegionRow.{RegionRow}
+use Rattle.vm_waits.specs.Wants.{IsSizedWant, address_in, want_size}
+use Rattle.vm_waits.specs.declared.waiting.Want.{Want}
+use Rattle.vm_waits.specs.declared.waiting.Want.TheVariants as want
+
+-- the bytes of an access lie in one page
+pub access_inside : (size : ℕ) (what : Want) → IsPageSize size → IsSizedWant what → address_in what % size + want_size what ≤ size
+access_inside size (want.Load address n) page sized = access_fits size n address page sized.0 sized.1
+access_inside size (want.Store address n value) page sized = access_fits size n address page sized.0 sized.1
+
+-- what is known behind the shadow, if one was made
+pub record IsPrepared (region : RegionId) (s mid : FaultState) : Type 0 where
+  pub fit : Fit mid.parts
+  pub fits : ChainsFit mid.chains mid.parts.objects
+  pub buffers : mid.parts.buffers ≡ s.parts.buffers
+  pub row : RegionRow
+  pub found : region_at mid.chains region.0 ≡ Some row
+
+pub prepared : (is : Bool) (region : RegionId) (row : RegionRow) (s mid : FaultState) → Fit s.parts → ChainsFit s.chains s.parts.objects → region_at s.chains region.0 ≡ Some row → Prepares is region row s mid → IsPrepared region s mid
+prepared true region row s mid fit fits found made =
+    record {
+      fit = made.fit;
+      fits = made.fits;
+      buffers = ap (λ (z : HostParts). z.buffers) made.parts;
+      row = record row { top = made.object; shift = 0; marked = false };
+      found = if_true region.0 _ _ _ (made.chains.at region.0);
+    }
+prepared false region row s mid fit fits found same =
+    record {
+      fit = subst (λ (z : FaultState). Fit z.parts) (sym same) fit;
+      fits = subst (λ (z : FaultState). ChainsFit z.chains z.parts.objects) (sym same) fits;
+      buffers = ap (λ (z : FaultState). z.parts.buffers) same;
+      row = row;
+      found = ap (λ (z : FaultState). region_at z.chains region.0) same ∙ found;
+    }
+
+pub can_go : (run : Running) (region : RegionId) (room : ℕ) (s mid : FaultState) (top : Spot) → IsPrepared region s mid → Stands mid.parts.objects top → top.key ≡ run.top → IsPageSize mid.parts.buffers.size
+    → run.at ≡ address_in run.want % mid.parts.buffers.size → IsSizedWant run.want → 2 ≤ room → CanGo run mid.parts room
+can_go run region room s mid top is stands same size at sized some =
+    record {
+      fit = is.fit;
+      top = subst (λ (z : PageKey). z.page.0 < object_pages mid.parts.objects z.object.0) same (subst (λ (n : ℕ). top.key.page.0 < n) (sym (ap pages_of_row stands.known)) stands.inside);
+      inside = subst (λ (n : ℕ). n + want_size run.want ≤ mid.parts.buffers.size) (sym at) (access_inside mid.parts.buffers.size run.want size sized);
+      sized = sized;
+      log = some;
+    }
+
+-- an access leads where its entry says
+pub leads : (maps : Mapped) (s : FaultState) (task address : ℕ) (what : Want) (place : Place) → (can : CanFault maps s task what) → address ≡ address_in what
+    → ((entry : Entry) → entry_at address (rows_in task maps) ≡ Some entry → place ≡ place_at maps.size address entry) → place ≡ place_at maps.size (address_in what) can.entry
+leads maps s task address what place can is led = led can.entry (ap (λ a. entry_at a (rows_in task maps)) is ∙ can.found) ∙ ap (λ a. place_at maps.size a can.entry) is
+
+-- and lies so far behind its page's begin
+pub offset_is : (offset address size bytes : ℕ) (what : Want) → offset ≡ address % size → address ≡ address_in what → size ≡ bytes → offset ≡ address_in what % bytes
+offset_is offset address size bytes what is its same = is ∙ (ap (λ a. a % size) its ∙ ap (λ n. address_in what % n) same)
+
+-- the row of a region is that of the access's entry
+abbrev pub WasPrepared : Want → Place → FaultState → FaultState → Type 0
+WasPrepared what place s mid = IfSome (region_at s.chains place.region.0) (λ row. Prepares (is_storing what && row.marked) place.region row s mid)
+
+pub place_prepared : (maps : Mapped) (task : ℕ) (what : Want) (place : Place) (s mid : FaultState) → (can : CanFault maps s task what) → place ≡ place_at maps.size (address_in what) can.entry → WasPrepared what place s mid
+    → Prepares (is_storing what && can.row.marked) can.entry.region can.row s mid
+place_prepared maps task what place s mid can is was =
+    MatchOption-at_some _ (λ row. Prepares (is_storing what && row.marked) can.entry.region row s mid) can.row can.region (subst (λ (z : Place). WasPrepared what z s mid) is was)
+
+-- the top place, in the region as it is then
+abbrev pub IsTop : Place → FaultState → PageKey → Type 0
+IsTop place mid top = IfSome (region_at mid.chains place.region.0) (λ row. top ≡ record { object = row.top; page = record { 0 = row.shift + place.page.0 } })
+
+pub faulted : (maps : Mapped) (run : Running) (place : Place) (answer : FaultStep) (s mid : FaultState) (new : HostParts) (after : List Event) → (can : CanFault maps s run.task.0 run.want)
+    → place ≡ place_at maps.size (address_in run.want) can.entry → WasPrepared run.want place s mid → IsTop place mid run.top → run.at ≡ address_in run.want % mid.parts.buffers.size
+    → Goes run answer mid.chains mid.parts new mid.events after → KeepsPlan mid.parts new → Faulted maps run.host run.task run.want run.may_claim answer s (record { parts = new; chains = mid.chains; ids = mid.ids; events = after })
+faulted maps run place answer s mid new after can is was top at goes plan =
+    let prepares = place_prepared maps run.task.0 run.want place s mid can is was in
+    let ready = prepared (is_storing run.want && can.row.marked) can.entry.region can.row s mid can.fit can.chains can.region prepares in
+    let offset = at ∙ ap (λ z. address_in run.want % z.size) ready.buffers in
+    record {
+      entry = can.entry;
+      found = can.found;
+      row = can.row;
+      region = can.region;
+      mid = mid;
+      prepares = prepares;
+      top = run.top;
+      at = record {
+        entry = can.entry;
+        found = can.found;
+        row = ready.row;
+        region = ready.found;
+        is = MatchOption-at_some _ _ ready.row ready.found (subst (λ (z : Place). IsTop z mid run.top) is top);
+      };
+      comes = subst (λ (n : ℕ). Goes (record run { at = n }) answer mid.chains mid.parts new mid.events after) offset goes mid.ids;
+      chains = refl;
+      ids = refl;
+      fit = plan.fit;
+      fits = subst (λ (z : ObjectTable). ChainsFit mid.chains z) (sym plan.objects) ready.fits;
+    }
+
+pub all_faulted : (maps : Mapped) (run : Running) (place : Place) (result : Result FaultStep NoMemory) (s mid : FaultState) (new : HostParts) (after : List Event) → (can : CanFault maps s run.task.0 run.want)
+    → place ≡ place_at maps.size (address_in run.want) can.entry → WasPrepared run.want place s mid → IsTop place mid run.top → run.at ≡ address_in run.want % mid.parts.buffers.size
+    → IfOk result (λ answer. Goes run answer mid.chains mid.parts new mid.events after) → OnOk result (KeepsPlan mid.parts new)
+    → IfOk result (λ answer. Faulted maps run.host run.task run.want run.may_claim answer s (record { parts = new; chains = mid.chains; ids = mid.ids; events = after }))
+all_faulted maps run place (Ok answer) s mid new after can is was top at goes plan = faulted maps run place answer s mid new after can is was top at goes plan
+all_faulted maps run place (Err e) s mid new after can is was top at goes plan = tt

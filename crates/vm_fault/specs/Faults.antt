@@ -1,0 +1,188 @@
+-- What running an access once comes to, and what it changes.
+use Rattle.std.specs.Prelude.{ℕ, suc, ◌≡◌, ◌+◌, ◌-◌, ◌%◌, ◌^◌, ◌<◌, ◌≤◌, ◌⊎◌, ◌&&◌, Bool, true, false, List, ◌∷◌, Option, Some, None, slice_range}
+use Rattle.vm_base.specs.declared.entry.Entry.{Entry}
+use Rattle.vm_base.specs.declared.ids.FrameNo.{FrameNo}
+use Rattle.vm_base.specs.declared.ids.HostId.{HostId}
+use Rattle.vm_base.specs.declared.ids.ObjectId.{ObjectId}
+use Rattle.vm_base.specs.declared.ids.ObjectKind.TheVariants.{Temp}
+use Rattle.vm_base.specs.declared.ids.PageKey.{PageKey}
+use Rattle.vm_base.specs.declared.ids.RegionId.{RegionId}
+use Rattle.vm_base.specs.declared.ids.TaskId.{TaskId}
+use Rattle.vm_base.specs.Entries.{entry_at, page_at}
+use Rattle.vm_base.specs.Pages.{little_endian, little_endian_bytes, with_bytes}
+use Rattle.vm_fault.specs.Walks.{ChainsFit, Finds, IsAt, MayCome, Sinks, StopsAsked, is_storing, keeps_out, wanted_number, writes_at}
+use Rattle.vm_fault.specs.declared.step.FaultStep.{FaultStep}
+use Rattle.vm_fault.specs.declared.step.FaultStep.TheVariants as step
+use Rattle.vm_frames.specs.Frames.{free, page_in}
+use Rattle.vm_maps.specs.Judge.{IsAllowed}
+use Rattle.vm_maps.specs.Maps.{Mapped, rows_in}
+use Rattle.vm_model.specs.declared.event.Event.{Event}
+use Rattle.vm_model.specs.declared.event.Event.TheVariants as event
+use Rattle.vm_model.specs.declared.message.Channel.TheVariants.{Up}
+use Rattle.vm_model.specs.declared.message.Message.TheVariants as message
+use Rattle.vm_objects.specs.Objects.{PutsObject, SameMarks, object_at}
+use Rattle.vm_objects.specs.declared.row.ObjectRow.{ObjectRow}
+use Rattle.vm_objects.specs.declared.row.PagerState.TheVariants as state
+use Rattle.vm_parts.specs.Changes.{AsksPage, Brings, NotesUnlock, RaisesPage, Writes}
+use Rattle.vm_parts.specs.Fits.{Fit}
+use Rattle.vm_parts.specs.declared.parts.HostParts.{HostParts}
+use Rattle.vm_queues.specs.Queues.{KeepsPages, with_reference}
+use Rattle.vm_resident.specs.declared.page_row.PageRow.{PageRow}
+use Rattle.vm_shadow.specs.Chains.{ChainTable, ObjectsBelow, ShadowsRegion, region_at}
+use Rattle.vm_shadow.specs.declared.ids.Ids.{Ids}
+use Rattle.vm_shadow.specs.declared.region_row.RegionRow.{RegionRow}
+use Rattle.vm_waits.specs.Wants.{IsSizedWant, address_in, need_in}
+use Rattle.vm_waits.specs.declared.waiting.Want.{Want}
+use Rattle.vm_waits.specs.declared.waiting.Want.TheVariants as want
+
+-- what a fault may change: the parts of the host, its chains, the next numbers, and the events so far
+pub record FaultState : Type 0 where
+  pub parts : HostParts
+  pub chains : ChainTable
+  pub ids : Ids
+  pub events : List Event
+
+-- An access can be run: an entry of its task allows it, and it is about a page of the entry's region, which fits the objects below it. The next object
+-- isn't there yet, and marks are counted where the region has one.
+pub record CanFault (maps : Mapped) (s : FaultState) (task : ℕ) (what : Want) : Type 0 where
+  pub fit : Fit s.parts
+  pub chains : ChainsFit s.chains s.parts.objects
+  pub size : maps.size ≡ s.parts.buffers.size
+  pub allowed : IsAllowed maps task (address_in what) (need_in what)
+  pub sized : IsSizedWant what
+  pub entry : Entry
+  pub found : entry_at (address_in what) (rows_in task maps) ≡ Some entry
+  pub row : RegionRow
+  pub region : region_at s.chains entry.region.0 ≡ Some row
+  pub inside : page_at maps.size (address_in what) entry < row.pages
+  pub counted : row.marked ≡ true → 0 < s.ids.marks
+  pub named : ObjectsBelow s.ids.next_object s.chains
+  pub unmade : (o : ℕ) → s.ids.next_object ≤ o → object_at s.parts.objects o ≡ None
+  pub few : s.ids.next_object < 2 ^ 32 - 1
+
+-- the parts fit still, and nothing but frames, rows and lists has changed
+pub record KeepsPlan (old new : HostParts) : Type 0 where
+  pub fit : Fit new
+  pub objects : new.objects ≡ old.objects
+  pub buffers : new.buffers ≡ old.buffers
+
+-- a region with this row gets an object of its own over its old top
+pub record MakesShadow (region : RegionId) (row : RegionRow) (old new : FaultState) : Type 0 where
+  pub object : ObjectId
+  pub next : object.0 ≡ old.ids.next_object
+  pub chains : ShadowsRegion region.0 object row old.chains new.chains
+  pub objects : PutsObject object.0 (Some (record { kind = Temp; pages = row.pages; state = state.Without; control = 0; live = false; references = 1 })) old.parts.objects new.parts.objects
+  pub marks : SameMarks old.parts.objects new.parts.objects
+  pub parts : new.parts ≡ record old.parts { objects = new.parts.objects }
+  pub fit : Fit new.parts
+  pub fits : ChainsFit new.chains new.parts.objects
+  pub ids : new.ids ≡ record old.ids { next_object = old.ids.next_object + 1; marks = old.ids.marks - 1 }
+  pub told : new.events ≡ event.Shadowed region object row.top ∷ old.events
+
+-- a store in a marked region does so first, and any other access nothing
+abbrev pub Prepares : Bool → RegionId → RegionRow → FaultState → FaultState → Type 0
+Prepares true region row old new = MakesShadow region row old new
+Prepares false region row old new = new ≡ old
+
+-- the page in a frame is marked as referenced
+pub record References (frame : FrameNo) (old new : HostParts) : Type 0 where
+  pub is : new ≡ record old { queues = new.queues }
+  pub marks : new.queues ≡ with_reference frame.0 old.queues
+  pub keeps : KeepsPages old.queues new.queues
+  pub frames : new.queues.frames ≡ old.queues.frames
+  pub fit : Fit new
+
+-- a store puts its number into a page
+pub record WritesPage (key : PageKey) (frame : FrameNo) (at size value : ℕ) (old new : HostParts) : Type 0 where
+  pub row : PageRow
+  pub is : row.frame ≡ frame
+  pub page : Writes key row (with_bytes at (little_endian_bytes size value) (page_in old.frames frame.0)) old new
+  pub plan : KeepsPlan old new
+
+-- the access ends with a page that is here, by which the page is referenced: the number that it loads or stores, and the event
+abbrev pub Hits : TaskId → Want → PageKey → FrameNo → ℕ → ℕ → Event → HostParts → HostParts → Type 0
+Hits task (want.Load address size) key frame at value e old new =
+    (value ≡ little_endian (slice_range (page_in old.frames frame.0) at (at + size))) × References frame old new × (e ≡ event.Loaded task key.object key.page value)
+Hits task (want.Store address size number) key frame at value e old new =
+    (value ≡ number) × ((mid : HostParts) × WritesPage key frame at size number old mid × References frame mid new) × (e ≡ event.Stored task key.object key.page at size number)
+
+-- an access ends
+pub data Ended (host : HostId) (task : TaskId) (what : Want) (top : PageKey) (at value : ℕ) (old new : HostParts) (chains : ChainTable) (before after : List Event) : Type 0 where
+  -- where its walk found the page, and a store in the top place alone; no lock keeps it out
+  AtOnce : (steps : ℕ) → (key : PageKey) → (row : PageRow) → Finds old chains steps top key row → (is_storing what ≡ true → steps ≡ 0) → keeps_out row.lock (writes_at what steps) ≡ false
+      → (e : Event) → Hits task what key row.frame at value e old new → after ≡ e ∷ before → Ended host task what top at value old new chains before after
+  -- a store whose walk found the page below: a copy of it comes to the top place, and both are referenced
+  Raised : (steps : ℕ) → (key : PageKey) → (row : PageRow) → Finds old chains (suc steps) top key row → is_storing what ≡ true → keeps_out row.lock false ≡ false
+      → (frame : FrameNo) → (copied hit : HostParts) → RaisesPage top frame (page_in old.frames row.frame.0) old copied → KeepsPlan old copied
+      → (e : Event) → Hits task what top frame at value e copied hit → References row.frame hit new
+      → after ≡ e ∷ event.Raised host key.object key.page top.object top.page ∷ before → Ended host task what top at value old new chains before after
+  -- its walk found the page nowhere: a page of zeros comes to the top place
+  AfterZeros : Sinks old chains top → (frame : FrameNo) → (brought : HostParts) → Brings top frame old brought → KeepsPlan old brought
+      → (e : Event) → Hits task what top frame at value e brought new → after ≡ e ∷ event.Zeroed host top.object top.page ∷ before → Ended host task what top at value old new chains before after
+
+-- why an access needs a frame, and the page that it reads meanwhile, if that is here
+pub data Needs (what : Want) (top : PageKey) (parts : HostParts) (chains : ChainTable) : Option PageKey → Type 0 where
+  Nowhere : Sinks parts chains top → Needs what top parts chains None
+  ToAsk : (steps : ℕ) → (key : PageKey) → (object : ObjectRow) → MayCome parts chains steps top key object → object.state ≡ state.Ready → Needs what top parts chains None
+  ToRaise : (steps : ℕ) → (key : PageKey) → (row : PageRow) → Finds parts chains (suc steps) top key row → is_storing what ≡ true → keeps_out row.lock false ≡ false → Needs what top parts chains (Some key)
+
+-- its pager is asked for a page, for which a frame is held
+pub record RequestsPage (host : HostId) (what : Want) (top key : PageKey) (old new : HostParts) (chains : ChainTable) (before after : List Event) : Type 0 where
+  pub steps : ℕ
+  pub object : ObjectRow
+  pub comes : MayCome old chains steps top key object
+  pub ready : object.state ≡ state.Ready
+  pub frame : FrameNo
+  pub page : AsksPage key frame old new
+  pub plan : KeepsPlan old new
+  pub told : after ≡ event.Sent (Up host key.object) (message.Request object.control key.page (wanted_number what steps)) ∷ before
+
+-- the page is here, but its lock keeps the access out: its pager is asked to unlock it
+pub record AsksUnlock (host : HostId) (what : Want) (top key : PageKey) (old new : HostParts) (chains : ChainTable) (before after : List Event) : Type 0 where
+  pub steps : ℕ
+  pub row : PageRow
+  pub finds : Finds old chains steps top key row
+  pub locked : keeps_out row.lock (writes_at what steps) ≡ true
+  pub none : row.unlock_sent ≡ false
+  pub object : ObjectRow
+  pub known : object_at old.objects key.object.0 ≡ Some object
+  pub page : NotesUnlock key row old new
+  pub plan : KeepsPlan old new
+  pub told : after ≡ event.Sent (Up host key.object) (message.Unlock object.control key.page (wanted_number what steps)) ∷ before
+
+-- the page is asked, or here with a lock that keeps the access out while an unlock is outstanding
+pub record AwaitsPage (what : Want) (top key : PageKey) (parts : HostParts) (chains : ChainTable) : Type 0 where
+  pub steps : ℕ
+  pub row : PageRow
+  pub why : (Finds parts chains steps top key row × (keeps_out row.lock (writes_at what steps) ≡ true) × (row.unlock_sent ≡ true)) ⊎ StopsAsked parts chains steps top key row
+
+-- nothing changes
+pub record NothingChanges (old new : FaultState) : Type 0 where
+  pub parts : new.parts ≡ old.parts
+  pub told : new.events ≡ old.events
+
+-- what running an access comes to, by its answer; a frame is claimed only where it may be
+abbrev pub Comes : HostId → TaskId → Want → Bool → PageKey → ℕ → FaultStep → FaultState → FaultState → Type 0
+Comes host task what may_claim top at (step.Done value) old new = Ended host task what top at value old.parts new.parts old.chains old.events new.events
+Comes host task what may_claim top at (step.Ask key) old new = RequestsPage host what top key old.parts new.parts old.chains old.events new.events
+Comes host task what may_claim top at (step.Unlock key) old new = AsksUnlock host what top key old.parts new.parts old.chains old.events new.events
+Comes host task what may_claim top at (step.WaitReady object) old new =
+    ((steps : ℕ) × (key : PageKey) × (row : ObjectRow) × MayCome old.parts old.chains steps top key row × (row.state ≡ state.Sent) × (key.object ≡ object)) × NothingChanges old new
+Comes host task what may_claim top at (step.WaitAnswer key) old new = AwaitsPage what top key old.parts old.chains × NothingChanges old new
+Comes host task what may_claim top at (step.NeedFrame source) old new = Needs what top old.parts old.chains source × (may_claim ≡ true → free old.parts.frames ≡ 0) × NothingChanges old new
+
+-- an access of a task was run once: a store gave its region an object of its own first, where that was marked
+pub record Faulted (maps : Mapped) (host : HostId) (task : TaskId) (what : Want) (may_claim : Bool) (answer : FaultStep) (old new : FaultState) : Type 0 where
+  pub entry : Entry
+  pub found : entry_at (address_in what) (rows_in task.0 maps) ≡ Some entry
+  pub row : RegionRow
+  pub region : region_at old.chains entry.region.0 ≡ Some row
+  pub mid : FaultState
+  pub prepares : Prepares (is_storing what && row.marked) entry.region row old mid
+  pub top : PageKey
+  pub at : IsAt maps mid.chains task.0 what top
+  pub comes : Comes host task what may_claim top (address_in what % old.parts.buffers.size) answer mid new
+  pub chains : new.chains ≡ mid.chains
+  pub ids : new.ids ≡ mid.ids
+  pub fit : Fit new.parts
+  pub fits : ChainsFit new.chains new.parts.objects

@@ -1,0 +1,4 @@
+pub mod Faults
+pub mod Rooms
+pub mod Stops
+pub mod Walks

@@ -1,0 +1,74 @@
+// Page faults.
+ghost use Rattle.std.specs.Prelude.{◌≡◌, Some, false, IfOk, IsOk, OnOk};
+ghost use Rattle.vm_base.specs.Entries.{entry_at};
+ghost use Rattle.vm_base.specs.declared.entry.Entry.{Entry as Row};
+ghost use Rattle.vm_fault.specs.Faults.{CanFault, Faulted};
+ghost use Rattle.vm_fault.specs.Rooms.{HasRoom};
+ghost use Rattle.vm_frames.specs.Frames.{free};
+ghost use Rattle.vm_maps.specs.Judge.{IsAllowed, place_at};
+ghost use Rattle.vm_maps.specs.Maps.{rows_in};
+
+use crate::going::go;
+use crate::running::{Running, address_of, need_of, offset_of};
+use crate::shadowing::prepare;
+use crate::step::FaultStep;
+use crate::walking::top_of;
+use vm_base::{Access, HostId, NoMemory, TaskId};
+use vm_maps::{Maps, Place};
+use vm_model::Events;
+use vm_parts::HostParts;
+use vm_shadow::{Chains, Ids};
+use vm_waits::Want;
+
+/// Runs an access of a task once, and says what it comes to.
+///
+/// The messages are those of "Mach 3 Kernel Interfaces": a page that its pager may have is asked for by
+/// memory_object_data_request, and the unlock of a page whose lock keeps the access out by
+/// memory_object_data_unlock. Shadow chains follow Young's thesis (1989): a store in a region that has
+/// the copy mark gives it an object of its own, and a store whose page is further down the chain writes
+/// a copy of it. In this profile messages are about one page, and whoever asks for a page holds a
+/// frame for it from then on. The log gets at most three events. It fails for want of memory alone,
+/// before anything changes but that the region may have its new object.
+pub fn fault(
+    host: HostId,
+    task: TaskId,
+    want: Want,
+    may_claim: bool,
+    parts: &mut HostParts,
+    chains: &mut Chains,
+    maps: &Maps,
+    ids: &mut Ids,
+    log: &mut Events,
+) -> Result<FaultStep, NoMemory>
+    requires { CanFault maps.now (record { parts = parts.old; chains = chains.old; ids = ids.old; events = log.old.items }) task.0 want }
+    ensures faulted { IfOk result (λ answer. Faulted maps.now host task want may_claim answer
+        (record { parts = parts.old; chains = chains.old; ids = ids.old; events = log.old.items })
+        (record { parts = parts.new; chains = chains.new; ids = ids.new; events = log.new.items })) }
+    ensures still { OnOk result (may_claim ≡ false → free parts.new.frames ≡ free parts.old.frames) }
+    ensures succeeds { HasRoom maps.now task.0 want parts.old chains.old log.old.room → IsOk result }
+{
+    log.reserve(3)?;
+    let place = find(maps, task, address_of(want), need_of(want));
+    prepare(want, place.region, parts, chains, ids, log)?;
+    let top = top_of(place.region, place.page, parts, chains);
+    let run = Running {
+        host,
+        task,
+        want,
+        may_claim,
+        top: top.key,
+        at: offset_of(address_of(want), parts.buffers.size()),
+    };
+    go(run, top, parts, chains, log)
+}
+
+// Where an access leads that its entry allows.
+fn find(maps: &Maps, task: TaskId, address: u64, need: Access) -> Place
+    requires { IsAllowed maps.now task.0 address need }
+    ensures { (entry : Row) → entry_at address (rows_in task.0 maps.now) ≡ Some entry → result ≡ place_at maps.now.size address entry }
+{
+    let Ok(place) = maps.lookup(task, address, need) else {
+        unreachable!()
+    };
+    place
+}

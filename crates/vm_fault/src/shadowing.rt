@@ -1,0 +1,81 @@
+// A marked region gets an object of its own.
+ghost use Rattle.std.specs.Prelude.{◌≡◌, ◌-◌, ◌<◌, ◌≤◌, ◌^◌, ◌&&◌, ℕ, Some, None, true, IfSome, IsOk, IsSome, OnOk};
+ghost use Rattle.vm_fault.specs.Faults.{MakesShadow, Prepares};
+ghost use Rattle.vm_fault.specs.Walks.{ChainsFit, is_storing};
+ghost use Rattle.vm_objects.specs.Objects.{object_at};
+ghost use Rattle.vm_parts.specs.Fits.{Fit};
+ghost use Rattle.vm_shadow.specs.Chains.{ObjectsBelow, region_at};
+
+use crate::running::is_store;
+use vm_base::{NoMemory, ObjectKind, RegionId};
+use vm_model::{Event, Events};
+use vm_parts::HostParts;
+use vm_shadow::{Chains, Ids, RegionRow};
+use vm_waits::Want;
+
+// A store in a marked region first gives it an object of its own.
+pub fn prepare(
+    want: Want,
+    region: RegionId,
+    parts: &mut HostParts,
+    chains: &mut Chains,
+    ids: &mut Ids,
+    log: &mut Events,
+) -> Result<(), NoMemory>
+    requires there { IsSome (region_at chains.old region.0) }
+    requires fit { Fit parts.old }
+    requires chains { ChainsFit chains.old parts.old.objects }
+    requires counted { IfSome (region_at chains.old region.0) (λ row. row.marked ≡ true → 0 < ids.old.marks) }
+    requires named { ObjectsBelow ids.old.next_object chains.old }
+    requires unmade { (o : ℕ) → ids.old.next_object ≤ o → object_at parts.old.objects o ≡ None }
+    requires few { ids.old.next_object < 2 ^ 32 - 1 }
+    requires room { 3 ≤ log.old.room }
+    ensures ok { OnOk result (IfSome (region_at chains.old region.0) (λ row. Prepares (is_storing want && row.marked) region row
+        (record { parts = parts.old; chains = chains.old; ids = ids.old; events = log.old.items })
+        (record { parts = parts.new; chains = chains.new; ids = ids.new; events = log.new.items }))) }
+    ensures room { 2 ≤ log.new.room }
+    ensures succeeds { 1 ≤ chains.old.spare → 1 ≤ parts.old.objects.rows → IfSome (region_at chains.old region.0) (λ row. row.pages ≤ parts.old.objects.pages) → IsOk result }
+{
+    let Some(row) = chains.region(region) else {
+        unreachable!()
+    };
+    if is_store(want) && row.marked {
+        return shadow(region, row, parts, chains, ids, log);
+    }
+    Ok(())
+}
+
+// The region's new object is over its old top.
+fn shadow(
+    region: RegionId,
+    row: RegionRow,
+    parts: &mut HostParts,
+    chains: &mut Chains,
+    ids: &mut Ids,
+    log: &mut Events,
+) -> Result<(), NoMemory>
+    requires row { region_at chains.old region.0 ≡ Some row }
+    requires marked { row.marked ≡ true }
+    requires fit { Fit parts.old }
+    requires chains { ChainsFit chains.old parts.old.objects }
+    requires counted { 0 < ids.old.marks }
+    requires named { ObjectsBelow ids.old.next_object chains.old }
+    requires unmade { (o : ℕ) → ids.old.next_object ≤ o → object_at parts.old.objects o ≡ None }
+    requires few { ids.old.next_object < 2 ^ 32 - 1 }
+    requires room { 3 ≤ log.old.room }
+    ensures ok { OnOk result (MakesShadow region row
+        (record { parts = parts.old; chains = chains.old; ids = ids.old; events = log.old.items })
+        (record { parts = parts.new; chains = chains.new; ids = ids.new; events = log.new.items })) }
+    ensures room { 2 ≤ log.new.room }
+    ensures succeeds { 1 ≤ chains.old.spare → 1 ≤ parts.old.objects.rows → row.pages ≤ parts.old.objects.pages → IsOk result }
+{
+    parts.objects.reserve(1, row.pages)?;
+    let object = chains.shadow_over(region, ids)?;
+    parts.objects.make(object, ObjectKind::Temp, row.pages)?;
+    parts.objects.refer(object);
+    log.push(Event::Shadowed {
+        region,
+        new: object,
+        old: row.top,
+    })
+}
