@@ -1,0 +1,6 @@
+mod Found
+mod Leaving
+mod Lists
+mod Rooms
+mod Under
+mod Walking

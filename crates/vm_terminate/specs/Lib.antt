@@ -1,0 +1,3 @@
+pub mod Counts
+pub mod Finishes
+pub mod Steps

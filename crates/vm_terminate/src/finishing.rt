@@ -1,0 +1,100 @@
+// An object ends, and what loses its last reference by that.
+ghost use Rattle.std.specs.Prelude.{ℕ, ◌≡◌, ◌+◌, ◌<◌, ◌≤◌, List, Some, IsOk, OnOk};
+ghost use Rattle.vm_base.specs.declared.ids.FrameNo.{FrameNo};
+ghost use Rattle.vm_model.specs.declared.event.Event.{Event};
+ghost use Rattle.vm_objects.specs.Objects.{object_at};
+ghost use Rattle.vm_parts.specs.Fits.{Fit};
+ghost use Rattle.vm_shadow.specs.Chains.{ChainTable, shadow_at};
+ghost use Rattle.vm_shadow.specs.declared.shadow_row.ShadowRow.{ShadowRow};
+ghost use Rattle.vm_terminate.specs.Counts.{EndsSoMany, listed_pages};
+ghost use Rattle.vm_terminate.specs.Finishes.{CanFinish, ControlEnds, Finishes, IsReferred};
+ghost use Rattle.vm_terminate.specs.Steps.{LeavesUnder, finish_state};
+
+use crate::pages::end_pages;
+use vm_base::{HostId, NoMemory, ObjectId};
+use vm_model::{Channel, Event, Events, Message};
+use vm_objects::{Holder, ObjectRow};
+use vm_parts::HostParts;
+use vm_shadow::Chains;
+
+/// Ends a memory object to which nothing refers, of any kind.
+///
+/// Its pages leave the host first, by rising number; then its control ends, where one lives, and its
+/// pager is told by memory_object_terminate. What stands under it loses a reference, and ends in the
+/// same way if that was the last. It fails for want of memory alone; what was done by then was told.
+pub fn finish<L: Holder>(
+    host: HostId,
+    object: ObjectId,
+    parts: &mut HostParts,
+    chains: &mut Chains,
+    laundry: &mut L,
+    log: &mut Events,
+) -> Result<(), NoMemory>
+    requires { CanFinish (record { parts = parts.old; chains = chains.old; held = L.held laundry.old; room = L.room laundry.old; events = log.old.items }) object.0 }
+    ensures finished { OnOk result (Finishes host object
+        (record { parts = parts.old; chains = chains.old; held = L.held laundry.old; room = L.room laundry.old; events = log.old.items })
+        (record { parts = parts.new; chains = chains.new; held = L.held laundry.new; room = L.room laundry.new; events = log.new.items })) }
+    ensures fit { OnOk result (Fit parts.new) }
+    ensures size { OnOk result (parts.new.buffers.size ≡ parts.old.buffers.size) }
+    ensures succeeds { (n : ℕ) → EndsSoMany chains.old parts.old.objects object.0 n → listed_pages parts.old.queues + n ≤ log.old.room
+        → listed_pages parts.old.queues ≤ parts.old.buffers.count → IsOk result }
+{
+    let mut ending = object;
+    'down: loop {
+        let Some(known) = parts.objects.find(ending) else {
+            unreachable!()
+        };
+        end_pages(host, ending, known, parts, laundry, log)?;
+        end_control(host, ending, known, parts, log)?;
+        let Some(under) = leave_under(ending, parts, chains) else {
+            return Ok(());
+        };
+        ending = under;
+    }
+}
+
+// Ends the control of an object, where one lives, and tells the pager.
+fn end_control(
+    host: HostId,
+    object: ObjectId,
+    known: ObjectRow,
+    parts: &mut HostParts,
+    log: &mut Events,
+) -> Result<(), NoMemory>
+    requires fit { Fit parts.old }
+    requires known { object_at parts.old.objects object.0 ≡ Some known }
+    ensures ends { OnOk result ((chains : ChainTable) (held : List FrameNo) (room : ℕ) → ControlEnds host object known
+        (finish_state parts.old chains held room log.old.items) (finish_state parts.new chains held room log.new.items)) }
+    ensures fit { OnOk result (Fit parts.new) }
+    ensures buffers { OnOk result (parts.new.buffers ≡ parts.old.buffers) }
+    ensures log { log.old.room ≤ log.new.room + 1 }
+    ensures succeeds { 0 < log.old.room → IsOk result }
+{
+    if !known.live {
+        return Ok(());
+    }
+    log.reserve(1)?;
+    parts.objects.end_control(object);
+    log.push(Event::Sent {
+        channel: Channel::Up { host, object },
+        message: Message::Terminate {
+            control: known.control,
+        },
+    })
+}
+
+// Takes the reference of an object that has ended from what stands under it, and gives that where it
+// is to end too.
+fn leave_under(object: ObjectId, parts: &mut HostParts, chains: &mut Chains) -> Option<ObjectId>
+    requires fit { Fit parts.old }
+    requires referred { (row : ShadowRow) → shadow_at chains.old object.0 ≡ Some row → row.under.0 < object.0 → IsReferred parts.old.objects row.under.0 }
+    ensures under { (held : List FrameNo) (room : ℕ) (events : List Event) → LeavesUnder object result
+        (finish_state parts.old chains.old held room events) (finish_state parts.new chains.new held room events) }
+    ensures fit { Fit parts.new }
+    ensures buffers { parts.new.buffers ≡ parts.old.buffers }
+{
+    let row = chains.backing(object)?;
+    let _ = chains.drop_object(object);
+    let left = parts.objects.unrefer(row.under);
+    if left == 0 { Some(row.under) } else { None }
+}

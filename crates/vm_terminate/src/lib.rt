@@ -1,0 +1,7 @@
+//! The end of a memory object on a host, and of each object under it that loses its last reference by that.
+#![tactic(auto)]
+
+mod finishing;
+mod pages;
+
+pub use finishing::finish;
