@@ -4,7 +4,7 @@ ghost use Rattle.vm_legal.specs.Outside.{Outside};
 ghost use Rattle.vm_outside.specs.Areas.{Told};
 ghost use Rattle.vm_model.specs.Ranges.{InRange, KeepsRanges};
 ghost use Rattle.vm_system.specs.Stands.{AllTold, PagingIsKept, SystemStands};
-ghost use Rattle.vm_system.specs.Steps.{Setting, is_built};
+ghost use Rattle.vm_system.specs.Steps.{Setting, system_runs};
 
 use std::alloc::Global;
 use std::test::Fail;
@@ -85,7 +85,7 @@ refused 103
 ";
 
 fn is_run(command: &Command) -> bool
-    ensures { result ≡ true → is_built command.now ≡ true }
+    ensures { result ≡ true → system_runs command.now ≡ true }
 {
     matches!(
         command,

@@ -1,33 +1,6 @@
 -- One host acts: the kernels of the others stand for what it adds as well.
-use Rattle.std.proofs.Common.{◌≡◌, ◌≢◌, ℕ, ◌+◌, ◌<◌, ◌==◌, Bool, true, false, List, [], ◌∷◌, ◌++◌, length, Some, None, sym, ◌∙◌, subst, arith, inl, inr}
-use Rattle.std.specs.Prelude.{if◌then◌else◌, slice_get}
-use Rattle.std.proofs.Math.ListN.{length-set}
-use Rattle.std.proofs.lemmas.Option.{same_Some}
-use native.Mathlib.Decide.{ℕ_discrete}
-use Rattle.vm_model.specs.declared.command.Command.{Command}
-use Rattle.vm_model.specs.declared.event.Event.{Event}
+use Rattle.vm_hosts.proofs.Common.{AllInner, AllLicensed, AllRest, Bool, Command, CreatesHere, EachIn, EachOf, EntersNext, Event, HasQueue, Header, HostTable, Ids, IsAbroad, IsMine, IsNewTask, IsOfHost, KernelSays, Licensed, List, MomentsIn, None, Outside, OwnBytes, Parts, PromptAt, Rests, Some, SomeKernelSays, Stretch, Suffice, [], abroad_of_own, arith, common_of, each_both, false, frames_abroad, host_of, if◌then◌else◌, inl, inr, is_home, length, length-set, licensed_both, of_both, of_host, own_of_home, prompt_abroad, queue_abroad, rests_abroad, same_Some, slice_get, sound_more, subst, sym, true, ℕ, ℕ_discrete, ◌++◌, ◌+◌, ◌<◌, ◌==◌, ◌∙◌, ◌∷◌, ◌≡◌, ◌≢◌}
 use Rattle.vm_model.specs.declared.event.Event.TheVariants as event
-use Rattle.vm_model.specs.declared.script.Header.{Header}
-use Rattle.vm_model.specs.Tasks.{host_of}
-use Rattle.vm_legal.specs.Bytes.{OwnBytes}
-use Rattle.vm_legal.specs.Frames.{Suffice}
-use Rattle.vm_legal.specs.Homes.{EntersNext, is_home}
-use Rattle.vm_legal.specs.Licences.{AllLicensed, Licensed}
-use Rattle.vm_legal.specs.Outside.{Outside}
-use Rattle.vm_legal.specs.Prompt.{PromptAt}
-use Rattle.vm_legal.specs.Stretches.{AllInner, EachIn, EachOf, MomentsIn}
-use Rattle.vm_legal.proofs.Stretched.{each_both, licensed_both, of_both}
-use Rattle.vm_abroad.specs.Sound.{IsAbroad}
-use Rattle.vm_abroad.specs.Whose.{IsNew, IsOfHost}
-use Rattle.vm_abroad.proofs.Whose.{abroad_of_own, own_of_home}
-use Rattle.vm_shadow.specs.declared.ids.Ids.{Ids}
-use Rattle.vm_kernel.specs.Begun.{CreatesHere, IsMine, KernelSays, SomeKernelSays}
-use Rattle.vm_kernel.specs.Matches.{Rests}
-use Rattle.vm_kernel.specs.Serving.{HasQueue}
-use Rattle.vm_kernel.specs.declared.parts.Parts.{Parts}
-use Rattle.vm_hosts.specs.Hosts.{AllRest, HostTable}
-use Rattle.vm_hosts.specs.Steps.{Stretch}
-use Rattle.vm_kernel.proofs.Abroad.{common_of, frames_abroad, of_host, prompt_abroad, queue_abroad, rests_abroad, sound_more}
 use Rattle.vm_hosts.proofs.Tables.{common_all, put, set_cases}
 
 -- the event makes no task but on one of so many hosts
@@ -78,7 +51,7 @@ acts_both header h outside doing past front later one two = record {
 
 -- it takes a message that is for it
 pub acts_one : (header : Header) (hosts : HostTable) (h : ℕ) (outside : Outside) (doing : Command) (past : List Event) (e : Event) → AllRest header hosts past → h < length header.frames.items → Licensed header outside doing e past
-    → is_home header h e past ≡ true → IsNew e past → CreatesHere h e past → MakesOn (length header.frames.items) e → Acts header h outside doing past (e ∷ [])
+    → is_home header h e past ≡ true → IsNewTask e past → CreatesHere h e past → MakesOn (length header.frames.items) e → Acts header h outside doing past (e ∷ [])
 acts_one header hosts h outside doing past e all known licensed home new creates makes =
     let shut = (common_all header hosts past all).settled.shut in
     let enters : EntersNext e past = λ region opened. absurd (let bad : true ≡ false = sym opened ∙ shut region in cc) in

@@ -1,27 +1,7 @@
 -- A pager's taking, and what it said of it, stands in front.
-use Rattle.std.proofs.Common.{append_assoc, ◌≡◌, ◌≢◌, ℕ, ◌==◌, ◌&&◌, Bool, true, false, List, [], ◌∷◌, ◌++◌, length, refl, ap, sym, ◌∙◌, subst, arith}
-use Rattle.std.specs.Prelude.{not}
-use Rattle.vm_base.specs.declared.ids.HostId.{HostId}
-use Rattle.vm_base.specs.declared.ids.ObjectId.{ObjectId}
-use Rattle.vm_model.specs.declared.command.Command.{Command}
-use Rattle.vm_model.specs.declared.event.Event.{Event}
+use Rattle.vm_hosts.proofs.Common.{AllLicensed, AllRest, Bool, Command, EachOf, Event, Header, HostId, HostTable, Ids, IsLaundered, IsNobodys, Licensed, List, Message, ObjectId, Outside, PagerStep, Parts, Passed, Rests, Up, [], ap, append_assoc, arith, false, gives_frame, host_id, length, not, of_both, refl, subst, sym, true, ℕ, ◌&&◌, ◌++◌, ◌==◌, ◌∙◌, ◌∷◌, ◌≡◌, ◌≢◌}
 use Rattle.vm_model.specs.declared.event.Event.TheVariants as event
-use Rattle.vm_model.specs.declared.message.Channel.TheVariants.{Up}
-use Rattle.vm_model.specs.declared.message.Message.{Message}
 use Rattle.vm_model.specs.declared.message.Message.TheVariants as message
-use Rattle.vm_model.specs.declared.script.Header.{Header}
-use Rattle.vm_legal.specs.Homes.{gives_frame}
-use Rattle.vm_legal.specs.Licences.{AllLicensed, Licensed}
-use Rattle.vm_legal.specs.Outside.{Outside}
-use Rattle.vm_legal.specs.Stretches.{EachOf}
-use Rattle.vm_legal.proofs.Stretched.{of_both}
-use Rattle.vm_shadow.specs.declared.ids.Ids.{Ids}
-use Rattle.vm_kernel.specs.Abroad.{IsNobodys}
-use Rattle.vm_kernel.specs.Begun.{IsLaundered, Passed}
-use Rattle.vm_kernel.specs.Matches.{Rests, host_id}
-use Rattle.vm_kernel.specs.declared.parts.Parts.{Parts}
-use Rattle.vm_hosts.specs.Hosts.{AllRest, HostTable}
-use Rattle.vm_hosts.specs.Steps.{PagerStep}
 use Rattle.vm_hosts.proofs.Acting.{acting_rests, acts_one}
 use Rattle.vm_hosts.proofs.Nobodys.{all_nobodys}
 use Rattle.vm_hosts.proofs.Tables.{put, same_number}

@@ -1,16 +1,5 @@
 -- On which host a task lives.
-use Rattle.std.proofs.Common.{◌≡◌, ℕ, ◌+◌, ◌<◌, true, false, List, length, Option, Some, None, refl, ap, sym, ◌∙◌, subst, arith, inl, inr}
-use Rattle.std.specs.Prelude.{is_some, slice_get}
-use Rattle.std.proofs.lemmas.Bool.Decides.{eqb_tells}
-use Rattle.std.proofs.lemmas.Option.{same_Some}
-use native.Mathlib.Decide.{ℕ_discrete}
-use Rattle.vm_model.specs.declared.event.Event.{Event}
-use Rattle.vm_model.specs.declared.script.Header.{Header}
-use Rattle.vm_model.specs.Local.{is_on}
-use Rattle.vm_model.specs.Tasks.{host_of}
-use Rattle.vm_maps.specs.Maps.{entries_in}
-use Rattle.vm_kernel.specs.declared.parts.Parts.{Parts}
-use Rattle.vm_hosts.specs.Hosts.{AllRest, HostTable}
+use Rattle.vm_hosts.proofs.Common.{AllRest, Event, Header, HostTable, List, None, Option, Parts, Some, ap, arith, entries_in, eqb_tells, false, host_of, inl, inr, is_on, is_some, length, refl, same_Some, slice_get, subst, sym, true, ℕ, ℕ_discrete, ◌+◌, ◌<◌, ◌∙◌, ◌≡◌}
 use Rattle.vm_hosts.proofs.Tables.{kernel_of, same_number}
 
 -- a host's tasks are those of its kernel

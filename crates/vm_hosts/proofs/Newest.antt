@@ -1,13 +1,5 @@
 -- The kernels before anything has happened.
-use Rattle.std.proofs.Common.{zero, suc, ◌≡◌, ℕ, ◌+◌, List, [], ◌∷◌, ◌++◌, length, Some, None, refl, ap, sym, ◌∙◌, subst, length-append, inl, inr}
-use Rattle.std.specs.Prelude.{◌⊎◌, slice_get}
-use Rattle.std.proofs.lemmas.Option.{same_Some}
-use Rattle.vm_model.specs.declared.script.Header.{Header}
-use Rattle.vm_abroad.proofs.Sounds.{sound_start}
-use Rattle.vm_kernel.specs.Matches.{IsPlain, Rests, first_ids}
-use Rattle.vm_kernel.specs.Serving.{HasQueue}
-use Rattle.vm_kernel.specs.declared.parts.Parts.{Parts}
-use Rattle.vm_hosts.specs.Hosts.{AllRest, AreNew}
+use Rattle.vm_hosts.proofs.Common.{AllRest, AreNew, HasQueue, Header, IsPlain, List, None, Parts, Rests, Some, [], ap, first_ids, inl, inr, length, length-append, refl, same_Some, slice_get, sound_start, subst, suc, sym, zero, ℕ, ◌++◌, ◌+◌, ◌∙◌, ◌∷◌, ◌≡◌, ◌⊎◌}
 
 -- one kernel more, at the end
 more_cases : (ks : List Parts) (k m : Parts) (h : ℕ) → slice_get (ks ++ k ∷ []) h ≡ Some m → (slice_get ks h ≡ Some m) ⊎ ((length ks ≡ h) × (k ≡ m))

@@ -1,31 +1,7 @@
 -- What is no host's leaves all kernels what they stand for.
-use Rattle.std.proofs.Common.{◌≡◌, ℕ, ◌≤◌, false, List, [], ◌∷◌, ◌++◌, length, Option, None, refl, ap, sym, ◌∙◌, subst, arith}
-use Rattle.std.specs.Prelude.{MatchOption, nat_lt}
-use Rattle.std.proofs.lemmas.Bool.Decides.{nat_tests}
-use Rattle.vm_base.specs.declared.code.Code.{Code}
-use Rattle.vm_base.specs.declared.ids.ObjectKind.{ObjectKind}
-use Rattle.vm_base.specs.declared.ids.ObjectKind.TheVariants.{Temp}
-use Rattle.vm_model.specs.declared.command.Command.{Command}
-use Rattle.vm_model.specs.declared.event.Event.{Event}
+use Rattle.vm_hosts.proofs.Common.{AllLicensed, AllQueued, AllRest, Channel, Code, Command, Down, EachIn, EachOf, EntersNext, Event, HasCause, Header, HostTable, Ids, IsAbroad, IsBehind, IsCommon, IsNobodys, IsOverOwn, IsPlain, Licensed, List, MatchOption, MaySendDown, Message, None, ObjectKind, Option, Outside, PagerSends, ReturnsOn, Temp, Up, [], ap, arith, backing_of, created, false, home_of, kind_of, length, named, nat_lt, nat_tests, next_object, next_region, nobodys_abroad, nobodys_shut, queue_abroad, refl, region_of, rests_abroad, sound_caused, subst, sym, ℕ, ◌++◌, ◌∙◌, ◌∷◌, ◌≡◌, ◌≤◌}
 use Rattle.vm_model.specs.declared.event.Event.TheVariants as event
-use Rattle.vm_model.specs.declared.message.Channel.{Channel}
-use Rattle.vm_model.specs.declared.message.Channel.TheVariants.{Up, Down}
-use Rattle.vm_model.specs.declared.message.Message.{Message}
 use Rattle.vm_model.specs.declared.message.Message.TheVariants as message
-use Rattle.vm_model.specs.declared.script.Header.{Header}
-use Rattle.vm_model.specs.Named.{named}
-use Rattle.vm_model.specs.Regions.{backing_of, next_object, next_region, region_of}
-use Rattle.vm_legal.specs.Homes.{EntersNext}
-use Rattle.vm_legal.specs.Licences.{AllLicensed, HasCause, IsBehind, Licensed, MaySendDown, PagerSends, ReturnsOn, created}
-use Rattle.vm_legal.specs.Outside.{Outside, kind_of}
-use Rattle.vm_legal.specs.Stretches.{EachIn, EachOf}
-use Rattle.vm_abroad.specs.Home.{home_of}
-use Rattle.vm_abroad.specs.Sound.{IsAbroad}
-use Rattle.vm_shadow.specs.declared.ids.Ids.{Ids}
-use Rattle.vm_kernel.specs.Abroad.{IsCommon, IsNobodys}
-use Rattle.vm_kernel.specs.Matches.{IsOverOwn, IsPlain}
-use Rattle.vm_hosts.specs.Hosts.{AllQueued, AllRest, HostTable}
-use Rattle.vm_kernel.proofs.Abroad.{nobodys_abroad, nobodys_shut, queue_abroad, rests_abroad, sound_caused}
 use Rattle.vm_hosts.proofs.Acting.{MakesOn, tasks_more}
 use Rattle.vm_hosts.proofs.Tables.{common_all}
 

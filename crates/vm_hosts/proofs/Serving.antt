@@ -1,19 +1,5 @@
 -- The hosts serve their frame queues, by rising number.
-use Rattle.std.proofs.Common.{append_assoc, ◌≡◌, ◌≢◌, ℕ, ◌+◌, ◌<◌, ◌≤◌, List, [], ◌++◌, length, refl, ap, sym, ◌∙◌, subst, arith}
-use Rattle.std.proofs.lemmas.Option.{slice_get_within}
-use Rattle.vm_model.specs.declared.command.Command.{Command}
-use Rattle.vm_model.specs.declared.event.Event.{Event}
-use Rattle.vm_model.specs.declared.script.Header.{Header}
-use Rattle.vm_legal.specs.Frames.{Suffice}
-use Rattle.vm_legal.specs.Outside.{Outside}
-use Rattle.vm_legal.specs.Prompt.{PromptAt}
-use Rattle.vm_shadow.specs.declared.ids.Ids.{Ids}
-use Rattle.vm_kernel.specs.Begun.{LegalEvents, Served}
-use Rattle.vm_kernel.specs.Matches.{Rests}
-use Rattle.vm_kernel.specs.Serving.{HasQueue}
-use Rattle.vm_kernel.specs.declared.parts.Parts.{Parts}
-use Rattle.vm_hosts.specs.Hosts.{AllRest, HostTable}
-use Rattle.vm_hosts.specs.Steps.{EventsFollow, Went}
+use Rattle.vm_hosts.proofs.Common.{AllRest, Command, Event, EventsFollow, HasQueue, Header, HostTable, Ids, LegalEvents, List, Outside, Parts, PromptAt, Rests, Served, Suffice, Went, [], ap, append_assoc, arith, length, refl, slice_get_within, subst, sym, ℕ, ◌++◌, ◌+◌, ◌<◌, ◌∙◌, ◌≡◌, ◌≢◌, ◌≤◌}
 use Rattle.vm_hosts.proofs.Acting.{Acts, SeenTo, acting_rests, acting_seen, acting_stretch, makes_all}
 use Rattle.vm_hosts.proofs.Stretches.{follows_both, follows_none}
 use Rattle.vm_hosts.proofs.Tables.{all_suffice, kernel_of, put}

@@ -1,21 +1,6 @@
 -- A command's step.
-use Rattle.std.proofs.Common.{◌≡◌, ℕ, ◌<◌, true, false, List, [], ◌++◌, length, None, refl, ap, sym, ◌∙◌, subst}
-use Rattle.vm_model.specs.declared.command.Command.{Command}
-use Rattle.vm_model.specs.declared.event.Event.{Event}
-use Rattle.vm_model.specs.declared.script.Header.{Header}
-use Rattle.vm_model.specs.Ranges.{InRange}
-use Rattle.vm_legal.specs.Follows.{IsDone}
-use Rattle.vm_legal.specs.Outside.{Outside}
-use Rattle.vm_legal.specs.Refusal.{refusal}
-use Rattle.vm_shadow.specs.declared.ids.Ids.{Ids}
-use Rattle.vm_kernel.specs.Begun.{IsLined, Ran, Starts, acts_on}
-use Rattle.vm_kernel.specs.Built.{copies_entries, is_built}
-use Rattle.vm_kernel.specs.declared.parts.Parts.{Parts}
-use Rattle.vm_hosts.specs.Hosts.{AllRest, HostTable}
-use Rattle.vm_hosts.specs.Steps.{Began, Heads, Went}
+use Rattle.vm_hosts.proofs.Common.{AllRest, Began, Command, Event, Header, Heads, HostTable, Ids, InRange, IsDone, IsLined, List, None, Outside, Parts, Ran, Starts, Went, [], acts_on, ap, copies_entries, done_more, false, kernel_runs, length, paid_of, refl, refusal, subst, sym, true, ℕ, ◌++◌, ◌<◌, ◌∙◌, ◌≡◌}
 use Rattle.vm_hosts.proofs.Acting.{Acts, acting_rests, acting_stretch, makes_all}
-use Rattle.vm_kernel.proofs.Done.{done_more}
-use Rattle.vm_kernel.proofs.Growing.{paid_of}
 use Rattle.vm_hosts.proofs.Stretches.{heads_more}
 use Rattle.vm_hosts.proofs.Tables.{Found, all_suffice, common_all, put}
 
@@ -50,7 +35,7 @@ rests_ran header outside doing past events hosts h g k ids same known all ran = 
 
 -- the hosts have served their queues behind it
 pub began : (header : Header) (outside : Outside) (doing : Command) (past events : List Event) (hosts : HostTable) (h g : ℕ) (k : Parts) (ids : Ids) (last : HostTable) (new : List Event) → g ≡ h → h < length header.frames.items → AllRest header hosts past
-    → Ran header g outside doing past k ids events → is_built doing ≡ true → IsLined past → Went header outside doing past events last new → Began header outside doing past last new
+    → Ran header g outside doing past k ids events → kernel_runs doing ≡ true → IsLined past → Went header outside doing past events last new → Began header outside doing past last new
 began header outside doing past events hosts h g k ids last new same known all ran built lined went =
     let heads = heads_more header outside doing past events went.more (ran_heads header outside doing past events hosts h k ids known all (subst (λ (z : ℕ). Ran header z outside doing past k ids events) same ran)) went.follows in
     let whole : Heads header outside doing past new = subst (Heads header outside doing past) (sym went.is) heads in

@@ -1,16 +1,5 @@
 -- Stretches of a step, one behind another.
-use Rattle.std.proofs.Common.{append_assoc, List, [], ◌++◌, ap, sym, ◌∙◌}
-use Rattle.std.specs.Prelude.{reverse}
-use Rattle.vm_model.specs.declared.command.Command.{Command}
-use Rattle.vm_model.specs.declared.event.Event.{Event}
-use Rattle.vm_model.specs.declared.script.Header.{Header}
-use Rattle.vm_legal.specs.Bytes.{OwnBytes}
-use Rattle.vm_legal.specs.Follows.{IsConsequence}
-use Rattle.vm_legal.specs.Frames.{FramesSuffice}
-use Rattle.vm_legal.specs.Outside.{Outside}
-use Rattle.vm_legal.proofs.Stretched.{each_both, inner_both, licensed_both, moments_both, of_both}
-use Rattle.vm_kernel.specs.Begun.{SomeKernelSays}
-use Rattle.vm_hosts.specs.Steps.{EventsFollow, Heads, Stretch}
+use Rattle.vm_hosts.proofs.Common.{Command, Event, EventsFollow, FramesSuffice, Header, Heads, IsConsequence, List, Outside, OwnBytes, SomeKernelSays, Stretch, [], ap, append_assoc, each_both, inner_both, licensed_both, moments_both, of_both, reverse, sym, ◌++◌, ◌∙◌}
 
 pub stretch_none : (header : Header) (outside : Outside) (doing : Command) (past : List Event) → Stretch header outside doing past []
 stretch_none header outside doing past = record { licensed = tt; own_bytes = tt; frames = tt; inner = tt; said = tt }

@@ -1,20 +1,5 @@
 -- Kernels in their table, and what they say of all hosts.
-use Rattle.std.proofs.Common.{zero, suc, ◌≡◌, ◌≢◌, ℕ, true, ◌==◌, ◌<◌, ◌≤◌, List, [], ◌∷◌, length, Option, Some, None, get_or, refl, ap, sym, subst, arith, inl, inr}
-use Rattle.std.specs.Prelude.{IfSome, ◌⊎◌, reverse, slice_get}
-use Rattle.std.proofs.Math.ListN.{set}
-use Rattle.std.proofs.lemmas.Bool.Decides.{eqb_tells}
-use Rattle.std.proofs.lemmas.List.{length-reverse}
-use Rattle.std.proofs.lemmas.Option.{same_Some, slice_get_read, slice_get_within}
-use Rattle.vm_model.specs.declared.event.Event.{Event}
-use Rattle.vm_model.specs.declared.script.Header.{Header}
-use Rattle.vm_legal.specs.Frames.{FramesSuffice, frames_used}
-use Rattle.vm_shadow.specs.declared.ids.Ids.{Ids}
-use Rattle.vm_kernel.specs.Abroad.{IsCommon}
-use Rattle.vm_kernel.specs.Matches.{Rests}
-use Rattle.vm_kernel.specs.declared.parts.Parts.{Parts}
-use Rattle.vm_hosts.specs.Hosts.{AllRest, HostTable}
-use Rattle.vm_kernel.proofs.Abroad.{common_of}
-use Rattle.vm_kernel.proofs.Growing.{suffices}
+use Rattle.vm_hosts.proofs.Common.{AllRest, Event, FramesSuffice, Header, HostTable, Ids, IfSome, IsCommon, List, None, Option, Parts, Rests, Some, [], ap, arith, common_of, eqb_tells, frames_used, get_or, inl, inr, length, length-reverse, refl, reverse, same_Some, set, slice_get, slice_get_read, slice_get_within, subst, suc, suffices, sym, true, zero, ℕ, ◌<◌, ◌==◌, ◌∷◌, ◌≡◌, ◌≢◌, ◌≤◌, ◌⊎◌}
 
 pub same_number : (n : ℕ) → (n == n) ≡ true
 same_number n = elim (eqb_tells n n) [ inl same ↦ same.0 | inr apart ↦ absurd (apart.1 refl) ]

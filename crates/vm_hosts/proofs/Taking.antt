@@ -1,30 +1,7 @@
 -- A step that began with a taking.
-use Rattle.std.proofs.Common.{append-nil, append_assoc, ◌≡◌, ◌≢◌, ℕ, ◌<◌, List, [], ◌∷◌, ◌++◌, length, ap, sym, ◌∙◌, subst}
-use Rattle.vm_base.specs.declared.ids.HostId.{HostId}
-use Rattle.vm_base.specs.declared.ids.ObjectId.{ObjectId}
-use Rattle.vm_model.specs.declared.command.Command.{Command}
-use Rattle.vm_model.specs.declared.event.Event.{Event}
+use Rattle.vm_hosts.proofs.Common.{AllInner, AllRest, Command, Down, EndsAll, Event, EventsFollow, Header, HostId, HostTable, Ids, IsErrorPaid, LegalEvents, Licensed, List, Message, MomentsIn, ObjectId, Outside, Parts, Passed, Rests, Suffice, WaitsAt, Went, [], ap, append-nil, append_assoc, before_more, before_step, error_more, fails_access, fails_task, frames_abroad, frames_free, length, paid_more, since_more, subst, sym, ℕ, ◌++◌, ◌<◌, ◌∙◌, ◌∷◌, ◌≡◌, ◌≢◌}
 use Rattle.vm_model.specs.declared.event.Event.TheVariants as event
-use Rattle.vm_model.specs.declared.message.Channel.TheVariants.{Down}
-use Rattle.vm_model.specs.declared.message.Message.{Message}
-use Rattle.vm_model.specs.declared.script.Header.{Header}
-use Rattle.vm_legal.specs.Frames.{Suffice, frames_free}
-use Rattle.vm_legal.specs.Licences.{Licensed}
-use Rattle.vm_legal.specs.Debts.{WaitsAt}
-use Rattle.vm_legal.specs.Outside.{Outside}
-use Rattle.vm_legal.specs.Steps.{before_step, fails_access, fails_task}
-use Rattle.vm_legal.specs.Stretches.{AllInner, MomentsIn}
-use Rattle.vm_legal.proofs.Inside.{before_more, error_more, since_more}
-use Rattle.vm_shadow.specs.declared.ids.Ids.{Ids}
-use Rattle.vm_kernel.proofs.Failing.{paid_more}
-use Rattle.vm_kernel.specs.Begun.{LegalEvents, Passed}
-use Rattle.vm_kernel.specs.Matches.{Rests}
-use Rattle.vm_kernel.specs.Taking.{EndsAll, IsErrorPaid}
-use Rattle.vm_kernel.specs.declared.parts.Parts.{Parts}
-use Rattle.vm_hosts.specs.Hosts.{AllRest, HostTable}
 use Rattle.vm_hosts.specs.Steps as steps
-use Rattle.vm_hosts.specs.Steps.{EventsFollow, Went}
-use Rattle.vm_kernel.proofs.Abroad.{frames_abroad}
 use Rattle.vm_hosts.proofs.Acting.{Acts, acting_rests, acts_both, acts_one, others}
 use Rattle.vm_hosts.proofs.Serving.{acts_goes, follows_goes}
 use Rattle.vm_hosts.proofs.Stretches.{follows_both}

@@ -9,7 +9,7 @@ ghost use Rattle.vm_model.specs.Tasks.{host_of};
 ghost use Rattle.vm_legal.specs.Licences.{Licensed};
 ghost use Rattle.vm_legal.specs.Refusal.{refusal};
 ghost use Rattle.vm_kernel.specs.Begun.{IsLined};
-ghost use Rattle.vm_kernel.specs.Built.{copies_entries, is_built};
+ghost use Rattle.vm_kernel.specs.Built.{copies_entries, kernel_runs};
 ghost use Rattle.vm_kernel.specs.Matches.{IsPlain};
 ghost use Rattle.vm_kernel.specs.Taking.{EndsAll, IsErrorPaid, IsTempAnswer};
 ghost use Rattle.vm_kernel.specs.Refusing.{takes_name};
@@ -68,7 +68,7 @@ impl Hosts {
         requires rests { AllRest given.header self.old given.past }
         requires command { given.command ≡ command.now }
         requires range { InRange given.header command.now }
-        requires built { is_built command.now ≡ true }
+        requires built { kernel_runs command.now ≡ true }
         requires accepted { refusal given.header given.past command.now ≡ None }
         requires enough { copies_entries given.header given.past command.now ≡ false }
         requires begins { IsLined given.past }
@@ -187,7 +187,7 @@ impl Hosts {
         ghost given: { Step }
         requires rests { AllRest given.header self.now given.past }
         requires range { InRange given.header command.now }
-        requires built { is_built command.now ≡ true }
+        requires built { kernel_runs command.now ≡ true }
         ensures { result ≡ refusal given.header given.past command.now }
     {
         let Some(host) = self.host_for(command) else {
@@ -204,7 +204,7 @@ impl Hosts {
         ghost given: { Step }
         requires rests { AllRest given.header self.now given.past }
         requires range { InRange given.header command.now }
-        requires built { is_built command.now ≡ true }
+        requires built { kernel_runs command.now ≡ true }
         requires accepted { refusal given.header given.past command.now ≡ None }
         ensures { result ≡ copies_entries given.header given.past command.now }
     {
@@ -219,7 +219,7 @@ impl Hosts {
         ghost given: { Step }
         requires rests { AllRest given.header self.now given.past }
         requires range { InRange given.header command.now }
-        requires built { is_built command.now ≡ true }
+        requires built { kernel_runs command.now ≡ true }
         ensures { MatchOption result (refusal given.header given.past command.now ≡ Some code.NoSuchName) (λ (h : HostId). ActsOn given.header h.0 command.now given.past) }
     {
         match command {

@@ -1,54 +1,7 @@
 -- What is no event of a host leaves what its kernel stands for.
-use Rattle.std.proofs.Common.{◌≡◌, ℕ, zero, suc, ◌<◌, ◌≤◌, ◌==◌, ◌&&◌, ◌||◌, Bool, true, false, List, [], ◌∷◌, ◌++◌, length, refl, ap, sym, ◌∙◌, subst, arith, Option, Some, None, inl, inr}
-use Rattle.std.proofs.lemmas.Bool.Decides.{eqb_tells, nat_tests}
-use Rattle.std.specs.Prelude.{IfSome, is_some, nat_lt, reverse, slice_get, unwrap_or}
-use Rattle.vm_base.specs.declared.entry.Entry.{Entry}
-use Rattle.vm_model.specs.declared.command.Command.{Command}
-use Rattle.vm_model.specs.declared.event.Event.{Event}
+use Rattle.vm_kernel.proofs.Common.{AllLicensed, AllRows, ApartElsewhere, BeganInOrder, Below, Bool, Command, Down, EachIn, EachOf, EntersNext, Entry, Event, HasCause, HasControls, HasFrames, HasLaundry, HasOrder, HasPages, HasQueue, HasRegions, HasTasks, HasUse, HasWaits, Header, Ids, IfSome, IsAbroad, IsAmong, IsCommon, IsHeldOn, IsInside, IsMine, IsNobodys, IsOfHost, IsRegionOf, IsShut, Knows, List, Matches, MomentsIn, None, Option, Outside, Parts, PromptAt, RegionRow, Rests, SameFacts, SameForHost, Some, Sound, Suffice, Up, Waiting, [], all_tasks, ap, apart_abroad, arith, backing_of, begun_at, count_by, entries_in, entries_of, entry, eqb_tells, false, frames_free, frames_held, frames_used, frames_wired, has_entry, has_region, holds, home_of, homes_stay, host_of, in_use, inl, inr, is_among, is_home, is_ready, is_some, is_used, last_control, length, live_control, lives_on, local, named, nat_lt, nat_tests, next_object, next_region, pages_abroad, place_of, refl, region_at, region_of, returns_out, reverse, rows_in, rows_map, slice_get, sound_next, stays, subst, suc, swept_now, sym, tasks, true, unwrap_or, use_of, use_same, used_of, vain_now, zero, ℕ, ◌&&◌, ◌++◌, ◌<◌, ◌==◌, ◌||◌, ◌∙◌, ◌∷◌, ◌≡◌, ◌≤◌}
 use Rattle.vm_model.specs.declared.event.Event.TheVariants as event
-use Rattle.vm_model.specs.declared.message.Channel.TheVariants.{Up, Down}
-use Rattle.vm_model.specs.declared.script.Header.{Header}
-use Rattle.vm_model.specs.Controls.{last_control, live_control}
-use Rattle.vm_model.specs.Local.{local}
-use Rattle.vm_model.specs.Named.{named}
-use Rattle.vm_model.specs.Regions.{backing_of, next_object, next_region, region_of}
-use Rattle.vm_model.specs.Rows.{AllRows, rows_map}
-use Rattle.vm_model.specs.Tasks.{entries_of, has_entry, host_of}
-use Rattle.vm_legal.specs.Accesses.{begun_at, is_ready}
-use Rattle.vm_legal.specs.Frames.{Suffice, frames_free, frames_held, frames_used, frames_wired, returns_out}
-use Rattle.vm_legal.specs.Homes.{EntersNext, is_home, is_used}
-use Rattle.vm_legal.specs.Licences.{AllLicensed, HasCause}
-use Rattle.vm_legal.specs.Living.{lives_on, tasks}
-use Rattle.vm_legal.specs.Outside.{Outside}
-use Rattle.vm_legal.specs.Prompt.{PromptAt}
-use Rattle.vm_legal.specs.Stretches.{EachIn, EachOf, MomentsIn}
-use Rattle.vm_legal.specs.Used.{in_use}
-use Rattle.vm_legal.specs.Walks.{Below}
-use Rattle.vm_abroad.specs.Home.{home_of}
-use Rattle.vm_abroad.specs.Same.{SameFacts, SameForHost}
-use Rattle.vm_abroad.specs.Sound.{IsAbroad, IsAmong, IsHeldOn, IsRegionOf, Knows, Sound}
-use Rattle.vm_abroad.specs.Whose.{IsOfHost, IsShut}
-use Rattle.vm_abroad.proofs.Facts.{stays, use_same}
-use Rattle.vm_abroad.proofs.Home.{homes_stay}
-use Rattle.vm_abroad.proofs.Pages.{pages_abroad}
-use Rattle.vm_abroad.proofs.Sounds.{sound_next, use_of, used_of}
-use Rattle.vm_abroad.proofs.Waits.{swept_now, vain_now}
-use Rattle.vm_maps.specs.Maps.{entries_in, rows_in}
-use Rattle.vm_shadow.specs.Chains.{region_at}
-use Rattle.vm_shadow.specs.declared.ids.Ids.{Ids}
-use Rattle.vm_shadow.specs.declared.region_row.RegionRow.{RegionRow}
-use Rattle.vm_waits.specs.Waits.{entry}
-use Rattle.vm_waits.specs.declared.waiting.Waiting.{Waiting}
-use Rattle.vm_kernel.specs.Abroad.{IsCommon, IsNobodys}
-use Rattle.vm_kernel.specs.Begun.{IsMine}
-use Rattle.vm_kernel.specs.Counts.{count_by, most_tasks}
-use Rattle.vm_kernel.specs.Matches.{HasControls, HasFrames, HasLaundry, HasOrder, HasPages, HasRegions, HasTasks, HasUse, HasWaits, IsInside, Matches, Rests, holds, is_among}
-use Rattle.vm_kernel.specs.Places.{has_region, place_of}
-use Rattle.vm_kernel.specs.Serving.{HasQueue}
-use Rattle.vm_kernel.specs.Waiters.{BeganInOrder}
-use Rattle.vm_kernel.specs.declared.parts.Parts.{Parts}
 use Rattle.vm_kernel.proofs.Counts.{by_some}
-use Rattle.vm_kernel.proofs.Elsewhere.{ApartElsewhere, apart_abroad}
 use Rattle.vm_kernel.proofs.Own.{lives_in}
 use Rattle.vm_supply.specs.declared.woken.Woken.TheVariants as woken
 
@@ -87,15 +40,15 @@ own_region header h k ids past rests r has temporary = by_row (region_at k.chain
     by_row (Some row) found has =
         let count = rests.matches.entries.counts r row found in
         let some = rests.used r row found in
-        let less : 0 < count_by most_tasks r k.maps = omega (arith, count, some) in
-        let test : nat_lt 0 (count_by most_tasks r k.maps) ≡ true = grind (arith, nat_tests) in
+        let less : 0 < count_by all_tasks r k.maps = omega (arith, count, some) in
+        let test : nat_lt 0 (count_by all_tasks r k.maps) ≡ true = grind (arith, nat_tests) in
         used_of header h r past (rests.matches.settled.shut r) (rests.matches.uses.used r ∙ test)
 
 held_on : (header : Header) (h : ℕ) (k : Parts) (ids : Ids) (past : List Event) → Rests header h k ids past → (r : ℕ) → is_used header h r past ≡ true → IsHeldOn header h r past
 held_on header h k ids past rests r used =
     let has = rests.matches.tasks in
-    let test : nat_lt 0 (count_by most_tasks r k.maps) ≡ true = sym (rests.matches.uses.used r) ∙ use_of header h r past used in
-    let some = by_some most_tasks r k.maps (grind (arith, nat_tests)) in
+    let test : nat_lt 0 (count_by all_tasks r k.maps) ≡ true = sym (rests.matches.uses.used r) ∙ use_of header h r past used in
+    let some = by_some all_tasks r k.maps (grind (arith, nat_tests)) in
     let here = with_entry r (entries_in some.0 k.maps) some.1 in
     let lives : lives_on h some.0 past ≡ true = has.hosts some.0 ∙ here in
     record {

@@ -1,49 +1,14 @@
 -- A waiting access gets a page of zeros, or ends with its page: what the history says, and what the kernel has then.
-use Rattle.std.proofs.Common.{◌≡◌, ℕ, ◌+◌, ◌%◌, true, List, ◌∷◌, replicate, refl, ap, sym, ◌∙◌, subst, arith, Some, inl, inr, false, None}
-use Rattle.std.specs.Prelude.{reverse, slice_get, slice_range}
-use Rattle.vm_base.specs.declared.entry.Entry.{Entry}
-use Rattle.vm_base.specs.declared.ids.FrameNo.{FrameNo}
-use Rattle.vm_base.specs.declared.ids.HostId.{HostId}
-use Rattle.vm_base.specs.declared.ids.ObjectId.{ObjectId}
-use Rattle.vm_base.specs.declared.ids.PageKey.{PageKey}
-use Rattle.vm_base.specs.declared.ids.PageNo.{PageNo}
-use Rattle.vm_base.specs.declared.ids.TaskId.{TaskId}
-use Rattle.vm_base.specs.Entries.{page_at}
-use Rattle.vm_base.specs.Pages.{little_endian, little_endian_bytes, with_bytes}
-use Rattle.vm_model.specs.declared.event.Event.{Event}
+use Rattle.vm_kernel.proofs.Common.{BringsZeros, Command, Entry, Event, FrameNo, HasPages, Header, HostId, Ids, IsHere, IsPlain, List, MarksReferenced, Matches, None, ObjectId, Outside, PageKey, PageNo, PageRow, Parts, Passes, Some, Stores, Suffice, TaskId, WaitTable, Want, WritesNumber, Zeroes, absent_at, ap, arith, clean_row, false, fit_touched, frames_held, frames_wired, host_id, host_of, inl, inr, is_on, little_endian, little_endian_bytes, local, local_after, number_at, page_at, page_in, place_of, refl, replicate, returns_out, reverse, row_put, rows_in, sight, slice_get, slice_range, some_is, subst, sym, true, unlocked, with_bytes, ℕ, ◌%◌, ◌+◌, ◌∙◌, ◌∷◌, ◌≡◌}
 use Rattle.vm_model.specs.declared.event.Event.TheVariants as event
-use Rattle.vm_model.specs.declared.command.Command.{Command}
-use Rattle.vm_model.specs.declared.script.Header.{Header}
-use Rattle.vm_model.specs.Bytes.{number_in}
-use Rattle.vm_model.specs.Local.{is_on, local}
-use Rattle.vm_model.specs.Tasks.{host_of}
-use Rattle.vm_legal.specs.Frames.{Suffice, frames_held, frames_wired, returns_out}
-use Rattle.vm_legal.specs.Outside.{Outside}
-use Rattle.vm_legal.specs.Walks.{Passes, sight}
-use Rattle.vm_frames.specs.Frames.{page_in}
-use Rattle.vm_parts.proofs.Fitting.{fit_touched}
-use Rattle.vm_resident.specs.declared.page_row.PageRow.{PageRow}
-use Rattle.vm_shadow.specs.declared.ids.Ids.{Ids}
-use Rattle.vm_waits.specs.Waits.{WaitTable}
-use Rattle.vm_waits.specs.declared.waiting.Want.{Want}
 use Rattle.vm_waits.specs.declared.waiting.Want.TheVariants as want
-use Rattle.vm_kernel.specs.Changes.{Brought, IsHere, Wrote}
-use Rattle.vm_kernel.specs.Faulting.{MarksReferenced}
-use Rattle.vm_kernel.specs.Matches.{HasPages, IsPlain, Matches, host_id}
-use Rattle.vm_kernel.specs.Places.{place_of}
-use Rattle.vm_kernel.specs.declared.parts.Parts.{Parts}
 use Rattle.vm_kernel.proofs.Growing.{Follows}
 use Rattle.vm_kernel.proofs.Leading.{Leads, Lies, it_waits, lies_there, none_named, top_at}
 use Rattle.vm_kernel.proofs.Pages.{bytes_now, frames_changed, laundry_changed, pages_moved, shown_as, shown_here}
-use Rattle.vm_parts.proofs.Rows.{row_put, some_is}
-use Rattle.vm_parts.specs.Changes.{clean_row, unlocked}
-use Rattle.vm_objects.specs.Objects.{absent_at}
-use Rattle.vm_model.specs.Local.{Stores, Zeroes, local_after}
 use Rattle.vm_kernel.proofs.Standing.{Shows}
 use Rattle.vm_kernel.proofs.Walking.{comes_top}
 use Rattle.vm_kernel.proofs.Own.{lives_in, own_host}
 use Rattle.vm_kernel.proofs.Uses.{holds_waits, uses_still}
-use Rattle.vm_maps.specs.Maps.{rows_in}
 use Rattle.vm_kernel.proofs.Mine.{own_lives, own_named}
 
 -- a page of zeros comes
@@ -72,7 +37,7 @@ zeroed_follows header h outside doing past task what key plain to passes frames 
       creates = tt;
     }
 
-pub matches_zeroed : (header : Header) (h : ℕ) (k mid : Parts) (ids : Ids) (lost : List Entry) (past : List Event) (key : PageKey) (frame : FrameNo) → Matches header h k ids lost past → Brought key frame k mid → Lies k key
+pub matches_zeroed : (header : Header) (h : ℕ) (k mid : Parts) (ids : Ids) (lost : List Entry) (past : List Event) (key : PageKey) (frame : FrameNo) → Matches header h k ids lost past → BringsZeros key frame k mid → Lies k key
     → Matches header h mid ids lost (event.Zeroed (host_id h) key.object key.page ∷ past)
 matches_zeroed header h k mid ids lost past key frame m b lies =
     let fit = m.fits.parts in
@@ -99,7 +64,7 @@ matches_zeroed header h k mid ids lost past key frame m b lies =
     }
 
 -- the page is here then
-pub brought_here : (key : PageKey) (frame : FrameNo) (k mid : Parts) → Brought key frame k mid → IsHere key frame mid
+pub brought_here : (key : PageKey) (frame : FrameNo) (k mid : Parts) → BringsZeros key frame k mid → IsHere key frame mid
 brought_here key frame k mid b = record { row = clean_row frame unlocked false; found = row_put k.memory.resident mid.memory.resident key.object.0 key.page.0 _ b.page.row; is = refl; here = refl }
 
 -- the access leads to where it led
@@ -126,7 +91,7 @@ loaded_follows header h outside doing past task address n value key bytes to sho
         bytes = n;
         waits = it_waits header h past task.0 (want.Load address n) key to;
         readable = record { here = shows.here; unlocked = inl shows.unlocked };
-        number = number ∙ ap (λ z. number_in z header.size address n) (sym shows.bytes_are);
+        number = number ∙ ap (λ z. number_at z header.size address n) (sym shows.bytes_are);
       };
       frames = frames;
       inner = tt;
@@ -186,7 +151,7 @@ stored_follows header h outside doing past task address n value key bytes to sho
     }
 
 pub matches_stored : (header : Header) (h : ℕ) (k mid : Parts) (ids : Ids) (lost : List Entry) (past : List Event) (task : TaskId) (at n value : ℕ) (key : PageKey) (frame : FrameNo) → Matches header h k ids lost past → host_of task.0 past ≡ Some h → IsHere key frame k
-    → Wrote key frame (with_bytes at (little_endian_bytes n value) (page_in k.memory.frames frame.0)) k mid → Matches header h mid ids lost (event.Stored task key.object key.page at n value ∷ past)
+    → WritesNumber key frame (with_bytes at (little_endian_bytes n value) (page_in k.memory.frames frame.0)) k mid → Matches header h mid ids lost (event.Stored task key.object key.page at n value ∷ past)
 matches_stored header h k mid ids lost past task at n value key frame m lives stands w =
     let o = key.object.0 in
     let p = key.page.0 in

@@ -1,26 +1,7 @@
 -- What a message of a pager that a host takes is to its pages, frames and pagers.
-use Rattle.std.proofs.Common.{◌≡◌, ℕ, ◌==◌, ◌&&◌, Bool, true, false, List, [], ◌∷◌, refl, ap, sym, ◌∙◌, subst, Some, None, inl, inr}
-use Rattle.std.proofs.lemmas.Bool.Decides.{eqb_tells}
-use Rattle.std.specs.Prelude.{if◌then◌else◌, not}
-use Rattle.vm_base.specs.declared.ids.ObjectId.{ObjectId}
-use Rattle.vm_base.specs.declared.ids.PageNo.{PageNo}
-use Rattle.vm_model.specs.declared.event.Event.{Event}
+use Rattle.vm_kernel.proofs.Common.{Bool, Down, Elsewhere, Event, FrameTable, Header, IsPlainRow, List, Local, LocalEffect, Message, None, ObjectId, ObjectTable, PageNo, PageRow, PutsAbsent, Some, TakesError, TakesNothing, TakesPage, [], absent_at, ap, away, eqb_tells, error_taken, false, frames_held, host_id, if◌then◌else◌, inl, inr, is_control, is_ready, live_control, local, local_after, local_of_row, lock_number, not, page_in, place_of, refl, subst, sym, taken_effect, true, ℕ, ◌&&◌, ◌==◌, ◌∙◌, ◌∷◌, ◌≡◌}
 use Rattle.vm_model.specs.declared.event.Event.TheVariants as event
-use Rattle.vm_model.specs.declared.message.Channel.TheVariants.{Down}
-use Rattle.vm_model.specs.declared.message.Message.{Message}
 use Rattle.vm_model.specs.declared.message.Message.TheVariants as message
-use Rattle.vm_model.specs.declared.script.Header.{Header}
-use Rattle.vm_model.specs.Controls.{is_control, live_control}
-use Rattle.vm_model.specs.Local.{Elsewhere, Local, LocalEffect, TakesError, TakesNothing, TakesPage, away, local, local_after, taken_effect}
-use Rattle.vm_legal.specs.Accesses.{is_ready}
-use Rattle.vm_legal.specs.Frames.{frames_held}
-use Rattle.vm_legal.specs.Steps.{error_taken}
-use Rattle.vm_frames.specs.Frames.{FrameTable, page_in}
-use Rattle.vm_objects.specs.Objects.{ObjectTable, PutsAbsent, absent_at}
-use Rattle.vm_resident.specs.declared.page_row.PageRow.{PageRow}
-use Rattle.vm_kernel.specs.Fits.{IsPlainRow}
-use Rattle.vm_kernel.specs.Matches.{host_id}
-use Rattle.vm_kernel.specs.Places.{local_of_row, lock_number, place_of}
 use Rattle.vm_kernel.proofs.Pages.{itself}
 use Rattle.vm_kernel.proofs.Own.{own_host}
 

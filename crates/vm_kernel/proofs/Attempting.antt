@@ -1,43 +1,11 @@
 -- An access is run: what holds after each thing that it may come to.
-use Rattle.std.proofs.Common.{◌≡◌, ℕ, ◌+◌, ◌-◌, ◌%◌, ◌==◌, Bool, true, List, [], ◌∷◌, ◌++◌, refl, ap, sym, ◌∙◌, subst, Some, None, Option, inl, inr}
-use Rattle.std.specs.Prelude.{IfSome, if◌then◌else◌, slice_range, ◌⊎◌}
-use Rattle.vm_base.specs.declared.ids.FrameNo.{FrameNo}
-use Rattle.vm_base.specs.declared.ids.HostId.{HostId}
-use Rattle.vm_base.specs.declared.ids.ObjectId.{ObjectId}
-use Rattle.vm_base.specs.declared.ids.PageKey.{PageKey}
-use Rattle.vm_base.specs.declared.ids.TaskId.{TaskId}
-use Rattle.vm_base.specs.Pages.{little_endian, little_endian_bytes, with_bytes}
-use Rattle.vm_model.specs.declared.event.Event.{Event}
+use Rattle.vm_kernel.proofs.Common.{Access, AfterZeros, AllUsed, AtOnce, BeganInOrder, Bool, BringsZeros, Comes, Command, Ended, Event, FaultStep, Faulted, Faults, FrameNo, HasOrder, HasWaiters, HasWaits, Header, Hits, HostId, Ids, IfSome, IsAsked, IsAt, IsAvailable, IsHere, IsPagerTold, IsUnavailable, JoinsQueue, LegalEvents, List, MarksReferenced, Matches, None, NothingChanges, Nowhere, ObjectId, On, Option, Outside, PageKey, PageRow, Parts, Reason, RequestsPage, SamePlan, Some, TaskId, Up, WaitTable, Waiting, Want, Wants, WantsFrame, WantsOne, Woken, Works, WritesNumber, [], access_in, address_in, ap, begun_at, claimed, count_again, desired_access, entry, free, host_id, if◌then◌else◌, inl, inr, is_ready_state, little_endian, little_endian_bytes, one_again, one_frame, page_in, page_of, queued, ready_in, refl, row_at, row_put, slice_range, subst, sym, true, waiting, with_bytes, with_on, zeroed, ℕ, ◌%◌, ◌++◌, ◌+◌, ◌-◌, ◌==◌, ◌∙◌, ◌∷◌, ◌≡◌, ◌⊎◌}
 use Rattle.vm_model.specs.declared.event.Event.TheVariants as event
-use Rattle.vm_model.specs.declared.command.Command.{Command}
-use Rattle.vm_model.specs.declared.message.Channel.TheVariants.{Up}
 use Rattle.vm_model.specs.declared.message.Message.TheVariants as message
-use Rattle.vm_model.specs.declared.script.Header.{Header}
-use Rattle.vm_model.specs.Waiting.{Access, waiting}
-use Rattle.vm_legal.specs.Accesses.{Comes, begun_at, Wants, WantsFrame, Nowhere, Elsewhere, page_of}
-use Rattle.vm_legal.specs.Licences.{access_number}
-use Rattle.vm_legal.specs.Outside.{Outside}
-use Rattle.vm_frames.specs.Frames.{claimed, free, page_in}
-use Rattle.vm_resident.specs.Resident.{row_at}
-use Rattle.vm_resident.specs.declared.page_row.PageRow.{PageRow}
-use Rattle.vm_shadow.specs.declared.ids.Ids.{Ids}
-use Rattle.vm_supply.specs.declared.woken.Woken.{Woken}
+use Rattle.vm_legal.specs.Accesses.{Elsewhere}
 use Rattle.vm_supply.specs.declared.woken.Woken.TheVariants as woken
-use Rattle.vm_waits.specs.Waits.{WaitTable, again, entry, one_again, one_frame, queued, with_on}
-use Rattle.vm_waits.specs.declared.waiting.On.{On}
 use Rattle.vm_waits.specs.declared.waiting.On.TheVariants as on
-use Rattle.vm_waits.specs.declared.waiting.Waiting.{Waiting}
-use Rattle.vm_waits.specs.declared.waiting.Want.{Want}
 use Rattle.vm_waits.specs.declared.waiting.Want.TheVariants as want
-use Rattle.vm_kernel.specs.Begun.{LegalEvents}
-use Rattle.vm_kernel.specs.Changes.{Brought, IsHere, SamePlan, Wrote, zeroed}
-use Rattle.vm_kernel.specs.Faulting.{AfterZeros, AtOnce, Ended, Faulted, Faults, Hits, IsAvailable, IsUnavailable, MarksReferenced, NothingChanges, RequestsPage, WantsOne}
-use Rattle.vm_kernel.specs.Matches.{AllUsed, HasOrder, HasWaits, Matches, Works, host_id}
-use Rattle.vm_kernel.specs.Serving.{Queues}
-use Rattle.vm_kernel.specs.Pagers.{is_ready_state, ready_in}
-use Rattle.vm_kernel.specs.Waiters.{BeganInOrder, HasWaiters, IsAsked, IsAt, IsTold, Reason, access_in, address_in}
-use Rattle.vm_kernel.specs.declared.parts.Parts.{Parts}
-use Rattle.vm_kernel.specs.declared.steps.FaultStep.{FaultStep}
 use Rattle.vm_kernel.specs.declared.steps.FaultStep.TheVariants as step
 use Rattle.vm_kernel.proofs.Accessing.{brought_here, leads_zeroed, loaded_follows, matches_loaded, matches_stored, matches_touched, matches_waits, matches_zeroed, stored_follows, zeroed_follows}
 use Rattle.vm_kernel.proofs.Growing.{Follows, goes_both, goes_none, goes_one, suffices}
@@ -46,7 +14,6 @@ use Rattle.vm_kernel.proofs.Ordering.{PutsInOrder}
 use Rattle.vm_kernel.proofs.Requesting.{matches_asked, request_follows, requesting}
 use Rattle.vm_kernel.proofs.Standing.{may_answer, misses_of, passes_of, shows_of}
 use Rattle.vm_kernel.proofs.Waiting.{AsksNone, IsNotAsked, asks_none, here_not_asked, none_not_asked, waiters_asked, waiters_joined, waiters_over, waiters_page, waiters_turned}
-use Rattle.vm_parts.proofs.Rows.{row_put}
 use Rattle.vm_kernel.proofs.Own.{named_host}
 
 -- an access has ended, but its row is still there: what the history says, and what the kernel has
@@ -124,7 +91,7 @@ finish_load header h outside doing past k new ids task address n value key frame
 -- a store ends
 finish_store : (header : Header) (h : ℕ) (outside : Outside) (doing : Command) (past : List Event) (k mid new : Parts) (ids : Ids) (task : TaskId) (address n value : ℕ) (key : PageKey) (frame : FrameNo) (events : List Event)
     → Tries header h (events ++ past) k ids task (want.Store address n value) key → IsHere key frame k
-    → Wrote key frame (with_bytes (address % header.size) (little_endian_bytes n value) (page_in k.memory.frames frame.0)) k mid → MarksReferenced frame mid new
+    → WritesNumber key frame (with_bytes (address % header.size) (little_endian_bytes n value) (page_in k.memory.frames frame.0)) k mid → MarksReferenced frame mid new
     → Finishes header h outside doing past k new ids task (want.Store address n value) key events (event.Stored task key.object key.page (address % header.size) n value ∷ events)
 finish_store header h outside doing past k mid new ids task address n value key frame events t here wrote touched =
     let moment = events ++ past in
@@ -160,10 +127,10 @@ finish header h outside doing past k new ids task (want.Load address n) key fram
     (finish_load header h outside doing past k new ids task address n hits.0 key frame events t here (hits.1 ∙ ap (λ z. little_endian (slice_range (page_in k.memory.frames frame.0) z (z + n))) is) hits.2)
 finish header h outside doing past k new ids task (want.Store address n value) key frame at events after t here is hits =
     subst (λ (z : List Event). Finishes header h outside doing past k new ids task (want.Store address n value) key events z) (sym (hits.3 ∙ ap (λ z. event.Stored task key.object key.page z n value ∷ events) is))
-    (finish_store header h outside doing past k hits.0 new ids task address n value key frame events t here (subst (λ (z : ℕ). Wrote key frame (with_bytes z (little_endian_bytes n value) (page_in k.memory.frames frame.0)) k hits.0) is hits.1) hits.2)
+    (finish_store header h outside doing past k hits.0 new ids task address n value key frame events t here (subst (λ (z : ℕ). WritesNumber key frame (with_bytes z (little_endian_bytes n value) (page_in k.memory.frames frame.0)) k hits.0) is hits.1) hits.2)
 
 -- a page of zeros has come for it
-tries_zeroed : (header : Header) (h : ℕ) (past : List Event) (k mid : Parts) (ids : Ids) (task : TaskId) (what : Want) (key : PageKey) (frame : FrameNo) → Tries header h past k ids task what key → Brought key frame k mid
+tries_zeroed : (header : Header) (h : ℕ) (past : List Event) (k mid : Parts) (ids : Ids) (task : TaskId) (what : Want) (key : PageKey) (frame : FrameNo) → Tries header h past k ids task what key → BringsZeros key frame k mid
     → Tries header h (event.Zeroed (host_id h) key.object key.page ∷ past) mid ids task what key
 tries_zeroed header h past k mid ids task what key frame t b =
     record {
@@ -239,7 +206,7 @@ absent_asks header h past k ids w key works is at absent =
 
 -- it waits for the object's pager to be ready
 works_ready : (header : Header) (h : ℕ) (past : List Event) (k : Parts) (ids : Ids) (w : Waiting) (key : PageKey) (waits2 : WaitTable) → Works header h k ids woken.Nobody past → entry k.waits.rows w.task.0 ≡ Some w → IsAt k.maps k.chains w.task.0 w.want key
-    → IsTold k.memory.objects key.object.0 → row_at k.memory.resident key.object.0 key.page.0 ≡ None → PutsInOrder w.task.0 (Some (with_on w (on.Ready key.object))) k.waits.rows waits2.rows → Works header h (record k { waits = waits2 }) ids woken.Nobody past
+    → IsPagerTold k.memory.objects key.object.0 → row_at k.memory.resident key.object.0 key.page.0 ≡ None → PutsInOrder w.task.0 (Some (with_on w (on.Ready key.object))) k.waits.rows waits2.rows → Works header h (record k { waits = waits2 }) ids woken.Nobody past
 works_ready header h past k ids w key waits2 works is at told absent put =
     works_turned header h past k ids w (on.Ready key.object) waits2 works is (absent_asks header h past k ids w key works is at absent) (key, at, refl, told) put
 
@@ -274,10 +241,10 @@ record Asking (header : Header) (h : ℕ) (outside : Outside) (doing : Command) 
   pub follows : Follows header h outside doing (requesting h key control access) past
 
 asking_of : (header : Header) (h : ℕ) (outside : Outside) (doing : Command) (past : List Event) (k new : Parts) (ids : Ids) (task : TaskId) (what : Want) (key : PageKey) (events after : List Event) → Tries header h (events ++ past) k ids task what key
-    → (a : RequestsPage key (access_number (access_in what) 0) k new events after) → Asking header h outside doing (events ++ past) new ids key a.control (access_number (access_in what) 0)
+    → (a : RequestsPage key (desired_access (access_in what) 0) k new events after) → Asking header h outside doing (events ++ past) new ids key a.control (desired_access (access_in what) 0)
 asking_of header h outside doing past k new ids task what key events after t a =
     let moment = events ++ past in
-    let number = access_number (access_in what) 0 in
+    let number = desired_access (access_in what) 0 in
     let may = may_answer header h k ids [] moment key a.control t.matches t.lies a.page.found a.available in
     let m2 = matches_asked header h k new ids [] moment events after key number t.matches a t.lies may.live in
     record {
@@ -286,21 +253,21 @@ asking_of header h outside doing past k new ids task what key events after t a =
     }
 
 goes_asked : (header : Header) (h : ℕ) (outside : Outside) (doing : Command) (past : List Event) (k new : Parts) (ids : Ids) (task : TaskId) (what : Want) (key : PageKey) (events after : List Event) → Tries header h (events ++ past) k ids task what key
-    → RequestsPage key (access_number (access_in what) 0) k new events after → LegalEvents header h outside doing past events after
+    → RequestsPage key (desired_access (access_in what) 0) k new events after → LegalEvents header h outside doing past events after
 goes_asked header h outside doing past k new ids task what key events after t a =
-    subst (λ (z : List Event). LegalEvents header h outside doing past events z) (sym (asked_is header h past k new ids key (access_number (access_in what) 0) events after t.matches a))
-    (goes_one header h outside doing past events (requesting h key a.control (access_number (access_in what) 0)) t.matches.settled (asking_of header h outside doing past k new ids task what key events after t a).follows)
+    subst (λ (z : List Event). LegalEvents header h outside doing past events z) (sym (asked_is header h past k new ids key (desired_access (access_in what) 0) events after t.matches a))
+    (goes_one header h outside doing past events (requesting h key a.control (desired_access (access_in what) 0)) t.matches.settled (asking_of header h outside doing past k new ids task what key events after t a).follows)
 
 works_asked : (header : Header) (h : ℕ) (outside : Outside) (doing : Command) (past : List Event) (k new : Parts) (ids : Ids) (w : Waiting) (key : PageKey) (waits2 : WaitTable) (events after : List Event)
-    → Works header h k ids woken.Nobody (events ++ past) → entry k.waits.rows w.task.0 ≡ Some w → IsAt k.maps k.chains w.task.0 w.want key → RequestsPage key (access_number (access_in w.want) 0) k new events after
+    → Works header h k ids woken.Nobody (events ++ past) → entry k.waits.rows w.task.0 ≡ Some w → IsAt k.maps k.chains w.task.0 w.want key → RequestsPage key (desired_access (access_in w.want) 0) k new events after
     → PutsInOrder w.task.0 (Some (with_on w (on.Page key))) new.waits.rows waits2.rows → Works header h (record new { waits = waits2 }) ids woken.Nobody (after ++ past)
 works_asked header h outside doing past k new ids w key waits2 events after works is at a put =
     let moment = events ++ past in
-    let e = requesting h key a.control (access_number (access_in w.want) 0) in
+    let e = requesting h key a.control (desired_access (access_in w.want) 0) in
     let asking = asking_of header h outside doing past k new ids w.task w.want key events after (tries_of header h moment k ids w key works is at) a in
     let put2 : PutsInOrder w.task.0 (Some (with_on w (on.Page key))) k.waits.rows waits2.rows = subst (λ (z : WaitTable). PutsInOrder w.task.0 (Some (with_on w (on.Page key))) z.rows waits2.rows) a.plan.waits put in
     let waiters = waiters_asked k.maps k.chains k.memory.resident new.memory.resident k.memory.objects k.waits.rows waits2.rows (λ u. waiting u moment) w.task.0 w key _ works.waits is at a.page.found a.page.row refl put2.entry (ap ready_in a.available.found ∙ ap is_ready_state a.available.ready) in
-    subst (λ (z : List Event). Works header h (record new { waits = waits2 }) ids woken.Nobody (z ++ past)) (sym (asked_is header h past k new ids key (access_number (access_in w.want) 0) events after works.matches a))
+    subst (λ (z : List Event). Works header h (record new { waits = waits2 }) ids woken.Nobody (z ++ past)) (sym (asked_is header h past k new ids key (desired_access (access_in w.want) 0) events after works.matches a))
     (record {
       matches = matches_waits header h new ids [] (e ∷ moment) waits2 asking.matches;
       used = rw a.plan.chains works.used;
@@ -396,8 +363,8 @@ queued_works header h past k new ids w may events after waits2 works is f put =
 -- an access that wants a frame stands in the queue, and the counts say so
 pub queues_of : (header : Header) (h : ℕ) (past : List Event) (k new : Parts) (ids : Ids) (w : Waiting) (may : Bool) (events after : List Event) (waits2 : WaitTable)
     → Works header h k ids woken.Nobody (events ++ past) → entry k.waits.rows w.task.0 ≡ Some w → Faulted w.task w.want may step.NeedFrame k new events after
-    → again waits2.rows + one_again w.on ≡ again new.waits.rows → queued waits2.rows ≡ queued new.waits.rows + (1 - one_frame w.on)
-    → Queues header h w may k (record new { waits = waits2 }) (events ++ past) (after ++ past)
+    → count_again waits2.rows + one_again w.on ≡ count_again new.waits.rows → queued waits2.rows ≡ queued new.waits.rows + (1 - one_frame w.on)
+    → JoinsQueue header h w may k (record new { waits = waits2 }) (events ++ past) (after ++ past)
 unfolding wants_of
 queues_of header h past k new ids w may events after waits2 works is f agains queues =
     let stays = f.faults.1 in
@@ -408,7 +375,7 @@ queues_of header h past k new ids w may events after waits2 works is f agains qu
       wants = now.0;
       mine = now.1;
       none = λ is_so. ap (λ (z : Parts). free z.memory.frames) stays.same ∙ f.faults.0.none is_so;
-      again = agains ∙ ap (λ (z : Parts). again z.waits.rows) stays.same;
+      again = agains ∙ ap (λ (z : Parts). count_again z.waits.rows) stays.same;
       queued = queues ∙ ap (λ (z : Parts). queued z.waits.rows + (1 - one_frame w.on)) stays.same;
       claimed = ap (λ (z : Parts). claimed z.memory.frames) stays.same;
       laundry = ap (λ (z : Parts). z.laundry) stays.same;

@@ -1,49 +1,18 @@
 -- A load or store begins: its task waits, and the access is to be run.
-use Rattle.std.proofs.Common.{◌≡◌, ℕ, ◌+◌, ◌<◌, arith, ◌%◌, ◌==◌, ◌∷◌, ◌++◌, length, Bool, true, false, List, [], refl, ap, sym, ◌∙◌, subst, Some, None, Option, inl, inr}
-use Rattle.std.proofs.lemmas.Bool.Decides.{eqb_tells}
-use Rattle.std.specs.Prelude.{if◌then◌else◌, is_none, is_some, not}
-use Rattle.vm_base.specs.declared.code.Code.{Code}
+use Rattle.vm_kernel.proofs.Common.{Access, Asker, BeganInOrder, Bool, ChainTable, Code, Command, EndsNext, Entry, Event, FindsPage, Grows, HasWaiters, Header, Ids, IsAllowed, IsDone, IsLined, IsNextAccess, IsSizedWant, LegalEvents, List, Mapped, Matches, None, ObjectTable, Option, Outside, Parts, PutsEntry, Ran, Reason, ResidentTable, Rests, RunsFirst, Some, Starts, TaskId, WaitTable, Waiting, Want, Works, [], access_in, access_refusal, acting, acts_on, address_in, allows, ap, arith, begun_at, code_where, count_again, entries_in, entries_of, entry, entry_at, eqb_tells, false, host_of, if◌then◌else◌, inl, inr, is_none, is_some, length, lives_on, need_in, none_again, not, puts_cases, puts_elsewhere, refl, refusal, rows_in, subst, sym, true, waiting, waiting_in, ℕ, ◌%◌, ◌++◌, ◌+◌, ◌<◌, ◌==◌, ◌∙◌, ◌∷◌, ◌≡◌}
 use Rattle.vm_base.specs.declared.code.Code.TheVariants as code
-use Rattle.vm_base.specs.declared.entry.Entry.{Entry}
 use Rattle.vm_base.specs.declared.ids.Access.{Access as Need}
-use Rattle.vm_base.specs.declared.ids.TaskId.{TaskId}
-use Rattle.vm_base.specs.Entries.{allows, entry_at}
-use Rattle.vm_model.specs.declared.event.Event.{Event}
 use Rattle.vm_model.specs.declared.event.Event.TheVariants as event
-use Rattle.vm_model.specs.declared.command.Command.{Command}
 use Rattle.vm_model.specs.declared.command.Command.TheVariants as command
-use Rattle.vm_model.specs.declared.script.Header.{Header}
-use Rattle.vm_model.specs.Tasks.{entries_of, host_of}
-use Rattle.vm_model.specs.Waiting.{Access, waiting}
-use Rattle.vm_legal.specs.Accesses.{FindsPage, begun_at}
-use Rattle.vm_legal.specs.Follows.{EndsNext, IsDone}
-use Rattle.vm_legal.specs.Outside.{Outside}
-use Rattle.vm_legal.specs.Refusal.{access_refusal, acting, refusal, where_true}
-use Rattle.vm_maps.specs.Maps.{Mapped, entries_in, rows_in}
-use Rattle.vm_objects.specs.Objects.{ObjectTable}
-use Rattle.vm_resident.specs.Resident.{ResidentTable}
-use Rattle.vm_shadow.specs.Chains.{ChainTable}
-use Rattle.vm_shadow.specs.declared.ids.Ids.{Ids}
 use Rattle.vm_supply.specs.declared.woken.Woken.TheVariants as woken
-use Rattle.vm_waits.specs.Waits.{PutsEntry, WaitTable, again, entry}
 use Rattle.vm_waits.specs.declared.waiting.On.TheVariants as on
-use Rattle.vm_waits.specs.declared.waiting.Waiting.{Waiting}
-use Rattle.vm_waits.specs.declared.waiting.Want.{Want}
 use Rattle.vm_waits.specs.declared.waiting.Want.TheVariants as want
-use Rattle.vm_waits.proofs.Entries.{none_again, puts_cases, puts_elsewhere}
-use Rattle.vm_kernel.specs.Begun.{Grows, IsLined, LegalEvents, Ran, Starts, acts_on}
-use Rattle.vm_kernel.specs.Changes.{IsAllowed}
-use Rattle.vm_kernel.specs.Matches.{Matches, Rests, Works}
-use Rattle.vm_kernel.specs.Serving.{IsNext, RunsFirst}
-use Rattle.vm_kernel.specs.Waiters.{BeganInOrder, Asker, HasWaiters, IsSizedWant, Reason, access_in, address_in, need_in, waiting_in}
-use Rattle.vm_kernel.specs.declared.parts.Parts.{Parts}
 use Rattle.vm_kernel.proofs.Changing.{acts}
 use Rattle.vm_kernel.proofs.Growing.{grows_goes, suffices}
 use Rattle.vm_kernel.proofs.Ordering.{begun_below, begun_order}
 use Rattle.vm_kernel.proofs.Heads.{grows_one, passed}
 use Rattle.vm_kernel.proofs.Making.{idle_of}
 use Rattle.vm_kernel.proofs.Own.{lives_in, rows_here}
-use Rattle.vm_legal.specs.Living.{lives_on}
 use Rattle.vm_kernel.proofs.Uses.{uses_still, holds_waits}
 use Rattle.vm_kernel.proofs.Mine.{own_task}
 
@@ -57,7 +26,7 @@ pub record IsActing (past : List Event) (task : ℕ) (later : Option Code) : Typ
 
 pub acting_of : (past : List Event) (task : ℕ) (later : Option Code) → acting past task later ≡ None → IsActing past task later
 acting_of past task later fine =
-    let one = passed (is_none (host_of task past)) code.NoSuchName (where_true (is_some (waiting task past)) code.Blocked later) fine in
+    let one = passed (is_none (host_of task past)) code.NoSuchName (code_where (is_some (waiting task past)) code.Blocked later) fine in
     let two = passed (is_some (waiting task past)) code.Blocked later one.1 in
     record { lives = one.0; idle = two.0; passes = two.1 }
 
@@ -76,9 +45,9 @@ pub record IsFine (k : Parts) (past : List Event) (task address n : ℕ) (need :
   pub allowed : IsAllowed k.maps task address need
 
 pub fine_of : (header : Header) (h : ℕ) (k : Parts) (ids : Ids) (past : List Event) (task address n : ℕ) (need : Need) → Matches header h k ids [] past → lives_on h task past ≡ true
-    → acting past task (where_true (not (address % n == 0)) code.InvalidArgument (access_refusal need (entry_at address (entries_of header.size task past)))) ≡ None → IsFine k past task address n need
+    → acting past task (code_where (not (address % n == 0)) code.InvalidArgument (access_refusal need (entry_at address (entries_of header.size task past)))) ≡ None → IsFine k past task address n need
 fine_of header h k ids past task address n need m here fine =
-    let acts = acting_of past task (where_true (not (address % n == 0)) code.InvalidArgument (access_refusal need (entry_at address (entries_of header.size task past)))) fine in
+    let acts = acting_of past task (code_where (not (address % n == 0)) code.InvalidArgument (access_refusal need (entry_at address (entries_of header.size task past)))) fine in
     let test = passed (not (address % n == 0)) code.InvalidArgument (access_refusal need (entry_at address (entries_of header.size task past))) acts.passes in
     let found = found_of need (entry_at address (entries_of header.size task past)) test.1 in
     let lives = lives_in task m.tasks here in
@@ -249,7 +218,7 @@ begun_works header h doing task what past k ids before log reserved waits is sta
     })
 
 -- it is the only one that is to be run
-pub begun_next : (task : TaskId) (what : Want) (rows new : List Waiting) → again rows ≡ 0 → again new ≡ again rows + 1 → PutsEntry task.0 (Some (begun_row task what)) rows new → IsNext task.0 new
+pub begun_next : (task : TaskId) (what : Want) (rows new : List Waiting) → count_again rows ≡ 0 → count_again new ≡ count_again rows + 1 → PutsEntry task.0 (Some (begun_row task what)) rows new → IsNextAccess task.0 new
 begun_next task what rows new idle one puts =
     record {
       some = λ none. omega arith;
@@ -264,7 +233,7 @@ begun_done header task (want.Store address size value) past events ends = ends
 
 -- the access was run, and all that were to be
 pub begun_ran : (header : Header) (h : ℕ) (outside : Outside) (doing : Command) (task : TaskId) (what : Want) (past : List Event) (k new : Parts) (ids : Ids) (before log after : List Event) (rows : List Waiting) → doing ≡ asks task what
-    → Starts header h doing past k ids before → log ≡ begun task what ∷ before → IsNext task.0 rows → Rests header h new ids (after ++ past) → LegalEvents header h outside doing past log after → RunsFirst header rows past log after
+    → Starts header h doing past k ids before → log ≡ begun task what ∷ before → IsNextAccess task.0 rows → Rests header h new ids (after ++ past) → LegalEvents header h outside doing past log after → RunsFirst header rows past log after
     → Ran header h outside doing past new ids after
 begun_ran header h outside doing task what past k new ids before log after rows is starts told next rests goes runs =
     let first : Grows header h outside (asks task what) past (begun task what ∷ []) = begun_grows header h outside k ids past task what starts.rests.matches (subst (λ (z : Command). refusal header past z ≡ None) is starts.accepted) (subst (λ (z : Command). acts_on h z past ≡ true) is starts.acts) in

@@ -1,24 +1,8 @@
 -- The parts once a page has come, was asked for, was written, or has gone.
-use Rattle.std.proofs.Common.{◌≡◌, ℕ, Bool, true, List, ◌∷◌, length, refl, ap, sym, ◌∙◌, subst, Option, inl, inr}
-use Rattle.std.specs.Prelude.{IfSome}
-use Rattle.vm_base.specs.declared.ids.FrameNo.{FrameNo}
-use Rattle.vm_base.specs.declared.ids.PageKey.{PageKey}
-use Rattle.vm_frames.specs.Frames.{is_claimed, page_in}
-use Rattle.vm_model.specs.declared.event.Event.{Event}
+use Rattle.vm_kernel.proofs.Common.{ArePlain, AsksPage, Bool, Brings, BringsZeros, Changes, Discards, DropsPage, Event, Fit, FrameNo, HostParts, IfSome, IsAvailable, IsHere, IsPlainRow, List, Option, PageKey, PageRow, Parts, PartsFit, Queues, RequestsPage, SamePlan, Up, Writes, WritesNumber, ap, inl, inr, is_claimed, length, page_in, refl, row_cases, subst, sym, true, ℕ, ◌∙◌, ◌∷◌, ◌≡◌}
 use Rattle.vm_model.specs.declared.event.Event.TheVariants as event
-use Rattle.vm_model.specs.declared.message.Channel.TheVariants.{Up}
 use Rattle.vm_model.specs.declared.message.Message.TheVariants as message
-use Rattle.vm_parts.specs.Changes.{AsksPage, Brings, Changes, Discards, Writes}
-use Rattle.vm_parts.specs.Fits.{Fit}
-use Rattle.vm_parts.specs.declared.parts.HostParts.{HostParts}
 use Rattle.vm_parts.proofs.Changing.{holds}
-use Rattle.vm_parts.proofs.Rows.{row_cases}
-use Rattle.vm_queues.specs.Queues.{Queues}
-use Rattle.vm_resident.specs.declared.page_row.PageRow.{PageRow}
-use Rattle.vm_kernel.specs.Changes.{Brought, IsHere, Lost, SamePlan, Wrote}
-use Rattle.vm_kernel.specs.Faulting.{IsAvailable, RequestsPage}
-use Rattle.vm_kernel.specs.Fits.{ArePlain, IsPlainRow, PartsFit}
-use Rattle.vm_kernel.specs.declared.parts.Parts.{Parts}
 
 -- rows are plain still, once a page has a plain one, or none
 pub plain_changed : (key : PageKey) (frame : FrameNo) (was now : Option PageRow) (held : Bool) (bytes : List ℕ) (lists : Queues) (old new : HostParts) → ArePlain old.resident → Changes key frame was now held bytes lists old new → IfSome now IsPlainRow → ArePlain new.resident
@@ -50,7 +34,7 @@ asked k memory key frame control access before after fits available fit page obj
       told = told;
     }
 
-pub brought : (k : Parts) (memory : HostParts) (key : PageKey) (frame : FrameNo) → PartsFit k → Fit memory → Brings key frame k.memory memory → memory.objects ≡ k.memory.objects → memory.buffers ≡ k.memory.buffers → Brought key frame k (record k { memory = memory })
+pub brought : (k : Parts) (memory : HostParts) (key : PageKey) (frame : FrameNo) → PartsFit k → Fit memory → Brings key frame k.memory memory → memory.objects ≡ k.memory.objects → memory.buffers ≡ k.memory.buffers → BringsZeros key frame k (record k { memory = memory })
 brought k memory key frame fits fit page objects buffers =
     record {
       plan = same_plan k memory objects buffers;
@@ -59,7 +43,7 @@ brought k memory key frame fits fit page objects buffers =
     }
 
 pub lost : (k : Parts) (memory : HostParts) (key : PageKey) (row : PageRow) (before after : List Event) → PartsFit k → row.here ≡ true → Fit memory → Discards key row k.memory memory → memory.objects ≡ k.memory.objects → memory.buffers ≡ k.memory.buffers
-    → after ≡ event.Dropped k.host key.object key.page ∷ before → Lost key k (record k { memory = memory }) before after
+    → after ≡ event.Dropped k.host key.object key.page ∷ before → DropsPage key k (record k { memory = memory }) before after
 lost k memory key row before after fits here fit page objects buffers told =
     record {
       plan = same_plan k memory objects buffers;
@@ -71,7 +55,7 @@ lost k memory key row before after fits here fit page objects buffers told =
     }
 
 pub wrote : (k : Parts) (memory : HostParts) (key : PageKey) (frame : FrameNo) (bytes : List ℕ) → PartsFit k → (at : IsHere key frame k) → Fit memory → Writes key at.row bytes k.memory memory → memory.objects ≡ k.memory.objects → memory.buffers ≡ k.memory.buffers
-    → Wrote key frame bytes k (record k { memory = memory })
+    → WritesNumber key frame bytes k (record k { memory = memory })
 wrote k memory key frame bytes fits at fit page objects buffers =
     let plain = fits.plain key.object.0 key.page.0 at.row at.found in
     record {

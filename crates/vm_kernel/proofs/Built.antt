@@ -1,19 +1,6 @@
 -- A command that is built is one of those that a kernel knows.
-use Rattle.std.proofs.Common.{◌≡◌, ℕ, true, false, List, refl, ap, ◌∙◌, subst, ◌==◌}
-use Rattle.std.specs.Prelude.{◌≢◌}
-use Rattle.vm_base.specs.declared.ids.HostId.{HostId}
-use Rattle.vm_base.specs.declared.ids.Inherit.{Inherit}
-use Rattle.vm_base.specs.declared.ids.Prot.{Prot}
-use Rattle.vm_base.specs.declared.ids.TaskId.{TaskId}
-use Rattle.vm_model.specs.declared.command.Command.{Command}
+use Rattle.vm_kernel.proofs.Common.{Command, Event, Header, HostId, Ids, Inherit, List, Parts, Prot, Starts, TaskId, acts_on, ap, changes_entries, false, host_id, kernel_runs, refl, subst, true, ℕ, ◌==◌, ◌∙◌, ◌≡◌, ◌≢◌}
 use Rattle.vm_model.specs.declared.command.Command.TheVariants as command
-use Rattle.vm_model.specs.declared.event.Event.{Event}
-use Rattle.vm_model.specs.declared.script.Header.{Header}
-use Rattle.vm_shadow.specs.declared.ids.Ids.{Ids}
-use Rattle.vm_kernel.specs.Begun.{Starts, acts_on}
-use Rattle.vm_kernel.specs.Built.{changes_entries, is_built}
-use Rattle.vm_kernel.specs.Matches.{host_id}
-use Rattle.vm_kernel.specs.declared.parts.Parts.{Parts}
 use Rattle.vm_kernel.proofs.Own.{host_same}
 
 -- the command is none of those that are built
@@ -31,7 +18,7 @@ pub record IsUnknown (c : Command) : Type 0 where
   pub wire : (host : HostId) (count : ℕ) → c ≢ command.Wire host count
   pub unwire : (host : HostId) (count : ℕ) → c ≢ command.Unwire host count
 
-pub none_unknown : (c : Command) → is_built c ≡ true → IsUnknown c → ⊥
+pub none_unknown : (c : Command) → kernel_runs c ≡ true → IsUnknown c → ⊥
 none_unknown (command.Task task host) built unknown = unknown.task task host refl
 none_unknown (command.Fork task child) built unknown = unknown.fork task child refl
 none_unknown (command.Exit task) built unknown = unknown.exit task refl

@@ -1,43 +1,9 @@
 -- Commands that change a task's entries, from their beginning to their end.
-use Rattle.std.proofs.Common.{◌≡◌, ℕ, zero, suc, ◌+◌, ◌-◌, ◌*◌, ◌<◌, ◌≤◌, true, false, List, [], ◌∷◌, length, refl, ap, sym, ◌∙◌, subst, arith, Some, None, Option, inl, inr, ◌==◌, ◌||◌}
-use Rattle.std.proofs.lemmas.Bool.Decides.{eqb_tells}
-use Rattle.std.specs.Prelude.{is_none, is_some, unwrap_or, if◌then◌else◌}
-use Rattle.vm_base.specs.declared.code.Code.{Code}
+use Rattle.vm_kernel.proofs.Common.{Access, AllReached, AllRows, AllUsed, ChainTable, ChangesOnly, Code, Entry, Event, HasEntries, HasPages, HasRegions, HasUse, HasWaiters, Header, Ids, Inherit, IsInside, List, Lowered, MapChange, Mapped, None, Option, Outside, Parts, Prot, Raised, Ran, RegionRow, Rests, Some, Starts, TaskId, Waiting, [], acting, all_tasks, ap, arith, backing_of, code_where, copy_target, count_by, count_on, entries_in, entries_in_row, entries_of, entry, eqb_tells, false, fills, has_entry, has_region, holds, host_of, if◌then◌else◌, in_use, inheritance, inherited, inl, inr, is_none, is_some, length, local, most_entries, next_object, next_region, place_of, protected, protection, refl, region_at, region_entries, region_of, rows_in, rows_map, subst, suc, sym, tasks, true, unwrap_or, waiting, waiting_in, zero, ℕ, ◌*◌, ◌+◌, ◌-◌, ◌<◌, ◌==◌, ◌||◌, ◌∙◌, ◌∷◌, ◌≡◌, ◌≤◌}
 use Rattle.vm_base.specs.declared.code.Code.TheVariants as code
-use Rattle.vm_base.specs.declared.entry.Entry.{Entry}
-use Rattle.vm_base.specs.declared.ids.Inherit.{Inherit}
-use Rattle.vm_base.specs.declared.ids.Prot.{Prot}
-use Rattle.vm_base.specs.declared.ids.TaskId.{TaskId}
-use Rattle.vm_base.specs.Entries.{inherited, most_entries, protected}
-use Rattle.vm_model.specs.declared.event.Event.{Event}
 use Rattle.vm_model.specs.declared.event.Event.TheVariants as event
 use Rattle.vm_model.specs.declared.command.Command.TheVariants as command
-use Rattle.vm_model.specs.declared.script.Header.{Header}
-use Rattle.vm_model.specs.Local.{local}
-use Rattle.vm_model.specs.Regions.{backing_of, next_object, next_region, region_of}
-use Rattle.vm_model.specs.Rows.{AllRows, rows_map}
-use Rattle.vm_model.specs.Tasks.{entries_of, has_entry, host_of}
-use Rattle.vm_model.specs.Waiting.{Access, waiting, copy_target, fills}
-use Rattle.vm_legal.specs.Living.{tasks}
-use Rattle.vm_legal.specs.Outside.{Outside}
-use Rattle.vm_legal.specs.Refusal.{acting, where_true}
-use Rattle.vm_legal.specs.Used.{in_use}
-use Rattle.vm_maps.specs.declared.change.MapChange.{MapChange}
-use Rattle.vm_maps.specs.Maps.{ChangesOnly, Mapped, entries_in, rows_in}
-use Rattle.vm_shadow.specs.Chains.{ChainTable, region_at}
-use Rattle.vm_shadow.specs.declared.ids.Ids.{Ids}
-use Rattle.vm_shadow.specs.declared.region_row.RegionRow.{RegionRow}
 use Rattle.vm_supply.specs.declared.woken.Woken.TheVariants as woken
-use Rattle.vm_waits.specs.Waits.{entry}
-use Rattle.vm_waits.specs.declared.waiting.Waiting.{Waiting}
-use Rattle.vm_kernel.specs.Begun.{Ran, Starts}
-use Rattle.vm_kernel.specs.Changes.{inheritance, protection}
-use Rattle.vm_kernel.specs.Counts.{count_by, count_on, most_tasks}
-use Rattle.vm_kernel.specs.Matches.{AllReached, AllUsed, HasEntries, HasPages, HasRegions, HasUse, IsInside, Rests, holds}
-use Rattle.vm_kernel.specs.Places.{entries_in_row, has_region, place_of, region_entries}
-use Rattle.vm_kernel.specs.Sweeping.{Lowered, Raised}
-use Rattle.vm_kernel.specs.Waiters.{HasWaiters, waiting_in}
-use Rattle.vm_kernel.specs.declared.parts.Parts.{Parts}
 use Rattle.vm_kernel.proofs.Counts.{by_changed, by_few, most_is}
 use Rattle.vm_kernel.proofs.Cutting.{Cuts, inherit_cuts, protect_cuts}
 use Rattle.vm_kernel.proofs.Growing.{suffices}
@@ -63,7 +29,7 @@ counted size task maps cs lost has lives r there =
     let row = region_row cs r there in
     let counts = has.counts r row.0 row.1 in
     let is = ap entries_in_row row.1 in
-    let most = by_most most_tasks r task maps (lives_below size task maps cs lost has lives) in
+    let most = by_most all_tasks r task maps (lives_below size task maps cs lost has lives) in
     omega arith
 
 pub entries_few : (size : ℕ) (maps : Mapped) (cs : ChainTable) → HasEntries size maps cs [] → (r : ℕ) → region_entries cs r ≤ 262144
@@ -73,7 +39,7 @@ entries_few size maps cs has r = go (region_at cs r) refl
     go None is = omega arith
     go (Some row) is =
         let counts = has.counts r row is in
-        let few : count_by most_tasks r maps ≤ 1024 * 256 = subst (λ (z : ℕ). count_by most_tasks r maps ≤ z * 256) most_is (by_few most_tasks r most_entries maps has.few) in
+        let few : count_by all_tasks r maps ≤ 1024 * 256 = subst (λ (z : ℕ). count_by all_tasks r maps ≤ z * 256) most_is (by_few all_tasks r most_entries maps has.few) in
         omega arith
 
 pub lives_as : (task : ℕ) (maps : Mapped) (rows : List Entry) → entries_in task maps ≡ Some rows → (rows_in task maps ≡ rows) × (entries_in task maps ≡ Some (rows_in task maps))
@@ -82,7 +48,7 @@ lives_as task maps rows is = let same : rows_in task maps ≡ rows = ap (λ z. u
 -- the task of a command that acts has no access that waits
 
 pub acts : (task : ℕ) (past : List Event) (later : Option Code) → acting past task later ≡ None → waiting task past ≡ None
-acts task past later accepted = go (waiting task past) (passed (is_some (waiting task past)) code.Blocked later (passed (is_none (host_of task past)) code.NoSuchName (where_true (is_some (waiting task past)) code.Blocked later) accepted).1).0
+acts task past later accepted = go (waiting task past) (passed (is_some (waiting task past)) code.Blocked later (passed (is_none (host_of task past)) code.NoSuchName (code_where (is_some (waiting task past)) code.Blocked later) accepted).1).0
   where
     go : (x : Option Access) → is_some x ≡ false → x ≡ None
     go None is = refl
@@ -125,17 +91,17 @@ changed_by header h past k ids maps chains task rows lost count rests idle chang
 -- a region is in use as long as before where no entry on it is new, and after where none goes
 
 pub uses_fewer : (size task r : ℕ) (maps new : Mapped) (cs : ChainTable) (rows : Option (List Entry)) → HasEntries size maps cs [] → ChangesOnly maps new task rows → entries_in task maps ≡ Some (rows_in task maps)
-    → AllRows (λ row. has_entry row.region.0 (rows_in task maps) ≡ true) (unwrap_or rows []) → 0 < count_by most_tasks r new → 0 < count_by most_tasks r maps
+    → AllRows (λ row. has_entry row.region.0 (rows_in task maps) ≡ true) (unwrap_or rows []) → 0 < count_by all_tasks r new → 0 < count_by all_tasks r maps
 uses_fewer size task r maps new cs rows has changes lives own some = by_count (count_on r (unwrap_or rows [])) refl
   where
-    below : task < most_tasks
+    below : task < all_tasks
     below = lives_below size task maps cs [] has lives
 
-    by_count : (n : ℕ) → count_on r (unwrap_or rows []) ≡ n → 0 < count_by most_tasks r maps
-    by_count zero is = let moved = by_changed most_tasks r task maps new rows below changes in omega arith
+    by_count : (n : ℕ) → count_on r (unwrap_or rows []) ≡ n → 0 < count_by all_tasks r maps
+    by_count zero is = let moved = by_changed all_tasks r task maps new rows below changes in omega arith
     by_count (suc n) is =
         let had = on_among r (rows_in task maps) (unwrap_or rows []) own (omega arith) in
-        let most = by_most most_tasks r task maps below in
+        let most = by_most all_tasks r task maps below in
         omega arith
 
 pub uses_kept : (header : Header) (h : ℕ) (past : List Event) (k : Parts) (ids : Ids) (maps : Mapped) (task : ℕ) (two : List Entry) → Rests header h k ids past → ChangesOnly k.maps maps task (Some two) → entries_in task k.maps ≡ Some (rows_in task k.maps)
@@ -144,7 +110,7 @@ pub uses_kept : (header : Header) (h : ℕ) (past : List Event) (k : Parts) (ids
 uses_kept header h past k ids maps task two rests changes lives cuts own =
     let m = rests.matches in
     uses_same k.maps maps (λ r. in_use header h r past) (tasks past) (λ t r. holds header.size t r past) _ (next_region header past) task two m.uses changes lives
-    (λ r some. let moved = by_changed most_tasks r task k.maps maps (Some two) (lives_below header.size task k.maps k.chains [] m.entries lives) changes in let kept = cuts.kept r in omega arith)
+    (λ r some. let moved = by_changed all_tasks r task k.maps maps (Some two) (lives_below header.size task k.maps k.chains [] m.entries lives) changes in let kept = cuts.kept r in omega arith)
     (λ r some. uses_fewer header.size task r k.maps maps k.chains (Some two) m.entries changes lives cuts.own some)
     (λ t r none. holds_rows header.size task t r k.maps (rows_in task k.maps) (own t) past lives none)
 

@@ -1,36 +1,12 @@
 -- What running an access once claims.
-use Rattle.std.proofs.Common.{◌≡◌, ℕ, Bool, true, false, List, [], ◌∷◌, ◌++◌, refl, ap, sym, ◌∙◌, subst, arith, Some, None, Option, inl, inr}
-use Rattle.std.proofs.lemmas.Bool.Decides.{eqb_tells}
-use Rattle.std.specs.Prelude.{◌≢◌, ◌⊎◌}
-use Rattle.vm_base.specs.declared.ids.FrameNo.{FrameNo}
-use Rattle.vm_base.specs.declared.ids.ObjectId.{ObjectId}
-use Rattle.vm_base.specs.declared.ids.PageKey.{PageKey}
-use Rattle.vm_base.specs.declared.ids.TaskId.{TaskId}
-use Rattle.vm_model.specs.declared.event.Event.{Event}
+use Rattle.vm_kernel.proofs.Common.{AfterZeros, AtOnce, Bool, Did, Ended, Event, FaultStep, Faulted, ForAsked, ForZeros, Found, FrameNo, HasWaits, Hits, List, None, Nothing, ObjectId, On, Option, PageKey, Parts, PutsEntry, QueueAfter, Reason, RunsOnce, Some, TaskId, Up, WaitTable, Waiting, Want, [], access_in, ap, arith, desired_access, entry, eqb_tells, false, free, inl, inr, is_again, is_frame, puts_here, queue_without, refl, row_at, some_is, subst, sym, true, with_on, zeroed, ℕ, ◌++◌, ◌∙◌, ◌∷◌, ◌≡◌, ◌≢◌, ◌⊎◌}
 use Rattle.vm_model.specs.declared.event.Event.TheVariants as event
-use Rattle.vm_model.specs.declared.message.Channel.TheVariants.{Up}
 use Rattle.vm_model.specs.declared.message.Message.TheVariants as message
-use Rattle.vm_legal.specs.Licences.{access_number}
-use Rattle.vm_resident.specs.Resident.{row_at}
 use Rattle.vm_supply.specs.declared.woken.Woken.TheVariants as woken
-use Rattle.vm_frames.specs.Frames.{free}
-use Rattle.vm_waits.specs.Waits.{PutsEntry, WaitTable, entry, is_again, is_frame, others, with_on}
-use Rattle.vm_waits.specs.declared.waiting.On.{On}
 use Rattle.vm_waits.specs.declared.waiting.On.TheVariants as on
-use Rattle.vm_waits.specs.declared.waiting.Waiting.{Waiting}
-use Rattle.vm_waits.specs.declared.waiting.Want.{Want}
 use Rattle.vm_waits.specs.declared.waiting.Want.TheVariants as want
-use Rattle.vm_kernel.specs.Changes.{zeroed}
-use Rattle.vm_kernel.specs.Faulting.{AfterZeros, AtOnce, Ended, Faulted, Hits}
-use Rattle.vm_kernel.specs.Matches.{HasWaits}
-use Rattle.vm_kernel.specs.Waiters.{Reason, access_in}
-use Rattle.vm_waits.proofs.Entries.{puts_here}
-use Rattle.vm_kernel.specs.Turns.{Did, ForAsked, ForZeros, Found, Nothing, QueueAfter, RunsOnce}
-use Rattle.vm_kernel.specs.declared.parts.Parts.{Parts}
-use Rattle.vm_kernel.specs.declared.steps.FaultStep.{FaultStep}
 use Rattle.vm_kernel.specs.declared.steps.FaultStep.TheVariants as step
 use Rattle.vm_kernel.proofs.Attempting.{waits_kept}
-use Rattle.vm_parts.proofs.Rows.{some_is}
 
 -- the rows of others are as they were
 puts_rest : (task : TaskId) (x : Option Waiting) (k new : Parts) (waits2 : WaitTable) → new.waits ≡ k.waits → PutsEntry task.0 x new.waits.rows waits2.rows → (t : ℕ) → t ≢ task.0 → entry waits2.rows t ≡ entry k.waits.rows t
@@ -86,7 +62,7 @@ turned_done : (w v : Waiting) (reason : On) → is_again reason ≡ false → So
 turned_done w v reason none is = subst (λ (z : Waiting). is_again z.on ≡ false) (some_is (with_on w reason) v is) none
 
 pub once_done : (w : Waiting) (may : Bool) (k new : Parts) (before after : List Event) (waits2 : WaitTable) → Faulted w.task w.want may step.Done k new before after → (may ≡ false → free new.memory.frames ≡ free k.memory.frames)
-    → PutsEntry w.task.0 None new.waits.rows waits2.rows → waits2.queue ≡ others w.task.0 new.waits.queue → RunsOnce w may false k.waits waits2 before after
+    → PutsEntry w.task.0 None new.waits.rows waits2.rows → waits2.queue ≡ queue_without w.task.0 new.waits.queue → RunsOnce w may false k.waits waits2 before after
 once_done w may k new before after waits2 f kept put queue =
     let same = waits_kept w may step.Done k new before after f in
     let e = ended_by waits2.rows w.task w.want may f.key _ k new before after f.faults kept in
@@ -99,7 +75,7 @@ once_done w may k new before after waits2 f kept put queue =
       nothing = λ bad. absurd (let clash : false ≡ true = bad in cc);
       done = done_by w.task.0 None new.waits.rows waits2.rows put (λ v bad. absurd (let clash : None ≡ Some v = bad in cc));
       rest = puts_rest w.task None k new waits2 same put;
-      queue = queue ∙ ap (λ z. others w.task.0 z.queue) same;
+      queue = queue ∙ ap (λ z. queue_without w.task.0 z.queue) same;
     }
 
 -- nothing has happened
@@ -123,18 +99,18 @@ once_queued w may k new before after f found frame =
 
 -- an access waits for something else, and nothing has happened
 waited : (w : Waiting) (may : Bool) (k new : Parts) (before after : List Event) (waits2 : WaitTable) (reason : On) (answer : FaultStep) → Faulted w.task w.want may answer k new before after → after ≡ before → is_again reason ≡ false
-    → PutsEntry w.task.0 (Some (with_on w reason)) new.waits.rows waits2.rows → waits2.queue ≡ others w.task.0 new.waits.queue → RunsOnce w may false k.waits waits2 before after
+    → PutsEntry w.task.0 (Some (with_on w reason)) new.waits.rows waits2.rows → waits2.queue ≡ queue_without w.task.0 new.waits.queue → RunsOnce w may false k.waits waits2 before after
 waited w may k new before after waits2 reason answer f told none put queue =
     let same = waits_kept w may answer k new before after f in
-    stayed w may false k new before after waits2 told (puts_rest w.task (Some (with_on w reason)) k new waits2 same put) (queue ∙ ap (λ z. others w.task.0 z.queue) same)
+    stayed w may false k new before after waits2 told (puts_rest w.task (Some (with_on w reason)) k new waits2 same put) (queue ∙ ap (λ z. queue_without w.task.0 z.queue) same)
     (done_by w.task.0 (Some (with_on w reason)) new.waits.rows waits2.rows put (λ v. turned_done w v reason none))
 
 pub once_ready : (w : Waiting) (may : Bool) (object : ObjectId) (k new : Parts) (before after : List Event) (waits2 : WaitTable) → Faulted w.task w.want may (step.WaitReady object) k new before after
-    → PutsEntry w.task.0 (Some (with_on w (on.Ready object))) new.waits.rows waits2.rows → waits2.queue ≡ others w.task.0 new.waits.queue → RunsOnce w may false k.waits waits2 before after
+    → PutsEntry w.task.0 (Some (with_on w (on.Ready object))) new.waits.rows waits2.rows → waits2.queue ≡ queue_without w.task.0 new.waits.queue → RunsOnce w may false k.waits waits2 before after
 once_ready w may object k new before after waits2 f put queue = waited w may k new before after waits2 (on.Ready object) (step.WaitReady object) f f.faults.2.told refl put queue
 
 once_answer : (w : Waiting) (may : Bool) (key : PageKey) (k new : Parts) (before after : List Event) (waits2 : WaitTable) → Faulted w.task w.want may (step.WaitAnswer key) k new before after
-    → PutsEntry w.task.0 (Some (with_on w (on.Page key))) new.waits.rows waits2.rows → waits2.queue ≡ others w.task.0 new.waits.queue → RunsOnce w may false k.waits waits2 before after
+    → PutsEntry w.task.0 (Some (with_on w (on.Page key))) new.waits.rows waits2.rows → waits2.queue ≡ queue_without w.task.0 new.waits.queue → RunsOnce w may false k.waits waits2 before after
 once_answer w may key k new before after waits2 f put queue = waited w may k new before after waits2 (on.Page key) (step.WaitAnswer key) f f.faults.2.told refl put queue
 
 -- nobody waits for a page that isn't asked
@@ -145,7 +121,7 @@ unasked k past key t v has absent found waits =
 
 -- it asks for its page
 once_asks : (w : Waiting) (may : Bool) (key : PageKey) (k new : Parts) (before after past : List Event) (waits2 : WaitTable) → HasWaits k woken.Nobody past → Faulted w.task w.want may (step.Ask key) k new before after → (may ≡ false → free new.memory.frames ≡ free k.memory.frames)
-    → PutsEntry w.task.0 (Some (with_on w (on.Page key))) new.waits.rows waits2.rows → waits2.queue ≡ others w.task.0 new.waits.queue → RunsOnce w may false k.waits waits2 before after
+    → PutsEntry w.task.0 (Some (with_on w (on.Page key))) new.waits.rows waits2.rows → waits2.queue ≡ queue_without w.task.0 new.waits.queue → RunsOnce w may false k.waits waits2 before after
 once_asks w may key k new before after past waits2 has f kept put queue =
     let same = waits_kept w may (step.Ask key) k new before after f in
     let asked = f.faults.1 in
@@ -153,7 +129,7 @@ once_asks w may key k new before after past waits2 has f kept put queue =
     let rest = puts_rest w.task (Some (with_on w (on.Page key))) k new waits2 same put in
     let row : entry waits2.rows w.task.0 ≡ Some (with_on w (on.Page key)) = puts_here w.task.0 (Some (with_on w (on.Page key))) new.waits.rows waits2.rows put in
     record {
-      more = event.Sent (Up k.host f.key.object) (message.Request asked.control f.key.page (access_number (access_in w.want) 0)) ∷ [];
+      more = event.Sent (Up k.host f.key.object) (message.Request asked.control f.key.page (desired_access (access_in w.want) 0)) ∷ [];
       told = asked.told;
       claims = true;
       did = ForAsked k.host f.key asked.control (with_on w (on.Page key)) row mine (λ t v apart is. unasked k past f.key t v has asked.page.found (sym (rest t apart) ∙ is));
@@ -161,10 +137,10 @@ once_asks w may key k new before after past waits2 has f kept put queue =
       nothing = λ bad. absurd (let clash : false ≡ true = bad in cc);
       done = done_by w.task.0 (Some (with_on w (on.Page key))) new.waits.rows waits2.rows put (λ v. turned_done w v (on.Page key) refl);
       rest = rest;
-      queue = queue ∙ ap (λ z. others w.task.0 z.queue) same;
+      queue = queue ∙ ap (λ z. queue_without w.task.0 z.queue) same;
     }
 
 pub once_page : (w : Waiting) (may : Bool) (answer : FaultStep) (key : PageKey) (k new : Parts) (before after past : List Event) (waits2 : WaitTable) → HasWaits k woken.Nobody past → Faulted w.task w.want may answer k new before after → (may ≡ false → free new.memory.frames ≡ free k.memory.frames)
-    → (answer ≡ step.Ask key) ⊎ (answer ≡ step.WaitAnswer key) → PutsEntry w.task.0 (Some (with_on w (on.Page key))) new.waits.rows waits2.rows → waits2.queue ≡ others w.task.0 new.waits.queue → RunsOnce w may false k.waits waits2 before after
+    → (answer ≡ step.Ask key) ⊎ (answer ≡ step.WaitAnswer key) → PutsEntry w.task.0 (Some (with_on w (on.Page key))) new.waits.rows waits2.rows → waits2.queue ≡ queue_without w.task.0 new.waits.queue → RunsOnce w may false k.waits waits2 before after
 once_page w may answer key k new before after past waits2 has f kept (inl is) put queue = once_asks w may key k new before after past waits2 has (rw is at f) kept put queue
 once_page w may answer key k new before after past waits2 has f kept (inr is) put queue = once_answer w may key k new before after waits2 (rw is at f) put queue

@@ -1,8 +1,7 @@
 -- How many entries a fork copies, and from how many regions, counted one after another.
-use Rattle.std.proofs.Common.{◌≡◌, ℕ, zero, suc, ◌+◌, ◌≤◌, ◌==◌, ◌&&◌, ◌||◌, true, false, not, List, [], ◌∷◌, length, drop, slice_get, refl, ap, ◌∙◌, arith, Some}
-use Rattle.vm_base.specs.declared.entry.Entry.{Entry}
+use Rattle.vm_kernel.proofs.Common.{Entry, List, Some, [], ap, arith, copies, copies_from, drop, false, is_copied, length, refl, sources, suc, true, zero, ℕ, ◌&&◌, ◌+◌, ◌==◌, ◌||◌, ◌∙◌, ◌∷◌, ◌≡◌, ◌≤◌}
+use Rattle.std.proofs.Common.{not, slice_get}
 use Rattle.vm_kernel.proofs.Recounts.{next_row}
-use Rattle.vm_model.specs.Tasks.{copies, copies_from, is_copied, sources}
 
 pub drop_past : (rows : List Entry) (i : ℕ) → length rows ≤ i → drop i rows ≡ []
 drop_past [] zero le = refl

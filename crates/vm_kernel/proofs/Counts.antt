@@ -1,12 +1,5 @@
 -- How many entries lead to a region, over each change of a task's entries.
-use Rattle.std.proofs.Common.{◌≡◌, ℕ, zero, suc, ◌+◌, ◌*◌, ◌<◌, ◌≤◌, ◌==◌, Bool, true, false, List, [], ◌∷◌, ◌++◌, length, refl, ap, subst, arith, Option, inl, inr}
-use Rattle.std.proofs.lemmas.Bool.Decides.{eqb_tells}
-use Rattle.std.specs.Prelude.{if◌then◌else◌, unwrap_or, nat_lt, ◌≢◌}
-use Rattle.vm_base.specs.declared.entry.Entry.{Entry}
-use Rattle.vm_base.specs.Entries.{entered}
-use Rattle.vm_model.specs.Tasks.{has_entry}
-use Rattle.vm_maps.specs.Maps.{ChangesOnly, Mapped, rows_in}
-use Rattle.vm_kernel.specs.Counts.{count_by, count_on, most_tasks}
+use Rattle.vm_kernel.proofs.Common.{Bool, ChangesOnly, Entry, List, Mapped, Option, [], all_tasks, ap, arith, count_by, count_on, entered, eqb_tells, false, has_entry, if◌then◌else◌, inl, inr, length, nat_lt, refl, rows_in, subst, suc, true, unwrap_or, zero, ℕ, ◌*◌, ◌++◌, ◌+◌, ◌<◌, ◌==◌, ◌∷◌, ◌≡◌, ◌≢◌, ◌≤◌}
 
 -- nothing leads to a region exactly where it has no entry
 
@@ -102,6 +95,6 @@ pub by_changed : (n r task : ℕ) (maps new : Mapped) (rows : Option (List Entry
 by_changed n r task maps new rows less changes =
     omega (arith, by_change n r task maps new less (other_rows maps new task rows changes), ap (λ z. count_on r (unwrap_or z [])) changes.changed)
 
-pub most_is : most_tasks ≡ 1024
-unfolding most_tasks
+pub most_is : all_tasks ≡ 1024
+unfolding all_tasks
 most_is = refl

@@ -1,24 +1,10 @@
 -- What the commands on a task's entries make of them, and what they lose.
-use Rattle.std.proofs.Common.{◌≡◌, ℕ, ◌+◌, ◌≤◌, true, List, [], ◌∷◌, length, refl, ap, sym, ◌∙◌, subst, arith, Some}
-use Rattle.std.specs.Prelude.{unwrap_or}
-use Rattle.vm_base.specs.declared.entry.Entry.{Entry}
-use Rattle.vm_base.specs.declared.ids.Inherit.{Inherit}
-use Rattle.vm_base.specs.declared.ids.Prot.{Prot}
-use Rattle.vm_base.specs.Entries.{cut, inherited, most_entries, parts_in, protected, removed, rewritten}
-use Rattle.vm_model.specs.Rows.{AllRows, HoldsOfParts, inside_part, rows_cut, rows_flat, rows_known, rows_map, rows_rewritten}
-use Rattle.vm_model.specs.Tasks.{has_entry}
-use Rattle.vm_maps.specs.declared.change.MapChange.{MapChange}
-use Rattle.vm_maps.specs.Maps.{ChangesOnly, Mapped, entries_in, parts_for, rows_in}
-use Rattle.vm_shadow.specs.Chains.{ChainTable}
-use Rattle.vm_kernel.specs.Changes.{inheritance, protection, removal}
-use Rattle.vm_kernel.specs.Counts.{count_on}
-use Rattle.vm_kernel.specs.Matches.{AllInside, HasEntries, IsInside}
-use Rattle.vm_kernel.specs.Places.{has_region, region_pages}
+use Rattle.vm_kernel.proofs.Common.{AllEntriesInside, AllRows, ChainTable, ChangesOnly, Entry, HasEntries, HoldsOfParts, Inherit, IsInside, List, MapChange, Mapped, Prot, Some, [], ap, arith, count_on, cut, entries_in, has_entry, has_region, inheritance, inherited, inside_part, length, most_entries, parts_for, parts_in, protected, protection, refl, region_pages, removal, removed, rewritten, rows_cut, rows_flat, rows_in, rows_known, rows_map, rows_rewritten, subst, sym, true, unwrap_or, ℕ, ◌+◌, ◌∙◌, ◌∷◌, ◌≡◌, ◌≤◌}
 use Rattle.vm_kernel.proofs.Rewrites.{IsSpan, on_kept, on_removed, parts_few}
 
 -- what is made of a task's entries, and what is lost of them
 pub record Cuts (size : ℕ) (chains : ChainTable) (rows made lost : List Entry) : Type 0 where
-  pub inside : AllInside size chains made
+  pub inside : AllEntriesInside size chains made
   pub own : AllRows (λ row. has_entry row.region.0 rows ≡ true) made
   pub known : AllRows (λ row. has_region chains row.region.0 ≡ true) lost
   pub gone : AllRows (λ row. has_entry row.region.0 rows ≡ true) lost
@@ -40,11 +26,11 @@ own_parts size chains rows row start end is low less high = (
   is.1,
 )
 
-pub spans : (size : ℕ) (chains : ChainTable) (rows : List Entry) → AllInside size chains rows → AllRows IsSpan rows
+pub spans : (size : ℕ) (chains : ChainTable) (rows : List Entry) → AllEntriesInside size chains rows → AllRows IsSpan rows
 spans size chains rows all = rows_map (IsInside size chains) IsSpan (λ row is. record { some = is.some; below = is.below }) rows all
 
 pub cuts_kept : (size address bytes : ℕ) (chains : ChainTable) (becomes : Entry → List Entry) (rows made : List Entry) → ((r : ℕ) (row : Entry) → count_on r (becomes row) ≡ count_on r (row ∷ []))
-    → ((row : Entry) → IsOwn size chains rows row → AllRows (IsOwn size chains rows) (becomes row)) → AllInside size chains rows → made ≡ rewritten becomes size address bytes rows → length made ≤ most_entries → Cuts size chains rows made []
+    → ((row : Entry) → IsOwn size chains rows row → AllRows (IsOwn size chains rows) (becomes row)) → AllEntriesInside size chains rows → made ≡ rewritten becomes size address bytes rows → length made ≤ most_entries → Cuts size chains rows made []
 cuts_kept size address bytes chains becomes rows made same each all is few =
     let both : AllRows (IsOwn size chains rows) made = subst (AllRows (IsOwn size chains rows)) (sym is)
     (rows_rewritten size (IsOwn size chains rows) becomes (own_parts size chains rows) each address bytes rows (rows_known (IsInside size chains) rows all)) in
@@ -82,7 +68,7 @@ inherit_cuts size address bytes task inherit maps new chains change two has size
     cuts_kept size address bytes chains (λ row. record row { inherit = inherit } ∷ []) rows two (λ r row. refl) (with_inherit size chains rows inherit) (has.inside task) made few
 
 -- all its entries are lost
-pub ended_cuts : (size : ℕ) (chains : ChainTable) (rows gone : List Entry) → AllInside size chains rows → rows ≡ gone → Cuts size chains rows [] gone
+pub ended_cuts : (size : ℕ) (chains : ChainTable) (rows gone : List Entry) → AllEntriesInside size chains rows → rows ≡ gone → Cuts size chains rows [] gone
 ended_cuts size chains rows gone all same =
     subst (λ (z : List Entry). Cuts size chains rows [] z) same (record {
       inside = tt;

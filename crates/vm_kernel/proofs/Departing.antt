@@ -1,24 +1,10 @@
 -- A page of an object that is used no more goes off the lists.
-use Rattle.std.proofs.Common.{◌≡◌, ℕ, Bool, false, List, ◌++◌, refl, ap, sym, ◌∙◌, subst, None}
-use Rattle.std.specs.Prelude.{nat_lt}
-use Rattle.vm_base.specs.declared.entry.Entry.{Entry}
-use Rattle.vm_base.specs.declared.ids.PageKey.{PageKey}
-use Rattle.vm_legal.specs.Outside.{Outside}
-use Rattle.vm_legal.specs.Used.{in_use}
-use Rattle.vm_model.specs.declared.command.Command.{Command}
-use Rattle.vm_model.specs.declared.event.Event.{Event}
-use Rattle.vm_model.specs.declared.script.Header.{Header}
-use Rattle.vm_resident.specs.Resident.{row_at}
-use Rattle.vm_shadow.specs.declared.ids.Ids.{Ids}
-use Rattle.vm_kernel.specs.Changes.{Lost}
-use Rattle.vm_kernel.specs.Plays.{DepartsFrom, Plays, paging}
-use Rattle.vm_kernel.specs.Sweeping.{Ends}
-use Rattle.vm_kernel.specs.declared.parts.Parts.{Parts}
+use Rattle.vm_kernel.proofs.Common.{Bool, Command, DepartsFrom, DropsPage, EndsRegion, Entry, Event, Header, Ids, List, None, Outside, PageKey, Parts, Plays, ap, false, in_use, nat_lt, paging, refl, row_at, subst, sym, ℕ, ◌++◌, ◌∙◌, ◌≡◌}
 use Rattle.vm_kernel.proofs.Playing.{frames_put, here_is, plays_told, same_paging}
 use Rattle.vm_kernel.proofs.Strands.{none_left}
 
 pub lost_plays : (header : Header) (h : ℕ) (outside : Outside) (doing : Command) (past : List Event) (k k2 : Parts) (ids : Ids) (rest : List Entry) (region : ℕ) (key : PageKey) (events after : List Event)
-    → Ends header h outside doing past k ids rest region events → key.object.0 ≡ region → Lost key k k2 events after → Plays header past events (paging k) after (paging k2)
+    → EndsRegion header h outside doing past k ids rest region events → key.object.0 ≡ region → DropsPage key k k2 events after → Plays header past events (paging k) after (paging k2)
 lost_plays header h outside doing past k k2 ids rest region key events after ends same lost =
     plays_told lost.told
     (subst (λ (b : Bool). DepartsFrom b key.object.0 key.page.0 (paging k) (paging k2)) (sym unused)

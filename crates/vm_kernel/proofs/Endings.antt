@@ -1,38 +1,9 @@
 -- Tasks end, and ranges are unmapped.
-use Rattle.std.proofs.Common.{◌≡◌, ℕ, ◌+◌, ◌-◌, ◌≤◌, ◌==◌, true, List, [], ◌∷◌, ◌++◌, length, refl, ap, sym, ◌∙◌, subst, arith, Some, None, Option, inl, inr, false, Bool, is_some}
-use Rattle.std.proofs.lemmas.Bool.Decides.{eqb_tells}
-use Rattle.std.specs.Prelude.{if◌then◌else◌, unwrap_or}
-use Rattle.vm_base.specs.declared.entry.Entry.{Entry}
-use Rattle.vm_base.specs.declared.ids.TaskId.{TaskId}
-use Rattle.vm_base.specs.Entries.{most_entries, removed}
-use Rattle.vm_model.specs.declared.event.Event.{Event}
+use Rattle.vm_kernel.proofs.Common.{Access, AllRows, Bool, ChainTable, ChangesOnly, Command, Entry, Event, HasTasks, HasUse, HasWaiters, Header, Ids, IsDone, List, Lowered, MapChange, Mapped, None, ObjectTable, Option, Outside, Parts, Raised, Ran, ResidentTable, Rests, Some, Starts, Sweeps, TaskId, Waiting, Woken, [], ap, arith, count_on, entries_in, entries_of, eqb_tells, false, has_region, holds, host_of, if◌then◌else◌, in_use, inl, inr, is_on, length, most_entries, next_region, parts_for, refl, region_entries, removal, removed, rows_in, subst, sym, true, unwrap_or, waiting, ℕ, ◌++◌, ◌+◌, ◌-◌, ◌==◌, ◌∙◌, ◌∷◌, ◌≡◌, ◌≤◌}
+use Rattle.std.proofs.Common.{is_some}
 use Rattle.vm_model.specs.declared.event.Event.TheVariants as event
-use Rattle.vm_model.specs.declared.command.Command.{Command}
 use Rattle.vm_model.specs.declared.command.Command.TheVariants as command
-use Rattle.vm_model.specs.declared.script.Header.{Header}
-use Rattle.vm_model.specs.Rows.{AllRows}
-use Rattle.vm_model.specs.Tasks.{entries_of, host_of}
-use Rattle.vm_model.specs.Waiting.{Access, waiting}
-use Rattle.vm_legal.specs.Follows.{IsDone}
-use Rattle.vm_legal.specs.Outside.{Outside}
-use Rattle.vm_legal.specs.Used.{in_use}
-use Rattle.vm_maps.specs.declared.change.MapChange.{MapChange}
-use Rattle.vm_maps.specs.Maps.{ChangesOnly, Mapped, entries_in, parts_for, rows_in}
-use Rattle.vm_objects.specs.Objects.{ObjectTable}
-use Rattle.vm_resident.specs.Resident.{ResidentTable}
-use Rattle.vm_shadow.specs.Chains.{ChainTable}
-use Rattle.vm_shadow.specs.declared.ids.Ids.{Ids}
-use Rattle.vm_supply.specs.declared.woken.Woken.{Woken}
 use Rattle.vm_supply.specs.declared.woken.Woken.TheVariants as woken
-use Rattle.vm_waits.specs.declared.waiting.Waiting.{Waiting}
-use Rattle.vm_kernel.specs.Begun.{Ran, Starts}
-use Rattle.vm_kernel.specs.Changes.{removal}
-use Rattle.vm_kernel.specs.Counts.{count_on}
-use Rattle.vm_kernel.specs.Matches.{HasTasks, Rests, HasUse, holds}
-use Rattle.vm_kernel.specs.Places.{has_region, region_entries}
-use Rattle.vm_kernel.specs.Sweeping.{Lowered, Raised, Sweeps}
-use Rattle.vm_kernel.specs.Waiters.{HasWaiters}
-use Rattle.vm_kernel.specs.declared.parts.Parts.{Parts}
 use Rattle.vm_kernel.proofs.Changing.{acts, changed_by, counted, lives_as, recounted, uses_fewer}
 use Rattle.vm_kernel.proofs.Counts.{on_few}
 use Rattle.vm_kernel.proofs.Cutting.{Cuts, ended_cuts, removed_cuts}
@@ -41,8 +12,6 @@ use Rattle.vm_kernel.proofs.Heads.{grows_one}
 use Rattle.vm_kernel.proofs.Recounts.{Recounts, entries_are, entries_most, lowered_recounts, raised_recounts, recounts_as, recounts_same, recounts_twice}
 use Rattle.vm_kernel.proofs.Rewrites.{recount_known, tasks_changed}
 use Rattle.vm_kernel.proofs.Uses.{uses_cut, ApartFrom, elsewhere, holds_rows}
-use Rattle.vm_model.specs.Local.{is_on}
-use Rattle.vm_model.specs.Regions.{next_region}
 use Rattle.vm_kernel.proofs.Mine.{own_task}
 
 -- a task ends

@@ -1,38 +1,8 @@
 -- Entries that have gone leave the counts, and the pages of regions without entries go.
-use Rattle.std.proofs.Common.{◌≡◌, ℕ, zero, suc, ◌+◌, ◌-◌, ◌<◌, ◌≤◌, ◌==◌, true, false, List, ◌∷◌, ◌++◌, drop, length, refl, ap, sym, ◌∙◌, subst, arith, Some, None, inl, inr}
-use Rattle.std.proofs.lemmas.Bool.Decides.{eqb_tells}
-use Rattle.std.specs.Prelude.{if◌then◌else◌, nat_lt, reverse, slice_get, ◌≢◌}
-use Rattle.vm_base.specs.declared.entry.Entry.{Entry}
-use Rattle.vm_base.specs.declared.ids.PageKey.{PageKey}
-use Rattle.vm_model.specs.declared.event.Event.{Event}
+use Rattle.vm_kernel.proofs.Common.{AllReached, AllUsed, Caused, ChainTable, Command, Drops, DropsPage, EndsRegion, Entry, Event, HasEntries, HasFrames, HasLaundry, HasPages, HasWaiters, Header, Ids, IsInStep, List, Mapped, Matches, None, ObjectTable, Outside, PageKey, Parts, PutsEntries, RegionRow, Some, Sweeps, Unreached, absent_at, ap, arith, away, backing_of, count_on, drop, entries_in_row, eqb_tells, false, frames_held, frames_wired, has_region, host_id, if◌then◌else◌, in_use, inl, inr, length, local, local_of_row, nat_lt, next_object, next_region, not, place_of, refl, region_at, region_entries, region_of, returns_out, reverse, row_at, rows_in, slice_get, subst, suc, sym, true, waiting, zero, ℕ, ◌++◌, ◌+◌, ◌-◌, ◌<◌, ◌==◌, ◌∙◌, ◌∷◌, ◌≡◌, ◌≢◌, ◌≤◌}
 use Rattle.vm_model.specs.declared.event.Event.TheVariants as event
-use Rattle.vm_model.specs.declared.command.Command.{Command}
-use Rattle.vm_model.specs.declared.script.Header.{Header}
-use Rattle.vm_legal.specs.Frames.{frames_held, frames_wired, returns_out}
-use Rattle.vm_legal.specs.Licences.{Caused, Unreached}
-use Rattle.vm_legal.specs.Outside.{Outside}
-use Rattle.vm_legal.specs.Used.{in_use}
-use Rattle.vm_model.specs.Local.{local}
-use Rattle.vm_model.specs.Regions.{backing_of, next_object, next_region, region_of}
-use Rattle.vm_model.specs.Waiting.{waiting}
-use Rattle.vm_maps.specs.Maps.{Mapped, rows_in}
-use Rattle.vm_objects.specs.Objects.{ObjectTable, absent_at}
-use Rattle.vm_resident.specs.Resident.{row_at}
-use Rattle.vm_shadow.specs.Chains.{ChainTable, region_at}
-use Rattle.vm_shadow.specs.declared.ids.Ids.{Ids}
-use Rattle.vm_shadow.specs.declared.region_row.RegionRow.{RegionRow}
 use Rattle.vm_supply.specs.declared.woken.Woken.TheVariants as woken
-use Rattle.vm_kernel.specs.Begun.{IsInStep}
-use Rattle.vm_kernel.specs.Changes.{Lost}
-use Rattle.vm_kernel.specs.Counts.{count_on}
-use Rattle.vm_kernel.specs.Matches.{AllReached, AllUsed, HasEntries, HasFrames, HasLaundry, HasPages, Matches, host_id}
-use Rattle.vm_kernel.specs.Places.{entries_in_row, has_region, local_of_row, place_of, region_entries}
-use Rattle.vm_kernel.specs.Sweeping.{Ends, PutsEntries, Sweeps}
-use Rattle.vm_kernel.specs.Waiters.{HasWaiters}
-use Rattle.vm_kernel.specs.declared.parts.Parts.{Parts}
 use Rattle.vm_kernel.proofs.Pages.{frames_changed, laundry_changed, pages_moved}
-use Rattle.vm_model.specs.Local.{Drops, away}
-use Rattle.std.specs.Prelude.{not}
 use Rattle.vm_kernel.proofs.Growing.{grows_more, suffices}
 use Rattle.vm_kernel.proofs.Recounts.{Recounts, entries_are, has_same, next_row, recounts_put, row_before}
 use Rattle.vm_kernel.proofs.Regions.{region_row, tops_recounted}
@@ -46,10 +16,10 @@ use Rattle.vm_kernel.proofs.Mine.{own_named}
 
 -- a page of a region without entries goes
 pub ends_lost : (header : Header) (h : ℕ) (outside : Outside) (doing : Command) (past : List Event) (k k2 : Parts) (ids : Ids) (rest : List Entry) (region : ℕ) (key : PageKey) (events after : List Event)
-    → Ends header h outside doing past k ids rest region events → key.object.0 ≡ region → ((q : ℕ) → q < key.page.0 → row_at k.memory.resident key.object.0 q ≡ None) → Lost key k k2 events after
-    → Ends header h outside doing past k2 ids rest region after
+    → EndsRegion header h outside doing past k ids rest region events → key.object.0 ≡ region → ((q : ℕ) → q < key.page.0 → row_at k.memory.resident key.object.0 q ≡ None) → DropsPage key k k2 events after
+    → EndsRegion header h outside doing past k2 ids rest region after
 ends_lost header h outside doing past k k2 ids rest region key events after e same first lost =
-    subst (λ (z : List Event). Ends header h outside doing past k2 ids rest region z) (ap (λ z. event.Dropped z key.object key.page ∷ events) (sym (named_host k.host h m.host)) ∙ sym lost.told) (record {
+    subst (λ (z : List Event). EndsRegion header h outside doing past k2 ids rest region z) (ap (λ z. event.Dropped z key.object key.page ∷ events) (sym (named_host k.host h m.host)) ∙ sym lost.told) (record {
       runs = record {
         begins = e.runs.begins;
         matches = record {
@@ -232,7 +202,7 @@ sweeps_less header h outside doing past k ids entry rest events chains s put mor
 
 -- it was the last of its region
 pub ends_less : (header : Header) (h : ℕ) (outside : Outside) (doing : Command) (past : List Event) (k : Parts) (ids : Ids) (entry : Entry) (rest : List Entry) (events : List Event) (chains : ChainTable) → Sweeps header h outside doing past k ids (entry ∷ rest) events
-    → PutsEntries entry.region.0 (region_entries k.chains entry.region.0 - 1) k.chains chains → region_entries k.chains entry.region.0 ≡ 1 → Ends header h outside doing past (record k { chains = chains }) ids rest entry.region.0 events
+    → PutsEntries entry.region.0 (region_entries k.chains entry.region.0 - 1) k.chains chains → region_entries k.chains entry.region.0 ≡ 1 → EndsRegion header h outside doing past (record k { chains = chains }) ids rest entry.region.0 events
 ends_less header h outside doing past k ids entry rest events chains s put last =
     let count = count_less k.chains entry.region.0 in
     let is : Recounts count k.chains chains = recounts_put entry.region.0 (region_entries k.chains entry.region.0 - 1) k.chains chains put in

@@ -1,47 +1,16 @@
 -- Those who wait for a page that its pager can't give are ended.
-use Rattle.std.proofs.Common.{append-nil, append_assoc, ◌≡◌, ℕ, ◌+◌, ◌<◌, ◌==◌, ◌||◌, true, false, List, [], ◌∷◌, ◌++◌, refl, ap, sym, ◌∙◌, subst, Some, None, inl, inr, is_some}
-use Rattle.std.proofs.lemmas.Bool.Decides.{eqb_tells}
-use Rattle.std.specs.Prelude.{IfSome, if◌then◌else◌, ◌⊎◌}
-use Rattle.vm_base.specs.declared.ids.PageKey.{PageKey}
-use Rattle.vm_base.specs.declared.ids.TaskId.{TaskId}
-use Rattle.vm_base.specs.Entries.{entry_at, page_at}
-use Rattle.vm_model.specs.declared.command.Command.{Command}
-use Rattle.vm_model.specs.declared.event.Event.{Event}
+use Rattle.vm_kernel.proofs.Common.{AllInner, Asked, Asker, BeganInOrder, Command, EndsEach, EndsNobody, Event, Fails, FailsNow, HasEnded, HasFailed, HasUse, Header, Ids, IfSome, IsAnswered, IsErrorPaid, LegalEvents, List, Mapped, Matches, None, On, Outside, PageKey, Parts, PutsEntry, Some, TaskId, WaitTable, Waiting, Woken, Works, [], access_in, address_in, address_of, ap, append-nil, append_assoc, begun_at, entries_in, entries_of, entry, entry_at, eqb_tells, error_more, error_taken, fails_access, fails_task, false, holds, if◌then◌else◌, in_use, inl, inr, next_page, next_region, oldest_row, or_true, page_at, page_key, puts_cases, refl, rows_in, since, since_more, some_is, subst, sym, true, waiting, waiting_in, woken_page, ℕ, ◌++◌, ◌+◌, ◌<◌, ◌==◌, ◌||◌, ◌∙◌, ◌∷◌, ◌≡◌, ◌⊎◌}
+use Rattle.std.proofs.Common.{is_some}
 use Rattle.vm_model.specs.declared.event.Event.TheVariants as event
-use Rattle.vm_model.specs.declared.script.Header.{Header}
-use Rattle.vm_model.specs.Tasks.{entries_of}
-use Rattle.vm_model.specs.Waiting.{address_of, next_page, waiting}
-use Rattle.vm_legal.specs.Accesses.{begun_at}
-use Rattle.vm_legal.specs.Licences.{Fails}
 use Rattle.vm_legal.specs.Living.{tasks as made_tasks}
-use Rattle.vm_legal.specs.Outside.{Outside}
-use Rattle.vm_legal.specs.Steps.{Asked, error_taken, fails_access, fails_task, since}
-use Rattle.vm_legal.specs.Used.{in_use}
-use Rattle.vm_resident.specs.Resident.{page_key}
-use Rattle.vm_shadow.specs.declared.ids.Ids.{Ids}
-use Rattle.vm_supply.specs.declared.woken.Woken.{Woken}
 use Rattle.vm_supply.specs.declared.woken.Woken.TheVariants as who
-use Rattle.vm_waits.specs.Waits.{PutsEntry, WaitTable, entry, oldest, woken_page}
-use Rattle.vm_waits.specs.declared.waiting.On.{On}
 use Rattle.vm_waits.specs.declared.waiting.On.TheVariants as on
-use Rattle.vm_waits.specs.declared.waiting.Waiting.{Waiting}
-use Rattle.vm_waits.proofs.Entries.{puts_cases}
-use Rattle.vm_kernel.specs.Begun.{LegalEvents}
-use Rattle.vm_kernel.specs.Matches.{HasUse, Works, holds, Matches}
-use Rattle.vm_kernel.specs.Taking.{EndsEach, EndsNobody, FailsNow, HasEnded, HasFailed, IsAnswered, IsErrorPaid}
-use Rattle.vm_kernel.specs.Waiters.{Asker, BeganInOrder, access_in, address_in, waiting_in}
-use Rattle.vm_kernel.specs.declared.parts.Parts.{Parts}
 use Rattle.vm_kernel.proofs.Growing.{goes_more, suffices}
 use Rattle.vm_kernel.proofs.Leading.{address_is}
 use Rattle.vm_kernel.proofs.Ordering.{PutsInOrder, oldest_first}
 use Rattle.vm_kernel.proofs.Uses.{holds_waits, uses_none}
-use Rattle.vm_parts.proofs.Rows.{some_is}
-use Rattle.vm_legal.specs.Stretches.{AllInner}
-use Rattle.vm_legal.proofs.Inside.{error_more, or_true, since_more}
 use Rattle.vm_kernel.proofs.Own.{lives_here, rows_here}
-use Rattle.vm_maps.specs.Maps.{Mapped, entries_in, rows_in}
 use Rattle.vm_kernel.proofs.Waited.{AreTold}
-use Rattle.vm_model.specs.Regions.{next_region}
 use Rattle.vm_kernel.proofs.Mine.{own_lives}
 
 -- who waits for the page
@@ -128,7 +97,7 @@ stays task t rows rows2 w puts apart found = elim (eqb_tells task t) [
 ]
 
 -- the oldest that waits is ended, so the others began later
-ends_before : (key : PageKey) (w : Waiting) (rows rows2 : List Waiting) (past : List Event) → EndsBefore key rows past → BeganInOrder (λ t. begun_at t past) 0 rows → oldest (woken_page key) rows ≡ Some w → PutsEntry w.task.0 None rows rows2
+ends_before : (key : PageKey) (w : Waiting) (rows rows2 : List Waiting) (past : List Event) → EndsBefore key rows past → BeganInOrder (λ t. begun_at t past) 0 rows → oldest_row (woken_page key) rows ≡ Some w → PutsEntry w.task.0 None rows rows2
     → EndsBefore key rows2 (event.Failed w.task key.object key.page ∷ past)
 ends_before key w rows rows2 past before order first puts u t v ended found passes = elim (eqb_tells w.task.0 u) [
   | inl same ↦
@@ -167,7 +136,7 @@ pub record Failing (header : Header) (h : ℕ) (outside : Outside) (doing : Comm
 
 -- one is ended
 pub failed_one : (header : Header) (h : ℕ) (outside : Outside) (doing : Command) (past old events : List Event) (key : PageKey) (k : Parts) (ids : Ids) (w : Waiting) (waits : WaitTable)
-    → Failing header h outside doing past old events key k ids → entry k.waits.rows w.task.0 ≡ Some w → woken_page key w.on ≡ true → oldest (woken_page key) k.waits.rows ≡ Some w → PutsInOrder w.task.0 None k.waits.rows waits.rows
+    → Failing header h outside doing past old events key k ids → entry k.waits.rows w.task.0 ≡ Some w → woken_page key w.on ≡ true → oldest_row (woken_page key) k.waits.rows ≡ Some w → PutsInOrder w.task.0 None k.waits.rows waits.rows
     → Failing header h outside doing past old (event.Failed w.task key.object key.page ∷ events) key (record k { waits = waits }) ids
 failed_one header h outside doing past old events key k ids w waits f found passes first both =
     let puts = both.entry in

@@ -1,40 +1,8 @@
 -- An access that finds its page ends at once.
-use Rattle.std.proofs.Common.{◌≡◌, ℕ, zero, suc, ◌%◌, Bool, true, false, List, [], ◌∷◌, ◌++◌, append_assoc, refl, ap, sym, ◌∙◌, subst, Some, None, Option, inl, inr}
-use Rattle.std.specs.Prelude.{◌⊎◌}
-use Rattle.vm_base.specs.declared.entry.Entry.{Entry}
-use Rattle.vm_base.specs.declared.ids.FrameNo.{FrameNo}
-use Rattle.vm_base.specs.declared.ids.PageKey.{PageKey}
-use Rattle.vm_base.specs.declared.ids.TaskId.{TaskId}
-use Rattle.vm_base.specs.Entries.{entry_at, page_at}
-use Rattle.vm_model.specs.declared.event.Event.{Event}
+use Rattle.vm_kernel.proofs.Common.{AfterZeros, AtOnce, Backing, Bool, Comes, Command, Ended, EndsNext, Entry, Event, FaultStep, Faulted, Faults, FindsPage, FrameNo, FrameTable, Header, Hits, Ids, IsNextAccess, IsTop, LegalEvents, List, Loading, None, Option, Outside, PageKey, PageRow, Parts, Sight, Some, Storing, TaskId, ToRead, ToWrite, Waiting, Waits, Walks, Want, Works, [], absent_at, address_in, ap, append_assoc, backing_of, count_again, entries_of, entry, entry_at, false, inl, inr, is_again, local_of_row, page_at, page_on, refl, region_of, row_at, subst, suc, sym, true, zero, ℕ, ◌%◌, ◌++◌, ◌∙◌, ◌∷◌, ◌≡◌, ◌⊎◌}
 use Rattle.vm_model.specs.declared.event.Event.TheVariants as event
-use Rattle.vm_model.specs.declared.command.Command.{Command}
-use Rattle.vm_model.specs.declared.script.Header.{Header}
-use Rattle.vm_model.specs.Regions.{Backing, backing_of, region_of}
-use Rattle.vm_model.specs.Tasks.{entries_of}
-use Rattle.vm_model.specs.Waiting.{Loading, Storing}
-use Rattle.vm_legal.specs.Accesses.{Comes, FindsPage, ToRead, ToWrite, Waits}
-use Rattle.vm_legal.specs.Follows.{EndsNext}
-use Rattle.vm_legal.specs.Outside.{Outside}
-use Rattle.vm_legal.specs.Walks.{IsTop, Sight, Walks, page_on}
-use Rattle.vm_frames.specs.Frames.{FrameTable}
-use Rattle.vm_objects.specs.Objects.{absent_at}
-use Rattle.vm_resident.specs.Resident.{row_at}
-use Rattle.vm_resident.specs.declared.page_row.PageRow.{PageRow}
-use Rattle.vm_shadow.specs.declared.ids.Ids.{Ids}
 use Rattle.vm_supply.specs.declared.woken.Woken.TheVariants as woken
-use Rattle.vm_waits.specs.Waits.{again, entry, is_again}
-use Rattle.vm_waits.specs.declared.waiting.Waiting.{Waiting}
-use Rattle.vm_waits.specs.declared.waiting.Want.{Want}
 use Rattle.vm_waits.specs.declared.waiting.Want.TheVariants as want
-use Rattle.vm_kernel.specs.Begun.{LegalEvents}
-use Rattle.vm_kernel.specs.Faulting.{AfterZeros, AtOnce, Ended, Faulted, Faults, Hits}
-use Rattle.vm_kernel.specs.Matches.{Works}
-use Rattle.vm_kernel.specs.Places.{local_of_row}
-use Rattle.vm_kernel.specs.Serving.{IsNext}
-use Rattle.vm_kernel.specs.Waiters.{address_in}
-use Rattle.vm_kernel.specs.declared.parts.Parts.{Parts}
-use Rattle.vm_kernel.specs.declared.steps.FaultStep.{FaultStep}
 use Rattle.vm_kernel.specs.declared.steps.FaultStep.TheVariants as step
 use Rattle.vm_kernel.proofs.Leading.{Leads, leads_of}
 
@@ -135,7 +103,7 @@ next_goes header h outside doing past task before events after goes e = subst (�
 abbrev pub FirstOf : ℕ → List Waiting → List Waiting → List Event → List Event → Type 0
 FirstOf task first rows before events = EndsNext task before events ⊎ ((rows ≡ first) × (events ≡ before))
 
-pub first_more : (header : Header) (h : ℕ) (outside : Outside) (doing : Command) (past : List Event) (task : ℕ) (first rows rows2 : List Waiting) (w : Waiting) (before events after : List Event) → FirstOf task first rows before events → IsNext task first
+pub first_more : (header : Header) (h : ℕ) (outside : Outside) (doing : Command) (past : List Event) (task : ℕ) (first rows rows2 : List Waiting) (w : Waiting) (before events after : List Event) → FirstOf task first rows before events → IsNextAccess task first
     → FindsPage header task (before ++ past) → entry rows w.task.0 ≡ Some w → is_again w.on ≡ true → LegalEvents header h outside doing past events after → (FindsPage header w.task.0 (events ++ past) → EndsNext w.task.0 events after)
     → FirstOf task first rows2 before after
 first_more header h outside doing past task first rows rows2 w before events after (inl ended) next finds found on_again goes ends = inl (next_goes header h outside doing past task before events after goes ended)
@@ -144,6 +112,6 @@ first_more header h outside doing past task first rows rows2 w before events aft
     let there : FindsPage header w.task.0 (events ++ past) = subst (λ (z : List Event). FindsPage header w.task.0 (z ++ past)) (sym none.1) (subst (λ (z : ℕ). FindsPage header z (before ++ past)) (sym same) finds) in
     inl (subst (λ (z : List Event). EndsNext task z after) none.1 (subst (λ (z : ℕ). EndsNext z events after) same (ends there)))
 
-pub first_done : (task : ℕ) (first rows : List Waiting) (before events : List Event) → FirstOf task first rows before events → IsNext task first → again rows ≡ 0 → EndsNext task before events
+pub first_done : (task : ℕ) (first rows : List Waiting) (before events : List Event) → FirstOf task first rows before events → IsNextAccess task first → count_again rows ≡ 0 → EndsNext task before events
 first_done task first rows before events (inl ended) next none = ended
-first_done task first rows before events (inr nothing) next none = absurd (next.some (ap again (sym nothing.0) ∙ none))
+first_done task first rows before events (inr nothing) next none = absurd (next.some (ap count_again (sym nothing.0) ∙ none))

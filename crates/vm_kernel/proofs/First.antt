@@ -1,33 +1,8 @@
 -- The kernel before anything has happened.
-use Rattle.std.proofs.Common.{◌≡◌, ℕ, zero, suc, ◌<◌, false, List, [], ◌∷◌, length, replicate, refl, ap, sym, ◌∙◌, subst, arith, Some, None}
-use Rattle.std.proofs.lemmas.List.{length-replicate}
-use Rattle.std.proofs.lemmas.Bool.Decides.{nat_tests}
-use Rattle.std.specs.Prelude.{All, nat_lt, reverse, slice_get}
-use Rattle.vm_base.proofs.Options.{none_of}
-use Rattle.vm_base.specs.declared.ids.TaskId.{TaskId}
+use Rattle.vm_kernel.proofs.Common.{All, BeganInOrder, EachApart, Event, Header, Ids, IsPlain, IsStart, IsWashed, List, None, Parts, Rests, Some, Starts, TaskId, Waiting, [], absent_among, absent_at, all_tasks, ap, arith, begun_at, claimed, count_again, count_by, count_claims, entry, false, first_ids, frame_count, host_id, in_use, last_in, length, length-replicate, live_in, named, nat_lt, nat_tests, none_of, object_among, object_at, refl, region_at, replicate, reverse, row_at, slice_get, subst, suc, sym, waiting_in, zero, ℕ, ◌<◌, ◌∙◌, ◌∷◌, ◌≡◌}
 use Rattle.vm_model.specs.declared.command.Command.TheVariants as command
-use Rattle.vm_model.specs.declared.event.Event.{Event}
 use Rattle.vm_model.specs.declared.event.Event.TheVariants as event
-use Rattle.vm_model.specs.declared.script.Header.{Header}
-use Rattle.vm_model.specs.Named.{named}
-use Rattle.vm_legal.specs.Used.{in_use}
-use Rattle.vm_frames.specs.Frames.{claimed, count_claims, frame_count}
-use Rattle.vm_objects.specs.Objects.{absent_at, object_at}
-use Rattle.vm_resident.specs.Resident.{row_at}
-use Rattle.vm_shadow.specs.Chains.{region_at}
-use Rattle.vm_kernel.specs.Matches.{EachApart, IsPlain, IsWashed, Rests, first_ids, host_id}
-use Rattle.vm_kernel.specs.Pagers.{last_in, live_in}
-use Rattle.vm_waits.specs.declared.waiting.Waiting.{Waiting}
-use Rattle.vm_legal.specs.Accesses.{begun_at}
-use Rattle.vm_kernel.specs.Waiters.{BeganInOrder, waiting_in}
-use Rattle.vm_waits.specs.Waits.{again, entry}
-use Rattle.vm_shadow.specs.declared.ids.Ids.{Ids}
-use Rattle.vm_kernel.specs.Begun.{Starts}
-use Rattle.vm_kernel.specs.Counts.{count_by, most_tasks}
-use Rattle.vm_kernel.specs.declared.parts.Parts.{Parts}
 use Rattle.vm_kernel.proofs.Counts.{by_none}
-use Rattle.vm_parts.specs.Fits.{IsStart}
-use Rattle.vm_objects.specs.Objects.{absent_among, object_among}
 use Rattle.vm_kernel.proofs.Own.{own_host}
 
 no_claims : (n : ℕ) → count_claims (replicate n false) ≡ 0
@@ -35,11 +10,11 @@ no_claims zero = refl
 no_claims (suc n) = no_claims n
 
 -- no region is in use yet
-unused : (header : Header) (h : ℕ) (r : ℕ) → IsPlain header → in_use header h r [] ≡ nat_lt 0 (count_by most_tasks r (record { size = header.size; tasks = [] }))
+unused : (header : Header) (h : ℕ) (r : ℕ) → IsPlain header → in_use header h r [] ≡ nat_lt 0 (count_by all_tasks r (record { size = header.size; tasks = [] }))
 unused header h r plain =
     let none : named header ≡ 0 = ap length plain.objects in
     let new : nat_lt r (named header) ≡ false = grind (arith, nat_tests) in
-    let nothing : count_by most_tasks r (record { size = header.size; tasks = [] }) ≡ 0 = by_none most_tasks r (record { size = header.size; tasks = [] }) (λ task. refl) in
+    let nothing : count_by all_tasks r (record { size = header.size; tasks = [] }) ≡ 0 = by_none all_tasks r (record { size = header.size; tasks = [] }) (λ task. refl) in
     rw (new, nothing) refl
 
 pub first_rests : (header : Header) (h : ℕ) (k : Parts) (count : ℕ) → IsPlain header → h < length header.frames.items → k.size ≡ header.size → k.host.0 ≡ h → slice_get (reverse header.frames.items) h ≡ Some count → IsStart count header.size k.memory
@@ -118,7 +93,7 @@ first_rests header h k count plain known size host hosts start maps regions held
             ready = λ o p row is. none_of (row_at k.memory.resident o p) row (rows o p) is;
           };
       order = subst (λ (z : List Waiting). BeganInOrder (λ task. begun_at task []) 0 z) (sym waits) tt;
-      idle = ap again waits;
+      idle = ap count_again waits;
     }
 
 -- a line changes nothing

@@ -1,10 +1,5 @@
 -- The parts of a kernel fit each other still, once the lists of pages have another order.
-use Rattle.vm_base.specs.declared.ids.FrameNo.{FrameNo}
-use Rattle.std.proofs.Common.{sym, subst}
-use Rattle.vm_parts.proofs.Fitting.{fit_touched}
-use Rattle.vm_kernel.specs.Faulting.{MarksReferenced}
-use Rattle.vm_kernel.specs.Fits.{PartsFit}
-use Rattle.vm_kernel.specs.declared.parts.Parts.{Parts}
+use Rattle.vm_kernel.proofs.Common.{FrameNo, MarksReferenced, Parts, PartsFit, fit_touched, subst, sym}
 
 pub fits_touched : (frame : FrameNo) (old new : Parts) → PartsFit old → MarksReferenced frame old new → PartsFit new
 fits_touched frame old new fits touches =

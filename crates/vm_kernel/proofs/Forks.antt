@@ -1,15 +1,7 @@
 -- Which entries a fork shares.
-use Rattle.std.proofs.Common.{◌≡◌, ℕ, zero, suc, ◌+◌, ◌≤◌, ◌&&◌, ◌||◌, Bool, true, false, List, [], ◌∷◌, ◌++◌, length, take, drop, slice_get, refl, ap, sym, ◌∙◌, arith, Some}
-use Rattle.std.proofs.lemmas.Bool.Decides.{nat_tests}
-use Rattle.std.proofs.lemmas.List.{take-append-drop}
-use Rattle.std.specs.Prelude.{if◌then◌else◌, nat_lt}
-use Rattle.vm_base.specs.declared.entry.Entry.{Entry}
-use Rattle.vm_base.specs.declared.ids.TaskId.{TaskId}
-use Rattle.vm_base.specs.Entries.{AllWholePages, HasWholePages, InOrder, entered, meets_range}
+use Rattle.vm_kernel.proofs.Common.{AllRows, AllWholePages, Bool, Entry, HasWholePages, InOrder, List, Some, TaskId, [], ap, arith, drop, entered, false, gets, if◌then◌else◌, is_shared, length, meets_range, nat_lt, nat_tests, refl, shared, suc, sym, take, take-append-drop, true, zero, ℕ, ◌&&◌, ◌++◌, ◌+◌, ◌||◌, ◌∙◌, ◌∷◌, ◌≡◌, ◌≤◌}
+use Rattle.std.proofs.Common.{slice_get}
 use Rattle.vm_model.specs.declared.event.Event.TheVariants as event
-use Rattle.vm_legal.specs.Follows.{gets}
-use Rattle.vm_model.specs.Rows.{AllRows}
-use Rattle.vm_model.specs.Tasks.{is_shared, shared}
 use Rattle.vm_kernel.proofs.Recounts.{next_row}
 
 -- the entries, one after another

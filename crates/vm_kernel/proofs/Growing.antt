@@ -1,27 +1,6 @@
 -- A command's events grow by one that has its cause, carries the right bytes and finds its frame.
-use Rattle.std.proofs.Common.{append_assoc, ◌≡◌, ℕ, ◌-◌, ◌≤◌, List, [], ◌∷◌, ◌++◌, refl, ap, sym, ◌∙◌, subst, arith, None, Option}
-use Rattle.std.specs.Prelude.{IfSome, MatchOption, OnOk, Result, Ok, Err, reverse, slice_get, unwrap_or}
-use Rattle.vm_base.proofs.Options.{none_of}
-use Rattle.vm_model.specs.declared.event.Event.{Event}
-use Rattle.vm_model.specs.declared.command.Command.{Command}
-use Rattle.vm_model.specs.declared.message.Channel.{Channel}
-use Rattle.vm_model.specs.declared.script.Header.{Header}
-use Rattle.vm_legal.specs.Bytes.{OwnBytes}
-use Rattle.vm_legal.proofs.Locks.{no_request, none_locked}
-use Rattle.vm_legal.specs.Debts.{IsPaid}
-use Rattle.vm_legal.specs.Follows.{IsConsequence}
-use Rattle.vm_legal.specs.Frames.{Suffice, frames_free, frames_held, frames_used, frames_wired}
-use Rattle.vm_legal.specs.Licences.{AllLicensed, Caused, Licensed, ReturnsOn, created}
-use Rattle.vm_legal.specs.Outside.{Outside}
-use Rattle.vm_legal.specs.Steps.{absence_taken, error_taken, taken_letter}
-use Rattle.vm_frames.specs.Frames.{FrameTable, free}
-use Rattle.vm_legal.specs.Stretches.{AllInner, EachIn, IsInner, MomentsIn}
-use Rattle.vm_abroad.specs.Whose.{IsOnlyOfHost}
-use Rattle.vm_kernel.specs.Begun.{CreatesHere, Grows, IsLined, IsMine, KernelSays, LegalEvents}
-use Rattle.vm_kernel.specs.Matches.{HasFrames, IsSettled}
+use Rattle.vm_kernel.proofs.Common.{AllInner, AllLicensed, Caused, Channel, Command, CreatesHere, EachIn, Err, Event, FrameTable, Grows, HasFrames, Header, IfSome, IsConsequence, IsInner, IsLined, IsMine, IsOnlyOfHost, IsPaid, IsSettled, KernelSays, LegalEvents, Licensed, List, MatchOption, MomentsIn, None, Ok, OnOk, Option, Outside, OwnBytes, Result, ReturnsOn, Suffice, [], absence_more, absence_taken, ap, append_assoc, arith, created, each_both, error_more, error_taken, frames_free, frames_held, frames_used, frames_wired, free, inner_both, licensed_both, moments_both, no_request, none_locked, none_of, of_both, refl, reverse, slice_get, subst, sym, taken_letter, taken_more, unwrap_or, ℕ, ◌++◌, ◌-◌, ◌∙◌, ◌∷◌, ◌≡◌, ◌≤◌}
 use Rattle.vm_kernel.proofs.Mine.{mine_of}
-use Rattle.vm_legal.proofs.Inside.{absence_more, error_more, taken_more}
-use Rattle.vm_legal.proofs.Stretched.{each_both, inner_both, licensed_both, moments_both, of_both}
 
 pub suffices : (header : Header) (h : ℕ) (fs : FrameTable) (past : List Event) → HasFrames (slice_get (reverse header.frames.items) h) fs (frames_held header.size h past) (frames_wired h past) → Suffice header h past
 suffices header h fs past has = subst (λ (z : Option ℕ). IfSome z (λ frames. frames_used header.size h past ≤ frames)) (sym has.total) (omega (arith, has.held, has.wired, has.fits))

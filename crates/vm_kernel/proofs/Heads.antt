@@ -1,27 +1,10 @@
 -- A command whose events are those of its head.
-use Rattle.std.proofs.Common.{ℕ, ◌≡◌, Bool, true, false, List, [], ◌∷◌, ◌++◌, refl, Some, None, Option}
-use Rattle.std.specs.Prelude.{reverse}
-use Rattle.vm_base.specs.declared.code.Code.{Code}
-use Rattle.vm_model.specs.declared.event.Event.{Event}
-use Rattle.vm_model.specs.declared.command.Command.{Command}
-use Rattle.vm_model.specs.declared.script.Header.{Header}
-use Rattle.vm_legal.specs.Bytes.{OwnBytes}
-use Rattle.vm_legal.specs.Follows.{IsDone, head}
-use Rattle.vm_legal.specs.Frames.{Suffice}
-use Rattle.vm_legal.specs.Licences.{AllLicensed, Caused}
-use Rattle.vm_legal.specs.Outside.{Outside}
-use Rattle.vm_legal.specs.Refusal.{where_true}
-use Rattle.vm_legal.specs.Stretches.{AllInner, EachIn, EachOf, IsInner, MomentsIn}
-use Rattle.vm_shadow.specs.declared.ids.Ids.{Ids}
-use Rattle.vm_abroad.specs.Whose.{IsOnlyOfHost}
-use Rattle.vm_kernel.specs.Begun.{CreatesHere, Grows, IsMine, KernelSays, Ran}
-use Rattle.vm_kernel.specs.Matches.{IsSettled, Rests}
-use Rattle.vm_kernel.specs.declared.parts.Parts.{Parts}
+use Rattle.vm_kernel.proofs.Common.{AllInner, AllLicensed, Bool, Caused, Code, Command, CreatesHere, EachIn, EachOf, Event, Grows, Header, Ids, IsDone, IsInner, IsMine, IsOnlyOfHost, IsSettled, KernelSays, List, MomentsIn, None, Option, Outside, OwnBytes, Parts, Ran, Rests, Some, Suffice, [], code_where, false, head, refl, reverse, true, ℕ, ◌++◌, ◌∷◌, ◌≡◌}
 use Rattle.vm_kernel.proofs.Growing.{licensed}
 use Rattle.vm_kernel.proofs.Mine.{mine_of}
 
 -- of a list of tests that finds nothing, each found nothing
-pub passed : (b : Bool) (why : Code) (later : Option Code) → where_true b why later ≡ None → (b ≡ false) × (later ≡ None)
+pub passed : (b : Bool) (why : Code) (later : Option Code) → code_where b why later ≡ None → (b ≡ false) × (later ≡ None)
 passed true why later none = absurd (let bad : Some why ≡ None = none in cc)
 passed false why later none = (refl, none)
 

@@ -1,57 +1,12 @@
 -- A message of a pager is taken: what the kernel stands for behind it.
-use Rattle.std.proofs.Common.{◌≡◌, ℕ, ◌-◌, ◌^◌, ◌<◌, ◌==◌, ◌&&◌, Bool, true, false, List, [], ◌∷◌, ◌++◌, refl, ap, sym, ◌∙◌, subst, arith, Some, None, Option, inl, inr}
-use Rattle.std.proofs.lemmas.Bool.Decides.{eqb_tells}
-use Rattle.std.specs.Prelude.{if◌then◌else◌, is_some, not, reverse, slice_get, ◌⊎◌}
-use Rattle.vm_base.specs.declared.ids.HostId.{HostId}
-use Rattle.vm_base.specs.declared.ids.ObjectId.{ObjectId}
-use Rattle.vm_base.specs.declared.ids.ObjectKind.{ObjectKind}
-use Rattle.vm_base.specs.declared.ids.ObjectKind.TheVariants.{Temp}
-use Rattle.vm_base.specs.declared.ids.PageNo.{PageNo}
-use Rattle.vm_model.specs.declared.event.Event.{Event}
-use Rattle.vm_model.specs.declared.message.Message.{Message}
+use Rattle.vm_kernel.proofs.Common.{Access, AllReached, AnswerEffects, AnswerOutcome, ArePlain, Backing, Bool, Cancels, ChainTable, Changes, Discarded, Elsewhere, Event, Failed, FailsNow, FailsPage, FillsPage, Fit, FrameTable, HasAsker, HasControls, HasFrames, HasLaundry, HasPages, HasRegions, HasWaiters, Header, HostId, HostParts, Ids, IsAnswer, IsAnswered, IsAsked, IsPagerTold, IsTempAnswer, IsUnder, Lacked, Lacks, List, Local, LocalEffect, Mapped, Message, None, ObjectId, ObjectKind, ObjectRow, ObjectTable, On, Option, PageNo, PageRow, PagerState, Parts, PutsObject, PutsRow, Readied, Readies, Reason, Region, RegionRow, ResidentTable, Rests, SameMarks, SameObjects, Some, Supplied, Supplies, TakesError, TakesNothing, TakesPage, Temp, Waiting, Want, Woken, Works, [], absent_at, added, ap, arith, asked_is, asked_row, away, backing_of, clean_row, eqb_tells, false, frames_held, frames_wired, has_pager, has_region, home_of, if◌then◌else◌, inl, inr, is_control, is_ready, is_ready_state, is_some, is_woken, key_of, last_control, last_in, live_control, live_in, live_outcome, local, local_after, local_of_row, lock_numbered, next_object, next_region, not, object_at, one_case, outcome_of, page_key, place_of, ready_in, ready_outcome, refl, region_of, returns_out, reverse, row_at, row_cases, slice_get, some_is, subst, sym, true, unavailable_outcome, unlocked, waiting, ℕ, ◌&&◌, ◌++◌, ◌-◌, ◌<◌, ◌==◌, ◌^◌, ◌∙◌, ◌∷◌, ◌≡◌, ◌⊎◌}
 use Rattle.vm_model.specs.declared.message.Message.TheVariants as message
-use Rattle.vm_model.specs.declared.script.Header.{Header}
-use Rattle.vm_model.specs.Controls.{is_control, last_control, live_control}
-use Rattle.vm_model.specs.Local.{Elsewhere, Local, LocalEffect, TakesError, TakesNothing, TakesPage, local, local_after}
-use Rattle.vm_model.specs.Regions.{Backing, Region, backing_of, next_object, next_region, region_of}
-use Rattle.vm_model.specs.Waiting.{Access, waiting}
-use Rattle.vm_legal.specs.Accesses.{is_ready}
-use Rattle.vm_legal.specs.Frames.{frames_held, frames_wired, returns_out}
-use Rattle.vm_abroad.specs.Home.{home_of}
-use Rattle.vm_frames.specs.Frames.{FrameTable}
-use Rattle.vm_maps.specs.Maps.{Mapped}
-use Rattle.vm_objects.specs.Objects.{ObjectTable, PutsObject, SameMarks, SameObjects, absent_at, object_at}
-use Rattle.vm_objects.specs.declared.row.ObjectRow.{ObjectRow}
-use Rattle.vm_objects.specs.declared.row.PagerState.{PagerState}
 use Rattle.vm_objects.specs.declared.row.PagerState.TheVariants as state
-use Rattle.vm_parts.specs.Fits.{Fit}
-use Rattle.vm_resident.specs.Resident.{PutsRow, ResidentTable, page_key, row_at}
-use Rattle.vm_resident.specs.declared.page_row.PageRow.{PageRow}
-use Rattle.vm_shadow.specs.Chains.{ChainTable}
-use Rattle.vm_shadow.specs.declared.ids.Ids.{Ids}
-use Rattle.vm_shadow.specs.declared.region_row.RegionRow.{RegionRow}
-use Rattle.vm_supply.specs.Answers.{AnswerEffects, Discarded, IsAnswer, Failed, Fails, Lacked, Lacks, Outcome, Readied, Readies, Supplied, Supplies, key_of, live_outcome, outcome_of, ready_outcome, unavailable_outcome, lock_of}
-use Rattle.vm_supply.specs.declared.woken.Woken.{Woken}
 use Rattle.vm_supply.specs.declared.woken.Woken.TheVariants as woken
-use Rattle.vm_waits.specs.declared.waiting.On.{On}
 use Rattle.vm_waits.specs.declared.waiting.On.TheVariants as on
-use Rattle.vm_waits.specs.declared.waiting.Waiting.{Waiting}
-use Rattle.vm_waits.specs.declared.waiting.Want.{Want}
-use Rattle.vm_kernel.specs.Fits.{ArePlain}
-use Rattle.vm_kernel.specs.Matches.{AllReached, HasControls, HasFrames, HasLaundry, HasPages, HasRegions, IsUnder, Rests, Works}
-use Rattle.vm_kernel.specs.Pagers.{has_pager, is_ready_state, last_in, live_in, ready_in}
-use Rattle.vm_kernel.specs.Places.{has_region, local_of_row, place_of}
-use Rattle.vm_kernel.specs.Taking.{FailsNow, HasAsker, IsAnswered, IsTempAnswer}
-use Rattle.vm_kernel.specs.Waiters.{HasWaiters, IsAsked, IsTold, Reason, is_woken}
-use Rattle.vm_kernel.specs.declared.parts.Parts.{Parts}
 use Rattle.vm_kernel.proofs.Answers.{IsLeft, IsNothing, asked_shows, hears, left_failed, left_lacked, lives, nothing_dead, on_page, ready_again, unfailed, unlacked, unsupplied, same_effect}
 use Rattle.vm_kernel.proofs.Brings.{plain_changed}
 use Rattle.vm_kernel.proofs.Pages.{bytes_now, effect_on, frames_changed, laundry_changed, pages_moved}
-use Rattle.vm_queues.specs.Queues.{added}
-use Rattle.vm_model.specs.Local.{away}
-use Rattle.vm_parts.specs.declared.parts.HostParts.{HostParts}
-use Rattle.vm_parts.specs.Changes.{Cancels, Changes, FillsPage, asked_row, clean_row, unlocked}
-use Rattle.vm_parts.proofs.Rows.{asked_is, one_case, row_cases, some_is}
 use Rattle.vm_kernel.proofs.Regions.{region_row}
 use Rattle.vm_kernel.proofs.Own.{own_host}
 
@@ -60,7 +15,7 @@ use Rattle.vm_kernel.proofs.Own.{own_host}
 waits_heard : (maps : Mapped) (cs : ChainTable) (rs rs2 : ResidentTable) (os os2 : ObjectTable) (rows : List Waiting) (who : Woken) (waiting_at : ℕ → Option Access)
     → HasWaiters maps cs rs os rows woken.Nobody waiting_at
     → ((o p : ℕ) → is_woken who (on.Page (page_key o p)) ≡ false → IsAsked rs o p → IsAsked rs2 o p)
-    → ((object : ObjectId) → is_woken who (on.Ready object) ≡ false → IsTold os object.0 → IsTold os2 object.0)
+    → ((object : ObjectId) → is_woken who (on.Ready object) ≡ false → IsPagerTold os object.0 → IsPagerTold os2 object.0)
     → ((o p : ℕ) (row : PageRow) → row_at rs2 o p ≡ Some row → row.here ≡ false → row_at rs o p ≡ Some row) → ((o : ℕ) → ready_in (object_at os o) ≡ true → ready_in (object_at os2 o) ≡ true)
     → HasWaiters maps cs rs2 os2 rows who waiting_at
 waits_heard maps cs rs rs2 os os2 rows who waiting_at has asked told were ready =
@@ -162,7 +117,7 @@ controls_of os os2 last_at live_at ready_at ready_at2 has same ready =
 reached_of : (cs : ChainTable) (os os2 : ObjectTable) → AllReached cs os → SameObjects os os2 → AllReached cs os2
 reached_of cs os os2 reached same = λ o row found live. reached o row (sym (same.at o) ∙ found) live
 
-told_of : (os os2 : ObjectTable) (o : ℕ) → SameObjects os os2 → IsTold os o → IsTold os2 o
+told_of : (os os2 : ObjectTable) (o : ℕ) → SameObjects os os2 → IsPagerTold os o → IsPagerTold os2 o
 told_of os os2 o same told = record { row = told.row; found = same.at o ∙ told.found; sent = told.sent }
 
 itself : (os : ObjectTable) → SameObjects os os
@@ -291,7 +246,7 @@ reached_ready cs os os2 o known reached found live put o2 row is lives_on = elim
 pages_marked : (fs : FrameTable) (rs : ResidentTable) (os os2 : ObjectTable) (cs : ChainTable) (local_at : ℕ → ℕ → Local) → HasPages fs rs os cs local_at → SameMarks os os2 → HasPages fs rs os2 cs local_at
 pages_marked fs rs os os2 cs local_at has same = record { shown = λ o p. has.shown o p ∙ ap (λ z. local_of_row fs (row_at rs o p) z) (sym (same.at o p)); live = has.live }
 
-told_ready : (os os2 : ObjectTable) (o : ℕ) (known : ObjectRow) (object : ObjectId) → PutsObject o (Some (record known { state = state.Ready })) os os2 → (object.0 == o) ≡ false → IsTold os object.0 → IsTold os2 object.0
+told_ready : (os os2 : ObjectTable) (o : ℕ) (known : ObjectRow) (object : ObjectId) → PutsObject o (Some (record known { state = state.Ready })) os os2 → (object.0 == o) ≡ false → IsPagerTold os object.0 → IsPagerTold os2 object.0
 told_ready os os2 o known object put apart told =
     record {
       row = told.row;
@@ -408,7 +363,7 @@ changed_supplied header h k ids events after past object control page lock preci
     let now : PageRow = clean_row row.frame unlocked false in
     let lacked = absent_at k.memory.objects object.0 page.0 in
     let comes : Changes key row.frame (Some row) (Some now) true bytes (added row.frame.0 k.memory.queues) k.memory new =
-    subst (λ (z : Bool). FillsPage key row unlocked z bytes k.memory new) cheap (subst (λ (z : ℕ). FillsPage key row (lock_of z) precious bytes k.memory new) none supplies.page) in
+    subst (λ (z : Bool). FillsPage key row unlocked z bytes k.memory new) cheap (subst (λ (z : ℕ). FillsPage key row (lock_numbered z) precious bytes k.memory new) none supplies.page) in
     let here : (r : PageRow) → Some now ≡ Some r → r.here ≡ true = λ r is. ap (λ z. z.here) (sym (some_is now r is)) in
     let waits = waits_page header h k ids past object.0 page.0 (Some now) (woken.Page key) new rests (λ o2 p2. refl) comes.row here same in
     let shows = ap (local_after header.size (TakesPage 0 false bytes)) (asked_shows k.memory.frames row lacked (was.fits.plain object.0 page.0 row asked.0) asked.1)
@@ -499,7 +454,7 @@ changed_lacked header h k ids events after past object control page who new rest
     }))
 
 changed_failed : (header : Header) (h : ℕ) (k : Parts) (ids : Ids) (events after past : List Event) (object : ObjectId) (control : ℕ) (page : PageNo) (reason : ℕ) (who : Woken) (new : HostParts)
-    → Rests header h k ids past → Fails (key_of object page) who k.memory new events after → lives h object control past ≡ true → Changed header h k ids who new past (hears h object control (message.Error page reason))
+    → Rests header h k ids past → FailsPage (key_of object page) who k.memory new events after → lives h object control past ≡ true → Changed header h k ids who new past (hears h object control (message.Error page reason))
 changed_failed header h k ids events after past object control page reason who new rests fails lives_now =
     let asked = asked_is (row_at k.memory.resident object.0 page.0) fails.was fails.asked in
     let counts_now = and_true (lives h object control past) (local header.size h (place_of object.0 page.0) past).asked lives_now (asks_now h header.size k past object.0 page.0 fails.was rests.matches.pages asked.0 asked.1) in
@@ -551,7 +506,7 @@ hears_it : (header : Header) (h : ℕ) (k : Parts) (ids : Ids) (host : HostId) (
     → Heard header h k ids who new events after past (hears h object control m)
 hears_it header h k ids host events after past object control m who new rests temp answered = by_known (object_at k.memory.objects object.0) refl answered
   where
-    Answers : Outcome → Type 0
+    Answers : AnswerOutcome → Type 0
     Answers outcome = AnswerEffects host object outcome who k.memory new events after
 
     discards : (said : Message) → IsNothing header h object control said past → Answers Discarded → Heard header h k ids who new events after past (hears h object control said)
@@ -581,7 +536,7 @@ hears_it header h k ids host events after past object control m who new rests te
         (ready_again header h object control cache strategy past (rests.matches.controls.ready object.0 known.control number ∙ (ap ready_in found ∙ ap is_ready_state is))) done
 
     -- a page that is asked, or not
-    by_asked : (page : PageNo) (outcome : Outcome) (said : Message) (x : Option PageRow) → asked_row (row_at k.memory.resident object.0 page.0) ≡ x → ((local header.size h (place_of object.0 page.0) past).asked ≡ false → IsNothing header h object control said past)
+    by_asked : (page : PageNo) (outcome : AnswerOutcome) (said : Message) (x : Option PageRow) → asked_row (row_at k.memory.resident object.0 page.0) ≡ x → ((local header.size h (place_of object.0 page.0) past).asked ≡ false → IsNothing header h object control said past)
         → ((was : PageRow) → asked_row (row_at k.memory.resident object.0 page.0) ≡ Some was → Answers outcome → Heard header h k ids who new events after past (hears h object control said))
         → Answers (if is_some x then outcome else Discarded) → Heard header h k ids who new events after past (hears h object control said)
     by_asked page outcome said None is nothing counts_now done =

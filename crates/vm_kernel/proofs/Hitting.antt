@@ -1,36 +1,10 @@
 -- Where an access leads, and how it ends that finds its page.
-use Rattle.std.proofs.Common.{Option, ◌≡◌, ℕ, ◌+◌, ◌%◌, ◌≤◌, Bool, true, false, List, ◌∷◌, length, refl, ap, sym, ◌∙◌, subst, Some, IsSomeAnd}
-use Rattle.std.specs.Prelude.{IfSome, not, slice_range}
-use Rattle.vm_base.specs.declared.entry.Entry.{Entry}
-use Rattle.vm_base.specs.declared.ids.FrameNo.{FrameNo}
-use Rattle.vm_base.specs.declared.ids.PageKey.{PageKey}
-use Rattle.vm_base.specs.declared.ids.TaskId.{TaskId}
-use Rattle.vm_base.specs.Entries.{entry_at}
-use Rattle.vm_base.specs.Pages.{little_endian, little_endian_bytes, with_bytes}
-use Rattle.vm_model.specs.declared.event.Event.{Event}
+use Rattle.vm_kernel.proofs.Common.{AtOnce, Bool, CanFault, Entry, Event, Faulted, Fit, FrameNo, Hits, HostParts, IfSome, IsAt, IsHere, KeepsPages, List, MarksReferenced, Option, PageKey, PageRow, Parts, PartsFit, Place, Queues, RegionRow, Some, TaskId, Want, Writes, WritesNumber, address_in, ap, entry_at, false, length, little_endian, little_endian_bytes, not, of_found, page_in, place_at, refl, region_at, row_at, rows_in, slice_range, subst, sym, true, want_size, with_bytes, with_reference, ℕ, ◌%◌, ◌+◌, ◌∙◌, ◌∷◌, ◌≡◌, ◌≤◌}
+use Rattle.std.proofs.Common.{IsSomeAnd}
 use Rattle.vm_model.specs.declared.event.Event.TheVariants as event
-use Rattle.vm_frames.specs.Frames.{page_in}
-use Rattle.vm_maps.specs.Judge.{place_at}
-use Rattle.vm_maps.specs.Maps.{rows_in}
-use Rattle.vm_maps.specs.declared.place.Place.{Place}
-use Rattle.vm_queues.specs.Queues.{KeepsPages, Queues, with_reference}
-use Rattle.vm_resident.specs.Resident.{row_at}
-use Rattle.vm_resident.specs.declared.page_row.PageRow.{PageRow}
-use Rattle.vm_shadow.specs.Chains.{region_at}
-use Rattle.vm_shadow.specs.declared.region_row.RegionRow.{RegionRow}
-use Rattle.vm_waits.specs.declared.waiting.Want.{Want}
 use Rattle.vm_waits.specs.declared.waiting.Want.TheVariants as want
-use Rattle.vm_kernel.specs.Changes.{IsHere, Wrote}
-use Rattle.vm_kernel.specs.Faulting.{AtOnce, CanFault, Faulted, Hits, MarksReferenced}
-use Rattle.vm_kernel.specs.Fits.{PartsFit}
-use Rattle.vm_kernel.specs.Waiters.{IsAt, address_in, want_size}
-use Rattle.vm_kernel.specs.declared.parts.Parts.{Parts}
 use Rattle.vm_kernel.specs.declared.steps.FaultStep.TheVariants as step
 use Rattle.vm_kernel.proofs.Brings.{holds_of, wrote}
-use Rattle.vm_parts.specs.Changes.{Writes}
-use Rattle.vm_parts.specs.Fits.{Fit}
-use Rattle.vm_parts.specs.declared.parts.HostParts.{HostParts}
-use Rattle.vm_parts.proofs.Rows.{of_found}
 
 -- what lies within a page lies within a frame
 pub inside_page : (k : Parts) (key : PageKey) (frame : FrameNo) (at : ℕ) (what some : Want) → PartsFit k → IsHere key frame k → at + want_size what ≤ k.size → what ≡ some → at + want_size some ≤ length (page_in k.memory.frames frame.0)
@@ -47,7 +21,7 @@ is_here k key frame at = subst (λ (z : Option PageRow). IsSomeAnd z (λ row. ro
 -- a number was put into a page that is here
 pub wrote_number : (k : Parts) (memory : HostParts) (key : PageKey) (frame : FrameNo) (at size value : ℕ) → PartsFit k → IsHere key frame k → Fit memory
     → IfSome (row_at k.memory.resident key.object.0 key.page.0) (λ row. Writes key row (with_bytes at (little_endian_bytes size value) (page_in k.memory.frames row.frame.0)) k.memory memory) → memory.objects ≡ k.memory.objects → memory.buffers ≡ k.memory.buffers
-    → Wrote key frame (with_bytes at (little_endian_bytes size value) (page_in k.memory.frames frame.0)) k (record k { memory = memory })
+    → WritesNumber key frame (with_bytes at (little_endian_bytes size value) (page_in k.memory.frames frame.0)) k (record k { memory = memory })
 wrote_number k memory key frame at size value fits here fit writes objects buffers =
     let its = of_found (row_at k.memory.resident key.object.0 key.page.0) here.row (λ row. Writes key row (with_bytes at (little_endian_bytes size value) (page_in k.memory.frames row.frame.0)) k.memory memory) here.found writes in
     wrote k memory key frame (with_bytes at (little_endian_bytes size value) (page_in k.memory.frames frame.0)) fits here fit
@@ -65,7 +39,7 @@ hits_load task what address size key frame at old mid qs e before after is same 
     (little_endian (slice_range (page_in old.memory.frames frame.0) at (at + size)), refl, subst (λ (z : Parts). MarksReferenced frame z (record mid { memory = record mid.memory { queues = qs } })) same (touched_of mid frame qs keeps touches), told ∙ ap (λ z. z ∷ before) loaded)
 
 pub hits_store : (task : TaskId) (what : Want) (address size value : ℕ) (key : PageKey) (frame : FrameNo) (at : ℕ) (old mid mid2 : Parts) (qs : Queues) (e : Event) (before after : List Event)
-    → what ≡ want.Store address size value → mid2 ≡ mid → Wrote key frame (with_bytes at (little_endian_bytes size value) (page_in old.memory.frames frame.0)) old mid → e ≡ event.Stored task key.object key.page at size value
+    → what ≡ want.Store address size value → mid2 ≡ mid → WritesNumber key frame (with_bytes at (little_endian_bytes size value) (page_in old.memory.frames frame.0)) old mid → e ≡ event.Stored task key.object key.page at size value
     → KeepsPages mid2.memory.queues qs → qs ≡ with_reference frame.0 mid2.memory.queues → after ≡ e ∷ before
     → Hits task what key frame at old (record mid2 { memory = record mid2.memory { queues = qs } }) before after
 hits_store task what address size value key frame at old mid mid2 qs e before after is same wrote stored keeps touches told =

@@ -1,33 +1,7 @@
 -- The frame of the oldest return is free, once its pager took it.
-use Rattle.std.proofs.Common.{◌≡◌, ℕ, zero, suc, ◌+◌, ◌-◌, ◌<◌, Bool, true, false, List, [], ◌∷◌, ◌++◌, get_or, set, length, refl, ap, sym, ◌∙◌, subst, arith, inl, inr}
-use Rattle.std.proofs.lemmas.Bool.Decides.{eqb_tells}
-use Rattle.std.specs.Prelude.{All, reverse, slice_get}
-use Rattle.vm_base.specs.declared.ids.FrameNo.{FrameNo}
-use Rattle.vm_base.specs.declared.ids.ObjectId.{ObjectId}
-use Rattle.vm_base.specs.declared.ids.PageNo.{PageNo}
-use Rattle.vm_model.specs.declared.event.Event.{Event}
+use Rattle.vm_kernel.proofs.Common.{All, Bool, ChainTable, EachApart, Event, FrameNo, FrameTable, HasFrames, HasLaundry, HasPages, Header, Ids, IsLaundered, IsWashed, LaundryList, List, Local, ObjectId, ObjectTable, Option, PageNo, Parts, Releases, ResidentTable, Rests, Some, Up, [], ap, arith, eqb_tells, false, fit_released, frame_count, frames_held, frames_wired, get_or, host_id, inl, inr, is_claimed, is_skipped, length, length-set, local, mark_there, one_case, place_of, refl, returns_out, reverse, set, set_cases, slice_get, subst, suc, sym, true, zero, ℕ, ◌++◌, ◌+◌, ◌-◌, ◌<◌, ◌∙◌, ◌∷◌, ◌≡◌}
 use Rattle.vm_model.specs.declared.event.Event.TheVariants as event
-use Rattle.vm_model.specs.declared.message.Channel.TheVariants.{Up}
 use Rattle.vm_model.specs.declared.message.Message.TheVariants as message
-use Rattle.vm_model.specs.declared.script.Header.{Header}
-use Rattle.vm_model.specs.Local.{Local, local}
-use Rattle.vm_legal.specs.Frames.{frames_held, frames_wired, returns_out}
-use Rattle.vm_frames.specs.Frames.{FrameTable, Releases, is_claimed}
-use Rattle.vm_objects.specs.Objects.{ObjectTable}
-use Rattle.vm_pageout.specs.Laundry.{LaundryList}
-use Rattle.vm_parts.proofs.Fitting.{fit_released}
-use Rattle.vm_queues.specs.Queues.{is_skipped}
-use Rattle.vm_resident.specs.Resident.{ResidentTable}
-use Rattle.vm_shadow.specs.Chains.{ChainTable}
-use Rattle.vm_shadow.specs.declared.ids.Ids.{Ids}
-use Rattle.vm_kernel.specs.Begun.{IsLaundered}
-use Rattle.vm_kernel.specs.Matches.{EachApart, HasLaundry, HasPages, IsWashed, Rests, host_id}
-use Rattle.vm_kernel.specs.Places.{place_of}
-use Rattle.vm_kernel.specs.declared.parts.Parts.{Parts}
-use Rattle.vm_parts.proofs.Rows.{claimed_inside, one_case, set_cases}
-use Rattle.vm_frames.specs.Frames.{frame_count}
-use Rattle.vm_kernel.specs.Matches.{HasFrames}
-use Rattle.std.proofs.Common.{length-set, Option, Some}
 use Rattle.vm_kernel.proofs.Own.{own_host}
 
 -- no frame of the list is this one
@@ -73,7 +47,7 @@ laundry_less fs fs2 rs laundry laundry2 out f has held room claimed releases =
         record {
           claimed =
               ap (λ z. is_claimed z g.0) releases.is
-              ∙ elim (one_case f.0 g.0 false (is_claimed fs g.0) (get_or (set fs.claims f.0 false) g.0 false) (set_cases fs.claims f.0 false false (claimed_inside fs.claims f.0 claimed) g.0)) [
+              ∙ elim (one_case f.0 g.0 false (is_claimed fs g.0) (get_or (set fs.claims f.0 false) g.0 false) (set_cases fs.claims f.0 false false (mark_there fs.claims f.0 claimed) g.0)) [
                 | inl same ↦ absurd (other (sym same.0))
                 | inr that ↦ that.1 ∙ was.claimed
               ];

@@ -1,35 +1,7 @@
 -- Where a waiting access leads: its entry, its region, and the page of the object under that.
-use Rattle.std.proofs.Common.{◌≡◌, ℕ, ◌+◌, ◌<◌, ◌^◌, true, false, List, [], length, refl, ap, sym, ◌∙◌, subst, arith, Some}
-use Rattle.std.specs.Prelude.{is_some}
-use Rattle.vm_base.specs.declared.entry.Entry.{Entry}
-use Rattle.vm_base.specs.declared.ids.PageKey.{PageKey}
-use Rattle.vm_base.specs.Entries.{entry_at, page_at}
+use Rattle.vm_kernel.proofs.Common.{CanFault, ChainTable, Entry, Event, FoundRow, HasWaits, Header, Ids, IsAt, IsInside, IsPlain, IsTop, IsUnder, List, Matches, PageKey, Parts, Region, RegionRow, Some, Waiting, Waits, Want, Woken, [], access_in, address_in, address_of, ap, arith, backing_of, entries_of, entry, entry_at, false, found_row, has_region, host_of, is_some, length, named, next_page, object_at, object_pages, page_at, page_of, pages_in, pages_of_row, refl, region_at, region_of, region_pages, rows_in, subst, sym, true, waiting, waiting_in, ℕ, ◌+◌, ◌<◌, ◌^◌, ◌∙◌, ◌≡◌}
 use Rattle.vm_kernel.proofs.Regions.{region_row}
-use Rattle.vm_model.specs.declared.event.Event.{Event}
-use Rattle.vm_model.specs.declared.script.Header.{Header}
-use Rattle.vm_model.specs.Named.{named}
-use Rattle.vm_model.specs.Regions.{Region, backing_of, region_of}
-use Rattle.vm_model.specs.Rows.{FoundRow, found_row}
-use Rattle.vm_model.specs.Tasks.{entries_of, host_of}
-use Rattle.vm_model.specs.Waiting.{address_of, next_page, waiting}
-use Rattle.vm_legal.specs.Accesses.{Waits, page_of}
-use Rattle.vm_legal.specs.Walks.{IsTop}
-use Rattle.vm_maps.specs.Maps.{rows_in}
-use Rattle.vm_objects.specs.Objects.{object_at}
-use Rattle.vm_parts.specs.Fits.{object_pages, pages_kept}
-use Rattle.vm_shadow.specs.Chains.{ChainTable, region_at}
-use Rattle.vm_shadow.specs.declared.ids.Ids.{Ids}
-use Rattle.vm_shadow.specs.declared.region_row.RegionRow.{RegionRow}
-use Rattle.vm_waits.specs.Waits.{entry}
-use Rattle.vm_waits.specs.declared.waiting.Waiting.{Waiting}
-use Rattle.vm_waits.specs.declared.waiting.Want.{Want}
 use Rattle.vm_waits.specs.declared.waiting.Want.TheVariants as want
-use Rattle.vm_supply.specs.declared.woken.Woken.{Woken}
-use Rattle.vm_kernel.specs.Faulting.{CanFault}
-use Rattle.vm_kernel.specs.Matches.{HasWaits, IsInside, IsPlain, IsUnder, Matches}
-use Rattle.vm_kernel.specs.Places.{has_region, pages_in, region_pages}
-use Rattle.vm_kernel.specs.Waiters.{IsAt, access_in, address_in, waiting_in}
-use Rattle.vm_kernel.specs.declared.parts.Parts.{Parts}
 use Rattle.vm_kernel.proofs.Own.{lives_here, rows_here}
 
 pub region_is : (cs : ChainTable) (r : ℕ) (row : RegionRow) → region_at cs r ≡ Some row → has_region cs r ≡ true
@@ -77,7 +49,7 @@ lies_there k key lies = region_is k.chains key.object.0 lies.row lies.region
 
 pub lies_inside : (k : Parts) (key : PageKey) → Lies k key → key.page.0 < object_pages k.memory.objects key.object.0
 lies_inside k key lies =
-    let pages : object_pages k.memory.objects key.object.0 ≡ lies.row.pages = ap pages_kept lies.under.found ∙ lies.under.pages in
+    let pages : object_pages k.memory.objects key.object.0 ≡ lies.row.pages = ap pages_of_row lies.under.found ∙ lies.under.pages in
     omega (arith, pages, lies.inside)
 
 -- an access that waits can be run

@@ -1,3 +1,4 @@
+mod Common
 pub mod Abroad
 pub mod Accessing
 pub mod Answers
@@ -12,7 +13,6 @@ pub mod Counts
 pub mod Cutting
 pub mod Departing
 pub mod Done
-pub mod Elsewhere
 pub mod Endings
 pub mod Ends
 pub mod Failing

@@ -1,11 +1,5 @@
 -- A page that may leave a host: what the history has of it.
-use Rattle.std.proofs.Common.{◌≡◌, ℕ, Bool, true, false, List, [], ap, ◌∙◌, Some}
-use Rattle.std.specs.Prelude.{if◌then◌else◌}
-use Rattle.vm_frames.specs.Frames.{FrameTable, page_in}
-use Rattle.vm_model.specs.Local.{Local}
-use Rattle.vm_resident.specs.declared.page_row.PageRow.{PageRow}
-use Rattle.vm_kernel.specs.Fits.{IsPlainRow}
-use Rattle.vm_kernel.specs.Places.{local_of_row, lock_number}
+use Rattle.vm_kernel.proofs.Common.{Bool, FrameTable, IsPlainRow, List, Local, PageRow, Some, [], ap, false, if◌then◌else◌, local_of_row, lock_number, page_in, true, ℕ, ◌∙◌, ◌≡◌}
 
 -- what the history has of a page that is here, and of which nothing is prohibited
 pub record IsSeen (seen : Local) (row : PageRow) (bytes : List ℕ) : Type 0 where

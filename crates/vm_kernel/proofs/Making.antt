@@ -1,44 +1,15 @@
 -- A task is made: it doesn't wait, and who waits goes on waiting; and an object is made, which has no control yet.
-use Rattle.std.proofs.Common.{◌≡◌, ℕ, Bool, true, false, List, [], ◌∷◌, refl, ap, sym, ◌∙◌, subst, arith, Some, None, Option, inl, inr}
-use Rattle.std.proofs.lemmas.Bool.Decides.{eqb_tells}
-use Rattle.std.specs.Prelude.{is_some}
-use Rattle.vm_base.specs.declared.ids.HostId.{HostId}
-use Rattle.vm_base.specs.declared.ids.ObjectKind.TheVariants.{Temp}
-use Rattle.vm_base.specs.declared.ids.TaskId.{TaskId}
-use Rattle.vm_model.specs.declared.event.Event.{Event}
+use Rattle.vm_kernel.proofs.Common.{Access, Bool, ChainTable, ChangesOnly, Event, HasControls, HasWaiters, Header, HostId, Ids, List, Mapped, None, ObjectRow, ObjectTable, On, Option, Outside, Parts, PutsObject, Ran, Reason, ResidentTable, Some, Starts, TaskId, Temp, Waiting, Want, Without, Woken, [], ap, arith, entries_in, entry, eqb_tells, false, holds, host_id, inl, inr, is_some, last_in, live_in, next_region, object_at, one_case, ready_in, refl, rows_in, some_is, subst, sym, tasks, true, waiting, waiting_in, ℕ, ◌∙◌, ◌∷◌, ◌≡◌}
 use Rattle.vm_model.specs.declared.event.Event.TheVariants as event
 use Rattle.vm_model.specs.declared.command.Command.TheVariants as command
-use Rattle.vm_model.specs.declared.script.Header.{Header}
-use Rattle.vm_model.specs.Waiting.{Access, waiting}
-use Rattle.vm_legal.specs.Living.{tasks}
-use Rattle.vm_legal.specs.Outside.{Outside}
-use Rattle.vm_maps.specs.Maps.{ChangesOnly, Mapped, entries_in, rows_in}
-use Rattle.vm_objects.specs.Objects.{ObjectTable, PutsObject, object_at}
-use Rattle.vm_objects.specs.declared.row.ObjectRow.{ObjectRow}
-use Rattle.vm_objects.specs.declared.row.PagerState.TheVariants.{Without}
-use Rattle.vm_resident.specs.Resident.{ResidentTable}
-use Rattle.vm_shadow.specs.Chains.{ChainTable}
-use Rattle.vm_shadow.specs.declared.ids.Ids.{Ids}
-use Rattle.vm_supply.specs.declared.woken.Woken.{Woken}
-use Rattle.vm_waits.specs.Waits.{entry}
-use Rattle.vm_waits.specs.declared.waiting.On.{On}
 use Rattle.vm_waits.specs.declared.waiting.On.TheVariants as on
-use Rattle.vm_waits.specs.declared.waiting.Waiting.{Waiting}
-use Rattle.vm_waits.specs.declared.waiting.Want.{Want}
-use Rattle.vm_kernel.specs.Begun.{Ran, Starts}
-use Rattle.vm_kernel.specs.Matches.{HasControls, holds, host_id}
-use Rattle.vm_kernel.specs.Pagers.{last_in, live_in, ready_in}
-use Rattle.vm_kernel.specs.Waiters.{HasWaiters, Reason, waiting_in}
-use Rattle.vm_kernel.specs.declared.parts.Parts.{Parts}
 use Rattle.vm_kernel.proofs.Counts.{most_is}
 use Rattle.vm_kernel.proofs.Growing.{suffices}
 use Rattle.vm_kernel.proofs.Heads.{heads_one, ran_head}
 use Rattle.vm_kernel.proofs.Tasks.{can_make, entries_made, tasks_made, unmade}
 use Rattle.vm_kernel.proofs.Uses.{uses_made}
 use Rattle.vm_kernel.proofs.Waited.{tops_same, waits_changed}
-use Rattle.vm_parts.proofs.Rows.{one_case, some_is}
 use Rattle.vm_kernel.proofs.Own.{named_host}
-use Rattle.vm_model.specs.Regions.{next_region}
 use Rattle.vm_kernel.proofs.Mine.{own_new}
 
 -- who doesn't wait in the history has no row

@@ -1,15 +1,5 @@
 -- A kernel's event is of its host, whosever it is.
-use Rattle.std.proofs.Common.{◌≡◌, ℕ, ◌==◌, ◌||◌, Bool, true, false, List, Option, Some, None, ap, sym, ◌∙◌, arith}
-use Rattle.std.proofs.lemmas.Bool.Decides.{nat_tests}
-use Rattle.std.specs.Prelude.{is_some}
-use Rattle.vm_model.specs.declared.event.Event.{Event}
-use Rattle.vm_model.specs.declared.script.Header.{Header}
-use Rattle.vm_model.specs.Local.{is_on}
-use Rattle.vm_model.specs.Tasks.{host_of}
-use Rattle.vm_legal.specs.Living.{lives_on}
-use Rattle.vm_abroad.specs.Whose.{IsOnlyOfHost, IsShut}
-use Rattle.vm_abroad.proofs.Sounds.{one_home}
-use Rattle.vm_kernel.specs.Begun.{CreatesHere, IsMine}
+use Rattle.vm_kernel.proofs.Common.{Bool, CreatesHere, Event, Header, IsMine, IsOnlyOfHost, IsShut, List, None, Option, Some, ap, arith, false, host_of, is_on, is_some, lives_on, nat_tests, one_home, sym, true, ℕ, ◌==◌, ◌||◌, ◌∙◌, ◌≡◌}
 use Rattle.vm_kernel.proofs.Own.{own_host}
 
 -- it names the host

@@ -1,22 +1,6 @@
 -- An access whose page isn't here wants a frame, or ends with a page of zeros.
-use Rattle.std.proofs.Common.{◌≡◌, ℕ, ◌%◌, Bool, true, false, List, ◌∷◌, refl, subst, Some, None, inl, inr}
-use Rattle.std.specs.Prelude.{◌⊎◌}
-use Rattle.vm_base.specs.declared.ids.FrameNo.{FrameNo}
-use Rattle.vm_base.specs.declared.ids.PageKey.{PageKey}
-use Rattle.vm_base.specs.declared.ids.TaskId.{TaskId}
-use Rattle.vm_model.specs.declared.event.Event.{Event}
-use Rattle.vm_frames.specs.Frames.{free}
-use Rattle.vm_objects.specs.Objects.{absent_at, object_at}
-use Rattle.vm_objects.specs.declared.row.ObjectRow.{ObjectRow}
-use Rattle.vm_objects.specs.declared.row.PagerState.{PagerState}
+use Rattle.vm_kernel.proofs.Common.{AfterZeros, Bool, BringsZeros, Ended, Event, FrameNo, Hits, IsAvailable, IsUnavailable, List, None, NothingChanges, ObjectRow, PageKey, PagerState, Parts, RequestsPage, ResidentTable, Some, TaskId, Want, WantsOne, absent_at, address_in, changes_roomier, false, free, inl, inr, object_at, refl, row_at, subst, true, zeroed, ℕ, ◌%◌, ◌∷◌, ◌≡◌, ◌⊎◌}
 use Rattle.vm_objects.specs.declared.row.PagerState.TheVariants as state
-use Rattle.vm_resident.specs.Resident.{ResidentTable, row_at}
-use Rattle.vm_waits.specs.declared.waiting.Want.{Want}
-use Rattle.vm_kernel.specs.Changes.{Brought, zeroed}
-use Rattle.vm_kernel.specs.Faulting.{AfterZeros, Ended, Hits, IsAvailable, IsUnavailable, NothingChanges, WantsOne, RequestsPage}
-use Rattle.vm_kernel.specs.Waiters.{address_in}
-use Rattle.vm_kernel.specs.declared.parts.Parts.{Parts}
-use Rattle.vm_parts.proofs.Changing.{changes_roomier}
 
 -- a pager that was not told, or is ready
 state_cases : (s : PagerState) → (s ≡ state.Sent → ⊥) → (s ≡ state.Without) ⊎ (s ≡ state.Ready)
@@ -53,7 +37,7 @@ wants_one k key may_claim known log absent found told none = (record { absent = 
 
 -- a page comes, or is asked, the same where more rows have room
 
-brought_roomier : (k mid : Parts) (rs : ResidentTable) (key : PageKey) (frame : FrameNo) → rs.rows ≡ k.memory.resident.rows → Brought key frame (record k { memory = record k.memory { resident = rs } }) mid → Brought key frame k mid
+brought_roomier : (k mid : Parts) (rs : ResidentTable) (key : PageKey) (frame : FrameNo) → rs.rows ≡ k.memory.resident.rows → BringsZeros key frame (record k { memory = record k.memory { resident = rs } }) mid → BringsZeros key frame k mid
 brought_roomier k mid rs key frame rows b =
     record {
       plan = record { host = b.plan.host; size = b.plan.size; maps = b.plan.maps; chains = b.plan.chains; objects = b.plan.objects; buffers = b.plan.buffers; laundry = b.plan.laundry; waits = b.plan.waits };
@@ -75,7 +59,7 @@ requested_roomier k new rs key access before after rows r =
     }
 
 pub ended_zeroed : (task : TaskId) (what : Want) (key : PageKey) (at : ℕ) (frame : FrameNo) (old mid new : Parts) (rs : ResidentTable) (before middle after : List Event)
-    → IsUnavailable key old → rs.rows ≡ old.memory.resident.rows → at ≡ address_in what % old.size → Brought key frame (record old { memory = record old.memory { resident = rs } }) mid → middle ≡ zeroed key old ∷ before → Hits task what key frame at mid new middle after
+    → IsUnavailable key old → rs.rows ≡ old.memory.resident.rows → at ≡ address_in what % old.size → BringsZeros key frame (record old { memory = record old.memory { resident = rs } }) mid → middle ≡ zeroed key old ∷ before → Hits task what key frame at mid new middle after
     → Ended task what key (address_in what % old.size) old new before after
 ended_zeroed task what key at frame old mid new rs before middle after lacks rows at_is came told hits =
     AfterZeros frame mid lacks (brought_roomier old mid rs key frame rows came)

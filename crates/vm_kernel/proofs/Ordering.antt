@@ -1,16 +1,8 @@
 -- The rows of the accesses that wait stand in the order in which these began.
-use Rattle.std.proofs.Common.{◌≡◌, ℕ, suc, ◌==◌, ◌<◌, ◌≤◌, Bool, true, false, List, [], ◌∷◌, ◌++◌, length, refl, ap, sym, ◌∙◌, subst, arith, Some, None, Option, inl, inr}
-use Rattle.std.proofs.lemmas.Bool.Decides.{eqb_tells}
-use Rattle.std.specs.Prelude.{if◌then◌else◌, map}
-use Rattle.vm_model.specs.declared.event.Event.{Event}
+use Rattle.vm_kernel.proofs.Common.{BeganInOrder, Bool, Event, List, None, On, Option, PutsEntry, Some, Waiting, [], ap, arith, begun_at, entry, eqb_tells, false, if◌then◌else◌, inl, inr, length, map, oldest_row, refl, rows_without, some_is, subst, suc, sym, true, turned, with_on, ℕ, ◌++◌, ◌<◌, ◌==◌, ◌∙◌, ◌∷◌, ◌≡◌, ◌≤◌}
 use Rattle.vm_model.specs.declared.event.Event.TheVariants as event
-use Rattle.vm_legal.specs.Accesses.{begun_at}
-use Rattle.vm_waits.specs.Waits.{PutsEntry, entry, oldest, turned, with_on, without, woken}
-use Rattle.vm_waits.specs.declared.waiting.On.{On}
+use Rattle.vm_waits.specs.Waits.{woken}
 use Rattle.vm_waits.specs.declared.waiting.On.TheVariants as on
-use Rattle.vm_waits.specs.declared.waiting.Waiting.{Waiting}
-use Rattle.vm_kernel.specs.Waiters.{BeganInOrder}
-use Rattle.vm_parts.proofs.Rows.{some_is}
 
 -- whatever order the rows had, they have it still
 pub record KeepsOrder (old new : List Waiting) : Type 0 where
@@ -27,14 +19,14 @@ order_lower begun low from (w ∷ ws) le is = (omega arith, is.1)
 
 -- an access is over
 
-without_order : (begun : ℕ → ℕ) (from t : ℕ) (rows : List Waiting) → BeganInOrder begun from rows → BeganInOrder begun from (without t rows)
+without_order : (begun : ℕ → ℕ) (from t : ℕ) (rows : List Waiting) → BeganInOrder begun from rows → BeganInOrder begun from (rows_without t rows)
 without_order begun from t [] is = tt
 without_order begun from t (w ∷ ws) is = elim (eqb_tells w.task.0 t) [
-  | inl same ↦ rw same.0 (order_lower begun from (suc (begun w.task.0)) (without t ws) (omega arith) (without_order begun (suc (begun w.task.0)) t ws is.1))
+  | inl same ↦ rw same.0 (order_lower begun from (suc (begun w.task.0)) (rows_without t ws) (omega arith) (without_order begun (suc (begun w.task.0)) t ws is.1))
   | inr apart ↦ rw apart.0 (is.0, without_order begun (suc (begun w.task.0)) t ws is.1)
 ]
 
-pub without_keeps : (t : ℕ) (rows new : List Waiting) → new ≡ without t rows → KeepsOrder rows new
+pub without_keeps : (t : ℕ) (rows new : List Waiting) → new ≡ rows_without t rows → KeepsOrder rows new
 without_keeps t rows new is = subst (λ (z : List Waiting). KeepsOrder rows z) (sym is) (record { keeps = λ begun from order. without_order begun from t rows order })
 
 -- an access waits for something else
@@ -109,12 +101,12 @@ later begun from t (w ∷ ws) v order is = elim (eqb_tells w.task.0 t) [
       omega arith
 ]
 
-pub oldest_first : (begun : ℕ → ℕ) (test : On → Bool) (from t : ℕ) (rows : List Waiting) (w v : Waiting) → BeganInOrder begun from rows → oldest test rows ≡ Some w → entry rows t ≡ Some v → test v.on ≡ true → (w.task.0 ≡ t → ⊥)
+pub oldest_first : (begun : ℕ → ℕ) (test : On → Bool) (from t : ℕ) (rows : List Waiting) (w v : Waiting) → BeganInOrder begun from rows → oldest_row test rows ≡ Some w → entry rows t ≡ Some v → test v.on ≡ true → (w.task.0 ≡ t → ⊥)
     → begun w.task.0 < begun t
 oldest_first begun test from t [] w v order first is passes apart = absurd (let bad : None ≡ Some v = is in cc)
 oldest_first begun test from t (x ∷ xs) w v order first is passes apart = by (test x.on) refl first (λ now rest. oldest_first begun test (suc (begun x.task.0)) t xs w v order.1 now rest passes apart)
   where
-    by : (b : Bool) → test x.on ≡ b → (if b then Some x else oldest test xs) ≡ Some w → (oldest test xs ≡ Some w → entry xs t ≡ Some v → begun w.task.0 < begun t) → begun w.task.0 < begun t
+    by : (b : Bool) → test x.on ≡ b → (if b then Some x else oldest_row test xs) ≡ Some w → (oldest_row test xs ≡ Some w → entry xs t ≡ Some v → begun w.task.0 < begun t) → begun w.task.0 < begun t
     by true tells now next =
         let it : x ≡ w = some_is x w now in
         let its : x.task.0 ≡ w.task.0 = ap (λ (z : Waiting). z.task.0) it in

@@ -1,12 +1,5 @@
 -- What is a host's own: where the host of an event and the host of a kernel are one, what they say of each other computes.
-use Rattle.std.proofs.Common.{◌≡◌, ℕ, ◌==◌, true, false, List, [], refl, ap, sym, ◌∙◌, Some, None, Option, inl, inr}
-use Rattle.std.proofs.lemmas.Bool.Decides.{eqb_tells}
-use Rattle.std.specs.Prelude.{is_some, unwrap_or}
-use Rattle.vm_base.specs.declared.entry.Entry.{Entry}
-use Rattle.vm_base.specs.declared.ids.HostId.{HostId}
-use Rattle.vm_model.specs.Local.{is_on}
-use Rattle.vm_maps.specs.Maps.{Mapped, entries_in, rows_in}
-use Rattle.vm_kernel.specs.Matches.{HasTasks, host_id}
+use Rattle.vm_kernel.proofs.Common.{Entry, HasTasks, HostId, List, Mapped, None, Option, Some, [], ap, entries_in, eqb_tells, false, host_id, inl, inr, is_on, is_some, refl, rows_in, sym, true, unwrap_or, ℕ, ◌==◌, ◌∙◌, ◌≡◌}
 use Rattle.vm_kernel.proofs.Pages.{itself}
 
 -- the host itself passes its test

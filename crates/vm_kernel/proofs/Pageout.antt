@@ -1,27 +1,10 @@
 -- A pageout reclaims pages, one after another.
-use Rattle.std.proofs.Common.{◌≡◌, ℕ, ◌+◌, List, [], ◌∷◌, ◌++◌, refl, ap, sym, ◌∙◌, subst, inl, inr}
-use Rattle.std.specs.Prelude.{◌⊎◌}
-use Rattle.vm_legal.specs.Follows.{IsDone, head}
-use Rattle.vm_legal.specs.Outside.{Outside}
-use Rattle.vm_legal.specs.Reclaims.{IsReclaim, ReclaimsOnly}
-use Rattle.vm_legal.specs.Steps.{departures}
-use Rattle.vm_legal.specs.Stretches.{EachOf}
-use Rattle.vm_model.specs.declared.command.Command.{Command}
+use Rattle.vm_kernel.proofs.Common.{Command, EachGone, EachOf, Event, FreesOrReturns, Grows, Header, Ids, IsDone, IsReclaim, LegalEvents, List, Outside, Parts, Ran, Reclaim, ReclaimsOnly, Rests, Starts, [], ap, departures, head, host_id, inl, inr, of_both, refl, subst, sym, ℕ, ◌++◌, ◌+◌, ◌∙◌, ◌∷◌, ◌≡◌, ◌⊎◌}
 use Rattle.vm_model.specs.declared.command.Command.TheVariants as command
-use Rattle.vm_model.specs.declared.event.Event.{Event}
 use Rattle.vm_model.specs.declared.event.Event.TheVariants as event
-use Rattle.vm_model.specs.declared.script.Header.{Header}
-use Rattle.vm_pageout.specs.declared.answer.Reclaim.{Reclaim}
 use Rattle.vm_pageout.specs.declared.answer.Reclaim.TheVariants as reclaim
-use Rattle.vm_shadow.specs.declared.ids.Ids.{Ids}
-use Rattle.vm_kernel.specs.Begun.{Grows, LegalEvents, Ran, Starts}
-use Rattle.vm_kernel.specs.Matches.{Rests, host_id}
-use Rattle.vm_kernel.specs.Serving.{FreesOrReturns}
-use Rattle.vm_kernel.specs.Taking.{EachGone}
-use Rattle.vm_kernel.specs.declared.parts.Parts.{Parts}
 use Rattle.vm_kernel.proofs.Growing.{grows_goes}
 use Rattle.vm_kernel.proofs.Reclaims.{exhausted}
-use Rattle.vm_legal.proofs.Stretched.{of_both}
 
 -- so many pages have gone, and nothing else was done
 pub record Reclaiming (header : Header) (h : ℕ) (outside : Outside) (doing : Command) (count done : ℕ) (past : List Event) (k : Parts) (ids : Ids) (events : List Event) : Type 0 where

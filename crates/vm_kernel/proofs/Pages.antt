@@ -1,24 +1,5 @@
 -- What a host has of its pages and frames, once a page and its frame have changed.
-use Rattle.std.proofs.Common.{◌≡◌, ℕ, ◌==◌, ◌&&◌, Bool, true, false, List, [], get_or, length, refl, ap, sym, ◌∙◌, subst, arith, Some, None, Option, inl, inr, length-set}
-use Rattle.std.proofs.lemmas.Bool.Decides.{eqb_tells}
-use Rattle.std.specs.Prelude.{if◌then◌else◌, is_some, not}
-use Rattle.vm_base.specs.declared.ids.FrameNo.{FrameNo}
-use Rattle.vm_base.specs.declared.ids.PageKey.{PageKey}
-use Rattle.vm_model.specs.Local.{Local, local_after, Asks, LocalEffect, Elsewhere}
-use Rattle.vm_frames.specs.Frames.{FrameTable, claimed, frame_count, is_claimed, page_in}
-use Rattle.vm_objects.specs.Objects.{ObjectTable, absent_at}
-use Rattle.vm_pageout.specs.Laundry.{LaundryList}
-use Rattle.vm_parts.specs.Changes.{Changes, led}
-use Rattle.vm_parts.specs.Fits.{Fit}
-use Rattle.vm_parts.specs.declared.parts.HostParts.{HostParts}
-use Rattle.vm_parts.proofs.Fitting.{frame_apart}
-use Rattle.vm_parts.proofs.Rows.{one_case, row_cases, row_put}
-use Rattle.vm_queues.specs.Queues.{Queues}
-use Rattle.vm_resident.specs.Resident.{owner_of, row_at}
-use Rattle.vm_resident.specs.declared.page_row.PageRow.{PageRow}
-use Rattle.vm_shadow.specs.Chains.{ChainTable}
-use Rattle.vm_kernel.specs.Matches.{HasFrames, HasLaundry, HasPages, IsWashed}
-use Rattle.vm_kernel.specs.Places.{has_region, local_of_row, lock_number}
+use Rattle.vm_kernel.proofs.Common.{Asks, Bool, ChainTable, Changes, Elsewhere, Fit, FrameNo, FrameTable, HasFrames, HasLaundry, HasPages, HostParts, IsWashed, LaundryList, List, Local, LocalEffect, None, ObjectTable, Option, PageKey, PageRow, Queues, Some, [], absent_at, ap, arith, claimed, eqb_tells, false, frame_apart, frame_count, get_or, has_region, if◌then◌else◌, inl, inr, is_claimed, is_some, led, length, length-set, local_after, local_of_row, lock_number, not, one_case, owner_of, page_in, refl, row_at, row_cases, row_put, subst, sym, true, ℕ, ◌&&◌, ◌==◌, ◌∙◌, ◌≡◌}
 
 pub itself : (n : ℕ) → (n == n) ≡ true
 itself n = elim (eqb_tells n n) [ inl same ↦ same.0 | inr apart ↦ absurd (apart.1 refl) ]

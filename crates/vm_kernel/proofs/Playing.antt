@@ -1,42 +1,14 @@
 -- The lists of pages are as the events say.
-use Rattle.std.proofs.Common.{◌≡◌, ℕ, ◌<◌, ◌==◌, ◌&&◌, ◌||◌, Bool, true, false, List, [], ◌∷◌, ◌++◌, map, take, refl, ap, sym, ◌∙◌, subst, arith, Some, None, Option, inl, inr}
-use Rattle.std.specs.Prelude.{if◌then◌else◌}
-use Rattle.std.proofs.lemmas.Bool.Decides.{nat_tests}
-use Rattle.vm_base.specs.declared.ids.FrameNo.{FrameNo}
-use Rattle.vm_frames.specs.Frames.{page_in}
-use Rattle.vm_base.specs.declared.ids.PageKey.{PageKey}
-use Rattle.vm_base.specs.declared.ids.TaskId.{TaskId}
-use Rattle.vm_model.specs.declared.event.Event.{Event}
+use Rattle.vm_kernel.proofs.Common.{AfterZeros, AllSkipped, AtOnce, Bool, BringsZeros, Changes, DepartsFrom, Does, Ended, Event, FaultStep, Faulted, Faults, FrameNo, Header, Hits, Ids, IsChosen, IsHere, IsVictim, KeepsPages, List, Marks, MarksReferenced, None, NothingChanges, Option, Page, PageKey, PageRow, PagerState, Paging, Parts, Plays, PutsRow, Queues, Reclaim, ReclaimEffects, RequestsPage, ResidentTable, Rests, Some, Still, TaskId, Then, Up, Want, WritesNumber, [], all_tasks, ap, arith, balanced, balanced_done, cleared, controlled, count_by, false, frame_here, from_unreferenced, front_referenced_of, has_page, if◌then◌else◌, in_use, inl, inr, looked, nat_tests, needs_none, none_needed, page_in, paging, places_with_frame, queues_after_search, queues_except, referenced_front, refl, row_at, row_cases, sends, shortage, spared, spared_done, subst, sym, take, told_from, true, victim_frame, with_reference, zeroed, ℕ, ◌&&◌, ◌++◌, ◌<◌, ◌==◌, ◌||◌, ◌∙◌, ◌∷◌, ◌≡◌}
+use Rattle.std.proofs.Common.{map}
 use Rattle.vm_model.specs.declared.event.Event.TheVariants as event
-use Rattle.vm_model.specs.declared.message.Channel.TheVariants.{Up}
 use Rattle.vm_model.specs.declared.message.Message.TheVariants as message
-use Rattle.vm_model.specs.declared.script.Header.{Header}
-use Rattle.vm_legal.specs.Used.{in_use}
-use Rattle.vm_objects.specs.declared.row.PagerState.{PagerState}
 use Rattle.vm_objects.specs.declared.row.PagerState.TheVariants as state
-use Rattle.vm_pageout.specs.Reclaims.{IsChosen, ReclaimEffects, controlled, looked, queues_after_search, sends, told_from}
-use Rattle.vm_parts.specs.Changes.{Changes}
-use Rattle.vm_pageout.specs.declared.answer.Reclaim.{Reclaim}
 use Rattle.vm_pageout.specs.declared.answer.Reclaim.TheVariants as reclaim
-use Rattle.vm_queues.proofs.Balance.{balanced_done, none_needed, spared_done}
-use Rattle.vm_queues.specs.Kept.{front_referenced_of}
-use Rattle.vm_queues.specs.Queues.{AllSkipped, KeepsPages, Page, Queues, balanced, cleared, from_unreferenced, has_page, needs_none, referenced_front, removed, shortage, spared, victim_frame, with_reference}
-use Rattle.vm_resident.specs.Resident.{PutsRow, ResidentTable, row_at}
-use Rattle.vm_resident.specs.declared.page_row.PageRow.{PageRow}
-use Rattle.vm_shadow.specs.declared.ids.Ids.{Ids}
-use Rattle.vm_waits.specs.declared.waiting.Want.{Want}
 use Rattle.vm_waits.specs.declared.waiting.Want.TheVariants as want
-use Rattle.vm_kernel.specs.Changes.{Brought, IsHere, Wrote, zeroed}
-use Rattle.vm_kernel.specs.Counts.{count_by, most_tasks}
-use Rattle.vm_kernel.specs.Faulting.{AfterZeros, AtOnce, Ended, Faulted, Faults, Hits, MarksReferenced, NothingChanges, RequestsPage}
-use Rattle.vm_kernel.specs.Matches.{Rests}
-use Rattle.vm_kernel.specs.Plays.{DepartsFrom, Does, IsVictim, Marks, Paging, Plays, Still, Then, frame_here, paging, with_frame}
-use Rattle.vm_kernel.specs.declared.parts.Parts.{Parts}
-use Rattle.vm_kernel.specs.declared.steps.FaultStep.{FaultStep}
 use Rattle.vm_kernel.specs.declared.steps.FaultStep.TheVariants as step
 use Rattle.vm_kernel.proofs.Accessing.{brought_here}
 use Rattle.vm_kernel.proofs.Strands.{itself}
-use Rattle.vm_parts.proofs.Rows.{row_cases}
 use Rattle.vm_kernel.proofs.Regions.{region_row}
 
 -- first some events, and then some more
@@ -79,7 +51,7 @@ push false x y = refl
 
 -- one row is another now
 pub frames_put : (old new : ResidentTable) (o p : ℕ) (x : Option PageRow) (frame : Option FrameNo) → PutsRow o p x old new → frame_here x ≡ frame
-    → (o2 p2 : ℕ) → frame_here (row_at new o2 p2) ≡ with_frame o p frame (λ o3 p3. frame_here (row_at old o3 p3)) o2 p2
+    → (o2 p2 : ℕ) → frame_here (row_at new o2 p2) ≡ places_with_frame o p frame (λ o3 p3. frame_here (row_at old o3 p3)) o2 p2
 frames_put old new o p x frame put is o2 p2 =
     ap frame_here (put.at o2 p2) ∙ push (o == o2 && p == p2) x (row_at old o2 p2) ∙ ap (λ z. if o == o2 && p == p2 then z else frame_here (row_at old o2 p2)) is
 
@@ -103,7 +75,7 @@ marked_one key frame k mid new here same touches =
       is = ap paging touches.is ∙ ap (λ q. record { frame_at = (paging mid).frame_at; queues = q }) touches.marks ∙ ap (λ (z : Paging). record { frame_at = z.frame_at; queues = with_reference frame.0 z.queues }) same;
     }
 
-wrote_same : (key : PageKey) (frame : FrameNo) (bytes : List ℕ) (k mid : Parts) → Wrote key frame bytes k mid → paging mid ≡ paging k
+wrote_same : (key : PageKey) (frame : FrameNo) (bytes : List ℕ) (k mid : Parts) → WritesNumber key frame bytes k mid → paging mid ≡ paging k
 wrote_same key frame bytes k mid wrote =
     same_paging _ _ _ _ (frames_kept k.memory.resident mid.memory.resident key.object.0 key.page.0 (Some (record wrote.row { dirty = true })) wrote.page.row (sym (ap frame_here wrote.page.found))) wrote.page.queues
 
@@ -114,7 +86,7 @@ hit_plays header past task (want.Load address size) key frame at k new before af
 hit_plays header past task (want.Store address size value) key frame at k new before after here hits =
     plays_one header past before after (event.Stored task key.object key.page at size value) (paging k) (paging new) hits.3 (marked_one key frame k hits.0 new here (wrote_same key frame _ k hits.0 hits.1) hits.2)
 
-brought_plays : (header : Header) (past before : List Event) (key : PageKey) (frame : FrameNo) (k new : Parts) → Brought key frame k new → Plays header past before (paging k) (zeroed key k ∷ before) (paging new)
+brought_plays : (header : Header) (past before : List Event) (key : PageKey) (frame : FrameNo) (k new : Parts) → BringsZeros key frame k new → Plays header past before (paging k) (zeroed key k ∷ before) (paging new)
 brought_plays header past before key frame k new brought =
     plays_one header past before (zeroed key k ∷ before) (zeroed key k) (paging k) (paging new) refl
     (record {
@@ -184,12 +156,12 @@ page_used header h k ids past o p row rests found =
     let there = region_row k.chains o (rests.matches.pages.live o p row found) in
     let some = rests.used o there.0 there.1 in
     let counts = rests.matches.entries.counts o there.0 there.1 in
-    let less : 0 < count_by most_tasks o k.maps = omega arith in
+    let less : 0 < count_by all_tasks o k.maps = omega arith in
     rests.matches.uses.used o ∙ grind (arith, nat_tests)
 
 -- the victim has gone
 victim_of : (key : PageKey) (row : PageRow) (held : Bool) (bytes : List ℕ) (k k2 : Parts) → IsChosen [] row (queues_after_search k.memory.queues)
-    → Changes key row.frame (Some row) None held bytes (removed row.frame.0 (queues_after_search (queues_after_search k.memory.queues))) (looked (record k.memory { queues = queues_after_search k.memory.queues })) k2.memory → IsVictim key.object.0 key.page.0 (paging k) (paging k2)
+    → Changes key row.frame (Some row) None held bytes (queues_except row.frame.0 (queues_after_search (queues_after_search k.memory.queues))) (looked (record k.memory { queues = queues_after_search k.memory.queues })) k2.memory → IsVictim key.object.0 key.page.0 (paging k) (paging k2)
 victim_of key row held bytes k k2 victim page =
     let o = key.object.0 in
     let p = key.page.0 in
@@ -201,7 +173,7 @@ victim_of key row held bytes k k2 victim page =
           record {
             frame = row.frame;
             here = here;
-            is = same_paging _ _ _ _ (frames_put k.memory.resident k2.memory.resident o p None None page.row refl) (page.queues ∙ ap (removed row.frame.0) lists);
+            is = same_paging _ _ _ _ (frames_put k.memory.resident k2.memory.resident o p None None page.row refl) (page.queues ∙ ap (queues_except row.frame.0) lists);
           };
     }
 

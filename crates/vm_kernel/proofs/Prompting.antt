@@ -1,45 +1,12 @@
 -- At the end of a step nobody waits in vain, and nothing is left behind.
-use Rattle.std.proofs.Common.{is_some, ◌≡◌, ℕ, ◌+◌, ◌<◌, Bool, true, false, List, [], length, refl, ap, sym, ◌∙◌, subst, arith, Some, None, Option, inl, inr}
-use Rattle.std.proofs.lemmas.Bool.Decides.{nat_tests}
-use Rattle.std.specs.Prelude.{◌⊎◌, ◌≢◌, if◌then◌else◌, nat_lt, not}
-use Rattle.vm_base.specs.declared.entry.Entry.{Entry}
-use Rattle.vm_base.specs.declared.ids.PageKey.{PageKey}
-use Rattle.vm_base.specs.Entries.{entry_at, page_at}
-use Rattle.vm_model.specs.declared.event.Event.{Event}
-use Rattle.vm_model.specs.declared.script.Header.{Header}
-use Rattle.vm_model.specs.Controls.{live_control}
-use Rattle.vm_model.specs.Regions.{region_of}
-use Rattle.vm_model.specs.Tasks.{entries_of}
-use Rattle.vm_model.specs.Waiting.{Access, address_of, is_store, next_page, waiting}
-use Rattle.vm_legal.specs.Accesses.{HasPlace, Waits, page_of}
-use Rattle.vm_legal.specs.Prompt.{AReady, AnAnswer, Awaits, HostIsFull, IsSwept, NoneInVain, PromptAt, WaitsForPager}
-use Rattle.vm_legal.specs.Walks.{IsTop, Reach, page_on}
-use Rattle.vm_frames.specs.Frames.{FrameTable}
+use Rattle.vm_kernel.proofs.Common.{AReady, Access, AnAnswer, Awaits, Bool, Entry, Event, FrameTable, HasPlace, HasQueue, HasWaits, Header, HostIsFull, Ids, IsAsked, IsAt, IsPagerTold, IsSwept, IsTop, List, Matches, None, NoneInVain, ObjectRow, On, Option, PageKey, PageRow, Parts, PromptAt, QueueIsServed, Reach, Reason, Rests, Some, Waiting, Waits, WaitsForPager, Want, [], absent_at, access_in, address_in, address_of, all_tasks, ap, arith, count_by, entries_in, entries_of, entry, entry_at, false, has_region, if◌then◌else◌, inl, inr, is_again, is_frame, is_on, is_ready_state, is_store, length, live_control, live_in, local_of_row, nat_lt, nat_tests, next_page, none_again, none_queued, not, object_at, page_at, page_of, page_on, ready_in, refl, region_of, row_at, rows_in, subst, sym, true, waiting, waiting_in, ℕ, ◌+◌, ◌<◌, ◌∙◌, ◌≡◌, ◌≢◌, ◌⊎◌}
+use Rattle.std.proofs.Common.{is_some}
 use Rattle.vm_kernel.proofs.Regions.{region_row}
 use Rattle.vm_kernel.proofs.Leading.{address_is}
-use Rattle.vm_maps.specs.Maps.{rows_in, entries_in}
-use Rattle.vm_objects.specs.Objects.{absent_at, object_at}
-use Rattle.vm_objects.specs.declared.row.ObjectRow.{ObjectRow}
 use Rattle.vm_objects.specs.declared.row.PagerState.TheVariants as state
-use Rattle.vm_resident.specs.Resident.{row_at}
-use Rattle.vm_resident.specs.declared.page_row.PageRow.{PageRow}
-use Rattle.vm_shadow.specs.declared.ids.Ids.{Ids}
 use Rattle.vm_supply.specs.declared.woken.Woken.TheVariants as woken
-use Rattle.vm_waits.specs.Waits.{entry, is_again, is_frame}
-use Rattle.vm_waits.specs.declared.waiting.On.{On}
 use Rattle.vm_waits.specs.declared.waiting.On.TheVariants as on
-use Rattle.vm_waits.specs.declared.waiting.Waiting.{Waiting}
-use Rattle.vm_waits.specs.declared.waiting.Want.{Want}
-use Rattle.vm_waits.proofs.Entries.{none_again, none_queued}
-use Rattle.vm_kernel.specs.Counts.{count_by, most_tasks}
-use Rattle.vm_kernel.specs.Matches.{HasWaits, Matches, Rests}
-use Rattle.vm_kernel.specs.Pagers.{is_ready_state, live_in, ready_in}
-use Rattle.vm_kernel.specs.Places.{has_region, local_of_row}
-use Rattle.vm_kernel.specs.Serving.{HasQueue, IsServed}
-use Rattle.vm_kernel.specs.Waiters.{IsAsked, IsAt, IsTold, Reason, access_in, address_in, waiting_in}
-use Rattle.vm_kernel.specs.declared.parts.Parts.{Parts}
 use Rattle.vm_kernel.proofs.Own.{own_host}
-use Rattle.vm_model.specs.Local.{is_on}
 
 -- what is on the host has a row
 here_row : (fs : FrameTable) (x : Option PageRow) (lacked : Bool) → (local_of_row fs x lacked).here ≡ true → (row : PageRow) × (x ≡ Some row)
@@ -82,7 +49,7 @@ has_place header h k ids past lost task what key m at waits here =
     (record { top = key.object.0; top_page = key.page.0; steps = 0; is_top = top; leads = (refl, refl) })
 
 -- a pager that was told of its object, and isn't ready
-awaits_ready : (header : Header) (h : ℕ) (k : Parts) (ids : Ids) (past : List Event) (lost : List Entry) (o p : ℕ) (store : Bool) → Matches header h k ids lost past → IsTold k.memory.objects o → Awaits header h store o p past
+awaits_ready : (header : Header) (h : ℕ) (k : Parts) (ids : Ids) (past : List Event) (lost : List Entry) (o p : ℕ) (store : Bool) → Matches header h k ids lost past → IsPagerTold k.memory.objects o → Awaits header h store o p past
 awaits_ready header h k ids past lost o p store m told =
     let apart : told.row.state ≢ state.Without = λ same. let bad : state.Sent ≡ state.Without = sym told.sent ∙ same in cc in
     let live : told.row.live ≡ true = m.controls.all_live.at o told.row told.found apart in
@@ -103,7 +70,7 @@ waits_for : (header : Header) (h : ℕ) (k : Parts) (ids : Ids) (past : List Eve
     → (waits : Waits header task (access_in what) past) → waits.at.host ≡ h → WaitsForPager header h task (access_in what) past ⊎ HostIsFull header h past
 waits_for header h k ids past task what on.Again m reason fresh full waits home = absurd (let bad : true ≡ false = fresh in cc)
 waits_for header h k ids past task what (on.Ready object) m reason fresh full waits home =
-    let told : IsTold k.memory.objects reason.0.object.0 = subst (λ z. IsTold k.memory.objects z.0) (sym reason.2) reason.3 in
+    let told : IsPagerTold k.memory.objects reason.0.object.0 = subst (λ z. IsPagerTold k.memory.objects z.0) (sym reason.2) reason.3 in
     inl (record {
       waits = waits;
       on_host = home;
@@ -124,11 +91,11 @@ waits_for header h k ids past task what (on.Page key) m reason fresh full waits 
 waits_for header h k ids past task what on.Frame m reason fresh full waits home = inr (full refl)
 
 -- an access that wants a frame waits while the queue can't go on
-queue_full : (header : Header) (h : ℕ) (k : Parts) (past : List Event) (task : ℕ) (w : Waiting) → IsServed header h k past → entry k.waits.rows task ≡ Some w → is_frame w.on ≡ true → HostIsFull header h past
+queue_full : (header : Header) (h : ℕ) (k : Parts) (past : List Event) (task : ℕ) (w : Waiting) → QueueIsServed header h k past → entry k.waits.rows task ≡ Some w → is_frame w.on ≡ true → HostIsFull header h past
 queue_full header h k past task w (inl empty) found queues = absurd (let none = none_queued k.waits.rows task w empty found in let bad : true ≡ false = sym queues ∙ none in cc)
 queue_full header h k past task w (inr full) found queues = full
 
-none_in_vain : (header : Header) (h : ℕ) (k : Parts) (ids : Ids) (past : List Event) → Rests header h k ids past → IsServed header h k past → NoneInVain header h past
+none_in_vain : (header : Header) (h : ℕ) (k : Parts) (ids : Ids) (past : List Event) → Rests header h k ids past → QueueIsServed header h k past → NoneInVain header h past
 none_in_vain header h k ids past rests served task access waits home =
     let row = has_row k past task access rests.waits (at_home header h k ids past task access rests.matches waits home) waits.waits in
     let w = row.row in
@@ -142,8 +109,8 @@ reaches header h k ids past object rests there =
     let m = rests.matches in
     let region = region_row k.chains object there in
     let some = rests.used object region.0 region.1 in
-    let less : 0 < count_by most_tasks object k.maps = let counts = m.entries.counts object region.0 region.1 in omega arith in
-    let test : nat_lt 0 (count_by most_tasks object k.maps) ≡ true = grind (arith, nat_tests) in
+    let less : 0 < count_by all_tasks object k.maps = let counts = m.entries.counts object region.0 region.1 in omega arith in
+    let test : nat_lt 0 (count_by all_tasks object k.maps) ≡ true = grind (arith, nat_tests) in
     (object, 0, m.uses.used object ∙ test, (m.regions.tops object).top)
 
 swept : (header : Header) (h : ℕ) (k : Parts) (ids : Ids) (past : List Event) → Rests header h k ids past → IsSwept header h past
@@ -171,9 +138,9 @@ swept header h k ids past rests =
     ended object away (Some row) is = dead object away row is row.live refl
 
 -- whoever stands in the frame queue, no frame is free then
-pub queue_of : (header : Header) (h : ℕ) (k : Parts) (past : List Event) → IsServed header h k past → HasQueue header h k past
+pub queue_of : (header : Header) (h : ℕ) (k : Parts) (past : List Event) → QueueIsServed header h k past → HasQueue header h k past
 queue_of header h k past (inl empty) = inl empty
 queue_of header h k past (inr full) = inr full.none
 
-pub prompt_of : (header : Header) (h : ℕ) (k : Parts) (ids : Ids) (past : List Event) → Rests header h k ids past → IsServed header h k past → PromptAt header h past
+pub prompt_of : (header : Header) (h : ℕ) (k : Parts) (ids : Ids) (past : List Event) → Rests header h k ids past → QueueIsServed header h k past → PromptAt header h past
 prompt_of header h k ids past rests served = record { waits = none_in_vain header h k ids past rests served; swept = swept header h k ids past rests }

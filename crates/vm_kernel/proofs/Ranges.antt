@@ -1,54 +1,10 @@
 -- A range is allocated: a region over a new object, and an entry on the whole of it.
-use Rattle.std.proofs.Common.{◌≡◌, nat_le, nat_lt, ℕ, ◌+◌, ◌-◌, ◌/◌, ◌%◌, ◌<◌, ◌≤◌, ◌^◌, ◌==◌, ◌||◌, not, Bool, true, false, List, [], ◌∷◌, ◌++◌, length, refl, ap, sym, ◌∙◌, subst, arith, Some, None, Option, inl, inr}
-use Rattle.std.proofs.lemmas.Bool.Decides.{eqb_tells, nat_tests}
-use Rattle.std.specs.Prelude.{if◌then◌else◌, is_none, is_some, IfSome, ◌≢◌, ◌⊎◌}
+use Rattle.vm_kernel.proofs.Common.{AllLicensed, AllReached, AllRows, AllUsed, Bool, ChainTable, ChangesOnly, EachIn, Enters, Entry, Event, Fit, FrameTable, HasEntries, HasPages, HasRegions, HasUse, Header, HostParts, Ids, IfSome, IsInside, IsLined, IsMine, IsOverOwn, IsUnder, List, Local, MadeRange, MapChange, Mapped, None, ObjectId, ObjectRow, ObjectTable, Option, Outside, Parts, PutsObject, PutsRegion, Ran, Region, RegionRow, ResidentTable, Rests, SameMarks, Some, Starts, TaskId, [], all_tasks, ap, arith, backing_of, begins_copy, begins_here, both_left, code_where, copy_target, count_by, entered, entering, entries_in, entries_of, entry, eqb_tells, false, fills, fit_within, got, has_entry, has_region, head, holds, home_entered, home_of, home_stays, homeless_next, host_of, if◌then◌else◌, in_use, inl, inr, is_none, is_range, is_ready, is_some, last_control, length, length_entered, live_control, lives_on, local, local_of_row, made_here, marked_regions, meets_range, most_entries, nat_le, nat_tests, next_object, next_region, object_at, one_case, page_below, pages_in, pages_of_row, place_of, refl, region_at, region_of, region_pages, row_at, rows_entered, rows_in, rows_map, some_is, starts_copy, subst, sym, tasks, true, waiting, waiting_in, whole_entry, ℕ, ◌%◌, ◌++◌, ◌+◌, ◌-◌, ◌/◌, ◌<◌, ◌==◌, ◌^◌, ◌||◌, ◌∙◌, ◌∷◌, ◌≡◌, ◌≢◌, ◌≤◌, ◌⊎◌}
+use Rattle.std.proofs.Common.{nat_lt, not}
 use Rattle.vm_base.specs.declared.code.Code.TheVariants as code
-use Rattle.vm_base.specs.declared.entry.Entry.{Entry}
-use Rattle.vm_base.specs.declared.ids.ObjectId.{ObjectId}
-use Rattle.vm_base.specs.declared.ids.TaskId.{TaskId}
-use Rattle.vm_base.specs.Entries.{entered, is_range, meets_range, most_entries}
-use Rattle.vm_model.specs.declared.event.Event.{Event}
 use Rattle.vm_model.specs.declared.event.Event.TheVariants as event
 use Rattle.vm_model.specs.declared.command.Command.TheVariants as command
-use Rattle.vm_model.specs.declared.script.Header.{Header}
-use Rattle.vm_model.specs.Controls.{last_control, live_control}
-use Rattle.vm_legal.specs.Follows.{head}
-use Rattle.vm_model.specs.Local.{Local, local}
-use Rattle.vm_legal.specs.Refusal.{where_true}
 use Rattle.vm_model.specs.Regions as R
-use Rattle.vm_model.specs.Regions.{Region, backing_of, marked_regions, next_object, next_region, region_of}
-use Rattle.vm_model.specs.Rows.{AllRows, page_below, rows_entered, rows_map}
-use Rattle.vm_model.specs.Tasks.{entries_of, has_entry, host_of}
-use Rattle.vm_model.specs.Waiting.{fills, waiting, begins_copy, copy_target}
-use Rattle.vm_legal.specs.Licences.{AllLicensed, Enters}
-use Rattle.vm_legal.specs.Accesses.{is_ready}
-use Rattle.vm_legal.specs.Living.{lives_on, tasks}
-use Rattle.vm_legal.specs.Outside.{Outside}
-use Rattle.vm_legal.specs.Used.{in_use, made_here}
-use Rattle.vm_legal.specs.Homes.{begins_here, starts_copy}
-use Rattle.vm_legal.specs.Stretches.{EachIn}
-use Rattle.vm_abroad.specs.Home.{home_of}
-use Rattle.vm_abroad.proofs.Home.{home_entered, home_stays, homeless_next}
-use Rattle.vm_abroad.proofs.Sounds.{both_left}
-use Rattle.vm_frames.specs.Frames.{FrameTable}
-use Rattle.vm_maps.specs.declared.change.MapChange.{MapChange}
-use Rattle.vm_maps.specs.Maps.{ChangesOnly, Mapped, entries_in, rows_in}
-use Rattle.vm_objects.specs.Objects.{ObjectTable, PutsObject, object_at, SameMarks}
-use Rattle.vm_objects.specs.declared.row.ObjectRow.{ObjectRow}
-use Rattle.vm_resident.specs.Resident.{ResidentTable, row_at}
-use Rattle.vm_shadow.specs.Chains.{ChainTable, PutsRegion, region_at}
-use Rattle.vm_shadow.specs.declared.ids.Ids.{Ids}
-use Rattle.vm_shadow.specs.declared.region_row.RegionRow.{RegionRow}
-use Rattle.vm_waits.specs.Waits.{entry}
-use Rattle.vm_kernel.specs.Begun.{IsLined, IsMine, Ran, Starts}
-use Rattle.vm_kernel.specs.Changes.{MadeRange, entering, whole_entry}
-use Rattle.vm_kernel.specs.Counts.{count_by, most_tasks}
-use Rattle.vm_kernel.specs.Forking.{got}
-use Rattle.vm_kernel.specs.Matches.{AllReached, AllUsed, HasEntries, HasPages, HasRegions, HasUse, IsInside, IsOverOwn, IsUnder, Rests, holds}
-use Rattle.vm_parts.specs.Fits.{Fit, pages_kept}
-use Rattle.vm_kernel.specs.Places.{has_region, local_of_row, pages_in, place_of, region_pages}
-use Rattle.vm_kernel.specs.Waiters.{waiting_in}
-use Rattle.vm_kernel.specs.declared.parts.Parts.{Parts}
 use Rattle.vm_kernel.proofs.Counts.{by_none, most_is, on_entered}
 use Rattle.vm_kernel.proofs.Growing.{licensed, suffices}
 use Rattle.vm_kernel.proofs.Heads.{passed, ran_head}
@@ -58,10 +14,6 @@ use Rattle.vm_kernel.proofs.Rows.{region_cases}
 use Rattle.vm_kernel.proofs.Tasks.{Keeps, entries_changed, inside_kept, tasks_entered}
 use Rattle.vm_kernel.proofs.Uses.{unfilled, uses_entered, ApartFrom, holds_rows}
 use Rattle.vm_kernel.proofs.Waited.{SameTops, waits_changed, told_changed}
-use Rattle.vm_parts.proofs.Rows.{one_case, some_is}
-use Rattle.vm_parts.specs.declared.parts.HostParts.{HostParts}
-use Rattle.vm_parts.proofs.Fitting.{fit_within}
-use Rattle.vm_maps.proofs.Entering.{length_entered}
 use Rattle.vm_kernel.proofs.Own.{lives_here, lives_in, rows_here}
 
 -- what an allocation that isn't refused has
@@ -83,11 +35,11 @@ may_range header h task address bytes past k ids events s =
     let m = s.rests.matches in
     let rows = entries_of header.size task.0 past in
     let full = nat_lt most_entries (length rows + 1) || (nat_le 8192 (next_region header past) || nat_le 8192 (next_object header past + marked_regions header past)) in
-    let last = where_true full code.TableFull None in
-    let next = where_true (meets_range address bytes rows) code.NoSpace last in
+    let last = code_where full code.TableFull None in
+    let next = code_where (meets_range address bytes rows) code.NoSpace last in
     let tests = not (is_range header.size address bytes) || nat_lt 4096 (bytes / header.size) in
-    let acts = passed (is_none (host_of task.0 past)) code.NoSuchName (where_true (is_some (waiting task.0 past)) code.Blocked (where_true tests code.InvalidArgument next)) s.accepted in
-    let idle = passed (is_some (waiting task.0 past)) code.Blocked (where_true tests code.InvalidArgument next) acts.1 in
+    let acts = passed (is_none (host_of task.0 past)) code.NoSuchName (code_where (is_some (waiting task.0 past)) code.Blocked (code_where tests code.InvalidArgument next)) s.accepted in
+    let idle = passed (is_some (waiting task.0 past)) code.Blocked (code_where tests code.InvalidArgument next) acts.1 in
     let first = passed tests code.InvalidArgument next idle.1 in
     let second = passed (meets_range address bytes rows) code.NoSpace last first.1 in
     let third = passed full code.TableFull None second.1 in
@@ -248,7 +200,7 @@ entries_range size maps new chains chains2 task n address bytes object has none 
       | inl same ↦
           let is : row ≡ row2 = some_is row row2 (sym same.1 ∙ found) in
           let count : 1 ≡ row2.entries = ap (λ z. z.entries) is in
-          let nothing : count_by most_tasks r maps ≡ 0 = by_none most_tasks r maps (λ t. subst (λ (z : ℕ). has_entry z (rows_in t maps) ≡ false) same.0 (none_leads size chains n (rows_in t maps) none (has.inside t))) in
+          let nothing : count_by all_tasks r maps ≡ 0 = by_none all_tasks r maps (λ t. subst (λ (z : ℕ). has_entry z (rows_in t maps) ≡ false) same.0 (none_leads size chains n (rows_in t maps) none (has.inside t))) in
           let here : ◌≡◌ {A = ℕ} (if n == r then 1 else 0) 1 = yes r same.0 in
           omega (arith, count, nothing, here, on_entered r entry (rows_in task maps))
       | inr apart ↦
@@ -295,7 +247,7 @@ fit_range parts os chains local_at n o row fit pages none is put =
     fit_within parts os fit
     (λ o2 p r found. elim (one_case o o2 (Some row) (object_at parts.objects o2) (object_at os o2) (put.at o2)) [
       | inl same ↦ absurd (not_there chains n o2 none (sym is ∙ same.0) (pages.live o2 p r found))
-      | inr apart ↦ subst (λ (z : ℕ). p < z) (sym (ap pages_kept apart.1)) (fit.inside o2 p r found)
+      | inr apart ↦ subst (λ (z : ℕ). p < z) (sym (ap pages_of_row apart.1)) (fit.inside o2 p r found)
     ])
 
 -- the entry that was entered
@@ -359,7 +311,7 @@ range_apart header h task address bytes past k ids maps object pages lined rests
     ]
     either (inr high) = inr (omega (arith, high))
 
-range_uses : (header : Header) (h : ℕ) (task : TaskId) (address bytes : ℕ) (past : List Event) (k : Parts) (ids : Ids) (maps : Mapped) (object : ObjectId) (pages : ℕ) → IsLined past → Rests header h k ids past → MayRange header.size k ids task.0 address bytes → task.0 < most_tasks
+range_uses : (header : Header) (h : ℕ) (task : TaskId) (address bytes : ℕ) (past : List Event) (k : Parts) (ids : Ids) (maps : Mapped) (object : ObjectId) (pages : ℕ) → IsLined past → Rests header h k ids past → MayRange header.size k ids task.0 address bytes → task.0 < all_tasks
     → ChangesOnly k.maps maps task.0 (Some (entered (whole_entry address bytes (record { 0 = ids.next_region })) (rows_in task.0 k.maps)))
     → HasUse maps (λ r. in_use header h r (got task (whole_entry address bytes (record { 0 = ids.next_region })) ∷ event.RegionMade (record { 0 = ids.next_region }) object pages ∷ past)) (tasks past)
     (λ t r. holds header.size t r (got task (whole_entry address bytes (record { 0 = ids.next_region })) ∷ event.RegionMade (record { 0 = ids.next_region }) object pages ∷ past)) (next_region header past + 1)

@@ -1,53 +1,14 @@
 -- One page of a host is reclaimed, and a pageout does that over and over.
-use Rattle.std.proofs.Common.{◌≡◌, ℕ, ◌+◌, ◌-◌, ◌==◌, ◌&&◌, ◌≤◌, ◌<◌, ◌||◌, Bool, true, false, List, [], ◌∷◌, ◌++◌, length, refl, ap, sym, ◌∙◌, subst, arith, Some, None, Option, inl, inr}
-use Rattle.std.specs.Prelude.{◌⊎◌, if◌then◌else◌, not, MatchOption, reverse, slice_get}
-use Rattle.vm_base.specs.declared.ids.HostId.{HostId}
-use Rattle.vm_base.specs.declared.ids.PageKey.{PageKey}
-use Rattle.vm_frames.specs.Frames.{claimed, frame_count, free, is_claimed, page_in}
-use Rattle.vm_legal.specs.Accesses.{is_ready}
-use Rattle.vm_legal.specs.Frames.{frames_held, frames_wired, returns_out}
-use Rattle.vm_legal.specs.Licences.{Created, Creates, Drops, GivesBack, Reclaimed as ForFrames, ReturnCause, ReturnsOn}
+use Rattle.vm_kernel.proofs.Common.{AllLive, AllSkipped, AreHomeless, ArePlain, Bool, Channel, Command, Created, Creates, Declared, EachGone, Elsewhere, Event, Fit, FreesOrReturns, GivesBack, HasControls, HasFrames, HasLaundry, HasOrder, HasPages, HasRegions, HasTasks, HasUse, HasWaits, Header, HostId, HostIsFull, Ids, IsExhausted, IsFreed, IsNothing, IsReturned, KeepsPages, LegalEvents, List, MatchOption, Matches, None, ObjectRow, Option, Outside, PageKey, PageRow, PagerState, PagesOut, Parts, PartsFit, PutsObject, Queues, Reclaim, ReclaimEffects, Rests, ReturnCause, Returns, ReturnsOn, Some, Starves, Up, [], absent_at, ap, arith, away, backing_of, claimed, controlled, departures, entries_of, false, fit_touched, frame_count, frames_held, frames_wired, free, has_pager, holds, home_of, host_id, host_of, if_true, if◌then◌else◌, in_use, inl, inr, is_claimed, is_queued, is_ready, last_control, last_in, length, live_control, live_in, local, local_after, local_of_row, looked, mark_there, next_object, next_region, not, owner_of, page_in, place_of, queues_after_search, refl, region_of, returns_out, reverse, row_at, row_with_control, sends, slice_get, subst, sym, told_from, true, unnamed, ℕ, ◌&&◌, ◌++◌, ◌+◌, ◌-◌, ◌<◌, ◌==◌, ◌||◌, ◌∙◌, ◌∷◌, ◌≡◌, ◌≤◌, ◌⊎◌}
+use Rattle.vm_legal.specs.Licences.{Drops, Reclaimed as ForFrames}
 use Rattle.vm_legal.specs.Living.{tasks as made_tasks}
-use Rattle.vm_legal.specs.Outside.{Outside}
-use Rattle.vm_legal.specs.Prompt.{HostIsFull, IsExhausted}
-use Rattle.vm_legal.specs.Reclaims.{PagesOut, Starves, Reclaims as May}
-use Rattle.vm_legal.specs.Steps.{departures}
-use Rattle.vm_legal.specs.Used.{in_use}
-use Rattle.vm_model.specs.declared.command.Command.{Command}
-use Rattle.vm_model.specs.declared.event.Event.{Event}
+use Rattle.vm_legal.specs.Reclaims.{Reclaims as May}
 use Rattle.vm_model.specs.declared.event.Event.TheVariants as event
-use Rattle.vm_model.specs.declared.message.Channel.{Channel}
-use Rattle.vm_model.specs.declared.message.Channel.TheVariants.{Up}
 use Rattle.vm_model.specs.declared.message.Message.TheVariants as message
-use Rattle.vm_model.specs.declared.script.Declared.{Declared}
-use Rattle.vm_model.specs.declared.script.Header.{Header}
-use Rattle.vm_model.specs.Controls.{last_control, live_control}
-use Rattle.vm_model.specs.Local.{Drops as Leaves, Elsewhere, Returns, away, local, local_after}
-use Rattle.vm_model.specs.Regions.{backing_of, next_object, next_region, region_of}
-use Rattle.vm_model.specs.Tasks.{entries_of, host_of}
-use Rattle.vm_objects.specs.Objects.{PutsObject, absent_at}
-use Rattle.vm_objects.specs.declared.row.ObjectRow.{ObjectRow}
-use Rattle.vm_objects.specs.declared.row.PagerState.{PagerState}
+use Rattle.vm_model.specs.Local.{Drops as Leaves}
 use Rattle.vm_objects.specs.declared.row.PagerState.TheVariants as state
-use Rattle.vm_pageout.specs.Reclaims.{IsFreed, IsNothing, IsReturned, ReclaimEffects, controlled, looked, queues_after_search, sends, told_from, with_control}
-use Rattle.vm_pageout.specs.declared.answer.Reclaim.{Reclaim}
 use Rattle.vm_pageout.specs.declared.answer.Reclaim.TheVariants as reclaim
-use Rattle.vm_parts.specs.Controls.{AllLive}
-use Rattle.vm_parts.specs.Fits.{Fit}
-use Rattle.vm_parts.proofs.Fitting.{fit_touched}
-use Rattle.vm_queues.specs.Queues.{AllSkipped, KeepsPages, Queues, is_queued}
-use Rattle.vm_resident.specs.Resident.{owner_of, row_at}
-use Rattle.vm_resident.specs.declared.page_row.PageRow.{PageRow}
-use Rattle.vm_shadow.specs.declared.ids.Ids.{Ids}
 use Rattle.vm_supply.specs.declared.woken.Woken.TheVariants as woken
-use Rattle.vm_kernel.specs.Begun.{LegalEvents}
-use Rattle.vm_kernel.specs.Fits.{ArePlain, PartsFit}
-use Rattle.vm_kernel.specs.Matches.{HasControls, HasFrames, HasLaundry, HasPages, HasRegions, HasTasks, HasUse, HasOrder, HasWaits, Matches, Rests, host_id, holds}
-use Rattle.vm_kernel.specs.Pagers.{has_pager, last_in, live_in}
-use Rattle.vm_kernel.specs.Places.{local_of_row, place_of}
-use Rattle.vm_kernel.specs.Serving.{FreesOrReturns}
-use Rattle.vm_kernel.specs.Taking.{EachGone}
-use Rattle.vm_kernel.specs.declared.parts.Parts.{Parts}
 use Rattle.vm_kernel.proofs.Growing.{Follows, free_is, goes_none, goes_one, suffices}
 use Rattle.vm_kernel.proofs.Losing.{IsSeen, seen_here}
 use Rattle.vm_kernel.proofs.Brings.{plain_changed}
@@ -56,11 +17,8 @@ use Rattle.vm_kernel.proofs.Pages.{effect_on, frames_changed, itself, laundry_ch
 use Rattle.vm_kernel.proofs.Strands.{waiters_lost}
 use Rattle.vm_kernel.proofs.Returning.{controls_begun, controls_same, controls_told, first_of_object, pages_created, ready_controlled, reached_controlled, regions_controlled, told_controlled, unasked}
 use Rattle.vm_kernel.proofs.Washing.{laundry_room, laundry_returned}
-use Rattle.vm_parts.proofs.Rows.{claimed_inside, if_true}
-use Rattle.vm_legal.proofs.LockNames.{unnamed}
 use Rattle.vm_kernel.proofs.Own.{named_host, own_host}
 use Rattle.vm_kernel.proofs.Mine.{mine_of, own_named}
-use Rattle.vm_abroad.specs.Home.{AreHomeless, home_of}
 
 -- all but what a reclaim changes is as it was, and what it changes fits
 pub record Beside (k k2 : Parts) : Type 0 where
@@ -293,15 +251,15 @@ back_follows : (header : Header) (h : ℕ) (outside : Outside) (doing : Command)
 back_follows header h outside doing ids k key row f control past moment m found framed seen dirty live why frames =
     let back : GivesBack header doing h control key.object.0 key.page.0 row.dirty false (page_in k.memory.frames f) moment =
     record { live = live; here = seen.here; due = either (local header.size h (place_of key.object.0 key.page.0) moment).precious (seen.dirty ∙ dirty); same = ap (page_in k.memory.frames) (sym framed) ∙ sym seen.bytes_are; flag = sym seen.dirty; why = why } in
-    let inside : f < frame_count k.memory.frames = claimed_inside k.memory.frames.claims f (subst (λ (z : ℕ). is_claimed k.memory.frames z ≡ true) framed (m.fits.parts.held key.object.0 key.page.0 row found)) in
+    let inside : f < frame_count k.memory.frames = mark_there k.memory.frames.claims f (subst (λ (z : ℕ). is_claimed k.memory.frames z ≡ true) framed (m.fits.parts.held key.object.0 key.page.0 row found)) in
     let long : length (page_in k.memory.frames f) ≡ header.size = m.fits.parts.all_sized f inside ∙ (m.fits.buffers ∙ m.size) in
     record { consequence = tt; cause = back; own_bytes = tt; frames = suffices header h k.memory.frames (returning h key control row.dirty (page_in k.memory.frames f) ∷ moment) frames; inner = tt; said = (refl, long); own = own_named h; creates = tt }
 
 -- what is said where a page goes back
 abbrev sent_back : PageKey → Bool → ObjectRow → List ℕ → List Event → ℕ → PagerState → HostId → List Event
 sent_back key dirty object bytes events size pager host =
-    sends host key (message.Return (with_control pager object).control key.page dirty false bytes)
-    ∷ told_from pager (sends host key (message.Create (with_control pager object).control size)) events
+    sends host key (message.Return (row_with_control pager object).control key.page dirty false bytes)
+    ∷ told_from pager (sends host key (message.Create (row_with_control pager object).control size)) events
 
 -- a changed page was returned, to a pager that was told of the object
 took_told : (header : Header) (h : ℕ) (outside : Outside) (doing : Command) (past : List Event) (ids : Ids) (k k2 : Parts) (before after : List Event) → Rests header h k ids (before ++ past) → Beside k k2 → KeepsPages k.memory.queues (queues_after_search k.memory.queues) → MayTake header h doing (before ++ past)
@@ -355,7 +313,7 @@ took_first header h outside doing past ids k k2 before after rests beside keeps 
     let plain = m.fits.plain o p row page.found in
     let seen0 = seen_here k.memory.frames row (absent_at k.memory.objects o p) (local header.size h (place_of o p) h0) (m.pages.shown o p ∙ ap (λ z. local_of_row k.memory.frames z (absent_at k.memory.objects o p)) page.found) is.victim.here plain in
     let seen = seen_here k.memory.frames row (absent_at k.memory.objects o p) (local header.size h (place_of o p) moment) (pages.shown o p ∙ ap (λ z. local_of_row k.memory.frames z (absent_at k.memory.objects o p)) page.found) is.victim.here plain in
-    let put : PutsObject o (Some (with_control state.Without is.object)) k.memory.objects k2.memory.objects = subst (λ (z : PagerState). PutsObject o (Some (with_control z is.object)) k.memory.objects k2.memory.objects) without is.objects in
+    let put : PutsObject o (Some (row_with_control state.Without is.object)) k.memory.objects k2.memory.objects = subst (λ (z : PagerState). PutsObject o (Some (row_with_control z is.object)) k.memory.objects k2.memory.objects) without is.objects in
     let controls : HasControls h k2.memory.objects (λ o. last_control h o moment) (λ o. live_control h o moment) (λ o. is_ready h o moment) (λ o. home_of o moment) = rw (own_host h) (controls_begun k.memory.objects k2.memory.objects _ _ _ o is.object m.controls beside.live is.known none put) in
     let lives : live_control h o moment ≡ Some control = if_true o (Some control) (live_control h o h0) (live_control h o moment) (rw (own_host h) refl) in
     let why : ReturnCause header doing h o p false moment = Created control header.size h0 refl refl (may_take header h doing o p h0 seen0.lock may) in
@@ -405,8 +363,8 @@ took_returned header h outside doing past ids k k2 before after rests beside kee
 
     go : (pager : PagerState) → is.object.state ≡ pager → Took header h outside doing past ids reclaim.Returned k k2 before after
     go state.Without same = took_first header h outside doing past ids k k2 before after rests beside keeps may is dirty same (log state.Without same)
-    go state.Sent same = took_told header h outside doing past ids k k2 before after rests beside keeps may is dirty (ap has_pager same) (ap (λ z. with_control z is.object) same) (log state.Sent same)
-    go state.Ready same = took_told header h outside doing past ids k k2 before after rests beside keeps may is dirty (ap has_pager same) (ap (λ z. with_control z is.object) same) (log state.Ready same)
+    go state.Sent same = took_told header h outside doing past ids k k2 before after rests beside keeps may is dirty (ap has_pager same) (ap (λ z. row_with_control z is.object) same) (log state.Sent same)
+    go state.Ready same = took_told header h outside doing past ids k k2 before after rests beside keeps may is dirty (ap has_pager same) (ap (λ z. row_with_control z is.object) same) (log state.Ready same)
 
 -- a page was reclaimed, or none is here
 pub took : (header : Header) (h : ℕ) (outside : Outside) (doing : Command) (past : List Event) (ids : Ids) (answer : Reclaim) (k k2 : Parts) (before after : List Event) → Rests header h k ids (before ++ past) → Beside k k2 → KeepsPages k.memory.queues (queues_after_search k.memory.queues) → MayTake header h doing (before ++ past)

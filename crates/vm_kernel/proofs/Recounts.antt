@@ -1,19 +1,7 @@
 -- Regions that count other entries, and are as they were else.
-use Rattle.std.proofs.Common.{◌≡◌, ℕ, zero, suc, ◌+◌, ◌-◌, ◌<◌, ◌≤◌, ◌^◌, ◌==◌, true, false, List, [], ◌∷◌, ◌++◌, length, take, drop, slice_get, get_or, refl, ap, sym, ◌∙◌, subst, arith, Some, None, Option, inl, inr}
-use Rattle.std.proofs.lemmas.Bool.Decides.{eqb_tells}
-use Rattle.std.proofs.lemmas.List.{take_more}
-use Rattle.std.proofs.lemmas.Option.{slice_get_within, get_or_from_slice_get}
-use Rattle.std.proofs.Math.Seq.{drop-cons}
-use Rattle.std.specs.Prelude.{if◌then◌else◌, is_some}
-use Rattle.vm_base.specs.declared.entry.Entry.{Entry}
-use Rattle.vm_model.specs.Rows.{AllRows}
-use Rattle.vm_shadow.specs.Chains.{ChainTable, region_at}
-use Rattle.vm_shadow.specs.declared.region_row.RegionRow.{RegionRow}
-use Rattle.vm_kernel.specs.Counts.{count_on}
-use Rattle.vm_kernel.specs.Places.{entries_in_row, has_region, pages_in, region_entries, region_pages}
-use Rattle.vm_kernel.specs.Sweeping.{Lowered, PutsEntries, Raised, with_entries}
+use Rattle.vm_kernel.proofs.Common.{AllRows, ChainTable, Entry, List, Lowered, None, Option, PutsEntries, Raised, RegionRow, Some, [], ap, arith, count_on, drop, drop-cons, entries_in_row, eqb_tells, false, get_or, get_or_from_slice_get, has_region, if◌then◌else◌, inl, inr, is_some, length, pages_in, refl, region_at, region_entries, region_pages, slice_get_within, some_is, subst, suc, sym, take, take_more, true, with_entries, zero, ℕ, ◌++◌, ◌+◌, ◌-◌, ◌<◌, ◌==◌, ◌^◌, ◌∙◌, ◌∷◌, ◌≡◌, ◌≤◌}
+use Rattle.std.proofs.Common.{slice_get}
 use Rattle.vm_kernel.proofs.Counts.{on_append, on_few}
-use Rattle.vm_parts.proofs.Rows.{some_is}
 
 -- each region counts so many entries now
 pub record Recounts (count : ℕ → ℕ) (old new : ChainTable) : Type 0 where

@@ -1,37 +1,8 @@
 -- The refusals of a kernel are those of its history.
-use Rattle.std.proofs.Common.{◌≡◌, nat_le, nat_lt, ℕ, zero, suc, ◌+◌, ◌<◌, ◌==◌, if◌then◌else◌, ◌||◌, ◌&&◌, Bool, true, false, not, List, [], ◌∷◌, refl, ap, ◌∙◌, arith, Some, None, Option, sym, subst}
-use Rattle.std.proofs.lemmas.Bool.Decides.{nat_tests}
-use Rattle.std.specs.Prelude.{is_some, IsSome}
-use Rattle.vm_base.specs.declared.code.Code.{Code}
+use Rattle.vm_kernel.proofs.Common.{Bool, Code, Command, Entry, Event, HasTasks, Header, HostId, Ids, InRange, Inherit, IsAccessSize, IsForHere, IsSome, List, Mapped, None, Option, Parts, Rests, Some, TaskId, Waiting, [], acting, acting_in, acts_on, ap, arith, code_of, code_where, copies, copies_from, entries_in, entry, false, frames_free, frames_wired, has_copy_mark, host_of, is_copied, is_on, is_range, is_some, kernel_runs, lives_on, marked_below, marked_regions, meets_declared, nat_le, nat_tests, new_marks, next_object, next_region, refl, refusal, region_of, rows_in, sources, subst, suc, sym, takes_name, true, waiting, waiting_in, zero, ℕ, ◌&&◌, ◌+◌, ◌<◌, ◌==◌, ◌||◌, ◌∙◌, ◌∷◌, ◌≡◌}
+use Rattle.std.proofs.Common.{nat_lt, if◌then◌else◌, not}
 use Rattle.vm_base.specs.declared.code.Code.TheVariants as code
-use Rattle.vm_base.specs.declared.entry.Entry.{Entry}
-use Rattle.vm_base.specs.declared.ids.HostId.{HostId}
-use Rattle.vm_base.specs.declared.ids.Inherit.{Inherit}
-use Rattle.vm_base.specs.declared.ids.TaskId.{TaskId}
-use Rattle.vm_base.specs.Entries.{is_range}
-use Rattle.vm_base.specs.Pages.{IsAccessSize}
-use Rattle.vm_model.specs.declared.command.Command.{Command}
 use Rattle.vm_model.specs.declared.command.Command.TheVariants as command
-use Rattle.vm_model.specs.declared.event.Event.{Event}
-use Rattle.vm_model.specs.declared.script.Header.{Header}
-use Rattle.vm_model.specs.Local.{is_on}
-use Rattle.vm_model.specs.Ranges.{InRange}
-use Rattle.vm_model.specs.Regions.{marked_below, marked_regions, next_object, next_region, region_of}
-use Rattle.vm_model.specs.Tasks.{copies, copies_from, host_of, is_copied, new_marks, sources}
-use Rattle.vm_model.specs.Waiting.{waiting}
-use Rattle.vm_legal.specs.Frames.{frames_free, frames_wired}
-use Rattle.vm_legal.specs.Living.{lives_on}
-use Rattle.vm_legal.specs.Refusal.{acting, is_marked, meets_declared, refusal, where_true}
-use Rattle.vm_maps.specs.Maps.{Mapped, entries_in, rows_in}
-use Rattle.vm_shadow.specs.declared.ids.Ids.{Ids}
-use Rattle.vm_waits.specs.Waits.{entry}
-use Rattle.vm_waits.specs.declared.waiting.Waiting.{Waiting}
-use Rattle.vm_kernel.specs.Begun.{acts_on}
-use Rattle.vm_kernel.specs.Built.{is_built}
-use Rattle.vm_kernel.specs.Matches.{HasTasks, Rests}
-use Rattle.vm_kernel.specs.Refusing.{IsForHere, acting_in, code_of, takes_name}
-use Rattle.vm_kernel.specs.Waiters.{waiting_in}
-use Rattle.vm_kernel.specs.declared.parts.Parts.{Parts}
 use Rattle.vm_kernel.proofs.Growing.{free_is}
 use Rattle.vm_kernel.proofs.Own.{host_same, lives_in, on_is, rows_here}
 
@@ -148,7 +119,7 @@ fork_code header h k ids past task child rests acts unnamed =
       entries_same task.0 m.tasks acts,
       objects_are header h k ids past rests,
       ← m.regions.region,
-      all_new (is_marked header past) (rows_in task.0 k.maps) (unmarked header h k ids past rests),
+      all_new (has_copy_mark header past) (rows_in task.0 k.maps) (unmarked header h k ids past rests),
       larger (ids.next_region + copies (rows_in task.0 k.maps)) (sources (rows_in task.0 k.maps)),
     ) refl
 
@@ -157,16 +128,16 @@ fork_code header h k ids past task child rests acts unnamed =
 wire_code : (header : Header) (h : ℕ) (k : Parts) (ids : Ids) (past : List Event) (host : HostId) (count : ℕ) → Rests header h k ids past → (host.0 == h) ≡ true
     → refusal header past (command.Wire host count) ≡ code_of k ids.next_region (command.Wire host count)
 wire_code header h k ids past host count rests acts =
-    ap (λ (z : ℕ). where_true (nat_lt z count) code.ResourceShortage None)
+    ap (λ (z : ℕ). code_where (nat_lt z count) code.ResourceShortage None)
     (ap (λ (z : HostId). frames_free header z.0 past) (host_same host h acts) ∙ free_is header h k.memory.frames past rests.matches.frames)
 
 unwire_code : (header : Header) (h : ℕ) (k : Parts) (ids : Ids) (past : List Event) (host : HostId) (count : ℕ) → Rests header h k ids past → (host.0 == h) ≡ true
     → refusal header past (command.Unwire host count) ≡ code_of k ids.next_region (command.Unwire host count)
 unwire_code header h k ids past host count rests acts =
-    ap (λ (z : ℕ). where_true (nat_lt z count) code.InvalidArgument None) (ap (λ (z : HostId). frames_wired z.0 past) (host_same host h acts) ∙ rests.matches.frames.wired)
+    ap (λ (z : ℕ). code_where (nat_lt z count) code.InvalidArgument None) (ap (λ (z : HostId). frames_wired z.0 past) (host_same host h acts) ∙ rests.matches.frames.wired)
 
 -- the code of a command that acts on the host, and whose new names are free
-pub refusal_is : (header : Header) (h : ℕ) (k : Parts) (ids : Ids) (past : List Event) (doing : Command) → Rests header h k ids past → acts_on h doing past ≡ true → is_built doing ≡ true → takes_name doing past ≡ false
+pub refusal_is : (header : Header) (h : ℕ) (k : Parts) (ids : Ids) (past : List Event) (doing : Command) → Rests header h k ids past → acts_on h doing past ≡ true → kernel_runs doing ≡ true → takes_name doing past ≡ false
     → refusal header past doing ≡ code_of k ids.next_region doing
 refusal_is header h k ids past (command.Task task host) rests acts built unnamed = rw unnamed refl
 refusal_is header h k ids past (command.Fork task child) rests acts built unnamed = fork_code header h k ids past task child rests acts unnamed

@@ -1,10 +1,5 @@
 -- The row of a region that is there.
-use Rattle.std.proofs.Common.{◌≡◌, ℕ, true, false, refl, ap, ◌∙◌, Some, None, Option}
-use Rattle.std.specs.Prelude.{is_some}
-use Rattle.vm_shadow.specs.Chains.{ChainTable, region_at}
-use Rattle.vm_shadow.specs.declared.region_row.RegionRow.{RegionRow}
-use Rattle.vm_kernel.specs.Places.{has_region}
-use Rattle.vm_kernel.specs.Sweeping.{with_entries}
+use Rattle.vm_kernel.proofs.Common.{ChainTable, None, Option, RegionRow, Some, ap, false, has_region, is_some, refl, region_at, true, with_entries, ℕ, ◌∙◌, ◌≡◌}
 use Rattle.vm_kernel.proofs.Recounts.{Recounts}
 use Rattle.vm_kernel.proofs.Waited.{SameTops}
 

@@ -1,31 +1,10 @@
 -- A page is asked for, for an access that waits.
-use Rattle.std.proofs.Common.{◌≡◌, ◌==◌, ◌&&◌, ◌+◌, ap, arith, true, ℕ, Bool, List, ◌∷◌, refl, ◌∙◌, Some}
-use Rattle.std.specs.Prelude.{reverse, slice_get}
-use Rattle.vm_base.specs.declared.entry.Entry.{Entry}
-use Rattle.vm_base.specs.declared.ids.PageKey.{PageKey}
-use Rattle.vm_model.specs.declared.event.Event.{Event}
+use Rattle.vm_kernel.proofs.Common.{Asks, Bool, Command, Entry, Event, Header, Ids, List, Matches, Outside, PageKey, Parts, RequestsPage, Some, Suffice, Up, Want, access_in, ap, arith, desired_access, frames_held, frames_wired, host_id, is_control, live_control, local, local_after, place_of, refl, returns_out, reverse, slice_get, true, ℕ, ◌&&◌, ◌+◌, ◌==◌, ◌∙◌, ◌∷◌, ◌≡◌}
 use Rattle.vm_model.specs.declared.event.Event.TheVariants as event
-use Rattle.vm_model.specs.declared.command.Command.{Command}
-use Rattle.vm_model.specs.declared.message.Channel.TheVariants.{Up}
 use Rattle.vm_model.specs.declared.message.Message.TheVariants as message
-use Rattle.vm_model.specs.declared.script.Header.{Header}
-use Rattle.vm_model.specs.Controls.{live_control}
-use Rattle.vm_model.specs.Local.{local}
-use Rattle.vm_legal.specs.Frames.{Suffice, frames_held, frames_wired, returns_out}
-use Rattle.vm_legal.specs.Licences.{access_number}
-use Rattle.vm_legal.specs.Outside.{Outside}
-use Rattle.vm_shadow.specs.declared.ids.Ids.{Ids}
-use Rattle.vm_waits.specs.declared.waiting.Want.{Want}
-use Rattle.vm_kernel.specs.Faulting.{RequestsPage}
-use Rattle.vm_kernel.specs.Matches.{Matches, host_id}
-use Rattle.vm_kernel.specs.Places.{place_of}
-use Rattle.vm_kernel.specs.Waiters.{access_in}
-use Rattle.vm_kernel.specs.declared.parts.Parts.{Parts}
 use Rattle.vm_kernel.proofs.Growing.{Follows}
 use Rattle.vm_kernel.proofs.Leading.{Leads, Lies, it_waits, lies_there, top_at}
 use Rattle.vm_kernel.proofs.Pages.{asking, asking_it, asking_other, frames_changed, itself, laundry_changed, pages_changed}
-use Rattle.vm_model.specs.Controls.{is_control}
-use Rattle.vm_model.specs.Local.{Asks, local_after}
 use Rattle.vm_kernel.proofs.Standing.{MayAnswer, Misses}
 use Rattle.vm_kernel.proofs.Own.{own_host}
 use Rattle.vm_kernel.proofs.Mine.{own_named}
@@ -35,7 +14,7 @@ abbrev pub requesting : ℕ → PageKey → ℕ → ℕ → Event
 requesting h key control access = event.Sent (Up (host_id h) key.object) (message.Request control key.page access)
 
 pub request_follows : (header : Header) (h : ℕ) (outside : Outside) (doing : Command) (past : List Event) (task : ℕ) (what : Want) (key : PageKey) (control access : ℕ) (lacked : Bool) → Leads header h past task what key → Misses header h past key lacked → MayAnswer header h past key control
-    → access ≡ access_number (access_in what) 0 → Suffice header h (requesting h key control access ∷ past) → Follows header h outside doing (requesting h key control access) past
+    → access ≡ desired_access (access_in what) 0 → Suffice header h (requesting h key control access ∷ past) → Follows header h outside doing (requesting h key control access) past
 request_follows header h outside doing past task what key control access lacked to misses may number frames =
     record {
       consequence = tt;

@@ -1,32 +1,9 @@
 -- A page goes back to its pager, which is told of its object first where it wasn't.
-use Rattle.std.proofs.Common.{◌≡◌, ℕ, ◌+◌, ◌==◌, ◌&&◌, Bool, true, false, List, [], ◌∷◌, refl, ap, sym, ◌∙◌, subst, arith, Some, None, Option, inl, inr}
-use Rattle.std.proofs.lemmas.Bool.Decides.{eqb_tells}
-use Rattle.std.specs.Prelude.{if◌then◌else◌, is_some, ◌||◌}
-use Rattle.vm_base.specs.declared.ids.ObjectKind.TheVariants.{Temp}
-use Rattle.vm_frames.specs.Frames.{FrameTable}
-use Rattle.vm_model.specs.declared.event.Event.{Event}
+use Rattle.vm_kernel.proofs.Common.{AllLive, AllReached, Asks, Backing, Begins, Bool, ChainTable, Down, Drops, Elsewhere, Ends, Event, FrameTable, HasControls, HasPages, HasRegions, Ids, IsPagerTold, IsUnder, List, Local, LocalEffect, Message, None, ObjectRow, ObjectTable, Option, PagerState, PutsObject, Raises, Region, RegionRow, ResidentTable, Returns, Some, Stores, TakesError, TakesLock, TakesNothing, TakesPage, Temp, Unlocks, Up, Zeroes, [], ap, arith, eqb_tells, false, has_pager, has_region, if◌then◌else◌, inl, inr, is_control, is_ready_state, is_some, last_in, live_control, live_in, local, local_after, local_with_page, object_at, one_case, place_of, ready_in, refl, region_at, row_with_control, some_is, subst, sym, taken_effect, true, without_control, ℕ, ◌&&◌, ◌+◌, ◌==◌, ◌∙◌, ◌∷◌, ◌≡◌}
+use Rattle.std.specs.Prelude.{◌||◌}
 use Rattle.vm_model.specs.declared.event.Event.TheVariants as event
-use Rattle.vm_model.specs.declared.message.Channel.TheVariants.{Up, Down}
-use Rattle.vm_model.specs.declared.message.Message.{Message}
 use Rattle.vm_model.specs.declared.message.Message.TheVariants as message
-use Rattle.vm_model.specs.Controls.{is_control, live_control, without_control}
-use Rattle.vm_model.specs.Local.{Asks, Begins, Drops, Elsewhere, Ends, Local, LocalEffect, Raises, Returns, Stores, TakesError, TakesLock, TakesNothing, TakesPage, Unlocks, Zeroes, local, local_after, local_with_page, taken_effect}
-use Rattle.vm_model.specs.Regions.{Backing, Region}
-use Rattle.vm_objects.specs.Objects.{ObjectTable, PutsObject, object_at}
-use Rattle.vm_objects.specs.declared.row.ObjectRow.{ObjectRow}
-use Rattle.vm_objects.specs.declared.row.PagerState.{PagerState}
 use Rattle.vm_objects.specs.declared.row.PagerState.TheVariants as state
-use Rattle.vm_pageout.specs.Reclaims.{with_control}
-use Rattle.vm_parts.specs.Controls.{AllLive}
-use Rattle.vm_resident.specs.Resident.{ResidentTable}
-use Rattle.vm_shadow.specs.Chains.{ChainTable, region_at}
-use Rattle.vm_shadow.specs.declared.ids.Ids.{Ids}
-use Rattle.vm_shadow.specs.declared.region_row.RegionRow.{RegionRow}
-use Rattle.vm_kernel.specs.Matches.{AllReached, HasControls, HasPages, HasRegions, IsUnder}
-use Rattle.vm_kernel.specs.Pagers.{has_pager, is_ready_state, last_in, live_in, ready_in}
-use Rattle.vm_kernel.specs.Places.{has_region, place_of}
-use Rattle.vm_kernel.specs.Waiters.{IsTold}
-use Rattle.vm_parts.proofs.Rows.{one_case, some_is}
 
 -- nothing is asked of an object without a live control
 
@@ -123,14 +100,14 @@ pages_created size fs rs os cs local_at o has none =
 
 -- an object with a pager, which begins where it had none
 
-under_controlled : (pager : PagerState) (row : ObjectRow) (x : RegionRow) → row.state ≡ pager → IsUnder x (Some row) → IsUnder x (Some (with_control pager row))
+under_controlled : (pager : PagerState) (row : ObjectRow) (x : RegionRow) → row.state ≡ pager → IsUnder x (Some row) → IsUnder x (Some (row_with_control pager row))
 under_controlled state.Sent row x is under = under
 under_controlled state.Ready row x is under = under
 under_controlled state.Without row x is under =
     let same : under.object ≡ row = sym (some_is row under.object under.found) in
     let number : row.control ≡ (if has_pager row.state then 1 else 0) = subst (λ (z : ObjectRow). z.control ≡ (if has_pager z.state then 1 else 0)) same under.number in
     record {
-      object = with_control state.Without row;
+      object = row_with_control state.Without row;
       found = refl;
       temporary = subst (λ (z : ObjectRow). z.kind ≡ Temp) same under.temporary;
       pages = subst (λ (z : ObjectRow). z.pages ≡ x.pages) same under.pages;
@@ -140,7 +117,7 @@ under_controlled state.Without row x is under =
     }
 
 pub regions_controlled : (cs : ChainTable) (os os2 : ObjectTable) (ids : Ids) (region_from : ℕ → Region) (backing_from : ℕ → Backing) (regions_made objects_made o : ℕ) (row : ObjectRow)
-    → HasRegions cs os ids region_from backing_from regions_made objects_made → object_at os o ≡ Some row → PutsObject o (Some (with_control row.state row)) os os2
+    → HasRegions cs os ids region_from backing_from regions_made objects_made → object_at os o ≡ Some row → PutsObject o (Some (row_with_control row.state row)) os os2
     → HasRegions cs os2 ids region_from backing_from regions_made objects_made
 regions_controlled cs os os2 ids region_from backing_from regions_made objects_made o row has found put =
     record {
@@ -152,36 +129,36 @@ regions_controlled cs os os2 ids region_from backing_from regions_made objects_m
       tops = has.tops;
       unbacked = has.unbacked;
       unmade = has.unmade;
-      unknown = λ k beyond. elim (one_case o k (Some (with_control row.state row)) (object_at os k) (object_at os2 k) (put.at k)) [
+      unknown = λ k beyond. elim (one_case o k (Some (row_with_control row.state row)) (object_at os k) (object_at os2 k) (put.at k)) [
         | inl same ↦ absurd (let bad : None ≡ Some row = sym (has.unknown k beyond) ∙ (sym (ap (object_at os) same.0) ∙ found) in cc)
         | inr other ↦ other.1 ∙ has.unknown k beyond
       ];
-      under = λ r x is. elim (one_case o r (Some (with_control row.state row)) (object_at os r) (object_at os2 r) (put.at r)) [
+      under = λ r x is. elim (one_case o r (Some (row_with_control row.state row)) (object_at os r) (object_at os2 r) (put.at r)) [
         | inl same ↦ subst (λ (z : Option ObjectRow). IsUnder x z) (sym same.1) (under_controlled row.state row x refl (subst (λ (z : Option ObjectRow). IsUnder x z) (sym (ap (object_at os) same.0) ∙ found) (has.under r x is)))
         | inr other ↦ subst (λ (z : Option ObjectRow). IsUnder x z) (sym other.1) (has.under r x is)
       ];
     }
 
 -- those whose pagers were told of them are told still
-pub told_controlled : (os os2 : ObjectTable) (o : ℕ) (row : ObjectRow) → object_at os o ≡ Some row → PutsObject o (Some (with_control row.state row)) os os2 → (object : ℕ) → IsTold os object → IsTold os2 object
-told_controlled os os2 o row found put object told = elim (one_case o object (Some (with_control row.state row)) (object_at os object) (object_at os2 object) (put.at object)) [
+pub told_controlled : (os os2 : ObjectTable) (o : ℕ) (row : ObjectRow) → object_at os o ≡ Some row → PutsObject o (Some (row_with_control row.state row)) os os2 → (object : ℕ) → IsPagerTold os object → IsPagerTold os2 object
+told_controlled os os2 o row found put object told = elim (one_case o object (Some (row_with_control row.state row)) (object_at os object) (object_at os2 object) (put.at object)) [
   | inl same ↦
       let one : told.row ≡ row = some_is told.row row (sym told.found ∙ (sym (ap (object_at os) same.0) ∙ found)) in
       let sent : row.state ≡ state.Sent = sym (ap (λ z. z.state) one) ∙ told.sent in
-      record { row = row; found = same.1 ∙ ap (λ z. Some (with_control z row)) sent; sent = sent }
+      record { row = row; found = same.1 ∙ ap (λ z. Some (row_with_control z row)) sent; sent = sent }
   | inr other ↦ record { row = told.row; found = other.1 ∙ told.found; sent = told.sent }
 ]
 
 -- those that were ready are ready still
-pub ready_controlled : (os os2 : ObjectTable) (o : ℕ) (row : ObjectRow) → object_at os o ≡ Some row → PutsObject o (Some (with_control row.state row)) os os2 → (object : ℕ) → ready_in (object_at os object) ≡ true → ready_in (object_at os2 object) ≡ true
-ready_controlled os os2 o row found put object is = elim (one_case o object (Some (with_control row.state row)) (object_at os object) (object_at os2 object) (put.at object)) [
+pub ready_controlled : (os os2 : ObjectTable) (o : ℕ) (row : ObjectRow) → object_at os o ≡ Some row → PutsObject o (Some (row_with_control row.state row)) os os2 → (object : ℕ) → ready_in (object_at os object) ≡ true → ready_in (object_at os2 object) ≡ true
+ready_controlled os os2 o row found put object is = elim (one_case o object (Some (row_with_control row.state row)) (object_at os object) (object_at os2 object) (put.at object)) [
   | inl same ↦ ap ready_in same.1 ∙ (still row.state refl (sym (ap ready_in (sym (ap (object_at os) same.0) ∙ found)) ∙ is))
   | inr other ↦ ap ready_in other.1 ∙ is
 ]
   where
-    still : (s : PagerState) → row.state ≡ s → is_ready_state row.state ≡ true → ready_in (Some (with_control row.state row)) ≡ true
-    still state.Ready at ready = ap (λ z. ready_in (Some (with_control z row))) at ∙ ready
-    still state.Sent at ready = ap (λ z. ready_in (Some (with_control z row))) at ∙ ready
+    still : (s : PagerState) → row.state ≡ s → is_ready_state row.state ≡ true → ready_in (Some (row_with_control row.state row)) ≡ true
+    still state.Ready at ready = ap (λ z. ready_in (Some (row_with_control z row))) at ∙ ready
+    still state.Sent at ready = ap (λ z. ready_in (Some (row_with_control z row))) at ∙ ready
     still state.Without at ready = absurd (let bad : false ≡ true = sym (ap is_ready_state at) ∙ ready in cc)
 
 -- the objects are as they were, as the pager was told of this one
@@ -198,15 +175,15 @@ controls_same os os2 last_at live_at ready_at has same =
       home = λ o row is. has.home o row (sym (same o) ∙ is);
     }
 
-pub controls_told : (os os2 : ObjectTable) (o : ℕ) (row : ObjectRow) → object_at os o ≡ Some row → (with_control row.state row ≡ row) → PutsObject o (Some (with_control row.state row)) os os2 → (k : ℕ) → object_at os2 k ≡ object_at os k
-controls_told os os2 o row found told put k = elim (one_case o k (Some (with_control row.state row)) (object_at os k) (object_at os2 k) (put.at k)) [
+pub controls_told : (os os2 : ObjectTable) (o : ℕ) (row : ObjectRow) → object_at os o ≡ Some row → (row_with_control row.state row ≡ row) → PutsObject o (Some (row_with_control row.state row)) os os2 → (k : ℕ) → object_at os2 k ≡ object_at os k
+controls_told os os2 o row found told put k = elim (one_case o k (Some (row_with_control row.state row)) (object_at os k) (object_at os2 k) (put.at k)) [
   | inl same ↦ same.1 ∙ (ap Some told ∙ (sym found ∙ ap (object_at os) same.0))
   | inr other ↦ other.1
 ]
 
 -- a control begins, of an object that had none
 pub controls_begun : {h : ℕ} {home_at : ℕ → Option ℕ} (os os2 : ObjectTable) (last_at : ℕ → ℕ) (live_at : ℕ → Option ℕ) (ready_at : ℕ → Bool) (o : ℕ) (row : ObjectRow) → HasControls h os last_at live_at ready_at home_at
-    → AllLive os2 → object_at os o ≡ Some row → row.control ≡ 0 → PutsObject o (Some (with_control state.Without row)) os os2
+    → AllLive os2 → object_at os o ≡ Some row → row.control ≡ 0 → PutsObject o (Some (row_with_control state.Without row)) os os2
     → HasControls h os2 (λ k. if o == k then row.control + 1 else last_at k) (λ k. if o == k then Some (row.control + 1) else live_at k) (λ k. if o == k then false else ready_at k) home_at
 controls_begun {h = h} {home_at = home_at} os os2 last_at live_at ready_at o row has live found none put =
     record {
@@ -226,7 +203,7 @@ controls_begun {h = h} {home_at = home_at} os os2 last_at live_at ready_at o row
       numbers = record {
         at = λ k r is. elim (eqb_tells o k) [
           | inl same ↦
-              let one : with_control state.Without row ≡ r = some_is (with_control state.Without row) r (sym (now k same.0) ∙ is) in
+              let one : row_with_control state.Without row ≡ r = some_is (row_with_control state.Without row) r (sym (now k same.0) ∙ is) in
               let number : row.control + 1 ≡ r.control = ap (λ z. z.control) one in
               omega (arith, number, none)
           | inr apart ↦ has.numbers.at k r (sym (was k apart.0) ∙ is)
@@ -234,7 +211,7 @@ controls_begun {h = h} {home_at = home_at} os os2 last_at live_at ready_at o row
       };
       ended = λ k r is alive. elim (eqb_tells o k) [
         | inl same ↦ λ without.
-            let one : with_control state.Without row ≡ r = some_is (with_control state.Without row) r (sym (now k same.0) ∙ is) in
+            let one : row_with_control state.Without row ≡ r = some_is (row_with_control state.Without row) r (sym (now k same.0) ∙ is) in
             let bad : state.Sent ≡ state.Without = ap (λ z. z.state) one ∙ without in
             cc
         | inr apart ↦ has.ended k r (sym (was k apart.0) ∙ is) alive
@@ -245,11 +222,11 @@ controls_begun {h = h} {home_at = home_at} os os2 last_at live_at ready_at o row
       ];
     }
   where
-    now : (k : ℕ) → (o == k) ≡ true → object_at os2 k ≡ Some (with_control state.Without row)
-    now k same = put.at k ∙ ap (λ b. if b then Some (with_control state.Without row) else object_at os k) same
+    now : (k : ℕ) → (o == k) ≡ true → object_at os2 k ≡ Some (row_with_control state.Without row)
+    now k same = put.at k ∙ ap (λ b. if b then Some (row_with_control state.Without row) else object_at os k) same
 
     was : (k : ℕ) → (o == k) ≡ false → object_at os2 k ≡ object_at os k
-    was k apart = put.at k ∙ ap (λ b. if b then Some (with_control state.Without row) else object_at os k) apart
+    was k apart = put.at k ∙ ap (λ b. if b then Some (row_with_control state.Without row) else object_at os k) apart
 
 -- a control that lives is that of an object under a region
 pub reached_controlled : (cs : ChainTable) (os os2 : ObjectTable) (o : ℕ) (row : ObjectRow) → AllReached cs os → has_region cs o ≡ true → PutsObject o (Some row) os os2 → AllReached cs os2

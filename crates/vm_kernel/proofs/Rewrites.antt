@@ -1,25 +1,5 @@
 -- A task's entries are cut, changed or taken away, and regions count what is left.
-use Rattle.std.proofs.Common.{◌≡◌, ℕ, zero, suc, ◌+◌, ◌<◌, ◌≤◌, ◌^◌, ◌==◌, Bool, true, false, List, [], ◌∷◌, ◌++◌, length, refl, ap, sym, ◌∙◌, subst, arith, Some, None, Option, inl, inr}
-use Rattle.std.proofs.lemmas.Bool.Decides.{eqb_tells, nat_tests}
-use Rattle.std.specs.List.{flat_map}
-use Rattle.std.specs.Prelude.{if◌then◌else◌, unwrap_or, is_some, nat_lt, max, min, ◌≢◌}
-use Rattle.vm_base.specs.declared.entry.Entry.{Entry}
-use Rattle.vm_base.specs.Entries.{cut, most_entries, parts_in, removed, rewritten}
-use Rattle.vm_model.specs.Local.{Local, is_on}
-use Rattle.vm_model.specs.Regions.{Backing, Region}
-use Rattle.vm_model.specs.Rows.{AllRows, Inside, part, rows_map}
-use Rattle.vm_model.specs.Tasks.{has_entry}
-use Rattle.vm_frames.specs.Frames.{FrameTable}
-use Rattle.vm_maps.specs.Maps.{ChangesOnly, Mapped, entries_in, rows_in}
-use Rattle.vm_objects.specs.Objects.{ObjectTable}
-use Rattle.vm_resident.specs.Resident.{ResidentTable}
-use Rattle.vm_shadow.specs.Chains.{ChainTable}
-use Rattle.vm_shadow.specs.declared.ids.Ids.{Ids}
-use Rattle.vm_shadow.specs.declared.region_row.RegionRow.{RegionRow}
-use Rattle.vm_kernel.specs.Counts.{count_on, most_tasks}
-use Rattle.vm_kernel.specs.Matches.{AllInside, AllUsed, HasEntries, HasPages, HasRegions, HasTasks, IsInside}
-use Rattle.vm_kernel.specs.Places.{entries_in_row, has_region, region_entries}
-use Rattle.vm_kernel.specs.Sweeping.{with_entries}
+use Rattle.vm_kernel.proofs.Common.{AllEntriesInside, AllRows, AllUsed, Backing, Bool, ChainTable, ChangesOnly, Entry, FrameTable, HasEntries, HasPages, HasRegions, HasTasks, Ids, Inside, IsInside, List, Local, Mapped, None, ObjectTable, Option, Region, RegionRow, ResidentTable, Some, [], all_tasks, ap, arith, count_on, cut, entries_in, entries_in_row, eqb_tells, false, flat_map, has_entry, has_region, if◌then◌else◌, inl, inr, is_on, is_some, length, max, min, most_entries, nat_lt, nat_tests, part, parts_in, refl, region_entries, removed, rewritten, rows_in, rows_map, subst, suc, sym, true, unwrap_or, with_entries, zero, ℕ, ◌++◌, ◌+◌, ◌<◌, ◌==◌, ◌^◌, ◌∙◌, ◌∷◌, ◌≡◌, ◌≢◌, ◌≤◌}
 use Rattle.vm_kernel.proofs.Counts.{by_changed, on_append, on_zero}
 use Rattle.vm_kernel.proofs.Recounts.{Recounts, has_same, pages_same, row_before}
 use Rattle.vm_kernel.proofs.Own.{rows_here}
@@ -55,7 +35,7 @@ recount_used count cs cs2 is more used r row found =
     let some = more r there (omega arith) in
     omega arith
 
-pub recount_inside : (count : ℕ → ℕ) (size : ℕ) (cs cs2 : ChainTable) → Recounts count cs cs2 → (rows : List Entry) → AllInside size cs rows → AllInside size cs2 rows
+pub recount_inside : (count : ℕ → ℕ) (size : ℕ) (cs cs2 : ChainTable) → Recounts count cs cs2 → (rows : List Entry) → AllEntriesInside size cs rows → AllEntriesInside size cs2 rows
 recount_inside count size cs cs2 is rows all =
     rows_map (IsInside size cs) (IsInside size cs2)
     (λ row has. record {
@@ -71,24 +51,24 @@ recount_known count cs cs2 is rows all = rows_map (λ row. has_region cs row.reg
 
 -- one task's entries change
 
-pub lives_below : (size task : ℕ) (maps : Mapped) (cs : ChainTable) (lost : List Entry) → HasEntries size maps cs lost → entries_in task maps ≡ Some (rows_in task maps) → task < most_tasks
-lives_below size task maps cs lost has lives = by_test (nat_lt task most_tasks) refl
+pub lives_below : (size task : ℕ) (maps : Mapped) (cs : ChainTable) (lost : List Entry) → HasEntries size maps cs lost → entries_in task maps ≡ Some (rows_in task maps) → task < all_tasks
+lives_below size task maps cs lost has lives = by_test (nat_lt task all_tasks) refl
   where
-    by_test : (b : Bool) → nat_lt task most_tasks ≡ b → task < most_tasks
+    by_test : (b : Bool) → nat_lt task all_tasks ≡ b → task < all_tasks
     by_test true less = grind (arith, nat_tests)
     by_test false less =
-        let le : most_tasks ≤ task = grind (arith, nat_tests) in
+        let le : all_tasks ≤ task = grind (arith, nat_tests) in
         absurd (let bad : None ≡ Some (rows_in task maps) = sym (has.most task le) ∙ lives in cc)
 
 pub entries_changed : (size task : ℕ) (maps new : Mapped) (cs cs2 : ChainTable) (count : ℕ → ℕ) (rows : Option (List Entry)) (lost : List Entry) → HasEntries size maps cs [] → ChangesOnly maps new task rows
     → entries_in task maps ≡ Some (rows_in task maps) → Recounts count cs cs2
     → ((r : ℕ) → has_region cs r ≡ true → count r + count_on r (rows_in task maps) ≡ region_entries cs r + (count_on r (unwrap_or rows []) + count_on r lost))
-    → AllInside size cs (unwrap_or rows []) → AllRows (λ row. has_region cs row.region.0 ≡ true) lost → length (unwrap_or rows []) ≤ most_entries → HasEntries size new cs2 lost
+    → AllEntriesInside size cs (unwrap_or rows []) → AllRows (λ row. has_region cs row.region.0 ≡ true) lost → length (unwrap_or rows []) ≤ most_entries → HasEntries size new cs2 lost
 entries_changed size task maps new cs cs2 count rows lost has changes lives is counted all known few =
     record {
       inside = λ t. elim (eqb_tells task t) [
-        | inl same ↦ subst (λ (z : ℕ). AllInside size cs2 (rows_in z new)) same.1 (subst (AllInside size cs2) (sym now) (recount_inside count size cs cs2 is (unwrap_or rows []) all))
-        | inr apart ↦ subst (AllInside size cs2) (sym (other t (λ e. apart.1 (sym e)))) (recount_inside count size cs cs2 is (rows_in t maps) (has.inside t))
+        | inl same ↦ subst (λ (z : ℕ). AllEntriesInside size cs2 (rows_in z new)) same.1 (subst (AllEntriesInside size cs2) (sym now) (recount_inside count size cs cs2 is (unwrap_or rows []) all))
+        | inr apart ↦ subst (AllEntriesInside size cs2) (sym (other t (λ e. apart.1 (sym e)))) (recount_inside count size cs cs2 is (rows_in t maps) (has.inside t))
       ];
       known = recount_known count cs cs2 is lost known;
       most = λ t le. changes.others t (λ e. let below = lives_below size task maps cs [] has lives in omega (arith, e)) ∙ has.most t le;
@@ -103,7 +83,7 @@ entries_changed size task maps new cs cs2 count rows lost has changes lives is c
           let now = ap (λ z. z.entries) b.is in
           let old = has.counts r b.was b.found in
           let sum = counted r there in
-          let moved = by_changed most_tasks r task maps new rows (lives_below size task maps cs [] has lives) changes in
+          let moved = by_changed all_tasks r task maps new rows (lives_below size task maps cs [] has lives) changes in
           omega arith;
     }
   where

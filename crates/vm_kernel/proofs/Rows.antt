@@ -1,9 +1,5 @@
 -- What an edit of the regions leaves, case by case.
-use Rattle.std.proofs.Common.{◌≡◌, ℕ, Option}
-use Rattle.std.specs.Prelude.{◌⊎◌}
-use Rattle.vm_parts.proofs.Rows.{one_case}
-use Rattle.vm_shadow.specs.Chains.{ChainTable, PutsRegion, region_at}
-use Rattle.vm_shadow.specs.declared.region_row.RegionRow.{RegionRow}
+use Rattle.vm_kernel.proofs.Common.{ChainTable, Option, PutsRegion, RegionRow, one_case, region_at, ℕ, ◌≡◌, ◌⊎◌}
 
 -- the regions with another row for one
 pub region_cases : (r : ℕ) (x : Option RegionRow) (old new : ChainTable) → PutsRegion r x old new → (r2 : ℕ)

@@ -1,19 +1,6 @@
 -- Accesses are run again, and the frame queue is served.
-use Rattle.std.proofs.Common.{ℕ, ◌≡◌, Bool, true, false, List, ◌++◌, arith}
-use Rattle.std.specs.Prelude.{OnOk, Result, Ok, Err}
-use Rattle.vm_model.specs.declared.command.Command.{Command}
-use Rattle.vm_model.specs.declared.event.Event.{Event}
-use Rattle.vm_model.specs.declared.script.Header.{Header}
-use Rattle.vm_legal.specs.Outside.{Outside}
-use Rattle.vm_legal.specs.Prompt.{PromptAt}
-use Rattle.vm_shadow.specs.declared.ids.Ids.{Ids}
+use Rattle.vm_kernel.proofs.Common.{Attempts, Bool, Command, Err, Event, HasQueue, Header, Ids, LegalEvents, List, Ok, OnOk, Outside, Parts, PromptAt, Rests, Result, Served, Waiting, Works, arith, count_again, false, true, ℕ, ◌++◌, ◌≡◌}
 use Rattle.vm_supply.specs.declared.woken.Woken.TheVariants as woken
-use Rattle.vm_waits.specs.Waits.{again}
-use Rattle.vm_waits.specs.declared.waiting.Waiting.{Waiting}
-use Rattle.vm_kernel.specs.Begun.{LegalEvents, Served}
-use Rattle.vm_kernel.specs.Matches.{Rests, Works}
-use Rattle.vm_kernel.specs.Serving.{Attempts, HasQueue}
-use Rattle.vm_kernel.specs.declared.parts.Parts.{Parts}
 
 -- what follows from two facts, where a call was Ok
 pub both_ok : {A B : Type 0} (r : Result A B) (P Q R : Type 0) → (P → Q → R) → OnOk r P → OnOk r Q → OnOk r R
@@ -32,10 +19,10 @@ served_ok (Ok x) header h outside doing past old k ids new rests goes queue prom
 served_ok (Err e) header h outside doing past old k ids new rests goes queue prompt = tt
 
 -- nothing is left that is to be run again
-pub rests_of : (header : Header) (h : ℕ) (k : Parts) (ids : Ids) (past : List Event) → Works header h k ids woken.Nobody past → again k.waits.rows ≡ 0 → Rests header h k ids past
+pub rests_of : (header : Header) (h : ℕ) (k : Parts) (ids : Ids) (past : List Event) → Works header h k ids woken.Nobody past → count_again k.waits.rows ≡ 0 → Rests header h k ids past
 rests_of header h k ids past works idle = record { matches = works.matches; used = works.used; reached = works.reached; waits = works.waits; order = works.order; idle = idle }
 
 -- running an access leaves no other to be run again
-pub attempts_idle : (header : Header) (h : ℕ) (was : Waiting) (may_claim needs : Bool) (old new : Parts) (before after : List Event) → Attempts header h was may_claim needs old new before after → again old.waits.rows ≡ 0 → again new.waits.rows ≡ 0
+pub attempts_idle : (header : Header) (h : ℕ) (was : Waiting) (may_claim needs : Bool) (old new : Parts) (before after : List Event) → Attempts header h was may_claim needs old new before after → count_again old.waits.rows ≡ 0 → count_again new.waits.rows ≡ 0
 attempts_idle header h was may_claim true old new before after attempts idle = let step = attempts.again in omega arith
 attempts_idle header h was may_claim false old new before after attempts idle = let step = attempts.again in omega arith

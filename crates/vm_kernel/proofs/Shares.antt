@@ -1,44 +1,10 @@
 -- A fork makes a child, and gives it what is shared, one entry after another.
-use Rattle.std.proofs.Common.{append_assoc, ◌≡◌, nat_lt, ℕ, ◌+◌, ◌*◌, ◌%◌, ◌<◌, ◌≤◌, ◌^◌, ◌==◌, not, Bool, true, false, List, [], ◌∷◌, ◌++◌, length, take, drop, reverse, slice_get, refl, ap, sym, ◌∙◌, subst, arith, Some, None, Option, inl, inr, length-append}
-use Rattle.std.proofs.lemmas.Bool.Decides.{eqb_tells, nat_tests}
-use Rattle.std.proofs.lemmas.List.{reverse-append}
-use Rattle.std.specs.Prelude.{if◌then◌else◌, is_none, is_some, unwrap_or, IfSome, IsSome, ◌≢◌}
+use Rattle.vm_kernel.proofs.Common.{Access, AllLicensed, AllRows, AreEntries, ArePlain, Bool, CanShare, ChainTable, ChangesOnly, Command, EachIn, Enters, Entry, Event, Fit, HasControls, HasEntries, HasForked, HasOrder, HasWaiters, HasWaits, HasWholePages, Header, HostParts, Ids, IfSome, IsInner, IsInside, IsMine, IsSettled, IsShut, IsSome, KernelSays, List, Mapped, Matches, None, ObjectTable, Option, Outside, OwnBytes, Parts, Ran, Shares, Some, Starts, Suffice, TaskId, [], all_tasks, ap, append_assoc, arith, backing_of, code_where, copies, count_again, count_by, drop, each_both, entered, entries_in, entries_in_row, entries_of, entry, eqb_tells, false, frames_used, gets, got, has_region, head, home_of, home_stays, homeless_next, host_id, host_of, if◌then◌else◌, in_use, inl, inr, is_fork_full, is_none, is_range, is_shared, is_some, length, length-append, length_entered, lives_on, local, most_entries, nat_tests, next_object, next_region, object_at, pages_in, place_of, refl, region_at, region_entries, region_of, region_pages, reverse-append, rows_entered, rows_in, shared, subst, sym, take, tasks, true, unwrap_or, waiting, with_child, ℕ, ◌%◌, ◌*◌, ◌++◌, ◌+◌, ◌<◌, ◌==◌, ◌^◌, ◌∙◌, ◌∷◌, ◌≡◌, ◌≢◌, ◌≤◌}
+use Rattle.std.proofs.Common.{nat_lt, not, reverse, slice_get}
 use Rattle.vm_base.specs.declared.code.Code.TheVariants as code
-use Rattle.vm_base.specs.declared.entry.Entry.{Entry}
-use Rattle.vm_base.specs.declared.ids.TaskId.{TaskId}
-use Rattle.vm_base.specs.Entries.{AreEntries, HasWholePages, entered, is_range, most_entries}
-use Rattle.vm_model.specs.declared.event.Event.{Event}
 use Rattle.vm_model.specs.declared.event.Event.TheVariants as event
-use Rattle.vm_model.specs.declared.command.Command.{Command}
 use Rattle.vm_model.specs.declared.command.Command.TheVariants as command
-use Rattle.vm_model.specs.declared.script.Header.{Header}
-use Rattle.vm_legal.specs.Follows.{gets, head}
-use Rattle.vm_legal.specs.Frames.{Suffice, frames_used}
-use Rattle.vm_model.specs.Local.{local}
-use Rattle.vm_legal.specs.Refusal.{is_fork_full, where_true}
-use Rattle.vm_model.specs.Regions.{backing_of, next_object, next_region, region_of}
-use Rattle.vm_model.specs.Rows.{AllRows, rows_entered}
-use Rattle.vm_model.specs.Tasks.{copies, entries_of, host_of, is_shared, shared}
-use Rattle.vm_model.specs.Waiting.{Access, waiting}
-use Rattle.vm_legal.specs.Bytes.{OwnBytes}
-use Rattle.vm_legal.specs.Licences.{AllLicensed, Enters}
-use Rattle.vm_legal.specs.Living.{lives_on, tasks}
-use Rattle.vm_legal.specs.Outside.{Outside}
-use Rattle.vm_legal.specs.Used.{in_use}
-use Rattle.vm_maps.specs.Maps.{ChangesOnly, Mapped, entries_in, rows_in}
-use Rattle.vm_objects.specs.Objects.{ObjectTable, object_at}
-use Rattle.vm_shadow.specs.Chains.{ChainTable, region_at}
-use Rattle.vm_shadow.specs.declared.ids.Ids.{Ids}
 use Rattle.vm_supply.specs.declared.woken.Woken.TheVariants as woken
-use Rattle.vm_waits.specs.Waits.{again, entry}
-use Rattle.vm_kernel.specs.Begun.{IsMine, KernelSays, Ran, Starts}
-use Rattle.vm_kernel.specs.Counts.{count_by, most_tasks}
-use Rattle.vm_kernel.specs.Fits.{ArePlain}
-use Rattle.vm_kernel.specs.Forking.{CanShare, HasForked, Shares, got, with_child}
-use Rattle.vm_kernel.specs.Matches.{HasControls, HasEntries, HasOrder, HasWaits, IsInside, IsSettled, Matches, host_id}
-use Rattle.vm_kernel.specs.Waiters.{HasWaiters}
-use Rattle.vm_kernel.specs.Places.{entries_in_row, has_region, pages_in, place_of, region_entries, region_pages}
-use Rattle.vm_kernel.specs.declared.parts.Parts.{Parts}
 use Rattle.vm_kernel.proofs.Counts.{by_few, most_is, on_entered}
 use Rattle.vm_kernel.proofs.Forks.{behind, entered_behind, few_shared, free_behind, gets_more, row_among, rows_shared, shared_more, shared_one, shared_other, split_at, take_all, whole_among}
 use Rattle.vm_kernel.proofs.Growing.{licensed, suffices}
@@ -51,14 +17,6 @@ use Rattle.vm_kernel.proofs.Rewrites.{entries_changed, lives_below, recount_page
 use Rattle.vm_kernel.proofs.Tasks.{entries_made, tasks_entered, tasks_made}
 use Rattle.vm_kernel.proofs.Uses.{unfilled, uses_entered, uses_made, holds_rows}
 use Rattle.vm_kernel.proofs.Waited.{waits_changed, told_changed}
-use Rattle.vm_parts.specs.Fits.{Fit}
-use Rattle.vm_parts.specs.declared.parts.HostParts.{HostParts}
-use Rattle.vm_legal.specs.Stretches.{EachIn, IsInner}
-use Rattle.vm_legal.proofs.Stretched.{each_both}
-use Rattle.vm_abroad.specs.Home.{home_of}
-use Rattle.vm_abroad.specs.Whose.{IsShut}
-use Rattle.vm_abroad.proofs.Home.{home_stays, homeless_next}
-use Rattle.vm_maps.proofs.Entering.{length_entered}
 use Rattle.vm_kernel.proofs.Own.{free_in, lives_here, lives_in, named_host, own_host, rows_here}
 
 -- a task that can be forked lives, its child doesn't, and nothing is copied
@@ -72,9 +30,9 @@ pub may_fork : (header : Header) (h : ℕ) (task child : TaskId) (past : List Ev
 may_fork header h task child past k ids events s =
     let m = s.rests.matches in
     let rows = entries_of header.size task.0 past in
-    let last = where_true (is_fork_full header rows past) code.TableFull None in
-    let next = where_true (is_some (waiting task.0 past)) code.Blocked last in
-    let first = passed (is_none (host_of task.0 past)) code.NoSuchName (where_true (is_some (host_of child.0 past)) code.NameTaken next) s.accepted in
+    let last = code_where (is_fork_full header rows past) code.TableFull None in
+    let next = code_where (is_some (waiting task.0 past)) code.Blocked last in
+    let first = passed (is_none (host_of task.0 past)) code.NoSuchName (code_where (is_some (host_of child.0 past)) code.NameTaken next) s.accepted in
     let second = passed (is_some (host_of child.0 past)) code.NameTaken next first.1 in
     let lives = lives_in task.0 m.tasks s.acts in
     record {
@@ -158,7 +116,7 @@ few_entries : (size : ℕ) (maps : Mapped) (chains : ChainTable) (r : ℕ) → H
 few_entries size maps chains r has there =
     let row = region_row chains r there in
     let same : region_entries chains r ≡ row.0.entries = ap entries_in_row row.1 in
-    let most : count_by most_tasks r maps ≤ 1024 * most_entries = subst (λ (z : ℕ). count_by most_tasks r maps ≤ z * most_entries) most_is (by_few most_tasks r most_entries maps has.few) in
+    let most : count_by all_tasks r maps ≤ 1024 * most_entries = subst (λ (z : ℕ). count_by all_tasks r maps ≤ z * most_entries) most_is (by_few all_tasks r most_entries maps has.few) in
     omega (arith, same, has.counts r row.0 row.1, most)
 
 -- an entry of the task can be shared
@@ -231,7 +189,7 @@ fork_shared header h outside task child rows i row past k k2 ids events after f 
     let home : host_of child.0 (events ++ past) ≡ Some h = lives_here m.tasks lives in
     let on_host : lives_on h child.0 (events ++ past) ≡ true = m.tasks.hosts child.0 ∙ ap is_some lives in
     let there = region_row k.chains r one.region in
-    let used : in_use header h r (events ++ past) ≡ true = m.uses.used r ∙ some_use (count_by most_tasks r k.maps) (let counts = m.entries.counts r there.0 there.1 in let some = f.used r there.0 there.1 in omega arith) in
+    let used : in_use header h r (events ++ past) ≡ true = m.uses.used r ∙ some_use (count_by all_tasks r k.maps) (let counts = m.entries.counts r there.0 there.1 in let some = f.used r there.0 there.1 in omega arith) in
     let pages : (region_of header r (events ++ past)).pages ≡ region_pages k.chains r = ap (λ z. z.pages) (m.regions.rows r there.0 there.1) ∙ sym (ap pages_in there.1) in
     let inside = one.inside.whole in
     let whole_pages = whole_among k.maps.size front row left order.whole in
@@ -284,7 +242,7 @@ fork_shared header h outside task child rows i row past k k2 ids events after f 
       reached = λ o known found live. has_same count_at k.chains k2.chains recounts o ∙ f.reached o known (ap (λ (z : HostParts). object_at z.objects o) (sym s.memory) ∙ found) live;
       waits = subst (λ (z : List Event). HasWaits k2 woken.Nobody (z ++ past)) (sym s.told) (rw (s.memory, s.waits) now_waits);
       order = subst (λ (z : List Event). HasOrder k2 (z ++ past)) (sym s.told) (rw s.waits f.order);
-      idle = ap (λ z. again z.rows) s.waits ∙ f.idle;
+      idle = ap (λ z. count_again z.rows) s.waits ∙ f.idle;
       others = s.maps.others task.0 f.apart ∙ f.others;
       own = s.maps.changed ∙ ap Some (ap (entered row) own ∙ (last ∙ sym more));
       told = s.told ∙ (ap (λ z. e ∷ z) f.told ∙ sym (with_one (shared front) (shared (take (i + 1) rows)) more));

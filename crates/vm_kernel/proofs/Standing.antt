@@ -1,31 +1,8 @@
 -- What a page shows to a walk: it is here, or missing, and then its pager may have it or not.
-use Rattle.std.proofs.Common.{◌≡◌, ℕ, ◌&&◌, Bool, true, false, List, refl, ap, sym, ◌∙◌, arith, Some, None, Option, inl, inr}
-use Rattle.std.proofs.lemmas.Bool.Decides.{nat_tests}
-use Rattle.std.specs.Prelude.{if◌then◌else◌, is_some, nat_lt, not, ◌⊎◌}
-use Rattle.vm_base.specs.declared.entry.Entry.{Entry}
-use Rattle.vm_base.specs.declared.ids.FrameNo.{FrameNo}
-use Rattle.vm_base.specs.declared.ids.PageKey.{PageKey}
-use Rattle.vm_model.specs.declared.event.Event.{Event}
-use Rattle.vm_model.specs.declared.script.Header.{Header}
-use Rattle.vm_model.specs.Controls.{live_control}
-use Rattle.vm_model.specs.Local.{Local, is_known_absent}
-use Rattle.vm_legal.specs.Accesses.{is_ready}
-use Rattle.vm_legal.specs.Walks.{Passes, page_on, sight}
-use Rattle.vm_frames.specs.Frames.{page_in}
-use Rattle.vm_objects.specs.Objects.{absent_at}
-use Rattle.vm_objects.specs.declared.row.ObjectRow.{ObjectRow}
+use Rattle.vm_kernel.proofs.Common.{Bool, Entry, Event, FrameNo, Header, Ids, IsAvailable, IsHere, IsPlain, IsUnavailable, List, Local, Matches, None, ObjectRow, Option, PageKey, Parts, Passes, Some, absent_at, ap, arith, false, has_pager, if◌then◌else◌, inl, inr, is_known_absent, is_ready, is_ready_state, is_some, live_control, live_in, local_of_row, lock_number, nat_lt, nat_tests, not, page_in, page_on, place_of, ready_in, refl, row_at, sight, some_is, sym, true, ℕ, ◌&&◌, ◌∙◌, ◌≡◌, ◌⊎◌}
 use Rattle.vm_objects.specs.declared.row.PagerState.TheVariants as state
-use Rattle.vm_resident.specs.Resident.{row_at}
-use Rattle.vm_shadow.specs.declared.ids.Ids.{Ids}
-use Rattle.vm_kernel.specs.Changes.{IsHere}
-use Rattle.vm_kernel.specs.Faulting.{IsAvailable, IsUnavailable}
-use Rattle.vm_kernel.specs.Matches.{IsPlain, Matches}
-use Rattle.vm_kernel.specs.Pagers.{has_pager, is_ready_state, live_in, ready_in}
-use Rattle.vm_kernel.specs.Places.{local_of_row, lock_number, place_of}
-use Rattle.vm_kernel.specs.declared.parts.Parts.{Parts}
 use Rattle.vm_kernel.proofs.Leading.{Lies, none_named}
 use Rattle.vm_kernel.proofs.Pages.{shown_as, shown_here}
-use Rattle.vm_parts.proofs.Rows.{some_is}
 
 -- the page is here with these bytes, and nothing of it is prohibited
 pub record Shows (header : Header) (h : ℕ) (past : List Event) (key : PageKey) (bytes : List ℕ) : Type 0 where

@@ -1,52 +1,12 @@
 -- Who waits for a page that is asked has a row that says so, but in the frame queue.
-use Rattle.std.proofs.Common.{append-nil, ◌≡◌, ℕ, ◌&&◌, Bool, true, false, List, [], ◌∷◌, ◌++◌, refl, ap, sym, ◌∙◌, subst, Some, None, Option, inl, inr}
-use Rattle.std.specs.Prelude.{if◌then◌else◌, not}
-use Rattle.vm_base.specs.declared.entry.Entry.{Entry}
-use Rattle.vm_base.specs.declared.ids.ObjectId.{ObjectId}
-use Rattle.vm_base.specs.declared.ids.PageKey.{PageKey}
-use Rattle.vm_base.specs.Entries.{entry_at}
-use Rattle.vm_model.specs.declared.event.Event.{Event}
+use Rattle.vm_kernel.proofs.Common.{Access, AllInner, Asked, Bool, Comes, Command, Down, EndsAll, EndsEach, Entry, Event, HasQueue, Header, Ids, IsPagerTold, IsTop, LegalEvents, List, Local, Message, None, ObjectId, ObjectTable, On, Option, Outside, PageKey, PageRow, Parts, Reason, Rests, Some, Waiting, Waits, WaitsAt, Want, [], absent_at, access_in, ap, append-nil, backing_of, before_more, before_step, entries_of, entry, entry_at, error_more, error_taken, false, frames_free, host_id, if◌then◌else◌, inl, inr, is_again, is_control, is_frame, is_ready_state, live_control, local, local_of_row, next_page, none_again, none_queued, not, object_at, page_key, page_of, place_of, ready_in, refl, region_of, row_at, subst, sym, true, ℕ, ◌&&◌, ◌++◌, ◌∙◌, ◌∷◌, ◌≡◌}
 use Rattle.vm_model.specs.declared.event.Event.TheVariants as event
-use Rattle.vm_model.specs.declared.command.Command.{Command}
-use Rattle.vm_model.specs.declared.message.Channel.TheVariants.{Down}
-use Rattle.vm_model.specs.declared.message.Message.{Message}
 use Rattle.vm_model.specs.declared.message.Message.TheVariants as message
-use Rattle.vm_model.specs.declared.script.Header.{Header}
-use Rattle.vm_model.specs.Controls.{is_control, live_control}
-use Rattle.vm_model.specs.Local.{Local, local}
-use Rattle.vm_model.specs.Regions.{backing_of, region_of}
-use Rattle.vm_model.specs.Tasks.{entries_of}
-use Rattle.vm_model.specs.Waiting.{Access, next_page}
-use Rattle.vm_legal.specs.Accesses.{Comes, Waits, page_of}
-use Rattle.vm_legal.specs.Debts.{WaitsAt}
-use Rattle.vm_legal.specs.Frames.{frames_free}
-use Rattle.vm_legal.specs.Outside.{Outside}
-use Rattle.vm_legal.specs.Steps.{Asked, before_step, error_taken}
-use Rattle.vm_legal.specs.Walks.{IsTop}
-use Rattle.vm_objects.specs.Objects.{ObjectTable, absent_at, object_at}
-use Rattle.vm_resident.specs.Resident.{page_key, row_at}
-use Rattle.vm_resident.specs.declared.page_row.PageRow.{PageRow}
-use Rattle.vm_shadow.specs.declared.ids.Ids.{Ids}
 use Rattle.vm_supply.specs.declared.woken.Woken.TheVariants as woken
-use Rattle.vm_waits.specs.Waits.{entry, is_again, is_frame}
-use Rattle.vm_waits.specs.declared.waiting.On.{On}
 use Rattle.vm_waits.specs.declared.waiting.On.TheVariants as on
-use Rattle.vm_waits.specs.declared.waiting.Waiting.{Waiting}
-use Rattle.vm_waits.specs.declared.waiting.Want.{Want}
-use Rattle.vm_waits.proofs.Entries.{none_again, none_queued}
-use Rattle.vm_kernel.specs.Begun.{LegalEvents}
-use Rattle.vm_kernel.specs.Matches.{Rests, host_id}
-use Rattle.vm_kernel.specs.Pagers.{is_ready_state, ready_in}
-use Rattle.vm_kernel.specs.Places.{local_of_row, place_of}
-use Rattle.vm_kernel.specs.Serving.{HasQueue}
-use Rattle.vm_kernel.specs.Taking.{EndsAll, EndsEach}
-use Rattle.vm_kernel.specs.Waiters.{IsTold, Reason, access_in}
-use Rattle.vm_kernel.specs.declared.parts.Parts.{Parts}
-use Rattle.vm_legal.proofs.Inside.{before_more, error_more}
 use Rattle.vm_kernel.proofs.Finding.{some_same, walk_ends}
 use Rattle.vm_kernel.proofs.Leading.{Leads, address_is, leads_of, top_at}
 use Rattle.vm_kernel.proofs.Prompting.{has_row, at_home}
-use Rattle.vm_legal.specs.Stretches.{AllInner}
 
 -- the place where its walk stops is the page that it is about
 comes_key : (header : Header) (h : ℕ) (past : List Event) (host task : ℕ) (what : Want) (key : PageKey) (object page : ℕ) → Leads header h past task what key → (waits : Waits header task (access_in what) past)
@@ -62,7 +22,7 @@ comes_key header h past host task what key object page to waits comes =
     (object_is ∙ ends.0, page_is ∙ ends.1)
 
 -- a pager that was told of its object isn't ready
-told_unready : (os : ObjectTable) (o : ℕ) → IsTold os o → ready_in (object_at os o) ≡ true → ⊥
+told_unready : (os : ObjectTable) (o : ℕ) → IsPagerTold os o → ready_in (object_at os o) ≡ true → ⊥
 told_unready os o told ready = let bad : false ≡ true = sym (ap ready_in told.found ∙ ap is_ready_state told.sent) ∙ ready in cc
 
 -- so its row says that it waits for that page
@@ -77,7 +37,7 @@ waits_there header h k ids past task object page w (on.Ready told) rests queue f
     let to = leads_of header h k ids past woken.Nobody task w reason.0 rests.matches rests.waits found reason.1 in
     let key = comes_key header h past h task w.want reason.0 object page to waits comes in
     let same : told.0 ≡ object = ap (λ (z : ObjectId). z.0) (sym reason.2) ∙ key.0 in
-    absurd (told_unready k.memory.objects object (subst (IsTold k.memory.objects) same reason.3) ready)
+    absurd (told_unready k.memory.objects object (subst (IsPagerTold k.memory.objects) same reason.3) ready)
 waits_there header h k ids past task object page w (on.Page key) rests queue found is waits comes ready frees =
     let to = leads_of header h k ids past woken.Nobody task w key rests.matches rests.waits found (rests.waits.aims task w key found is) in
     let same = comes_key header h past h task w.want key object page to waits comes in

@@ -1,51 +1,16 @@
 -- No entry leads to a region any more: nobody waits for its pages, and it ends.
-use Rattle.std.proofs.Common.{◌≡◌, ℕ, ◌+◌, ◌-◌, ◌<◌, ◌≤◌, ◌^◌, ◌==◌, ◌&&◌, ◌||◌, Bool, true, false, List, [], ◌∷◌, ◌++◌, refl, ap, sym, ◌∙◌, subst, arith, Some, None, Option, inl, inr}
-use Rattle.std.proofs.lemmas.Bool.{or_right}
-use Rattle.std.proofs.lemmas.Bool.Decides.{eqb_tells, nat_tests}
-use Rattle.std.specs.Prelude.{if◌then◌else◌, is_some, unwrap_or, nat_le, nat_lt, IfSome, IsSome, IsSomeAnd, ◌≢◌}
-use Rattle.vm_base.specs.declared.entry.Entry.{Entry}
-use Rattle.vm_base.specs.declared.ids.ObjectId.{ObjectId}
-use Rattle.vm_base.specs.declared.ids.PageKey.{PageKey}
-use Rattle.vm_base.specs.Entries.{entry_at}
-use Rattle.vm_model.specs.declared.event.Event.{Event}
-use Rattle.vm_model.specs.declared.command.Command.{Command}
-use Rattle.vm_model.specs.declared.script.Header.{Header}
-use Rattle.vm_model.specs.Regions.{Backing, Region}
-use Rattle.vm_model.specs.Rows.{AllRows, Inside}
-use Rattle.vm_model.specs.Tasks.{has_entry}
-use Rattle.vm_model.specs.Waiting.{Access, waiting}
-use Rattle.vm_legal.specs.Outside.{Outside}
-use Rattle.vm_maps.specs.Maps.{Mapped, rows_in}
-use Rattle.vm_objects.specs.Objects.{ObjectTable, PutsObject, SameMarks, object_at}
-use Rattle.vm_objects.specs.declared.row.ObjectRow.{ObjectRow}
-use Rattle.vm_parts.proofs.Fitting.{fit_objects, same_pages}
-use Rattle.vm_resident.specs.Resident.{PutsRow, ResidentTable, page_key, row_at}
-use Rattle.vm_resident.specs.declared.page_row.PageRow.{PageRow}
-use Rattle.vm_shadow.specs.Chains.{ChainTable, PutsRegion, region_at}
-use Rattle.vm_shadow.specs.declared.ids.Ids.{Ids}
-use Rattle.vm_shadow.specs.declared.region_row.RegionRow.{RegionRow}
-use Rattle.vm_supply.specs.declared.woken.Woken.{Woken}
+use Rattle.vm_kernel.proofs.Common.{Access, AllEntriesInside, AllRows, Asker, Backing, Bool, ChainTable, Command, EndsRegion, Entry, Event, HasControls, HasEntries, HasRegions, HasWaiters, Header, Ids, IfSome, Inside, IsAt, IsPagerTold, IsSome, IsSomeAnd, IsUnder, List, Mapped, Matches, None, ObjectId, ObjectRow, ObjectTable, On, Option, Outside, PageKey, PageRow, Parts, PutsObject, PutsRegion, PutsRow, Reason, Region, RegionRow, ResidentTable, SameMarks, Some, Strands, Waiting, Want, Woken, [], address_in, all_tasks, ap, arith, count_by, count_on, entries_in_row, entry_at, eqb_tells, false, fit_objects, has_entry, has_region, if◌then◌else◌, inl, inr, is_some, last_in, live_in, local_of_row, nat_lt, nat_tests, object_at, one_case, or_right, page_key, pages_in, ready_in, refl, region_at, region_entries, row_at, rows_in, same_pages, some_is, subst, sym, true, unwrap_or, waiting, ℕ, ◌&&◌, ◌++◌, ◌+◌, ◌-◌, ◌<◌, ◌==◌, ◌^◌, ◌||◌, ◌∙◌, ◌∷◌, ◌≡◌, ◌≢◌, ◌≤◌}
+use Rattle.std.specs.Prelude.{nat_le}
 use Rattle.vm_supply.specs.declared.woken.Woken.TheVariants as woken
-use Rattle.vm_waits.specs.declared.waiting.On.{On}
 use Rattle.vm_waits.specs.declared.waiting.On.TheVariants as on
-use Rattle.vm_waits.specs.declared.waiting.Waiting.{Waiting}
-use Rattle.vm_waits.specs.declared.waiting.Want.{Want}
-use Rattle.vm_kernel.specs.Counts.{count_by, count_on, most_tasks}
-use Rattle.vm_kernel.specs.Matches.{AllInside, HasControls, HasEntries, HasRegions, IsUnder, Matches}
-use Rattle.vm_kernel.specs.Pagers.{last_in, live_in, ready_in}
-use Rattle.vm_kernel.specs.Places.{entries_in_row, has_region, local_of_row, pages_in, region_entries}
-use Rattle.vm_kernel.specs.Sweeping.{Ends, Strands}
-use Rattle.vm_kernel.specs.Waiters.{Asker, HasWaiters, IsAt, IsTold, Reason, address_in}
-use Rattle.vm_kernel.specs.declared.parts.Parts.{Parts}
 use Rattle.vm_kernel.proofs.Counts.{by_zero, on_zero}
 use Rattle.vm_kernel.proofs.Rows.{region_cases}
-use Rattle.vm_parts.proofs.Rows.{one_case, some_is}
 use Rattle.vm_kernel.proofs.Waiting.{here_not_asked, none_not_asked, waiters_page}
 use Rattle.vm_kernel.proofs.Regions.{region_row}
 
 -- no entry leads to a region that counts none
 
-pub none_left : (size : ℕ) (maps : Mapped) (cs : ChainTable) (rest : List Entry) (r : ℕ) → HasEntries size maps cs rest → has_region cs r ≡ true → region_entries cs r ≡ 0 → (count_by most_tasks r maps ≡ 0) × (count_on r rest ≡ 0)
+pub none_left : (size : ℕ) (maps : Mapped) (cs : ChainTable) (rest : List Entry) (r : ℕ) → HasEntries size maps cs rest → has_region cs r ≡ true → region_entries cs r ≡ 0 → (count_by all_tasks r maps ≡ 0) × (count_on r rest ≡ 0)
 none_left size maps cs rest r has there none =
     let row = region_row cs r there in
     let counts = has.counts r row.0 row.1 in
@@ -53,12 +18,12 @@ none_left size maps cs rest r has there none =
     (omega arith, omega arith)
 
 pub no_entry : (size : ℕ) (maps : Mapped) (cs : ChainTable) (rest : List Entry) (r : ℕ) → HasEntries size maps cs rest → has_region cs r ≡ true → region_entries cs r ≡ 0 → (task : ℕ) → has_entry r (rows_in task maps) ≡ false
-no_entry size maps cs rest r has there none task = by_test (nat_lt task most_tasks) refl
+no_entry size maps cs rest r has there none task = by_test (nat_lt task all_tasks) refl
   where
-    by_test : (b : Bool) → nat_lt task most_tasks ≡ b → has_entry r (rows_in task maps) ≡ false
-    by_test true less = on_zero r (rows_in task maps) (by_zero most_tasks r task maps (grind (arith, nat_tests)) (none_left size maps cs rest r has there none).0)
+    by_test : (b : Bool) → nat_lt task all_tasks ≡ b → has_entry r (rows_in task maps) ≡ false
+    by_test true less = on_zero r (rows_in task maps) (by_zero all_tasks r task maps (grind (arith, nat_tests)) (none_left size maps cs rest r has there none).0)
     by_test false less =
-        let le : most_tasks ≤ task = grind (arith, nat_tests) in
+        let le : all_tasks ≤ task = grind (arith, nat_tests) in
         ap (λ z. has_entry r (unwrap_or z [])) (has.most task le)
 
 pub itself : (n : ℕ) → (n == n) ≡ true
@@ -93,7 +58,7 @@ at_region maps cs os ids region_from backing_from regions_made objects_made task
 
 -- each page of such a region is here: nobody asked for one
 pub here_there : (header : Header) (h : ℕ) (outside : Outside) (doing : Command) (past : List Event) (k : Parts) (ids : Ids) (rest : List Entry) (r : ℕ) (events : List Event) (p : ℕ) (row : PageRow)
-    → Ends header h outside doing past k ids rest r events → row_at k.memory.resident r p ≡ Some row → row.here ≡ true
+    → EndsRegion header h outside doing past k ids rest r events → row_at k.memory.resident r p ≡ Some row → row.here ≡ true
 here_there header h outside doing past k ids rest r events p row e found = by_test row.here refl
   where
     by_test : (b : Bool) → row.here ≡ b → b ≡ true
@@ -105,7 +70,7 @@ here_there header h outside doing past k ids rest r events p row e found = by_te
         (at_region k.maps k.chains k.memory.objects ids _ _ _ _ asker.task asker.row.want (page_key r p) e.runs.matches.regions at))
 
 pub all_here : (header : Header) (h : ℕ) (outside : Outside) (doing : Command) (past : List Event) (k : Parts) (ids : Ids) (rest : List Entry) (r : ℕ) (events : List Event) (p : ℕ)
-    → Ends header h outside doing past k ids rest r events → IsSome (row_at k.memory.resident r p) → IsSomeAnd (row_at k.memory.resident r p) (λ row. row.here ≡ true)
+    → EndsRegion header h outside doing past k ids rest r events → IsSome (row_at k.memory.resident r p) → IsSomeAnd (row_at k.memory.resident r p) (λ row. row.here ≡ true)
 all_here header h outside doing past k ids rest r events p e there = go (row_at k.memory.resident r p) there (λ row found. here_there header h outside doing past k ids rest r events p row e found)
   where
     go : (x : Option PageRow) → IsSome x → ((row : PageRow) → x ≡ Some row → row.here ≡ true) → IsSomeAnd x (λ row. row.here ≡ true)
@@ -114,7 +79,7 @@ all_here header h outside doing past k ids rest r events p e there = go (row_at 
 
 -- the region goes
 
-inside_without : (size r : ℕ) (cs cs2 : ChainTable) → PutsRegion r None cs cs2 → (rows : List Entry) → AllInside size cs rows → has_entry r rows ≡ false → AllInside size cs2 rows
+inside_without : (size r : ℕ) (cs cs2 : ChainTable) → PutsRegion r None cs cs2 → (rows : List Entry) → AllEntriesInside size cs rows → has_entry r rows ≡ false → AllEntriesInside size cs2 rows
 inside_without size r cs cs2 put [] all none = tt
 inside_without size r cs cs2 put (row ∷ rows) all none = elim (eqb_tells row.region.0 r) [
   | inl same ↦ absurd (let bad : true ≡ false = rw same.0 at none in cc)
@@ -178,7 +143,7 @@ waits_without maps cs cs2 rs os rows who waiting_at r has put none =
 
 -- the pagers that were told of objects in use are told still
 pub record StillTold (maps : Mapped) (cs : ChainTable) (os os2 : ObjectTable) : Type 0 where
-  pub at : (task : ℕ) (what : Want) (key : PageKey) → IsAt maps cs task what key → IsTold os key.object.0 → IsTold os2 key.object.0
+  pub at : (task : ℕ) (what : Want) (key : PageKey) → IsAt maps cs task what key → IsPagerTold os key.object.0 → IsPagerTold os2 key.object.0
 
 reason_told : (maps : Mapped) (cs : ChainTable) (rs : ResidentTable) (os os2 : ObjectTable) (task : ℕ) (what : Want) (why : On) → StillTold maps cs os os2 → Reason maps cs rs os task what why → Reason maps cs rs os2 task what why
 reason_told maps cs rs os os2 task what on.Again told reason = reason
@@ -186,7 +151,7 @@ reason_told maps cs rs os os2 task what (on.Ready object) told reason = (
   reason.0,
   reason.1,
   reason.2,
-  subst (λ (z : ObjectId). IsTold os2 z.0) reason.2 (told.at task what reason.0 reason.1 (subst (λ (z : ObjectId). IsTold os z.0) (sym reason.2) reason.3)),
+  subst (λ (z : ObjectId). IsPagerTold os2 z.0) reason.2 (told.at task what reason.0 reason.1 (subst (λ (z : ObjectId). IsPagerTold os z.0) (sym reason.2) reason.3)),
 )
 reason_told maps cs rs os os2 task what (on.Page key) told reason = reason
 reason_told maps cs rs os os2 task what on.Frame told reason = reason
@@ -207,7 +172,7 @@ waits_told maps cs rs os os2 rows who waiting_at has told ready =
 
 -- a page that is here has gone, and its pager may have been told
 pub waiters_lost : (maps : Mapped) (cs : ChainTable) (rs rs2 : ResidentTable) (os os2 : ObjectTable) (rows : List Waiting) (who : Woken) (waiting_at : ℕ → Option Access) (o p : ℕ) (row : PageRow)
-    → HasWaiters maps cs rs os rows who waiting_at → row_at rs o p ≡ Some row → row.here ≡ true → PutsRow o p None rs rs2 → ((object : ℕ) → IsTold os object → IsTold os2 object)
+    → HasWaiters maps cs rs os rows who waiting_at → row_at rs o p ≡ Some row → row.here ≡ true → PutsRow o p None rs rs2 → ((object : ℕ) → IsPagerTold os object → IsPagerTold os2 object)
     → ((object : ℕ) → ready_in (object_at os object) ≡ true → ready_in (object_at os2 object) ≡ true) → HasWaiters maps cs rs2 os2 rows who waiting_at
 waiters_lost maps cs rs rs2 os os2 rows who waiting_at o p row has found here put told ready =
     waits_told maps cs rs2 os os2 rows who waiting_at (waiters_page maps cs rs rs2 os rows who waiting_at o p None has put (here_not_asked (row_at rs o p) row found here) (none_not_asked None refl))
@@ -289,7 +254,7 @@ regions_without r left row was cs cs2 os os2 ids region_from backing_from region
     }
 
 pub strands_ended : (header : Header) (h : ℕ) (outside : Outside) (doing : Command) (past : List Event) (k : Parts) (ids : Ids) (rest : List Entry) (r left : ℕ) (events : List Event) (chains : ChainTable) (objects : ObjectTable) (was : ObjectRow) (row : RegionRow)
-    → Ends header h outside doing past k ids rest r events → ((p : ℕ) → row_at k.memory.resident r p ≡ None) → region_at k.chains r ≡ Some row → PutsRegion r None k.chains chains → object_at k.memory.objects r ≡ Some was
+    → EndsRegion header h outside doing past k ids rest r events → ((p : ℕ) → row_at k.memory.resident r p ≡ None) → region_at k.chains r ≡ Some row → PutsRegion r None k.chains chains → object_at k.memory.objects r ≡ Some was
     → PutsObject r (Some (record was { references = left })) k.memory.objects objects → SameMarks k.memory.objects objects → Strands header h outside doing past (record k { chains = chains; memory = record k.memory { objects = objects } }) ids rest r events
 strands_ended header h outside doing past k ids rest r left events chains objects was row e bare there put found put_object marks =
     record {
@@ -364,7 +329,7 @@ if_some x P v is holds = subst (λ z. IfSome z P) is holds
 
 -- the same, with what the region's object was told to lose
 pub strands_region : (header : Header) (h : ℕ) (outside : Outside) (doing : Command) (past : List Event) (k : Parts) (ids : Ids) (rest : List Entry) (r left : ℕ) (events : List Event) (chains : ChainTable) (objects : ObjectTable) (object : ObjectId)
-    → Ends header h outside doing past k ids rest r events → ((p : ℕ) → row_at k.memory.resident r p ≡ None) → IfSome (region_at k.chains r) (λ row. object ≡ row.top) → PutsRegion r None k.chains chains
+    → EndsRegion header h outside doing past k ids rest r events → ((p : ℕ) → row_at k.memory.resident r p ≡ None) → IfSome (region_at k.chains r) (λ row. object ≡ row.top) → PutsRegion r None k.chains chains
     → IfSome (object_at k.memory.objects object.0) (λ row. PutsObject object.0 (Some (record row { references = left })) k.memory.objects objects) → SameMarks k.memory.objects objects
     → Strands header h outside doing past (record k { chains = chains; memory = record k.memory { objects = objects } }) ids rest object.0 events
 strands_region header h outside doing past k ids rest r left events chains objects object e bare top put put_object marks =
@@ -385,7 +350,7 @@ pub record IsReferred (known : Option ObjectRow) : Type 0 where
   pub some : IfSome known (λ row. 0 < row.references)
 
 pub top_referred : (header : Header) (h : ℕ) (outside : Outside) (doing : Command) (past : List Event) (k : Parts) (ids : Ids) (rest : List Entry) (r : ℕ) (events : List Event) (object : ObjectId)
-    → Ends header h outside doing past k ids rest r events → IfSome (region_at k.chains r) (λ row. object ≡ row.top) → IsReferred (object_at k.memory.objects object.0)
+    → EndsRegion header h outside doing past k ids rest r events → IfSome (region_at k.chains r) (λ row. object ≡ row.top) → IsReferred (object_at k.memory.objects object.0)
 top_referred header h outside doing past k ids rest r events object e top =
     let row = region_row k.chains r e.there in
     let m = e.runs.matches in

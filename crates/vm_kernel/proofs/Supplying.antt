@@ -1,24 +1,7 @@
 -- A page that an answer supplies comes onto the lists.
-use Rattle.std.proofs.Common.{◌≡◌, ℕ, List, ◌∷◌, length, refl, ap, sym, ◌∙◌, arith, subst, Some, None, Option}
-use Rattle.std.specs.Prelude.{if◌then◌else◌}
-use Rattle.vm_base.specs.declared.ids.HostId.{HostId}
-use Rattle.vm_base.specs.declared.ids.ObjectId.{ObjectId}
-use Rattle.vm_model.specs.declared.event.Event.{Event}
-use Rattle.vm_resident.specs.Resident.{row_at}
-use Rattle.vm_resident.specs.declared.page_row.PageRow.{PageRow}
-use Rattle.vm_supply.specs.Answers.{AnswerEffects, Discarded, Failed, Lacked, Outcome, Readied, Supplied, Zeroed, outcome_of}
-use Rattle.vm_supply.specs.declared.woken.Woken.{Woken}
-use Rattle.vm_base.specs.declared.ids.PageKey.{PageKey}
-use Rattle.vm_model.specs.declared.message.Message.{Message}
-use Rattle.vm_model.specs.declared.script.Header.{Header}
-use Rattle.vm_objects.specs.Objects.{object_at}
-use Rattle.vm_kernel.specs.Plays.{AnswerBrings, Paging, PlaysAnswer, frame_here, paging}
-use Rattle.vm_kernel.specs.declared.parts.Parts.{Parts}
+use Rattle.vm_kernel.proofs.Common.{AnswerBrings, AnswerEffects, AnswerOutcome, Cancels, Discarded, Event, Failed, Header, HostId, HostParts, Lacked, List, Message, None, ObjectId, Option, PageKey, PageRow, Paging, Parts, PlaysAnswer, Readied, Some, Supplied, Woken, Zeroed, ap, arith, asked_is, asked_row, frame_here, if◌then◌else◌, length, object_at, outcome_of, paging, refl, row_at, subst, sym, ℕ, ◌∙◌, ◌∷◌, ◌≡◌}
 use Rattle.vm_kernel.proofs.Hearing.{heard}
 use Rattle.vm_kernel.proofs.Playing.{frames_kept, frames_put, same_paging}
-use Rattle.vm_parts.specs.declared.parts.HostParts.{HostParts}
-use Rattle.vm_parts.specs.Changes.{Cancels, asked_row}
-use Rattle.vm_parts.proofs.Rows.{asked_is}
 
 asked_away : (x : Option PageRow) (was : PageRow) → asked_row x ≡ Some was → frame_here x ≡ None
 asked_away x was asked =
@@ -33,7 +16,7 @@ ended_same : (key : PageKey) (k : Parts) (row : PageRow) (new : HostParts) → a
 ended_same key k row new asked ends =
     same_paging _ _ _ _ (frames_kept k.memory.resident new.resident key.object.0 key.page.0 None ends.row (sym (asked_away _ row asked))) ends.queues
 
-pub answer_brings : (host : HostId) (object : ObjectId) (outcome : Outcome) (who : Woken) (k : Parts) (events after : List Event) (new : HostParts)
+pub answer_brings : (host : HostId) (object : ObjectId) (outcome : AnswerOutcome) (who : Woken) (k : Parts) (events after : List Event) (new : HostParts)
     → AnswerEffects host object outcome who k.memory new events after → after ≡ events → AnswerBrings object outcome (paging k) (paging (heard k new))
 answer_brings host object Discarded who k events after new is none = ap (λ z. paging (heard k z)) is.1
 answer_brings host object Readied who k events after new is none = ap (λ z. paging (heard k z)) is.rest

@@ -1,31 +1,11 @@
 -- A task is made, or its entries become others.
-use Rattle.std.proofs.Common.{◌≡◌, ℕ, ◌+◌, ◌<◌, ◌≤◌, true, List, [], ◌∷◌, length, refl, ap, sym, ◌∙◌, subst, arith, Some, None, inl, inr, false}
-use Rattle.std.proofs.lemmas.Bool.Decides.{eqb_tells}
-use Rattle.std.specs.Prelude.{is_some, unwrap_or}
+use Rattle.vm_kernel.proofs.Common.{AllEntriesInside, ChainTable, ChangesOnly, Entry, Event, HasEntries, HasTasks, Header, Ids, IsInside, List, Mapped, None, Parts, RegionRow, Some, Starts, TaskId, [], all_tasks, ap, arith, count_by, count_on, entered, entries_in, entries_of, eqb_tells, false, got, has_region, host_id, host_of, inl, inr, is_on, is_some, length, most_entries, refl, region_at, region_pages, rows_in, rows_map, subst, sym, true, unwrap_or, ℕ, ◌+◌, ◌<◌, ◌∙◌, ◌∷◌, ◌≡◌, ◌≤◌}
 use Rattle.vm_base.specs.declared.code.Code.TheVariants as code
-use Rattle.vm_base.specs.declared.entry.Entry.{Entry}
-use Rattle.vm_base.specs.declared.ids.TaskId.{TaskId}
-use Rattle.vm_base.specs.Entries.{entered, most_entries}
-use Rattle.vm_model.specs.declared.event.Event.{Event}
 use Rattle.vm_model.specs.declared.event.Event.TheVariants as event
 use Rattle.vm_model.specs.declared.command.Command.TheVariants as command
-use Rattle.vm_model.specs.declared.script.Header.{Header}
-use Rattle.vm_model.specs.Rows.{rows_map}
-use Rattle.vm_model.specs.Tasks.{entries_of, host_of}
-use Rattle.vm_maps.specs.Maps.{ChangesOnly, Mapped, entries_in, rows_in}
-use Rattle.vm_shadow.specs.Chains.{ChainTable, region_at}
-use Rattle.vm_shadow.specs.declared.ids.Ids.{Ids}
-use Rattle.vm_shadow.specs.declared.region_row.RegionRow.{RegionRow}
-use Rattle.vm_kernel.specs.Begun.{Starts}
-use Rattle.vm_kernel.specs.Counts.{count_by, count_on, most_tasks}
-use Rattle.vm_kernel.specs.Forking.{got}
-use Rattle.vm_kernel.specs.Matches.{AllInside, HasEntries, HasTasks, IsInside, host_id}
-use Rattle.vm_kernel.specs.Places.{has_region, region_pages}
-use Rattle.vm_kernel.specs.declared.parts.Parts.{Parts}
 use Rattle.vm_kernel.proofs.Counts.{by_changed, most_is}
 use Rattle.vm_kernel.proofs.Heads.{passed}
 use Rattle.vm_kernel.proofs.Own.{free_in, own_host, rows_here}
-use Rattle.vm_model.specs.Local.{is_on}
 
 -- a task has no entries yet
 pub tasks_made : (h : ℕ) (size : ℕ) (maps new : Mapped) (past : List Event) (task : TaskId) → HasTasks h size maps (λ t. host_of t past) (λ t. entries_of size t past) → ChangesOnly maps new task.0 (Some [])
@@ -72,13 +52,13 @@ pub inside_kept : (size : ℕ) (old new : ChainTable) (row : Entry) → Keeps ol
 inside_kept size old new row keeps is = record { region = keeps.there row.region.0 is.region; some = is.some; below = is.below; inside = rw (keeps.pages row.region.0 is.region) is.inside }
 
 -- a task's entries are others now
-pub entries_changed : (size : ℕ) (maps new : Mapped) (old chains : ChainTable) (task : ℕ) (rows : List Entry) → HasEntries size maps old [] → Keeps old chains → ChangesOnly maps new task (Some rows) → task < most_tasks → AllInside size chains rows → length rows ≤ most_entries
-    → ((r : ℕ) (row : RegionRow) → region_at chains r ≡ Some row → row.entries + count_on r (rows_in task maps) ≡ count_by most_tasks r maps + count_on r rows) → HasEntries size new chains []
+pub entries_changed : (size : ℕ) (maps new : Mapped) (old chains : ChainTable) (task : ℕ) (rows : List Entry) → HasEntries size maps old [] → Keeps old chains → ChangesOnly maps new task (Some rows) → task < all_tasks → AllEntriesInside size chains rows → length rows ≤ most_entries
+    → ((r : ℕ) (row : RegionRow) → region_at chains r ≡ Some row → row.entries + count_on r (rows_in task maps) ≡ count_by all_tasks r maps + count_on r rows) → HasEntries size new chains []
 entries_changed size maps new old chains task rows has keeps changes below all short counts =
     record {
       inside = λ t. elim (eqb_tells task t) [
-        | inl same ↦ subst (λ (z : ℕ). AllInside size chains (rows_in z new)) same.1 (subst (AllInside size chains) (sym own) all)
-        | inr apart ↦ subst (AllInside size chains) (sym (others t apart.1)) (rows_map (IsInside size old) (IsInside size chains) (λ row is. inside_kept size old chains row keeps is) (rows_in t maps) (has.inside t))
+        | inl same ↦ subst (λ (z : ℕ). AllEntriesInside size chains (rows_in z new)) same.1 (subst (AllEntriesInside size chains) (sym own) all)
+        | inr apart ↦ subst (AllEntriesInside size chains) (sym (others t apart.1)) (rows_map (IsInside size old) (IsInside size chains) (λ row is. inside_kept size old chains row keeps is) (rows_in t maps) (has.inside t))
       ];
       known = tt;
       most = λ t high. changes.others t (λ e. omega (arith, e)) ∙ has.most t high;
@@ -86,7 +66,7 @@ entries_changed size maps new old chains task rows has keeps changes below all s
         | inl same ↦ subst (λ (z : ℕ). length (rows_in z new) ≤ most_entries) same.1 (subst (λ (z : List Entry). length z ≤ most_entries) (sym own) short)
         | inr apart ↦ subst (λ (z : List Entry). length z ≤ most_entries) (sym (others t apart.1)) (has.few t)
       ];
-      counts = λ r row found. omega (arith, counts r row found, by_changed most_tasks r task maps new (Some rows) below changes);
+      counts = λ r row found. omega (arith, counts r row found, by_changed all_tasks r task maps new (Some rows) below changes);
     }
   where
     own : rows_in task new ≡ rows

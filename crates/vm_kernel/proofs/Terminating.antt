@@ -1,40 +1,13 @@
 -- An object to which no region leads any more: its control ends, where one lives.
-use Rattle.std.proofs.Common.{◌≡◌, ℕ, ◌-◌, ◌<◌, ◌==◌, ◌^◌, Bool, true, false, List, ◌∷◌, ◌++◌, length, refl, ap, sym, ◌∙◌, subst, arith, Some, None, Option, inl, inr}
-use Rattle.std.proofs.lemmas.Bool.Decides.{eqb_tells}
-use Rattle.std.specs.Prelude.{if◌then◌else◌, ◌⊎◌}
-use Rattle.vm_base.specs.declared.entry.Entry.{Entry}
-use Rattle.vm_base.specs.declared.ids.ObjectId.{ObjectId}
-use Rattle.vm_model.specs.declared.event.Event.{Event}
+use Rattle.vm_kernel.proofs.Common.{Backing, Bool, Caused, ChainTable, Command, Elsewhere, Entry, Event, FrameTable, HasControls, HasPages, HasRegions, Header, Ids, IsUnder, List, Local, Matches, None, ObjectId, ObjectRow, ObjectTable, Option, Outside, Parts, PutsObject, Region, ResidentTable, SameMarks, Some, Strands, Sweeps, Up, absent_at, ap, arith, away, eqb_tells, false, fit_objects, host_id, if◌then◌else◌, inl, inr, is_control, is_ready, last_control, last_in, length, live_control, live_in, local, local_after, local_of_row, object_at, one_case, place_of, ready_in, refl, region_at, row_at, same_pages, some_is, subst, sym, true, waiting, without_control, ℕ, ◌++◌, ◌-◌, ◌<◌, ◌==◌, ◌^◌, ◌∙◌, ◌∷◌, ◌≡◌, ◌⊎◌}
 use Rattle.vm_model.specs.declared.event.Event.TheVariants as event
-use Rattle.vm_model.specs.declared.command.Command.{Command}
-use Rattle.vm_model.specs.declared.message.Channel.TheVariants.{Up}
 use Rattle.vm_model.specs.declared.message.Message.TheVariants as message
-use Rattle.vm_model.specs.declared.script.Header.{Header}
-use Rattle.vm_model.specs.Controls.{is_control, last_control, live_control, without_control}
-use Rattle.vm_model.specs.Local.{Local, away, local, local_after, Elsewhere, Ends as EndsControl}
-use Rattle.vm_model.specs.Regions.{Backing, Region}
-use Rattle.vm_model.specs.Waiting.{waiting}
-use Rattle.vm_legal.specs.Accesses.{is_ready}
-use Rattle.vm_legal.specs.Licences.{Caused}
-use Rattle.vm_legal.specs.Outside.{Outside}
-use Rattle.vm_frames.specs.Frames.{FrameTable}
-use Rattle.vm_objects.specs.Objects.{ObjectTable, PutsObject, SameMarks, absent_at, object_at}
-use Rattle.vm_objects.specs.declared.row.ObjectRow.{ObjectRow}
+use Rattle.vm_model.specs.Local.{Ends as EndsControl}
 use Rattle.vm_objects.specs.declared.row.PagerState.TheVariants as state
-use Rattle.vm_parts.proofs.Fitting.{fit_objects, same_pages}
-use Rattle.vm_resident.specs.Resident.{ResidentTable, row_at}
-use Rattle.vm_shadow.specs.Chains.{ChainTable, region_at}
-use Rattle.vm_shadow.specs.declared.ids.Ids.{Ids}
 use Rattle.vm_supply.specs.declared.woken.Woken.TheVariants as woken
-use Rattle.vm_kernel.specs.Matches.{HasControls, HasPages, HasRegions, IsUnder, Matches, host_id}
-use Rattle.vm_kernel.specs.Pagers.{last_in, live_in, ready_in}
-use Rattle.vm_kernel.specs.Places.{local_of_row, place_of}
-use Rattle.vm_kernel.specs.Sweeping.{Strands, Sweeps}
-use Rattle.vm_kernel.specs.declared.parts.Parts.{Parts}
 use Rattle.vm_kernel.proofs.Growing.{grows_more, suffices}
 use Rattle.vm_kernel.proofs.Strands.{StillTold, at_region, itself, waits_told}
 use Rattle.vm_kernel.proofs.Walking.{unreached}
-use Rattle.vm_parts.proofs.Rows.{one_case, some_is}
 use Rattle.vm_kernel.proofs.Own.{named_host, own_host}
 use Rattle.vm_kernel.proofs.Mine.{own_named}
 

@@ -1,36 +1,12 @@
 -- Frames in turn: how a queue changes where an access was run, and which frames were claimed.
-use Rattle.std.proofs.Common.{◌≡◌, ℕ, suc, ◌==◌, Bool, true, false, List, [], ◌∷◌, ◌++◌, length, refl, ap, sym, ◌∙◌, subst, arith, append_assoc, Some, None, inl, inr}
-use Rattle.std.proofs.lemmas.Bool.Decides.{eqb_tells, nat_tests}
-use Rattle.std.proofs.lemmas.List.{reverse-append}
-use Rattle.std.specs.Prelude.{◌<◌, ◌≤◌, ◌≢◌, ◌⊎◌, ◌||◌, if◌then◌else◌, not, nat_lt, reverse}
-use Rattle.vm_base.specs.declared.ids.TaskId.{TaskId}
-use Rattle.vm_model.specs.declared.event.Event.{Event}
+use Rattle.vm_kernel.proofs.Common.{AreQueued, Attempts, BeganInOrder, Bool, ClaimsInTurn, Did, EachGone, EachListedOnce, EachOf, Event, ForAsked, ForZeros, Found, Goes, Header, Ids, IsEnd, IsReclaim, Joins, KeepsOthers, LeavesInTurn, List, None, Nothing, On, Parts, QueueIsStill, Restarted, Restarts, RunsNone, RunsOnce, Some, Start, TaskId, Up, WaitTable, Waiting, Wants, Works, [], ap, append_assoc, arith, begun_at, entry, eqb_tells, false, first_in_queue, frames_free, if◌then◌else◌, inl, inr, is_again, is_frame, is_listed, length, nat_lt, nat_tests, not, of_both, oldest_row, queue_without, queued, refl, reverse, reverse-append, same_others, subst, suc, sym, true, waits_for_frame, ℕ, ◌++◌, ◌==◌, ◌∙◌, ◌∷◌, ◌≡◌, ◌≢◌, ◌⊎◌}
+use Rattle.std.specs.Prelude.{◌<◌, ◌≤◌, ◌||◌}
 use Rattle.vm_model.specs.declared.event.Event.TheVariants as event
-use Rattle.vm_model.specs.declared.message.Channel.TheVariants.{Up}
 use Rattle.vm_model.specs.declared.message.Message.TheVariants as message
-use Rattle.vm_legal.specs.Accesses.{Wants, begun_at}
-use Rattle.vm_legal.specs.Follows.{IsEnd}
-use Rattle.vm_legal.specs.Reclaims.{IsReclaim}
-use Rattle.vm_legal.specs.Stretches.{EachOf}
-use Rattle.vm_waits.specs.Kept.{AreQueued, EachListedOnce}
-use Rattle.vm_waits.specs.Waits.{WaitTable, entry, first, is_again, is_frame, is_listed, oldest, others, queued, waits_for_frame}
-use Rattle.vm_waits.specs.declared.waiting.On.{On}
 use Rattle.vm_waits.specs.declared.waiting.On.TheVariants as on
-use Rattle.vm_waits.specs.declared.waiting.Waiting.{Waiting}
-use Rattle.vm_kernel.specs.Matches.{Works}
-use Rattle.vm_kernel.specs.Serving.{Attempts}
-use Rattle.vm_kernel.specs.Taking.{EachGone}
-use Rattle.vm_kernel.specs.Waiters.{BeganInOrder}
-use Rattle.vm_kernel.specs.declared.parts.Parts.{Parts}
-use Rattle.vm_shadow.specs.declared.ids.Ids.{Ids}
 use Rattle.vm_supply.specs.declared.woken.Woken.TheVariants as woken
-use Rattle.vm_legal.specs.Frames.{frames_free}
-use Rattle.vm_model.specs.declared.script.Header.{Header}
-use Rattle.vm_kernel.specs.Turns.{ClaimsInTurn, Did, ForAsked, ForZeros, Found, Goes, Joins, KeepsOthers, LeavesInTurn, Nothing, Quiet, Restarted, Restarts, RunsNone, RunsOnce, Start}
 use Rattle.vm_kernel.proofs.Growing.{free_is}
 use Rattle.vm_kernel.proofs.Ordering.{oldest_first}
-use Rattle.vm_legal.proofs.Stretched.{of_both}
-use Rattle.vm_waits.proofs.Lines.{same_others}
 
 -- the queue
 
@@ -49,7 +25,7 @@ or_turned true true c = refl
 or_turned true false c = refl
 or_turned false b c = refl
 
-others_first : (task : TaskId) (queue : List TaskId) → EachListedOnce (task ∷ queue) → others task.0 (task ∷ queue) ≡ queue
+others_first : (task : TaskId) (queue : List TaskId) → EachListedOnce (task ∷ queue) → queue_without task.0 (task ∷ queue) ≡ queue
 others_first task queue once = rw (itself task.0) (same_others task.0 queue once.0)
 
 -- the first and those behind it
@@ -57,7 +33,7 @@ record Split (task : TaskId) (queue : List TaskId) : Type 0 where
   rest : List TaskId
   is : queue ≡ task ∷ rest
 
-split : (task : TaskId) (queue : List TaskId) → first queue ≡ Some task → Split task queue
+split : (task : TaskId) (queue : List TaskId) → first_in_queue queue ≡ Some task → Split task queue
 split task [] is = absurd (let bad : None ≡ Some task = is in cc)
 split task (x ∷ xs) is = record { rest = xs; is = ap (λ (z : TaskId). z ∷ xs) (let same : Some x ≡ Some task = is in cc) }
 
@@ -92,10 +68,10 @@ apart_left task left rest t once there same =
 
 pub did_kept : {rows rows2 : List Waiting} {earlier earlier2 : ℕ → Type 0} {task : TaskId} {claims : Bool} {own : List Event} → (claims ≡ true → entry rows2 task.0 ≡ entry rows task.0)
     → (claims ≡ true → (t : ℕ) → earlier2 t → earlier t × (entry rows2 t ≡ entry rows t)) → Did rows earlier task claims own → Did rows2 earlier2 task claims own
-did_kept mine others Nothing = Nothing
-did_kept mine others (Found end ends) = Found end ends
-did_kept mine others (ForZeros end host key ends) = ForZeros end host key ends
-did_kept mine others (ForAsked host key control row found waits none) = ForAsked host key control row (mine refl ∙ found) waits (λ t w early is. let one = others refl t early in none t w one.0 (sym one.1 ∙ is))
+did_kept mine queue_without Nothing = Nothing
+did_kept mine queue_without (Found end ends) = Found end ends
+did_kept mine queue_without (ForZeros end host key ends) = ForZeros end host key ends
+did_kept mine queue_without (ForAsked host key control row found waits none) = ForAsked host key control row (mine refl ∙ found) waits (λ t w early is. let one = queue_without refl t early in none t w one.0 (sym one.1 ∙ is))
 
 -- the rows of those who left are as they were
 claims_kept : (rows rows2 : List Waiting) (left : List TaskId) (events : List Event) → ((t : ℕ) → is_listed t left ≡ true → entry rows2 t ≡ entry rows t) → ClaimsInTurn rows left events → ClaimsInTurn rows2 left events
@@ -129,37 +105,37 @@ each_quiet h (e ∷ events) all = (gone_quiet h e all.0, each_quiet h events all
 
 -- nobody joins or leaves
 
-pub quiet_none : (queue : List TaskId) (events : List Event) → Quiet queue queue events events
+pub quiet_none : (queue : List TaskId) (events : List Event) → QueueIsStill queue queue events events
 quiet_none queue events = record { queue = refl; none = λ all. all }
 
-pub quiet_both : (a b c : List TaskId) (before events after : List Event) → Quiet a b before events → Quiet b c events after → Quiet a c before after
+pub quiet_both : (a b c : List TaskId) (before events after : List Event) → QueueIsStill a b before events → QueueIsStill b c events after → QueueIsStill a c before after
 quiet_both a b c before events after one two = record { queue = two.queue ∙ one.queue; none = λ all. two.none (one.none all) }
 
-pub quiet_more : (old new : List TaskId) (before after : List Event) (e : Event) → new ≡ old → after ≡ e ∷ before → RunsNone e → Quiet old new before after
+pub quiet_more : (old new : List TaskId) (before after : List Event) (e : Event) → new ≡ old → after ≡ e ∷ before → RunsNone e → QueueIsStill old new before after
 quiet_more old new before after e queue told none = record { queue = queue; none = λ all. subst (EachOf RunsNone) (sym told) (none, all) }
 
-pub quiet_gone : (h : ℕ) (old new : WaitTable) (before after : List Event) → new ≡ old → EachGone h before after → Quiet old.queue new.queue before after
+pub quiet_gone : (h : ℕ) (old new : WaitTable) (before after : List Event) → new ≡ old → EachGone h before after → QueueIsStill old.queue new.queue before after
 quiet_gone h old new before after same gone =
     record { queue = ap (λ z. z.queue) same; none = λ all. subst (EachOf RunsNone) (sym gone.is) (of_both RunsNone gone.more before (each_quiet h gone.more gone.each) all) }
 
 -- who waits for a page leaves no gap in the queue
-pub quiet_unlisted : (rows : List Waiting) (old new : List TaskId) (w : Waiting) (before after : List Event) (e : Event) → AreQueued rows old → entry rows w.task.0 ≡ Some w → is_frame w.on ≡ false → new ≡ others w.task.0 old → after ≡ e ∷ before → RunsNone e
-    → Quiet old new before after
+pub quiet_unlisted : (rows : List Waiting) (old new : List TaskId) (w : Waiting) (before after : List Event) (e : Event) → AreQueued rows old → entry rows w.task.0 ≡ Some w → is_frame w.on ≡ false → new ≡ queue_without w.task.0 old → after ≡ e ∷ before → RunsNone e
+    → QueueIsStill old new before after
 quiet_unlisted rows old new w before after e line is other queue told none =
     quiet_more old new before after e (queue ∙ same_others w.task.0 old (line.listed w.task.0 ∙ (ap waits_for_frame is ∙ other))) told none
 
 -- nothing was done before
-pub quiet_behind : (old mid new : List TaskId) (before events after : List Event) → mid ≡ old → before ≡ [] → events ≡ [] → Quiet mid new events after → Quiet old new before after
+pub quiet_behind : (old mid new : List TaskId) (before events after : List Event) → mid ≡ old → before ≡ [] → events ≡ [] → QueueIsStill mid new events after → QueueIsStill old new before after
 quiet_behind old mid new before events after same nothing none quiet = record { queue = quiet.queue ∙ same; none = λ all. quiet.none (subst (EachOf RunsNone) (sym none) tt) }
 
 -- running again
 
-pub restarts_quiet : (header : Header) (h : ℕ) (rows : List Waiting) (past : List Event) (old new : List TaskId) (before after : List Event) → before ≡ [] → Quiet old new before after → Restarted header h rows past old new after
+pub restarts_quiet : (header : Header) (h : ℕ) (rows : List Waiting) (past : List Event) (old new : List TaskId) (before after : List Event) → before ≡ [] → QueueIsStill old new before after → Restarted header h rows past old new after
 restarts_quiet header h rows past old new before after nothing quiet =
     subst (λ (z : List TaskId). Restarted header h rows past old z after) (sym quiet.queue) (0, Start after (quiet.none (subst (EachOf RunsNone) (sym nothing) tt)))
 
 -- what was done before ran nobody
-pub restarts_behind : (header : Header) (h : ℕ) (rows : List Waiting) (past : List Event) (old mid new : List TaskId) (before events after : List Event) → before ≡ [] → Quiet old mid before events → (EachOf RunsNone events → Restarted header h rows past mid new after)
+pub restarts_behind : (header : Header) (h : ℕ) (rows : List Waiting) (past : List Event) (old mid new : List TaskId) (before events after : List Event) → before ≡ [] → QueueIsStill old mid before events → (EachOf RunsNone events → Restarted header h rows past mid new after)
     → Restarted header h rows past old new after
 restarts_behind header h rows past old mid new before events after nothing quiet restarts =
     subst (λ (z : List TaskId). Restarted header h rows past z new after) quiet.queue (restarts (quiet.none (subst (EachOf RunsNone) (sym nothing) tt)))
@@ -243,7 +219,7 @@ wanting_of header h w may false old new ids before after now attempts wants = ab
 -- what stands in front of a run of the oldest
 pub record Next (past : List Event) (w : Waiting) (may_claim : Bool) (now : WaitTable) (events : List Event) : Type 0 where
   pub order : BeganInOrder (λ task. begun_at task (events ++ past)) 0 now.rows
-  pub oldest : oldest is_again now.rows ≡ Some w
+  pub oldest : oldest_row is_again now.rows ≡ Some w
   pub line : AreQueued now.rows now.queue
   pub row : entry now.rows w.task.0 ≡ Some w
   pub again : is_again w.on ≡ true
@@ -293,7 +269,7 @@ restarts_more header h past q w may wants old new before after was next run want
 
 -- the queue as it was, or some have left
 abbrev pub Serving : WaitTable → WaitTable → List Event → List Event → Type 0
-Serving first now before events = ((now ≡ first) × (events ≡ before)) ⊎ LeavesInTurn first.queue now before events
+Serving first_in_queue now before events = ((now ≡ first_in_queue) × (events ≡ before)) ⊎ LeavesInTurn first_in_queue.queue now before events
 
 pub leaves_of : (start now : WaitTable) (before events : List Event) → Serving start now before events → AreQueued now.rows now.queue → LeavesInTurn start.queue now before events
 leaves_of start now before events (inr leaves) line = leaves
@@ -301,7 +277,7 @@ leaves_of start now before events (inl (same, told)) line =
     record { left = []; queue = sym (ap (λ z. z.queue) same); once = subst (λ (z : WaitTable). EachListedOnce z.queue) same line.once; served = []; told = told; turns = tt }
 
 -- the front was run
-pub leaves_ran : (q : List TaskId) (w : Waiting) (may wants : Bool) (old new : WaitTable) (start before after : List Event) → LeavesInTurn q old start before → AreQueued old.rows old.queue → first old.queue ≡ Some w.task → is_frame w.on ≡ true
+pub leaves_ran : (q : List TaskId) (w : Waiting) (may wants : Bool) (old new : WaitTable) (start before after : List Event) → LeavesInTurn q old start before → AreQueued old.rows old.queue → first_in_queue old.queue ≡ Some w.task → is_frame w.on ≡ true
     → RunsOnce w may wants old new before after → LeavesInTurn q new start after
 leaves_ran q w may true old new start before after was line front frame run =
     let s = split w.task old.queue front in
@@ -318,7 +294,7 @@ leaves_ran q w may true old new start before after was line front frame run =
 leaves_ran q w may false old new start before after was line front frame run =
     let s = split w.task old.queue front in
     let once : EachListedOnce (reverse was.left ++ w.task ∷ s.rest) = subst EachListedOnce (was.queue ∙ ap (λ z. reverse was.left ++ z) s.is) was.once in
-    let rest : new.queue ≡ s.rest = run.queue ∙ (ap (others w.task.0) s.is ∙ others_first w.task s.rest (subst EachListedOnce s.is line.once)) in
+    let rest : new.queue ≡ s.rest = run.queue ∙ (ap (queue_without w.task.0) s.is ∙ others_first w.task s.rest (subst EachListedOnce s.is line.once)) in
     record {
       left = w.task ∷ was.left;
       queue = was.queue ∙ (ap (λ z. reverse was.left ++ z) s.is ∙ (sym (append_assoc (reverse was.left) (w.task ∷ []) s.rest) ∙ (ap (λ z. z ++ s.rest) (sym (reverse_step w.task was.left)) ∙ ap (λ z. reverse (w.task ∷ was.left) ++ z) (sym rest))));
@@ -351,7 +327,7 @@ leaves_gone h q old new start before after was same gone =
     })
 
 -- the row of the front alone is another
-pub others_ran : (q : List TaskId) (w : Waiting) (may wants : Bool) (first_rows : List Waiting) (old new : WaitTable) (start before after : List Event) → LeavesInTurn q old start before → first old.queue ≡ Some w.task → RunsOnce w may wants old new before after
+pub others_ran : (q : List TaskId) (w : Waiting) (may wants : Bool) (first_rows : List Waiting) (old new : WaitTable) (start before after : List Event) → LeavesInTurn q old start before → first_in_queue old.queue ≡ Some w.task → RunsOnce w may wants old new before after
     → KeepsOthers q first_rows old.rows → KeepsOthers q first_rows new.rows
 others_ran q w may wants first_rows old new start before after was front run kept = λ t out.
     let s = split w.task old.queue front in

@@ -1,23 +1,6 @@
 -- Which regions are in use.
-use Rattle.std.proofs.Common.{◌≡◌, ℕ, zero, suc, ◌+◌, ◌<◌, ◌≤◌, ◌==◌, ◌&&◌, ◌||◌, not, Bool, true, false, List, [], ◌∷◌, length, refl, ap, sym, ◌∙◌, subst, arith, Some, None, Option, inl, inr}
-use Rattle.std.proofs.lemmas.Bool.Decides.{eqb_tells, nat_tests}
-use Rattle.std.specs.Prelude.{if◌then◌else◌, is_some, nat_lt, unwrap_or, ◌≢◌, ◌⊎◌}
-use Rattle.vm_base.specs.declared.entry.Entry.{Entry}
-use Rattle.vm_base.specs.Entries.{entered}
-use Rattle.vm_model.specs.declared.event.Event.{Event}
-use Rattle.vm_model.specs.declared.script.Header.{Header}
-use Rattle.vm_model.specs.Named.{named}
-use Rattle.vm_model.specs.Tasks.{entries_of, has_entry}
-use Rattle.vm_model.specs.Waiting.{Access, Target, copy_target, fills, waiting}
-use Rattle.vm_legal.specs.Living.{tasks}
-use Rattle.vm_legal.specs.Used.{is_filled, is_held, is_kept}
-use Rattle.vm_maps.specs.Maps.{ChangesOnly, Mapped, entries_in, rows_in}
-use Rattle.vm_kernel.specs.Counts.{count_by, count_on, most_tasks}
-use Rattle.vm_kernel.specs.Matches.{HasUse, IsPlain, holds, is_among}
-use Rattle.vm_kernel.specs.Waiters.{access_in, waiting_in}
-use Rattle.vm_waits.specs.Waits.{entry}
-use Rattle.vm_waits.specs.declared.waiting.Waiting.{Waiting}
-use Rattle.vm_waits.specs.declared.waiting.Want.{Want}
+use Rattle.vm_kernel.proofs.Common.{Access, Bool, ChangesOnly, Entry, Event, HasUse, Header, IsPlain, List, Mapped, None, Option, Some, Target, Waiting, Want, [], access_in, all_tasks, ap, arith, copy_target, count_by, count_on, entered, entries_in, entries_of, entry, eqb_tells, false, fills, has_entry, holds, if◌then◌else◌, inl, inr, is_among, is_filled, is_held, is_kept, is_some, length, named, nat_lt, nat_tests, refl, rows_in, subst, suc, sym, tasks, true, unwrap_or, waiting, waiting_in, zero, ℕ, ◌&&◌, ◌+◌, ◌<◌, ◌==◌, ◌||◌, ◌∙◌, ◌∷◌, ◌≡◌, ◌≢◌, ◌≤◌, ◌⊎◌}
+use Rattle.std.proofs.Common.{not}
 use Rattle.vm_waits.specs.declared.waiting.Want.TheVariants as want
 use Rattle.vm_kernel.proofs.Counts.{by_changed, by_some, by_zero, on_entered, on_zero}
 
@@ -96,27 +79,27 @@ rows_some region None has = absurd (let bad : false ≡ true = has in cc)
 rows_some region (Some rows) has = (rows, refl)
 
 -- a task with a number from there on has no entries
-none_high : (region : ℕ) (maps : Mapped) → ((task : ℕ) → most_tasks ≤ task → entries_in task maps ≡ None) → count_by most_tasks region maps ≡ 0 → (task : ℕ) → has_entry region (rows_in task maps) ≡ false
-none_high region maps most nothing task = by_test (nat_lt task most_tasks) refl
+none_high : (region : ℕ) (maps : Mapped) → ((task : ℕ) → all_tasks ≤ task → entries_in task maps ≡ None) → count_by all_tasks region maps ≡ 0 → (task : ℕ) → has_entry region (rows_in task maps) ≡ false
+none_high region maps most nothing task = by_test (nat_lt task all_tasks) refl
   where
-    by_test : (b : Bool) → nat_lt task most_tasks ≡ b → has_entry region (rows_in task maps) ≡ false
-    by_test true less = on_zero region (rows_in task maps) (by_zero most_tasks region task maps (grind (arith, nat_tests)) nothing)
+    by_test : (b : Bool) → nat_lt task all_tasks ≡ b → has_entry region (rows_in task maps) ≡ false
+    by_test true less = on_zero region (rows_in task maps) (by_zero all_tasks region task maps (grind (arith, nat_tests)) nothing)
     by_test false less = ap (λ z. has_entry region (unwrap_or z [])) (most task (grind (arith, nat_tests)))
 
 -- some task holds the region exactly where entries lead to it
-held_is : (size region : ℕ) (list : List ℕ) (maps : Mapped) (past : List Event) → Shows size maps past → NoneElsewhere size region maps past → ((task : ℕ) → most_tasks ≤ task → entries_in task maps ≡ None)
-    → ((task : ℕ) (rows : List Entry) → entries_in task maps ≡ Some rows → is_among task list ≡ true) → is_held size region list past ≡ nat_lt 0 (count_by most_tasks region maps)
-held_is size region list maps past shows apart most among = by_count (count_by most_tasks region maps) refl
+held_is : (size region : ℕ) (list : List ℕ) (maps : Mapped) (past : List Event) → Shows size maps past → NoneElsewhere size region maps past → ((task : ℕ) → all_tasks ≤ task → entries_in task maps ≡ None)
+    → ((task : ℕ) (rows : List Entry) → entries_in task maps ≡ Some rows → is_among task list ≡ true) → is_held size region list past ≡ nat_lt 0 (count_by all_tasks region maps)
+held_is size region list maps past shows apart most among = by_count (count_by all_tasks region maps) refl
   where
-    by_count : (n : ℕ) → count_by most_tasks region maps ≡ n → is_held size region list past ≡ nat_lt 0 n
+    by_count : (n : ℕ) → count_by all_tasks region maps ≡ n → is_held size region list past ≡ nat_lt 0 n
     by_count zero is = held_none size region list maps past shows apart (none_high region maps most is)
     by_count (suc n) is =
-        let task = by_some most_tasks region maps (omega arith) in
+        let task = by_some all_tasks region maps (omega arith) in
         let rows = rows_some region (entries_in task.0 maps) task.1 in
         held_some size region task.0 list maps past shows apart (among task.0 rows.0 rows.1) task.1 ∙ sym (test_some n)
 
-pub kept_is : (header : Header) (region : ℕ) (maps : Mapped) (past : List Event) → IsPlain header → Shows header.size maps past → NoneElsewhere header.size region maps past → ((task : ℕ) → most_tasks ≤ task → entries_in task maps ≡ None)
-    → ((task : ℕ) (rows : List Entry) → entries_in task maps ≡ Some rows → is_among task (tasks past) ≡ true) → is_kept header region past ≡ nat_lt 0 (count_by most_tasks region maps)
+pub kept_is : (header : Header) (region : ℕ) (maps : Mapped) (past : List Event) → IsPlain header → Shows header.size maps past → NoneElsewhere header.size region maps past → ((task : ℕ) → all_tasks ≤ task → entries_in task maps ≡ None)
+    → ((task : ℕ) (rows : List Entry) → entries_in task maps ≡ Some rows → is_among task (tasks past) ≡ true) → is_kept header region past ≡ nat_lt 0 (count_by all_tasks region maps)
 kept_is header region maps past plain shows apart most among =
     let none : named header ≡ 0 = ap length plain.objects in
     let new : nat_lt region (named header) ≡ false = grind (arith, nat_tests) in
@@ -153,11 +136,11 @@ holds_rows size task t r maps rows own past lives none = ap (λ z. has_entry r z
 pub uses_still : (maps : Mapped) (used_at : ℕ → Bool) (made : List ℕ) (held_at held2 : ℕ → ℕ → Bool) (n : ℕ) → HasUse maps used_at made held_at n → SameElsewhere maps held_at held2 → HasUse maps used_at made held2 n
 uses_still maps used_at made held_at held2 n has same = record { used = has.used; among = has.among; apart = λ t r none why. same t r none ∙ has.apart t r none why }
 
-pub uses_made : (maps new : Mapped) (used_at : ℕ → Bool) (made : List ℕ) (held_at held2 : ℕ → ℕ → Bool) (n task : ℕ) → HasUse maps used_at made held_at n → ChangesOnly maps new task (Some []) → entries_in task maps ≡ None → task < most_tasks
+pub uses_made : (maps new : Mapped) (used_at : ℕ → Bool) (made : List ℕ) (held_at held2 : ℕ → ℕ → Bool) (n task : ℕ) → HasUse maps used_at made held_at n → ChangesOnly maps new task (Some []) → entries_in task maps ≡ None → task < all_tasks
     → ((t r : ℕ) → (task ≡ t → ⊥) → held2 t r ≡ held_at t r) → HasUse new used_at (task ∷ made) held2 n
 uses_made maps new used_at made held_at held2 n task has changes free below same =
     record {
-      used = λ r. has.used r ∙ ap (nat_lt 0) (let moved = by_changed most_tasks r task maps new (Some []) below changes in let none = ap (λ z. count_on r (unwrap_or z [])) free in omega arith);
+      used = λ r. has.used r ∙ ap (nat_lt 0) (let moved = by_changed all_tasks r task maps new (Some []) below changes in let none = ap (λ z. count_on r (unwrap_or z [])) free in omega arith);
       among = λ t rows is. elim (eqb_tells task t) [
         | inl same ↦ rw same.0 refl
         | inr apart ↦ rw apart.0 (has.among t rows (sym (changes.others t (λ e. apart.1 (sym e))) ∙ is))
@@ -192,10 +175,10 @@ test_both (suc a) (suc b) one = rw (test_some a, test_some b) refl
 
 -- entries are others, but on the same regions
 pub uses_same : (maps new : Mapped) (used_at : ℕ → Bool) (made : List ℕ) (held_at held2 : ℕ → ℕ → Bool) (n task : ℕ) (rows : List Entry) → HasUse maps used_at made held_at n → ChangesOnly maps new task (Some rows) → entries_in task maps ≡ Some (rows_in task maps)
-    → ((r : ℕ) → 0 < count_by most_tasks r maps → 0 < count_by most_tasks r new) → ((r : ℕ) → 0 < count_by most_tasks r new → 0 < count_by most_tasks r maps) → SameElsewhere maps held_at held2 → HasUse new used_at made held2 n
+    → ((r : ℕ) → 0 < count_by all_tasks r maps → 0 < count_by all_tasks r new) → ((r : ℕ) → 0 < count_by all_tasks r new → 0 < count_by all_tasks r maps) → SameElsewhere maps held_at held2 → HasUse new used_at made held2 n
 uses_same maps new used_at made held_at held2 n task rows has changes lives one two same =
     record {
-      used = λ r. has.used r ∙ test_same (count_by most_tasks r maps) (count_by most_tasks r new) (one r) (two r);
+      used = λ r. has.used r ∙ test_same (count_by all_tasks r maps) (count_by all_tasks r new) (one r) (two r);
       among = among_kept maps new used_at made held_at n task (Some rows) has changes lives;
       apart = λ t r none why.
           let other = elsewhere new task t rows changes.changed none in
@@ -204,9 +187,9 @@ uses_same maps new used_at made held_at held2 n task rows has changes lives one 
     }
 
 -- in use is what is kept
-kept_uses : (header : Header) (maps new : Mapped) (used_at : ℕ → Bool) (n : ℕ) (past : List Event) → IsPlain header → ((r : ℕ) → used_at r ≡ nat_lt 0 (count_by most_tasks r maps))
-    → ((t : ℕ) (rows : List Entry) → entries_in t new ≡ Some rows → is_among t (tasks past) ≡ true) → ((r : ℕ) → 0 < count_by most_tasks r new → 0 < count_by most_tasks r maps) → Shows header.size new past
-    → ((t : ℕ) → most_tasks ≤ t → entries_in t new ≡ None) → ApartFrom new used_at (λ t r. holds header.size t r past) n → HasUse new (λ r. is_kept header r past && used_at r) (tasks past) (λ t r. holds header.size t r past) n
+kept_uses : (header : Header) (maps new : Mapped) (used_at : ℕ → Bool) (n : ℕ) (past : List Event) → IsPlain header → ((r : ℕ) → used_at r ≡ nat_lt 0 (count_by all_tasks r maps))
+    → ((t : ℕ) (rows : List Entry) → entries_in t new ≡ Some rows → is_among t (tasks past) ≡ true) → ((r : ℕ) → 0 < count_by all_tasks r new → 0 < count_by all_tasks r maps) → Shows header.size new past
+    → ((t : ℕ) → all_tasks ≤ t → entries_in t new ≡ None) → ApartFrom new used_at (λ t r. holds header.size t r past) n → HasUse new (λ r. is_kept header r past && used_at r) (tasks past) (λ t r. holds header.size t r past) n
 kept_uses header maps new used_at n past plain used among two shows most others =
     record {
       used = λ r. by_use r (used_at r) refl;
@@ -226,43 +209,43 @@ kept_uses header maps new used_at n past plain used among two shows most others 
     either r (inl is) = inl (both (is_kept header r past) (used_at r) is)
     either r (inr high) = inr high
 
-    by_use : (r : ℕ) (b : Bool) → used_at r ≡ b → (is_kept header r past && used_at r) ≡ nat_lt 0 (count_by most_tasks r new)
-    by_use r true is = rw (kept_is header r new past plain shows (λ t none. others t r none (inl is)) most among, used r) (test_both (count_by most_tasks r new) (count_by most_tasks r maps) (two r))
+    by_use : (r : ℕ) (b : Bool) → used_at r ≡ b → (is_kept header r past && used_at r) ≡ nat_lt 0 (count_by all_tasks r new)
+    by_use r true is = rw (kept_is header r new past plain shows (λ t none. others t r none (inl is)) most among, used r) (test_both (count_by all_tasks r new) (count_by all_tasks r maps) (two r))
     by_use r false is =
         ap (λ b. is_kept header r past && b) is
-        ∙ (neither (is_kept header r past) ∙ sym (test_none (count_by most_tasks r new) (count_by most_tasks r maps) (two r) (sym (used r) ∙ is)))
+        ∙ (neither (is_kept header r past) ∙ sym (test_none (count_by all_tasks r new) (count_by all_tasks r maps) (two r) (sym (used r) ∙ is)))
 
 -- entries have gone, and in use is what is kept
 pub uses_cut : (header : Header) (maps new : Mapped) (used_at : ℕ → Bool) (held_at : ℕ → ℕ → Bool) (n : ℕ) (past : List Event) (task : ℕ) (rows : Option (List Entry)) → IsPlain header → HasUse maps used_at (tasks past) held_at n → ChangesOnly maps new task rows
-    → entries_in task maps ≡ Some (rows_in task maps) → ((r : ℕ) → 0 < count_by most_tasks r new → 0 < count_by most_tasks r maps) → Shows header.size new past → ((t : ℕ) → most_tasks ≤ t → entries_in t new ≡ None)
+    → entries_in task maps ≡ Some (rows_in task maps) → ((r : ℕ) → 0 < count_by all_tasks r new → 0 < count_by all_tasks r maps) → Shows header.size new past → ((t : ℕ) → all_tasks ≤ t → entries_in t new ≡ None)
     → ApartFrom new used_at (λ t r. holds header.size t r past) n → HasUse new (λ r. is_kept header r past && used_at r) (tasks past) (λ t r. holds header.size t r past) n
 uses_cut header maps new used_at held_at n past task rows plain has changes lives two shows most others =
     kept_uses header maps new used_at n past plain has.used (among_kept maps new used_at (tasks past) held_at n task rows has changes lives) two shows most others
 
 -- no entries have gone, and in use is what is kept
 pub uses_none : (header : Header) (maps : Mapped) (used_at : ℕ → Bool) (held_at : ℕ → ℕ → Bool) (n : ℕ) (past : List Event) → IsPlain header → HasUse maps used_at (tasks past) held_at n → Shows header.size maps past
-    → ((t : ℕ) → most_tasks ≤ t → entries_in t maps ≡ None) → SameElsewhere maps held_at (λ t r. holds header.size t r past) → HasUse maps (λ r. is_kept header r past && used_at r) (tasks past) (λ t r. holds header.size t r past) n
+    → ((t : ℕ) → all_tasks ≤ t → entries_in t maps ≡ None) → SameElsewhere maps held_at (λ t r. holds header.size t r past) → HasUse maps (λ r. is_kept header r past && used_at r) (tasks past) (λ t r. holds header.size t r past) n
 uses_none header maps used_at held_at n past plain has shows most same =
     kept_uses header maps maps used_at n past plain has.used has.among (λ r some. some) shows most (λ t r none why. same t r none ∙ has.apart t r none why)
 
 -- a task has an entry more, on the host where its region is in use
-pub uses_entered : (maps new : Mapped) (used_at : ℕ → Bool) (made : List ℕ) (held2 : ℕ → ℕ → Bool) (n task : ℕ) (row : Entry) (here : Bool) → ((r : ℕ) → r ≢ row.region.0 → used_at r ≡ nat_lt 0 (count_by most_tasks r maps)) → used_at row.region.0 ≡ true
-    → ((t : ℕ) (rows : List Entry) → entries_in t maps ≡ Some rows → is_among t made ≡ true) → ChangesOnly maps new task (Some (entered row (rows_in task maps))) → entries_in task maps ≡ Some (rows_in task maps) → task < most_tasks → here ≡ true
+pub uses_entered : (maps new : Mapped) (used_at : ℕ → Bool) (made : List ℕ) (held2 : ℕ → ℕ → Bool) (n task : ℕ) (row : Entry) (here : Bool) → ((r : ℕ) → r ≢ row.region.0 → used_at r ≡ nat_lt 0 (count_by all_tasks r maps)) → used_at row.region.0 ≡ true
+    → ((t : ℕ) (rows : List Entry) → entries_in t maps ≡ Some rows → is_among t made ≡ true) → ChangesOnly maps new task (Some (entered row (rows_in task maps))) → entries_in task maps ≡ Some (rows_in task maps) → task < all_tasks → here ≡ true
     → ApartFrom maps used_at held2 n → HasUse new (λ r. (not (r == row.region.0) || here) && used_at r) made held2 n
 uses_entered maps new used_at made held2 n task row here others own among changes lives below is apart =
     record {
       used = λ r. simple (r == row.region.0) (used_at r) ∙ elim (eqb_tells r row.region.0) [
         | inl same ↦
             let one : count_on r (row ∷ rows_in task maps) ≡ 1 + count_on r (rows_in task maps) = subst (λ (z : ℕ). count_on z (row ∷ rows_in task maps) ≡ 1 + count_on z (rows_in task maps)) (sym same.1) (self row.region.0) in
-            let moved = by_changed most_tasks r task maps new (Some (entered row (rows_in task maps))) below changes in
+            let moved = by_changed all_tasks r task maps new (Some (entered row (rows_in task maps))) below changes in
             let enters = on_entered r row (rows_in task maps) in
-            let some : 0 < count_by most_tasks r new = omega arith in
+            let some : 0 < count_by all_tasks r new = omega arith in
             ap used_at same.1 ∙ (own ∙ grind (arith, nat_tests))
         | inr apart ↦
             let none : count_on r (row ∷ rows_in task maps) ≡ 0 + count_on r (rows_in task maps) = other r (λ e. apart.1 (sym e)) in
-            let moved = by_changed most_tasks r task maps new (Some (entered row (rows_in task maps))) below changes in
+            let moved = by_changed all_tasks r task maps new (Some (entered row (rows_in task maps))) below changes in
             let enters = on_entered r row (rows_in task maps) in
-            let same : count_by most_tasks r maps ≡ count_by most_tasks r new = omega arith in
+            let same : count_by all_tasks r maps ≡ count_by all_tasks r new = omega arith in
             others r apart.1 ∙ ap (nat_lt 0) same
       ];
       among = λ t rows found. elim (eqb_tells task t) [

@@ -1,24 +1,8 @@
 -- Who waits, while the maps of tasks that don't wait change, and regions count their entries anew.
-use Rattle.std.proofs.Common.{◌≡◌, ℕ, List, [], refl, ap, sym, ◌∙◌, Some, None, Option, is_some, true, inl, inr}
-use Rattle.std.specs.Prelude.{unwrap_or}
-use Rattle.vm_base.specs.declared.entry.Entry.{Entry}
+use Rattle.vm_kernel.proofs.Common.{Access, ChainTable, ChangesOnly, Entry, HasWaiters, IsAllowed, IsAt, List, Mapped, None, ObjectTable, On, Option, PageKey, Reason, RegionRow, ResidentTable, Some, Waiting, Want, Woken, [], ap, entries_in, entry, eqb_tells, inl, inr, refl, region_at, rows_in, sym, true, unwrap_or, waiting_in, ℕ, ◌∙◌, ◌≡◌}
+use Rattle.std.proofs.Common.{is_some}
 use Rattle.vm_base.specs.declared.ids.Access.{Access as Need}
-use Rattle.vm_base.specs.declared.ids.PageKey.{PageKey}
-use Rattle.vm_maps.specs.Maps.{ChangesOnly, Mapped, entries_in, rows_in}
-use Rattle.vm_model.specs.Waiting.{Access}
-use Rattle.vm_objects.specs.Objects.{ObjectTable}
-use Rattle.vm_resident.specs.Resident.{ResidentTable}
-use Rattle.vm_shadow.specs.Chains.{ChainTable, region_at}
-use Rattle.vm_shadow.specs.declared.region_row.RegionRow.{RegionRow}
-use Rattle.vm_supply.specs.declared.woken.Woken.{Woken}
-use Rattle.vm_waits.specs.Waits.{entry}
-use Rattle.vm_waits.specs.declared.waiting.On.{On}
 use Rattle.vm_waits.specs.declared.waiting.On.TheVariants as on
-use Rattle.vm_waits.specs.declared.waiting.Waiting.{Waiting}
-use Rattle.vm_waits.specs.declared.waiting.Want.{Want}
-use Rattle.vm_kernel.specs.Changes.{IsAllowed}
-use Rattle.vm_kernel.specs.Waiters.{HasWaiters, IsAt, Reason, waiting_in}
-use Rattle.std.proofs.lemmas.Bool.Decides.{eqb_tells}
 
 -- a region is still over the same pages of its object
 pub record SameTop (row : RegionRow) (now : Option RegionRow) : Type 0 where

@@ -1,29 +1,7 @@
 -- The accesses that wait, once one of them waits for something else or is over, or a page has come or was asked for.
-use Rattle.std.proofs.Common.{◌≡◌, ℕ, ◌+◌, ◌==◌, true, false, List, refl, ap, sym, ◌∙◌, subst, Some, None, Option, inl, inr}
-use Rattle.std.proofs.lemmas.Bool.Decides.{eqb_tells}
-use Rattle.std.specs.Prelude.{if◌then◌else◌}
-use Rattle.vm_base.specs.declared.entry.Entry.{Entry}
-use Rattle.vm_base.specs.declared.ids.PageKey.{PageKey}
-use Rattle.vm_base.specs.Entries.{page_at}
-use Rattle.vm_maps.specs.Maps.{Mapped}
-use Rattle.vm_model.specs.Waiting.{Access}
-use Rattle.vm_objects.specs.Objects.{ObjectTable, object_at}
-use Rattle.vm_resident.specs.Resident.{PutsRow, ResidentTable, page_key, row_at}
-use Rattle.vm_resident.specs.declared.page_row.PageRow.{PageRow}
-use Rattle.vm_shadow.specs.Chains.{ChainTable, region_at}
-use Rattle.vm_shadow.specs.declared.region_row.RegionRow.{RegionRow}
-use Rattle.vm_supply.specs.declared.woken.Woken.{Woken}
+use Rattle.vm_kernel.proofs.Common.{Access, Asker, ChainTable, Entry, HasWaiters, IsAllowed, IsAsked, IsAt, IsSizedWant, List, Mapped, None, ObjectTable, On, Option, PageKey, PageRow, PutsEntry, PutsRow, Reason, RegionRow, ResidentTable, Some, Waiting, Want, Woken, address_in, ap, entry, eqb_tells, false, if◌then◌else◌, inl, inr, need_in, object_at, page_at, page_key, puts_cases, puts_elsewhere, puts_here, ready_in, refl, region_at, row_at, row_cases, some_is, subst, sym, true, waiting_in, with_on, ℕ, ◌+◌, ◌==◌, ◌∙◌, ◌≡◌}
 use Rattle.vm_supply.specs.declared.woken.Woken.TheVariants as woken
-use Rattle.vm_waits.specs.Waits.{PutsEntry, entry, with_on}
-use Rattle.vm_waits.specs.declared.waiting.On.{On}
 use Rattle.vm_waits.specs.declared.waiting.On.TheVariants as on
-use Rattle.vm_waits.specs.declared.waiting.Waiting.{Waiting}
-use Rattle.vm_waits.specs.declared.waiting.Want.{Want}
-use Rattle.vm_waits.proofs.Entries.{puts_cases, puts_elsewhere, puts_here}
-use Rattle.vm_kernel.specs.Changes.{IsAllowed}
-use Rattle.vm_kernel.specs.Pagers.{ready_in}
-use Rattle.vm_kernel.specs.Waiters.{Asker, HasWaiters, IsAsked, IsAt, IsSizedWant, Reason, address_in, need_in, waiting_in}
-use Rattle.vm_parts.proofs.Rows.{row_cases, some_is}
 use Rattle.vm_kernel.proofs.Waited.{AreTold}
 
 -- the access waits for no page that is asked

@@ -1,13 +1,5 @@
 -- Where an access leads, while each region is over an object of its own.
-use Rattle.std.proofs.Common.{◌≡◌, ℕ, zero, suc, true, false, List, refl, ap, sym, ◌∙◌, arith, None}
-use Rattle.vm_model.specs.declared.event.Event.{Event}
-use Rattle.vm_model.specs.declared.script.Header.{Header}
-use Rattle.vm_model.specs.Controls.{live_control}
-use Rattle.vm_model.specs.Regions.{backing_of, region_of}
-use Rattle.vm_legal.specs.Accesses.{Comes}
-use Rattle.vm_legal.specs.Used.{in_use}
-use Rattle.vm_legal.specs.Walks.{Below, IsTop, Reach, Sinks, page_on, sight}
-use Rattle.vm_kernel.specs.Matches.{IsOverOwn}
+use Rattle.vm_kernel.proofs.Common.{Below, Comes, Event, Header, IsOverOwn, IsTop, List, None, Reach, Sinks, ap, arith, backing_of, false, in_use, live_control, page_on, refl, region_of, sight, suc, sym, true, zero, ℕ, ◌∙◌, ◌≡◌}
 
 -- a page of a region has one place
 pub top_of : (header : Header) (past : List Event) (r o p index address_page : ℕ) → IsOverOwn (region_of header r past) r → o ≡ r → p ≡ address_page → index ≡ address_page → IsTop (region_of header r past) index o p

@@ -1,24 +1,7 @@
 -- The frames that returns hold, once a page has left its frame.
-use Rattle.std.proofs.Common.{◌≡◌, ℕ, ◌+◌, ◌<◌, ◌≤◌, ◌==◌, Bool, true, false, List, [], ◌∷◌, ◌++◌, length, get_or, set, refl, ap, sym, ◌∙◌, subst, arith, Some, None, inl, inr, length-append}
-use Rattle.std.proofs.lemmas.Bool.Decides.{eqb_tells, nat_tests}
-use Rattle.std.proofs.lemmas.List.{get_or-set_other}
-use Rattle.std.proofs.lemmas.List.Elements.{All-append, All-cons, All-head, All-nil, All-tail}
-use Rattle.std.specs.Prelude.{All, ◌||◌}
-use Rattle.vm_base.specs.declared.ids.FrameNo.{FrameNo}
-use Rattle.vm_base.specs.declared.ids.PageKey.{PageKey}
-use Rattle.vm_frames.proofs.Spares.{count_released}
-use Rattle.vm_frames.specs.Frames.{FrameTable, claimed, count_claims, frame_count, is_claimed}
-use Rattle.vm_pageout.specs.Laundry.{LaundryList}
-use Rattle.vm_queues.specs.Queues.{is_skipped}
-use Rattle.vm_resident.specs.Resident.{ResidentTable, owner_of}
-use Rattle.vm_kernel.specs.Matches.{EachApart, HasLaundry, IsWashed}
-use Rattle.vm_frames.proofs.Spares.{count_released}
+use Rattle.vm_kernel.proofs.Common.{All, All-append, All-cons, All-head, All-nil, All-tail, Bool, Changes, EachApart, FrameNo, FrameTable, HasLaundry, HostParts, IsWashed, LaundryList, List, None, PageKey, PageRow, Queues, ResidentTable, Some, [], ap, arith, claimed, count_claims, count_released, eqb_tells, false, frame_count, get_or, get_or-set_other, if_true, inl, inr, is_claimed, is_skipped, length, length-append, nat_tests, owner_of, refl, set, subst, sym, true, ℕ, ◌++◌, ◌+◌, ◌<◌, ◌==◌, ◌∙◌, ◌∷◌, ◌≡◌, ◌≤◌}
+use Rattle.std.specs.Prelude.{◌||◌}
 use Rattle.vm_kernel.proofs.Pages.{laundry_changed}
-use Rattle.vm_parts.specs.Changes.{Changes}
-use Rattle.vm_parts.specs.declared.parts.HostParts.{HostParts}
-use Rattle.vm_queues.specs.Queues.{Queues}
-use Rattle.vm_resident.specs.declared.page_row.PageRow.{PageRow}
-use Rattle.vm_parts.proofs.Rows.{if_true}
 
 -- a frame that is held is one of those that are claimed, and no page's
 pub washed_at : (fs : FrameTable) (rs : ResidentTable) (held : List FrameNo) (g : ℕ) → All (IsWashed fs rs) held → is_skipped held g ≡ true → IsWashed fs rs (record { 0 = g })

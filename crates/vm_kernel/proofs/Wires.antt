@@ -1,33 +1,11 @@
 -- Frames are wired, or wired no more.
-use Rattle.std.proofs.Common.{◌≡◌, nat_le, nat_lt, ℕ, ◌+◌, ◌-◌, ◌≤◌, Bool, true, false, List, [], ◌∷◌, refl, ap, sym, ◌∙◌, subst, arith, Some, None, Option}
-use Rattle.std.proofs.lemmas.Bool.Decides.{nat_tests}
-use Rattle.std.specs.Prelude.{All, if◌then◌else◌, reverse, slice_get}
+use Rattle.vm_kernel.proofs.Common.{All, Bool, ChainTable, Command, Event, Fit, FrameNo, FrameTable, HasFrames, HasLaundry, HasPages, Header, HostParts, Ids, IsDone, IsWashed, LaundryList, List, Local, None, ObjectTable, Option, Outside, PageRow, Parts, Ran, ResidentTable, Rests, Some, Starts, [], absent_at, ap, arith, claimed, false, frame_count, frames_free, frames_held, frames_wired, free, head, host_id, if◌then◌else◌, local, local_of_row, nat_le, nat_tests, place_of, refl, returns_out, reverse, row_at, slice_get, subst, sym, true, ℕ, ◌+◌, ◌-◌, ◌∙◌, ◌∷◌, ◌≡◌, ◌≤◌}
+use Rattle.std.proofs.Common.{nat_lt}
 use Rattle.vm_base.specs.declared.code.Code.TheVariants as code
-use Rattle.vm_base.specs.declared.ids.FrameNo.{FrameNo}
-use Rattle.vm_model.specs.declared.event.Event.{Event}
 use Rattle.vm_model.specs.declared.event.Event.TheVariants as event
-use Rattle.vm_model.specs.declared.command.Command.{Command}
 use Rattle.vm_model.specs.declared.command.Command.TheVariants as command
-use Rattle.vm_model.specs.declared.script.Header.{Header}
-use Rattle.vm_legal.specs.Follows.{IsDone, head}
-use Rattle.vm_legal.specs.Outside.{Outside}
-use Rattle.vm_legal.specs.Frames.{frames_free, frames_held, frames_wired, returns_out}
-use Rattle.vm_model.specs.Local.{Local, local}
-use Rattle.vm_frames.specs.Frames.{FrameTable, claimed, frame_count, free}
-use Rattle.vm_objects.specs.Objects.{ObjectTable, absent_at}
-use Rattle.vm_pageout.specs.Laundry.{LaundryList}
-use Rattle.vm_parts.specs.Fits.{Fit}
-use Rattle.vm_resident.specs.Resident.{ResidentTable, row_at}
-use Rattle.vm_resident.specs.declared.page_row.PageRow.{PageRow}
-use Rattle.vm_shadow.specs.Chains.{ChainTable}
-use Rattle.vm_shadow.specs.declared.ids.Ids.{Ids}
-use Rattle.vm_kernel.specs.Begun.{Ran, Starts}
-use Rattle.vm_kernel.specs.Matches.{HasFrames, HasLaundry, HasPages, IsWashed, Rests, host_id}
-use Rattle.vm_kernel.specs.Places.{local_of_row, place_of}
-use Rattle.vm_kernel.specs.declared.parts.Parts.{Parts}
 use Rattle.vm_kernel.proofs.Growing.{free_is, suffices}
 use Rattle.vm_kernel.proofs.Heads.{heads_one, passed, ran_head}
-use Rattle.vm_parts.specs.declared.parts.HostParts.{HostParts}
 use Rattle.vm_kernel.proofs.Own.{named_host, own_host}
 use Rattle.vm_kernel.proofs.Mine.{own_named}
 

@@ -25,7 +25,7 @@ use Rattle.vm_kernel.specs.Built.{copies_entries}
 use Rattle.vm_kernel.specs.Matches.{HasOrder, HasWaits, Matches, Rests, host_id}
 use Rattle.vm_kernel.specs.Serving.{HasQueue}
 use Rattle.vm_supply.specs.declared.woken.Woken.TheVariants as woken
-use Rattle.vm_waits.specs.Waits.{again}
+use Rattle.vm_waits.specs.Waits.{count_again}
 use Rattle.vm_base.specs.declared.entry.Entry.{Entry}
 use Rattle.vm_base.specs.declared.ids.ObjectId.{ObjectId}
 use Rattle.vm_base.specs.declared.ids.PageNo.{PageNo}
@@ -159,7 +159,7 @@ pub record IsInStep (header : Header) (h : ℕ) (outside : Outside) (doing : Com
   pub matches : Matches header h k ids gone (events ++ past)
   pub waits : HasWaits k woken.Nobody (events ++ past)
   pub order : HasOrder k (events ++ past)
-  pub idle : again k.waits.rows ≡ 0
+  pub idle : count_again k.waits.rows ≡ 0
   pub grows : Grows header h outside doing past events
 
 -- events that follow from what stands in front of them, each with its cause and its bytes, within the frames

@@ -7,20 +7,20 @@ use Rattle.vm_model.specs.declared.script.Header.{Header}
 use Rattle.vm_model.specs.Tasks.{copies, entries_of}
 
 -- the commands that are built
-abbrev pub is_built : Command → Bool
-is_built (command.Task task host) = true
-is_built (command.Fork task child) = true
-is_built (command.Exit task) = true
-is_built (command.Allocate task address bytes) = true
-is_built (command.Deallocate task address bytes) = true
-is_built (command.Protect task address bytes prot) = true
-is_built (command.Inherit task address bytes inherit) = true
-is_built (command.Load task address size) = true
-is_built (command.Store task address size value) = true
-is_built (command.Pageout host count) = true
-is_built (command.Wire host count) = true
-is_built (command.Unwire host count) = true
-is_built other = false
+abbrev pub kernel_runs : Command → Bool
+kernel_runs (command.Task task host) = true
+kernel_runs (command.Fork task child) = true
+kernel_runs (command.Exit task) = true
+kernel_runs (command.Allocate task address bytes) = true
+kernel_runs (command.Deallocate task address bytes) = true
+kernel_runs (command.Protect task address bytes prot) = true
+kernel_runs (command.Inherit task address bytes inherit) = true
+kernel_runs (command.Load task address size) = true
+kernel_runs (command.Store task address size value) = true
+kernel_runs (command.Pageout host count) = true
+kernel_runs (command.Wire host count) = true
+kernel_runs (command.Unwire host count) = true
+kernel_runs other = false
 
 -- A fork that would copy entries can't be run yet.
 abbrev pub copies_entries : Header → List Event → Command → Bool

@@ -1,7 +1,6 @@
 -- What the steps of a kernel's calls do to its parts.
 use Rattle.std.specs.Prelude.{ℕ, ◌≡◌, true, false, List, ◌∷◌, Some, None}
 use Rattle.vm_base.specs.declared.entry.Entry.{Entry}
-use Rattle.vm_base.specs.declared.ids.Access.{Access}
 use Rattle.vm_base.specs.declared.ids.FrameNo.{FrameNo}
 use Rattle.vm_base.specs.declared.ids.Inherit.{Inherit}
 use Rattle.vm_base.specs.declared.ids.Inherit.TheVariants.{Copy, Never}
@@ -10,10 +9,8 @@ use Rattle.vm_base.specs.declared.ids.ObjectKind.TheVariants.{Temp}
 use Rattle.vm_base.specs.declared.ids.PageKey.{PageKey}
 use Rattle.vm_base.specs.declared.ids.Prot.{Prot}
 use Rattle.vm_base.specs.declared.ids.RegionId.{RegionId}
-use Rattle.vm_base.specs.Entries.{allows, entry_at}
 use Rattle.vm_model.specs.declared.event.Event.{Event}
 use Rattle.vm_model.specs.declared.event.Event.TheVariants as event
-use Rattle.vm_maps.specs.Maps.{Mapped, entries_in, rows_in}
 use Rattle.vm_maps.specs.declared.change.MapChange.{MapChange}
 use Rattle.vm_maps.specs.declared.change.MapKind.TheVariants as kind
 use Rattle.vm_objects.specs.Objects.{PutsObject, SameMarks}
@@ -37,7 +34,7 @@ pub record SamePlan (old new : Parts) : Type 0 where
   pub waits : new.waits ≡ old.waits
 
 -- a page of zeros has come into a frame that was free
-pub record Brought (key : PageKey) (frame : FrameNo) (old new : Parts) : Type 0 where
+pub record BringsZeros (key : PageKey) (frame : FrameNo) (old new : Parts) : Type 0 where
   pub plan : SamePlan old new
   pub fits : PartsFit new
   pub page : Brings key frame old.memory new.memory
@@ -53,7 +50,7 @@ abbrev pub zeroed : PageKey → Parts → Event
 zeroed key k = event.Zeroed k.host key.object key.page
 
 -- the number of the access stands in the page, which is changed now
-pub record Wrote (key : PageKey) (frame : FrameNo) (bytes : List ℕ) (old new : Parts) : Type 0 where
+pub record WritesNumber (key : PageKey) (frame : FrameNo) (bytes : List ℕ) (old new : Parts) : Type 0 where
   pub plan : SamePlan old new
   pub fits : PartsFit new
   pub row : PageRow
@@ -61,7 +58,7 @@ pub record Wrote (key : PageKey) (frame : FrameNo) (bytes : List ℕ) (old new :
   pub page : Writes key row bytes old.memory new.memory
 
 -- a page has gone, and that was told
-pub record Lost (key : PageKey) (old new : Parts) (before after : List Event) : Type 0 where
+pub record DropsPage (key : PageKey) (old new : Parts) (before after : List Event) : Type 0 where
   pub plan : SamePlan old new
   pub fits : PartsFit new
   pub row : PageRow
@@ -80,13 +77,6 @@ pub record MadeRange (region : RegionId) (object : ObjectId) (pages : ℕ) (old 
   pub region_row : PutsRegion region.0 (Some (record { top = object; shift = 0; pages = pages; marked = false; entries = 1 })) old.chains new.chains
   pub object_row : PutsObject object.0 (Some (record { kind = Temp; pages = pages; state = Without; control = 0; live = false; references = 1 })) old.memory.objects new.memory.objects
   pub marks : SameMarks old.memory.objects new.memory.objects
-
--- a task has an entry that holds the address, and allows the access
-pub record IsAllowed (maps : Mapped) (task address : ℕ) (need : Access) : Type 0 where
-  pub entry : Entry
-  pub lives : entries_in task maps ≡ Some (rows_in task maps)
-  pub found : entry_at address (rows_in task maps) ≡ Some entry
-  pub allowed : allows need entry.prot ≡ true
 
 -- an entry on the whole of a region: readable, writable, and copied by a fork
 abbrev pub whole_entry : ℕ → ℕ → RegionId → Entry

@@ -15,5 +15,5 @@ count_by zero region maps = 0
 count_by (suc task) region maps = count_on region (rows_in task maps) + count_by task region maps
 
 -- every task has a number below this
-unfoldable pub most_tasks : ℕ
-most_tasks = task_limit
+unfoldable pub all_tasks : ℕ
+all_tasks = task_limit

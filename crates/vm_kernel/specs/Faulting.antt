@@ -9,7 +9,7 @@ use Rattle.vm_model.specs.declared.event.Event.{Event}
 use Rattle.vm_model.specs.declared.event.Event.TheVariants as event
 use Rattle.vm_model.specs.declared.message.Channel.TheVariants.{Up}
 use Rattle.vm_model.specs.declared.message.Message.TheVariants as message
-use Rattle.vm_legal.specs.Licences.{access_number}
+use Rattle.vm_legal.specs.Licences.{desired_access}
 use Rattle.vm_frames.specs.Frames.{free, page_in}
 use Rattle.vm_objects.specs.Objects.{absent_at, object_at}
 use Rattle.vm_objects.specs.declared.row.ObjectRow.{ObjectRow}
@@ -20,9 +20,11 @@ use Rattle.vm_queues.specs.Queues.{KeepsPages, with_reference}
 use Rattle.vm_resident.specs.Resident.{row_at}
 use Rattle.vm_waits.specs.declared.waiting.Want.{Want}
 use Rattle.vm_waits.specs.declared.waiting.Want.TheVariants as want
-use Rattle.vm_kernel.specs.Changes.{Brought, IsAllowed, IsHere, SamePlan, Wrote, zeroed}
+use Rattle.vm_kernel.specs.Changes.{BringsZeros, IsHere, SamePlan, WritesNumber, zeroed}
+use Rattle.vm_maps.specs.Judge.{IsAllowed}
 use Rattle.vm_kernel.specs.Fits.{PartsFit}
-use Rattle.vm_kernel.specs.Waiters.{IsAsked, IsAt, IsSizedWant, IsTold, access_in, address_in, need_in}
+use Rattle.vm_kernel.specs.Waiters.{IsAsked, IsAt, IsPagerTold, access_in}
+use Rattle.vm_waits.specs.Wants.{IsSizedWant, address_in, need_in}
 use Rattle.vm_kernel.specs.declared.parts.Parts.{Parts}
 use Rattle.vm_kernel.specs.declared.steps.FaultStep.{FaultStep}
 use Rattle.vm_kernel.specs.declared.steps.FaultStep.TheVariants as step
@@ -74,12 +76,12 @@ abbrev pub Hits : TaskId → Want → PageKey → FrameNo → ℕ → Parts → 
 Hits task (want.Load address size) key frame at old new before after =
     (value : ℕ) × (value ≡ little_endian (slice_range (page_in old.memory.frames frame.0) at (at + size))) × MarksReferenced frame old new × (after ≡ event.Loaded task key.object key.page value ∷ before)
 Hits task (want.Store address size value) key frame at old new before after =
-    (mid : Parts) × Wrote key frame (with_bytes at (little_endian_bytes size value) (page_in old.memory.frames frame.0)) old mid × MarksReferenced frame mid new × (after ≡ event.Stored task key.object key.page at size value ∷ before)
+    (mid : Parts) × WritesNumber key frame (with_bytes at (little_endian_bytes size value) (page_in old.memory.frames frame.0)) old mid × MarksReferenced frame mid new × (after ≡ event.Stored task key.object key.page at size value ∷ before)
 
 -- an access ends: its page was here, or came as zeros
 pub data Ended (task : TaskId) (what : Want) (key : PageKey) (at : ℕ) (old new : Parts) (before after : List Event) : Type 0 where
   AtOnce : (frame : FrameNo) → IsHere key frame old → Hits task what key frame at old new before after → Ended task what key at old new before after
-  AfterZeros : (frame : FrameNo) → (mid : Parts) → IsUnavailable key old → Brought key frame old mid → Hits task what key frame at mid new (zeroed key old ∷ before) after → Ended task what key at old new before after
+  AfterZeros : (frame : FrameNo) → (mid : Parts) → IsUnavailable key old → BringsZeros key frame old mid → Hits task what key frame at mid new (zeroed key old ∷ before) after → Ended task what key at old new before after
 
 -- a frame is wanted: the page isn't here, its pager may be asked for it or has none, and no frame is free or may be claimed
 pub record WantsOne (key : PageKey) (may_claim : Bool) (k : Parts) : Type 0 where
@@ -95,8 +97,8 @@ pub record NothingChanges (old new : Parts) (before after : List Event) : Type 0
 -- what running an access comes to, and what it changes
 abbrev pub Faults : TaskId → Want → Bool → PageKey → FaultStep → Parts → Parts → List Event → List Event → Type 0
 Faults task what may_claim key step.Done old new before after = Ended task what key (address_in what % old.size) old new before after
-Faults task what may_claim key (step.Ask asked) old new before after = (asked ≡ key) × RequestsPage key (access_number (access_in what) 0) old new before after
-Faults task what may_claim key (step.WaitReady object) old new before after = (object ≡ key.object) × IsTold old.memory.objects key.object.0 × NothingChanges old new before after × (row_at old.memory.resident key.object.0 key.page.0 ≡ None)
+Faults task what may_claim key (step.Ask asked) old new before after = (asked ≡ key) × RequestsPage key (desired_access (access_in what) 0) old new before after
+Faults task what may_claim key (step.WaitReady object) old new before after = (object ≡ key.object) × IsPagerTold old.memory.objects key.object.0 × NothingChanges old new before after × (row_at old.memory.resident key.object.0 key.page.0 ≡ None)
 Faults task what may_claim key (step.WaitAnswer asked) old new before after = (asked ≡ key) × IsAsked old.memory.resident key.object.0 key.page.0 × NothingChanges old new before after
 Faults task what may_claim key step.NeedFrame old new before after = WantsOne key may_claim old × NothingChanges old new before after
 

@@ -16,7 +16,7 @@ use Rattle.vm_maps.specs.Maps.{ChangesOnly, entries_in, rows_in}
 use Rattle.vm_shadow.specs.declared.ids.Ids.{Ids}
 use Rattle.vm_kernel.specs.Changes.{entering}
 use Rattle.vm_supply.specs.declared.woken.Woken.TheVariants as woken
-use Rattle.vm_waits.specs.Waits.{again}
+use Rattle.vm_waits.specs.Waits.{count_again}
 use Rattle.vm_kernel.specs.Matches.{AllReached, AllUsed, HasOrder, HasWaits, Matches, host_id}
 use Rattle.vm_kernel.specs.Places.{has_region, region_entries}
 use Rattle.vm_kernel.specs.Sweeping.{PutsEntries}
@@ -57,7 +57,7 @@ pub record HasForked (header : Header) (h : ℕ) (outside : Outside) (task child
   pub reached : AllReached k.chains k.memory.objects
   pub waits : HasWaits k woken.Nobody (events ++ past)
   pub order : HasOrder k (events ++ past)
-  pub idle : again k.waits.rows ≡ 0
+  pub idle : count_again k.waits.rows ≡ 0
   pub others : entries_in task.0 k.maps ≡ Some rows
   pub own : entries_in child.0 k.maps ≡ Some (shared (take count rows))
   pub told : events ≡ with_child h child (shared (take count rows))

@@ -13,14 +13,15 @@ use Rattle.vm_model.specs.Ranges.{IsBetween}
 use Rattle.vm_model.specs.Local.{Local, is_on, local}
 use Rattle.vm_model.specs.Regions.{Backing, Region, backing_of, next_object, next_region, region_of}
 use Rattle.vm_model.specs.Rows.{AllRows, Inside}
-use Rattle.vm_model.specs.Tasks.{entries_of, has_entry, host_of}
-use Rattle.vm_model.specs.Waiting.{copy_target, fills, waiting}
+use Rattle.vm_model.specs.Tasks.{entries_of, host_of}
+use Rattle.vm_model.specs.Waiting.{waiting}
 use Rattle.vm_legal.specs.Accesses.{begun_at, is_ready}
 use Rattle.vm_legal.specs.Frames.{frames_held, frames_wired, returns_out}
 use Rattle.vm_legal.specs.Licences.{created}
 use Rattle.vm_legal.specs.Living.{tasks as made_tasks}
 use Rattle.vm_legal.specs.Used.{in_use}
 use Rattle.vm_abroad.specs.Home.{AreHomeless, home_of}
+use Rattle.vm_abroad.specs.Sound.{holds}
 use Rattle.vm_abroad.specs.Whose.{IsShut}
 use Rattle.vm_frames.specs.Frames.{FrameTable, claimed, frame_count, is_claimed}
 use Rattle.vm_pageout.specs.Laundry.{LaundryList}
@@ -28,7 +29,7 @@ use Rattle.vm_parts.specs.Controls.{AllLive, HasNumbers}
 use Rattle.vm_queues.specs.Queues.{is_skipped}
 use Rattle.vm_supply.specs.declared.woken.Woken.{Woken}
 use Rattle.vm_supply.specs.declared.woken.Woken.TheVariants as woken
-use Rattle.vm_waits.specs.Waits.{again}
+use Rattle.vm_waits.specs.Waits.{count_again}
 use Rattle.vm_kernel.specs.Pagers.{has_pager, last_in, live_in, ready_in}
 use Rattle.vm_kernel.specs.Waiters.{BeganInOrder, HasWaiters}
 use Rattle.vm_maps.specs.Maps.{Mapped, entries_in, rows_in}
@@ -40,7 +41,7 @@ use Rattle.vm_resident.specs.declared.page_row.PageRow.{PageRow}
 use Rattle.vm_shadow.specs.Chains.{ChainTable, region_at}
 use Rattle.vm_shadow.specs.declared.ids.Ids.{Ids}
 use Rattle.vm_shadow.specs.declared.region_row.RegionRow.{RegionRow}
-use Rattle.vm_kernel.specs.Counts.{count_by, count_on, most_tasks}
+use Rattle.vm_kernel.specs.Counts.{all_tasks, count_by, count_on}
 use Rattle.vm_kernel.specs.Fits.{PartsFit}
 use Rattle.vm_kernel.specs.Places.{has_region, local_of_row, place_of, region_pages}
 use Rattle.vm_kernel.specs.declared.parts.Parts.{Parts}
@@ -102,16 +103,16 @@ pub record IsInside (size : ℕ) (chains : ChainTable) (row : Entry) : Type 0 wh
   pub below : row.address + row.bytes ≤ 2 ^ 32
   pub inside : Inside size (region_pages chains row.region.0) row
 
-abbrev pub AllInside : ℕ → ChainTable → List Entry → Type 0
-AllInside size chains rows = AllRows (IsInside size chains) rows
+abbrev pub AllEntriesInside : ℕ → ChainTable → List Entry → Type 0
+AllEntriesInside size chains rows = AllRows (IsInside size chains) rows
 
 -- the entries lie within their regions, and each region counts its own, and some that have just gone
 pub record HasEntries (size : ℕ) (maps : Mapped) (chains : ChainTable) (lost : List Entry) : Type 0 where
-  pub inside : (task : ℕ) → AllInside size chains (rows_in task maps)
+  pub inside : (task : ℕ) → AllEntriesInside size chains (rows_in task maps)
   pub known : AllRows (λ row. has_region chains row.region.0 ≡ true) lost
-  pub most : (task : ℕ) → most_tasks ≤ task → entries_in task maps ≡ None
+  pub most : (task : ℕ) → all_tasks ≤ task → entries_in task maps ≡ None
   pub few : (task : ℕ) → length (rows_in task maps) ≤ most_entries
-  pub counts : (r : ℕ) (row : RegionRow) → region_at chains r ≡ Some row → row.entries ≡ count_by most_tasks r maps + count_on r lost
+  pub counts : (r : ℕ) (row : RegionRow) → region_at chains r ≡ Some row → row.entries ≡ count_by all_tasks r maps + count_on r lost
 
 -- the pages that are here
 pub record HasPages (frames : FrameTable) (resident : ResidentTable) (objects : ObjectTable) (chains : ChainTable) (local_at : ℕ → ℕ → Local) : Type 0 where
@@ -123,14 +124,10 @@ abbrev pub is_among : ℕ → List ℕ → Bool
 is_among n [] = false
 is_among n (m ∷ more) = m == n || is_among n more
 
--- the task has an entry on the region, or fills it by a slow copy
-abbrev pub holds : ℕ → ℕ → ℕ → List Event → Bool
-holds size task region past = has_entry region (entries_of size task past) || fills region (waiting task past) (copy_target task past)
-
 -- The regions in use are those on which some task here has an entry; all tasks that live here were made. Tasks elsewhere hold none of these regions,
 -- and none that isn't made yet.
 pub record HasUse (maps : Mapped) (used_at : ℕ → Bool) (made : List ℕ) (held_at : ℕ → ℕ → Bool) (regions_made : ℕ) : Type 0 where
-  pub used : (r : ℕ) → used_at r ≡ nat_lt 0 (count_by most_tasks r maps)
+  pub used : (r : ℕ) → used_at r ≡ nat_lt 0 (count_by all_tasks r maps)
   pub among : (task : ℕ) (rows : List Entry) → entries_in task maps ≡ Some rows → is_among task made ≡ true
   pub apart : (task r : ℕ) → entries_in task maps ≡ None → (used_at r ≡ true) ⊎ (regions_made ≤ r) → held_at task r ≡ false
 
@@ -222,4 +219,4 @@ pub record Rests (header : Header) (h : ℕ) (k : Parts) (ids : Ids) (past : Lis
   pub reached : AllReached k.chains k.memory.objects
   pub waits : HasWaits k woken.Nobody past
   pub order : HasOrder k past
-  pub idle : again k.waits.rows ≡ 0
+  pub idle : count_again k.waits.rows ≡ 0

@@ -9,10 +9,10 @@ use Rattle.vm_model.specs.declared.message.Message.TheVariants as message
 use Rattle.vm_model.specs.declared.script.Header.{Header}
 use Rattle.vm_legal.specs.Used.{in_use}
 use Rattle.vm_pageout.specs.Reclaims.{queues_after_search}
-use Rattle.vm_queues.specs.Queues.{Queues, added, is_queued, removed, victim_frame, with_reference}
+use Rattle.vm_queues.specs.Queues.{Queues, added, is_queued, queues_except, victim_frame, with_reference}
 use Rattle.vm_resident.specs.Resident.{row_at}
 use Rattle.vm_resident.specs.declared.page_row.PageRow.{PageRow}
-use Rattle.vm_supply.specs.Answers.{Outcome, Supplied}
+use Rattle.vm_supply.specs.Answers.{AnswerOutcome, Supplied}
 use Rattle.vm_kernel.specs.declared.parts.Parts.{Parts}
 
 -- the frame of each page that is here, and the lists of these frames
@@ -30,8 +30,8 @@ abbrev pub paging : Parts → Paging
 paging k = record { frame_at = λ o p. frame_here (row_at k.memory.resident o p); queues = k.memory.queues }
 
 -- one page is in this frame now, or not here, and each other page where it was
-abbrev pub with_frame : ℕ → ℕ → Option FrameNo → (ℕ → ℕ → Option FrameNo) → ℕ → ℕ → Option FrameNo
-with_frame object page frame was = λ o p. if object == o && page == p then frame else was o p
+abbrev pub places_with_frame : ℕ → ℕ → Option FrameNo → (ℕ → ℕ → Option FrameNo) → ℕ → ℕ → Option FrameNo
+places_with_frame object page frame was = λ o p. if object == o && page == p then frame else was o p
 
 -- a page that is here is marked as referenced
 pub record Marks (object page : ℕ) (old new : Paging) : Type 0 where
@@ -44,13 +44,13 @@ pub record Arrives (object page : ℕ) (old new : Paging) : Type 0 where
   pub frame : FrameNo
   pub absent : old.frame_at object page ≡ None
   pub unlisted : is_queued old.queues frame.0 ≡ false
-  pub is : new ≡ record { frame_at = with_frame object page (Some frame) old.frame_at; queues = added frame.0 old.queues }
+  pub is : new ≡ record { frame_at = places_with_frame object page (Some frame) old.frame_at; queues = added frame.0 old.queues }
 
 -- a page that is here has gone, and its frame is off the lists
 pub record Departs (object page : ℕ) (lists : Queues) (old new : Paging) : Type 0 where
   pub frame : FrameNo
   pub here : old.frame_at object page ≡ Some frame
-  pub is : new ≡ record { frame_at = with_frame object page None old.frame_at; queues = removed frame.0 lists }
+  pub is : new ≡ record { frame_at = places_with_frame object page None old.frame_at; queues = queues_except frame.0 lists }
 
 -- the page that has gone is the victim: the one that the lists choose, with none skipped
 pub record IsVictim (object page : ℕ) (old new : Paging) : Type 0 where
@@ -77,12 +77,12 @@ pub data Plays (header : Header) (past before : List Event) (old : Paging) : Lis
   Then : (e : Event) (events : List Event) (mid new : Paging) → Plays header past before old events mid → Does header (events ++ past) e mid new → Plays header past before old (e ∷ events) new
 
 -- a page that an answer supplies has come; no other answer does anything to the lists
-abbrev pub AnswerBrings : ObjectId → Outcome → Paging → Paging → Type 0
+abbrev pub AnswerBrings : ObjectId → AnswerOutcome → Paging → Paging → Type 0
 AnswerBrings object (Supplied page lock precious bytes) old new = Arrives object.0 page.0 old new
 AnswerBrings object other old new = new ≡ old
 
 -- an answer was heard, and the events followed
-pub record PlaysAnswer (header : Header) (past : List Event) (object : ObjectId) (outcome : Outcome) (old : Paging) (events : List Event) (new : Paging) : Type 0 where
+pub record PlaysAnswer (header : Header) (past : List Event) (object : ObjectId) (outcome : AnswerOutcome) (old : Paging) (events : List Event) (new : Paging) : Type 0 where
   pub heard : Paging
   pub brings : AnswerBrings object outcome old heard
   pub plays : Plays header past [] heard events new

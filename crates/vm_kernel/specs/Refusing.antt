@@ -11,7 +11,7 @@ use Rattle.vm_model.specs.declared.command.Command.{Command}
 use Rattle.vm_model.specs.declared.command.Command.TheVariants as command
 use Rattle.vm_model.specs.declared.event.Event.{Event}
 use Rattle.vm_model.specs.Tasks.{copies, host_of, sources}
-use Rattle.vm_legal.specs.Refusal.{access_refusal, where_true}
+use Rattle.vm_legal.specs.Refusal.{access_refusal, code_where}
 use Rattle.vm_frames.specs.Frames.{free}
 use Rattle.vm_maps.specs.declared.change.MapChange.{MapChange}
 use Rattle.vm_maps.specs.Judge.{judged}
@@ -28,22 +28,22 @@ takes_name other past = false
 
 -- a task of the host that has no access that waits does what later tests say
 abbrev pub acting_in : Parts → ℕ → Option Code → Option Code
-acting_in k task later = where_true (is_some (entry k.waits.rows task)) Blocked later
+acting_in k task later = code_where (is_some (entry k.waits.rows task)) Blocked later
 
 -- the code of an allocation of a task with these entries, where there are so many regions
 abbrev pub range_code : ℕ → List Entry → ℕ → ℕ → ℕ → Option Code
 range_code size rows count address bytes =
-    where_true (not (is_range size address bytes) || nat_lt most_pages (bytes / size)) InvalidArgument
-    (where_true (meets_range address bytes rows) NoSpace
-    (where_true (nat_lt most_entries (length rows + 1) || nat_le most_regions count) TableFull None))
+    code_where (not (is_range size address bytes) || nat_lt most_pages (bytes / size)) InvalidArgument
+    (code_where (meets_range address bytes rows) NoSpace
+    (code_where (nat_lt most_entries (length rows + 1) || nat_le most_regions count) TableFull None))
 
 -- the code of a fork of a task with these entries, where there are so many regions
 abbrev pub fork_code : List Entry → ℕ → Option Code
-fork_code rows count = where_true (nat_lt most_regions (count + copies rows + sources rows)) TableFull None
+fork_code rows count = code_where (nat_lt most_regions (count + copies rows + sources rows)) TableFull None
 
 -- the code of a load or store of so many bytes, of a task with these entries
 abbrev pub access_code : List Entry → ℕ → ℕ → Access → Option Code
-access_code rows address bytes what = where_true (not (address % bytes == 0)) InvalidArgument (access_refusal what (entry_at address rows))
+access_code rows address bytes what = code_where (not (address % bytes == 0)) InvalidArgument (access_refusal what (entry_at address rows))
 
 -- the code of a change of a task's entries
 abbrev pub change_code : Parts → ℕ → MapChange → Option Code
@@ -63,8 +63,8 @@ code_of k count (command.Exit task) = acting_in k task.0 None
 code_of k count (command.Allocate task address bytes) = acting_in k task.0 (range_code k.size (rows_in task.0 k.maps) count address bytes)
 code_of k count (command.Load task address size) = acting_in k task.0 (access_code (rows_in task.0 k.maps) address size need.Load)
 code_of k count (command.Store task address size value) = acting_in k task.0 (access_code (rows_in task.0 k.maps) address size need.Store)
-code_of k count (command.Wire host frames) = where_true (nat_lt (free k.memory.frames) frames) ResourceShortage None
-code_of k count (command.Unwire host frames) = where_true (nat_lt k.memory.frames.wired frames) InvalidArgument None
+code_of k count (command.Wire host frames) = code_where (nat_lt (free k.memory.frames) frames) ResourceShortage None
+code_of k count (command.Unwire host frames) = code_where (nat_lt k.memory.frames.wired frames) InvalidArgument None
 code_of k count other = changing_code k other
 
 -- The task of the command is in the maps, and an access is of some bytes.

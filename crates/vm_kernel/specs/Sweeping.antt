@@ -51,7 +51,7 @@ pub record Sweeps (header : Header) (h : ℕ) (outside : Outside) (doing : Comma
   pub reached : AllReached k.chains k.memory.objects
 
 -- a region has no entries left, and all others have some
-pub record Ends (header : Header) (h : ℕ) (outside : Outside) (doing : Command) (past : List Event) (k : Parts) (ids : Ids) (gone : List Entry) (region : ℕ) (events : List Event) : Type 0 where
+pub record EndsRegion (header : Header) (h : ℕ) (outside : Outside) (doing : Command) (past : List Event) (k : Parts) (ids : Ids) (gone : List Entry) (region : ℕ) (events : List Event) : Type 0 where
   pub runs : IsInStep header h outside doing past k ids gone events
   pub there : has_region k.chains region ≡ true
   pub none : region_entries k.chains region ≡ 0

@@ -7,7 +7,7 @@ use Rattle.vm_base.specs.declared.ids.TaskId.{TaskId}
 use Rattle.vm_legal.specs.Accesses.{Wants, begun_at}
 use Rattle.vm_legal.specs.Follows.{IsEnd}
 use Rattle.vm_legal.specs.Frames.{frames_free}
-use Rattle.vm_legal.specs.Licences.{access_number}
+use Rattle.vm_legal.specs.Licences.{desired_access}
 use Rattle.vm_legal.specs.Stretches.{EachOf}
 use Rattle.vm_model.specs.declared.event.Event.{Event}
 use Rattle.vm_model.specs.declared.event.Event.TheVariants as event
@@ -15,7 +15,7 @@ use Rattle.vm_model.specs.declared.message.Channel.TheVariants.{Up, Down}
 use Rattle.vm_model.specs.declared.message.Message.TheVariants as message
 use Rattle.vm_model.specs.declared.script.Header.{Header}
 use Rattle.vm_waits.specs.Kept.{EachListedOnce}
-use Rattle.vm_waits.specs.Waits.{WaitTable, entry, is_again, is_frame, is_listed, others}
+use Rattle.vm_waits.specs.Waits.{WaitTable, entry, is_again, is_frame, is_listed, queue_without}
 use Rattle.vm_waits.specs.declared.waiting.On.TheVariants as on
 use Rattle.vm_waits.specs.declared.waiting.Waiting.{Waiting}
 use Rattle.vm_kernel.specs.Waiters.{access_in}
@@ -73,7 +73,7 @@ pub data Did (rows : List Waiting) (earlier : ℕ → Type 0) (task : TaskId) : 
   ForZeros : (end : Event) → (host : HostId) → (key : PageKey) → IsEnd task.0 end → Did rows earlier task true (end ∷ event.Zeroed host key.object key.page ∷ [])
   ForAsked : (host : HostId) → (key : PageKey) → (control : ℕ) → (row : Waiting) → entry rows task.0 ≡ Some row → row.on ≡ on.Page key
       → ((t : ℕ) (w : Waiting) → earlier t → entry rows t ≡ Some w → w.on ≢ on.Page key)
-      → Did rows earlier task true (event.Sent (Up host key.object) (message.Request control key.page (access_number (access_in row.want) 0)) ∷ [])
+      → Did rows earlier task true (event.Sent (Up host key.object) (message.Request control key.page (desired_access (access_in row.want) 0)) ∷ [])
 
 -- Some accesses were run again, each once, in the order in which they began: from when on the next one began, the queue, and the events, which have the newest first.
 pub data Restarts (header : Header) (h : ℕ) (rows : List Waiting) (past : List Event) (old : List TaskId) : ℕ → List TaskId → List Event → Type 0 where
@@ -112,14 +112,14 @@ abbrev pub KeepsOthers : List TaskId → List Waiting → List Waiting → Type 
 KeepsOthers queue old new = (t : ℕ) → is_listed t queue ≡ false → entry new t ≡ entry old t
 
 -- nobody joined or left, and no access was run by what was added
-pub record Quiet (old new : List TaskId) (before after : List Event) : Type 0 where
+pub record QueueIsStill (old new : List TaskId) (before after : List Event) : Type 0 where
   pub queue : new ≡ old
   pub none : EachOf RunsNone before → EachOf RunsNone after
 
 -- where an access that was run stands then: if it wants a frame, it is where it was in the queue, or behind all others; if not, nowhere
 abbrev pub QueueAfter : Waiting → Bool → List TaskId → List TaskId → Type 0
 QueueAfter was true old new = new ≡ (if is_frame was.on then old else old ++ was.task ∷ [])
-QueueAfter was false old new = new ≡ others was.task.0 old
+QueueAfter was false old new = new ≡ queue_without was.task.0 old
 
 -- an access was run once: it claims no frame where it may not; if it wants one still, nothing has happened; it is not to be run again; and only its own row has changed
 pub record RunsOnce (was : Waiting) (may_claim wants : Bool) (old new : WaitTable) (before after : List Event) : Type 0 where

@@ -1,11 +1,8 @@
 -- The accesses that wait on a host, as its kernel keeps them, and what each waits for.
-use Rattle.std.specs.Prelude.{ℕ, suc, ◌+◌, ◌%◌, ◌^◌, ◌<◌, ◌≤◌, ◌≡◌, Bool, true, false, List, [], ◌∷◌, Option, Some, None, is_some}
+use Rattle.std.specs.Prelude.{ℕ, suc, ◌+◌, ◌≤◌, ◌≡◌, Bool, true, false, List, [], ◌∷◌, Option, Some, None, is_some}
 use Rattle.vm_base.specs.declared.entry.Entry.{Entry}
-use Rattle.vm_base.specs.declared.ids.Access.{Access as Need}
-use Rattle.vm_base.specs.declared.ids.Access.TheVariants as need
 use Rattle.vm_base.specs.declared.ids.PageKey.{PageKey}
 use Rattle.vm_base.specs.Entries.{entry_at, page_at}
-use Rattle.vm_base.specs.Pages.{IsAccessSize}
 use Rattle.vm_maps.specs.Maps.{Mapped, entries_in, rows_in}
 use Rattle.vm_model.specs.Waiting.{Access, Loading, Storing}
 use Rattle.vm_objects.specs.Objects.{ObjectTable, object_at}
@@ -18,28 +15,14 @@ use Rattle.vm_shadow.specs.declared.region_row.RegionRow.{RegionRow}
 use Rattle.vm_supply.specs.declared.woken.Woken.{Woken}
 use Rattle.vm_supply.specs.declared.woken.Woken.TheVariants as woken
 use Rattle.vm_waits.specs.Waits.{entry, woken_page, woken_ready}
+use Rattle.vm_waits.specs.Wants.{IsSizedWant, address_in, need_in}
 use Rattle.vm_waits.specs.declared.waiting.On.{On}
 use Rattle.vm_waits.specs.declared.waiting.On.TheVariants as on
 use Rattle.vm_waits.specs.declared.waiting.Waiting.{Waiting}
 use Rattle.vm_waits.specs.declared.waiting.Want.{Want}
 use Rattle.vm_waits.specs.declared.waiting.Want.TheVariants as want
-use Rattle.vm_kernel.specs.Changes.{IsAllowed}
+use Rattle.vm_maps.specs.Judge.{IsAllowed}
 use Rattle.vm_kernel.specs.Pagers.{ready_in}
-
--- the address of an access
-abbrev pub address_in : Want → ℕ
-address_in (want.Load address size) = address
-address_in (want.Store address size value) = address
-
--- its number of bytes
-abbrev pub want_size : Want → ℕ
-want_size (want.Load address size) = size
-want_size (want.Store address size value) = size
-
--- what it needs of its entry
-abbrev pub need_in : Want → Need
-need_in (want.Load address size) = need.Load
-need_in (want.Store address size value) = need.Store
 
 -- the access as the history has it
 abbrev pub access_in : Want → Access
@@ -49,11 +32,6 @@ access_in (want.Store address size value) = Storing address size value
 abbrev pub waiting_in : Option Waiting → Option Access
 waiting_in None = None
 waiting_in (Some w) = Some (access_in w.want)
-
--- an access is of a number of bytes that there may be, at a multiple of it
-abbrev pub IsSizedWant : Want → Type 0
-IsSizedWant (want.Load address size) = IsAccessSize size × (address % size ≡ 0)
-IsSizedWant (want.Store address size value) = IsAccessSize size × (address % size ≡ 0) × (value < 256 ^ size)
 
 -- the page that an access of a task is about, by its entry and region
 pub record IsAt (maps : Mapped) (chains : ChainTable) (task : ℕ) (what : Want) (key : PageKey) : Type 0 where
@@ -70,7 +48,7 @@ pub record IsAsked (resident : ResidentTable) (o p : ℕ) : Type 0 where
   pub away : row.here ≡ false
 
 -- the object's pager was told of it, and isn't ready
-pub record IsTold (objects : ObjectTable) (o : ℕ) : Type 0 where
+pub record IsPagerTold (objects : ObjectTable) (o : ℕ) : Type 0 where
   pub row : ObjectRow
   pub found : object_at objects o ≡ Some row
   pub sent : row.state ≡ state.Sent
@@ -78,7 +56,7 @@ pub record IsTold (objects : ObjectTable) (o : ℕ) : Type 0 where
 -- what holds while an access waits for this
 abbrev pub Reason : Mapped → ChainTable → ResidentTable → ObjectTable → ℕ → Want → On → Type 0
 Reason maps chains resident objects task what on.Again = Unit {0}
-Reason maps chains resident objects task what (on.Ready object) = (key : PageKey) × IsAt maps chains task what key × (key.object ≡ object) × IsTold objects object.0
+Reason maps chains resident objects task what (on.Ready object) = (key : PageKey) × IsAt maps chains task what key × (key.object ≡ object) × IsPagerTold objects object.0
 Reason maps chains resident objects task what (on.Page key) = IsAt maps chains task what key × IsAsked resident key.object.0 key.page.0
 Reason maps chains resident objects task what on.Frame = Unit {0}
 

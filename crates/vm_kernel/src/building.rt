@@ -9,7 +9,7 @@ ghost use Rattle.vm_objects.specs.Objects.{object_at};
 ghost use Rattle.vm_shadow.specs.Chains.{region_at};
 ghost use Rattle.vm_kernel.specs.Matches.{host_id};
 ghost use Rattle.vm_kernel.specs.Plays.{Plays, paging};
-ghost use Rattle.vm_kernel.specs.Turns.{Quiet};
+ghost use Rattle.vm_kernel.specs.Turns.{QueueIsStill};
 
 use crate::parts::Parts;
 use vm_base::{Entry, Inherit, NoMemory, ObjectId, ObjectKind, Prot, RegionId, TaskId};
@@ -69,7 +69,7 @@ impl Parts {
         requires { Starts given.header given.host (command.Task task (host_id given.host)) given.past self.old ids.now log.old.items }
         ensures ran { OnOk result (Ran given.header given.host given.outside (command.Task task (host_id given.host)) given.past self.new ids.now log.new.items) }
         ensures plays { OnOk result (Plays given.header given.past log.old.items (paging self.old) log.new.items (paging self.new)) }
-        ensures quiet { OnOk result (Quiet self.old.waits.queue self.new.waits.queue log.old.items log.new.items) }
+        ensures quiet { OnOk result (QueueIsStill self.old.waits.queue self.new.waits.queue log.old.items log.new.items) }
     {
         self.maps.add_task(task)?;
         log.push(Event::TaskMade {
@@ -90,7 +90,7 @@ impl Parts {
         requires { Starts given.header given.host (command.Allocate task address bytes) given.past self.old ids.old log.old.items }
         ensures ran { OnOk result (Ran given.header given.host given.outside (command.Allocate task address bytes) given.past self.new ids.new log.new.items) }
         ensures plays { OnOk result (Plays given.header given.past log.old.items (paging self.old) log.new.items (paging self.new)) }
-        ensures quiet { OnOk result (Quiet self.old.waits.queue self.new.waits.queue log.old.items log.new.items) }
+        ensures quiet { OnOk result (QueueIsStill self.old.waits.queue self.new.waits.queue log.old.items log.new.items) }
     {
         let pages = (bytes / u64::from(self.size.bytes())) as u32;
         let region = RegionId(ids.next_region);
@@ -131,7 +131,7 @@ impl Parts {
         requires { Starts given.header given.host (command.Wire (host_id given.host) count) given.past self.old ids.now log.old.items }
         ensures ran { OnOk result (Ran given.header given.host given.outside (command.Wire (host_id given.host) count) given.past self.new ids.now log.new.items) }
         ensures plays { OnOk result (Plays given.header given.past log.old.items (paging self.old) log.new.items (paging self.new)) }
-        ensures quiet { OnOk result (Quiet self.old.waits.queue self.new.waits.queue log.old.items log.new.items) }
+        ensures quiet { OnOk result (QueueIsStill self.old.waits.queue self.new.waits.queue log.old.items log.new.items) }
     {
         let _ = self.memory.frames.wire(count);
         self.tell_wired(log)
@@ -142,7 +142,7 @@ impl Parts {
         requires { Starts given.header given.host (command.Unwire (host_id given.host) count) given.past self.old ids.now log.old.items }
         ensures ran { OnOk result (Ran given.header given.host given.outside (command.Unwire (host_id given.host) count) given.past self.new ids.now log.new.items) }
         ensures plays { OnOk result (Plays given.header given.past log.old.items (paging self.old) log.new.items (paging self.new)) }
-        ensures quiet { OnOk result (Quiet self.old.waits.queue self.new.waits.queue log.old.items log.new.items) }
+        ensures quiet { OnOk result (QueueIsStill self.old.waits.queue self.new.waits.queue log.old.items log.new.items) }
     {
         let _ = self.memory.frames.unwire(count);
         self.tell_wired(log)

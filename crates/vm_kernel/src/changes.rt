@@ -4,7 +4,7 @@ ghost use Rattle.vm_model.specs.declared.command.Command.TheVariants as command;
 ghost use Rattle.vm_kernel.specs.Begun.{Ran, Doing, Given, Starts};
 ghost use Rattle.vm_kernel.specs.Changes.{enter, inheritance, protection, removal};
 ghost use Rattle.vm_kernel.specs.Plays.{Plays, paging};
-ghost use Rattle.vm_kernel.specs.Turns.{Quiet};
+ghost use Rattle.vm_kernel.specs.Turns.{QueueIsStill};
 
 use crate::counting::{lower, raise};
 use crate::parts::Parts;
@@ -82,7 +82,7 @@ impl Parts {
         requires starts { Starts given.header given.host given.command given.past self.old ids.now log.old.items }
         ensures ran { OnOk result (Ran given.header given.host given.outside given.command given.past self.new ids.now log.new.items) }
         ensures plays { OnOk result (Plays given.header given.past log.old.items (paging self.old) log.new.items (paging self.new)) }
-        ensures quiet { OnOk result (Quiet self.old.waits.queue self.new.waits.queue log.old.items log.new.items) }
+        ensures quiet { OnOk result (QueueIsStill self.old.waits.queue self.new.waits.queue log.old.items log.new.items) }
     {
         let gone = self.maps.end_task(task);
         log.push(Event::TaskEnded { task })?;
@@ -103,7 +103,7 @@ impl Parts {
         requires starts { Starts given.header given.host given.command given.past self.old ids.now log.old.items }
         ensures ran { OnOk result (Ran given.header given.host given.outside given.command given.past self.new ids.now log.new.items) }
         ensures plays { OnOk result (Plays given.header given.past log.old.items (paging self.old) log.new.items (paging self.new)) }
-        ensures quiet { OnOk result (Quiet self.old.waits.queue self.new.waits.queue log.old.items log.new.items) }
+        ensures quiet { OnOk result (QueueIsStill self.old.waits.queue self.new.waits.queue log.old.items log.new.items) }
     {
         lower(&mut self.chains, self.maps.entries(task));
         let gone = self.maps.remove(task, &removal(address, bytes))?;
@@ -131,7 +131,7 @@ impl Parts {
         requires { Starts given.header given.host (command.Protect task address bytes prot) given.past self.old ids.now log.old.items }
         ensures ran { OnOk result (Ran given.header given.host given.outside (command.Protect task address bytes prot) given.past self.new ids.now log.new.items) }
         ensures plays { OnOk result (Plays given.header given.past log.old.items (paging self.old) log.new.items (paging self.new)) }
-        ensures quiet { OnOk result (Quiet self.old.waits.queue self.new.waits.queue log.old.items log.new.items) }
+        ensures quiet { OnOk result (QueueIsStill self.old.waits.queue self.new.waits.queue log.old.items log.new.items) }
     {
         lower(&mut self.chains, self.maps.entries(task));
         let _ = self.maps.protect(task, &protection(address, bytes, prot))?;
@@ -158,7 +158,7 @@ impl Parts {
         requires { Starts given.header given.host (command.Inherit task address bytes inherit) given.past self.old ids.now log.old.items }
         ensures ran { OnOk result (Ran given.header given.host given.outside (command.Inherit task address bytes inherit) given.past self.new ids.now log.new.items) }
         ensures plays { OnOk result (Plays given.header given.past log.old.items (paging self.old) log.new.items (paging self.new)) }
-        ensures quiet { OnOk result (Quiet self.old.waits.queue self.new.waits.queue log.old.items log.new.items) }
+        ensures quiet { OnOk result (QueueIsStill self.old.waits.queue self.new.waits.queue log.old.items log.new.items) }
     {
         lower(&mut self.chains, self.maps.entries(task));
         let _ = self

@@ -4,13 +4,13 @@ ghost use Rattle.vm_legal.specs.Reclaims.{PagesOut, Starves};
 ghost use Rattle.vm_model.specs.declared.command.Command.TheVariants as command;
 ghost use Rattle.vm_resident.specs.Resident.{row_at};
 ghost use Rattle.vm_kernel.specs.Begun.{Doing, LegalEvents, Ran, Starts};
-ghost use Rattle.vm_kernel.specs.Changes.{Lost};
+ghost use Rattle.vm_kernel.specs.Changes.{DropsPage};
 ghost use Rattle.vm_kernel.specs.Fits.{PartsFit};
 ghost use Rattle.vm_kernel.specs.Matches.{Rests, host_id};
 ghost use Rattle.vm_kernel.specs.Serving.{FreesOrReturns};
 ghost use Rattle.vm_kernel.specs.Taking.{EachGone};
 ghost use Rattle.vm_kernel.specs.Plays.{Plays, paging};
-ghost use Rattle.vm_kernel.specs.Turns.{Quiet};
+ghost use Rattle.vm_kernel.specs.Turns.{QueueIsStill};
 
 use crate::parts::Parts;
 use vm_base::{NoMemory, PageKey};
@@ -23,7 +23,7 @@ impl Parts {
     pub fn drop_page(&mut self, key: PageKey, log: &mut Events) -> Result<(), NoMemory>
         requires fits { PartsFit self.old }
         requires there { IsSomeAnd (row_at self.old.memory.resident key.object.0 key.page.0) (λ row. row.here ≡ true) }
-        ensures { OnOk result (Lost key self.old self.new log.old.items log.new.items) }
+        ensures { OnOk result (DropsPage key self.old self.new log.old.items log.new.items) }
     {
         self.memory.discard(key);
         log.push(Event::Dropped {
@@ -41,7 +41,7 @@ impl Parts {
         requires starts { Starts given.header given.host given.command given.past self.old ids.now log.old.items }
         ensures ran { OnOk result (Ran given.header given.host given.outside given.command given.past self.new ids.now log.new.items) }
         ensures plays { OnOk result (Plays given.header given.past log.old.items (paging self.old) log.new.items (paging self.new)) }
-        ensures quiet { OnOk result (Quiet self.old.waits.queue self.new.waits.queue log.old.items log.new.items) }
+        ensures quiet { OnOk result (QueueIsStill self.old.waits.queue self.new.waits.queue log.old.items log.new.items) }
     {
         'pages: for _ in 0..count {
             match self.reclaim(ids, log)? {

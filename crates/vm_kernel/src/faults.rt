@@ -4,18 +4,19 @@ ghost use Rattle.vm_base.specs.Entries.{entry_at};
 ghost use Rattle.vm_base.specs.Pages.{IsAccessSize, IsPageSize, little_endian, little_endian_bytes, with_bytes};
 ghost use Rattle.vm_base.specs.declared.entry.Entry.{Entry as Row};
 ghost use Rattle.vm_frames.specs.Frames.{free, is_claimed, page_in};
-ghost use Rattle.vm_legal.specs.Licences.{access_number};
-ghost use Rattle.vm_maps.specs.Judge.{place_at};
+ghost use Rattle.vm_legal.specs.Licences.{desired_access};
+ghost use Rattle.vm_maps.specs.Judge.{IsAllowed, place_at};
 ghost use Rattle.vm_maps.specs.Maps.{rows_in};
 ghost use Rattle.vm_shadow.specs.Chains.{region_at};
 ghost use Rattle.vm_parts.specs.Fits.{object_pages};
 ghost use Rattle.vm_objects.specs.Objects.{object_at};
 ghost use Rattle.vm_resident.specs.Resident.{row_at};
 ghost use Rattle.vm_model.specs.declared.event.Event.TheVariants as event;
-ghost use Rattle.vm_kernel.specs.Changes.{Brought, IsAllowed, IsHere, Wrote, zeroed};
+ghost use Rattle.vm_kernel.specs.Changes.{BringsZeros, IsHere, WritesNumber, zeroed};
 ghost use Rattle.vm_kernel.specs.Faulting.{CanFault, Faulted, Faults, Hits, IsAvailable, RequestsPage};
 ghost use Rattle.vm_kernel.specs.Fits.{PartsFit};
-ghost use Rattle.vm_kernel.specs.Waiters.{IsSizedWant, access_in, address_in, want_size};
+ghost use Rattle.vm_kernel.specs.Waiters.{access_in};
+ghost use Rattle.vm_waits.specs.Wants.{IsSizedWant, address_in, want_size};
 
 use crate::parts::Parts;
 use crate::steps::{FaultStep, access_number, address_of, need_of};
@@ -139,7 +140,7 @@ impl Parts {
         requires available { IsAvailable key control self.old }
         requires free { 0 < free self.old.memory.frames }
         requires room { 0 < self.old.memory.resident.spare }
-        ensures { OnOk result (RequestsPage key (access_number (access_in want) 0) self.old self.new log.old.items log.new.items) }
+        ensures { OnOk result (RequestsPage key (desired_access (access_in want) 0) self.old self.new log.old.items log.new.items) }
     {
         log.push(Event::Sent {
             channel: Channel::Up {
@@ -212,7 +213,7 @@ impl Parts {
         requires pages { key.page.0 < object_pages self.old.memory.objects key.object.0 }
         requires free { 0 < free self.old.memory.frames }
         requires room { 0 < self.old.memory.resident.spare }
-        ensures brought { IfOk result (λ frame. Brought key frame self.old self.new) }
+        ensures brought { IfOk result (λ frame. BringsZeros key frame self.old self.new) }
         ensures told { OnOk result (log.new.items ≡ zeroed key self.old ∷ log.old.items) }
     {
         log.push(Event::Zeroed {

@@ -5,7 +5,7 @@ ghost use Rattle.vm_model.specs.Tasks.{is_shared};
 ghost use Rattle.vm_kernel.specs.Begun.{Ran, Given, Starts};
 ghost use Rattle.vm_kernel.specs.Forking.{CanShare, Shares};
 ghost use Rattle.vm_kernel.specs.Plays.{Plays, paging};
-ghost use Rattle.vm_kernel.specs.Turns.{Quiet};
+ghost use Rattle.vm_kernel.specs.Turns.{QueueIsStill};
 
 use crate::building::{entered, entering};
 use crate::counting::{count_of, set_count};
@@ -36,7 +36,7 @@ impl Parts {
         requires { Starts given.header given.host (command.Fork task child) given.past self.old ids.now log.old.items }
         ensures ran { OnOk result (Ran given.header given.host given.outside (command.Fork task child) given.past self.new ids.now log.new.items) }
         ensures plays { OnOk result (Plays given.header given.past log.old.items (paging self.old) log.new.items (paging self.new)) }
-        ensures quiet { OnOk result (Quiet self.old.waits.queue self.new.waits.queue log.old.items log.new.items) }
+        ensures quiet { OnOk result (QueueIsStill self.old.waits.queue self.new.waits.queue log.old.items log.new.items) }
     {
         self.maps.add_task(child)?;
         log.push(Event::TaskMade {

@@ -10,7 +10,7 @@ ghost use Rattle.vm_model.specs.Ranges.{InRange};
 ghost use Rattle.vm_model.specs.Tasks.{entries_of, host_of};
 ghost use Rattle.vm_legal.specs.Refusal.{refusal};
 ghost use Rattle.vm_kernel.specs.Begun.{Doing, Given, IsLaundered, Passed, Passing, Ran, Served, Starts, acts_on};
-ghost use Rattle.vm_kernel.specs.Built.{copies_entries, is_built};
+ghost use Rattle.vm_kernel.specs.Built.{copies_entries, kernel_runs};
 ghost use Rattle.vm_kernel.specs.Plays.{Plays, PlaysAnswer, paging};
 ghost use Rattle.vm_resident.specs.Resident.{row_at};
 ghost use Rattle.vm_supply.specs.Answers.{outcome_of};
@@ -86,7 +86,7 @@ impl Kernel {
     pub fn begin(&mut self, command: &Command, ids: &mut Ids) -> Result<Events, NoMemory>
         ghost given: { Given }
         requires starts { Starts given.header given.host command.now given.past self.old ids.old [] }
-        requires built { is_built command.now ≡ true }
+        requires built { kernel_runs command.now ≡ true }
         ensures ran { IfOk result (λ events. Ran given.header given.host given.outside command.now given.past self.new ids.new events.items) }
         ensures plays { IfOk result (λ events. Plays given.header given.past [] (paging self.old) events.items (paging self.new)) }
         ensures restarts { IfOk result (λ events. Restarted given.header given.host self.new.waits.rows given.past self.old.waits.queue self.new.waits.queue events.items) }
@@ -174,7 +174,7 @@ impl Kernel {
         requires rests { Rests given.header given.host self.now ids.now given.past }
         requires acts { acts_on given.host command.now given.past ≡ true }
         requires range { InRange given.header command.now }
-        requires built { is_built command.now ≡ true }
+        requires built { kernel_runs command.now ≡ true }
         requires unnamed { takes_name command.now given.past ≡ false }
         ensures { result ≡ refusal given.header given.past command.now }
     {

@@ -2,7 +2,7 @@
 ghost use Rattle.std.specs.Prelude.{◌≡◌, ◌<◌, true, IsSome, nat_lt, None};
 ghost use Rattle.vm_base.specs.declared.code.Code.TheVariants as code;
 ghost use Rattle.vm_model.specs.Tasks.{entries_of, host_of};
-ghost use Rattle.vm_legal.specs.Refusal.{where_true};
+ghost use Rattle.vm_legal.specs.Refusal.{code_where};
 ghost use Rattle.vm_frames.specs.Frames.{free};
 ghost use Rattle.vm_maps.specs.Maps.{entries_in, rows_in};
 ghost use Rattle.vm_kernel.specs.Begun.{Given, acts_on};
@@ -161,7 +161,7 @@ impl Parts {
     }
 
     fn wire_refusal(&self, count: u32) -> Option<Code>
-        ensures { result ≡ where_true (nat_lt (free self.now.memory.frames) count) code.ResourceShortage None }
+        ensures { result ≡ code_where (nat_lt (free self.now.memory.frames) count) code.ResourceShortage None }
     {
         if self.memory.frames.free() < count {
             Some(Code::ResourceShortage)
@@ -171,7 +171,7 @@ impl Parts {
     }
 
     fn unwire_refusal(&self, count: u32) -> Option<Code>
-        ensures { result ≡ where_true (nat_lt self.now.memory.frames.wired count) code.InvalidArgument None }
+        ensures { result ≡ code_where (nat_lt self.now.memory.frames.wired count) code.InvalidArgument None }
     {
         if self.memory.frames.wired() < count {
             Some(Code::InvalidArgument)

@@ -1,7 +1,7 @@
 // The commands of a host.
 ghost use Rattle.std.specs.Prelude.{◌≡◌, true, OnOk};
 ghost use Rattle.vm_kernel.specs.Begun.{Given, Ran, Starts};
-ghost use Rattle.vm_kernel.specs.Built.{changes_entries, is_built};
+ghost use Rattle.vm_kernel.specs.Built.{changes_entries, kernel_runs};
 ghost use Rattle.vm_kernel.specs.Plays.{Plays, paging};
 ghost use Rattle.vm_kernel.specs.Turns.{Restarted};
 
@@ -20,7 +20,7 @@ impl Parts {
     ) -> Result<(), NoMemory>
         ghost given: { Given }
         requires starts { Starts given.header given.host command.now given.past self.old ids.old log.old.items }
-        requires built { is_built command.now ≡ true }
+        requires built { kernel_runs command.now ≡ true }
         ensures ran { OnOk result (Ran given.header given.host given.outside command.now given.past self.new ids.new log.new.items) }
         ensures plays { OnOk result (Plays given.header given.past log.old.items (paging self.old) log.new.items (paging self.new)) }
         ensures restarts { OnOk result (Restarted given.header given.host self.new.waits.rows given.past self.old.waits.queue self.new.waits.queue log.new.items) }

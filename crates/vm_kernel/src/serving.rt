@@ -9,7 +9,7 @@ ghost use Rattle.vm_supply.specs.declared.woken.Woken.TheVariants as woken;
 ghost use Rattle.vm_waits.specs.Waits.{entry};
 ghost use Rattle.vm_kernel.specs.Begun.{Doing, LegalEvents};
 ghost use Rattle.vm_kernel.specs.Matches.{Rests, Works};
-ghost use Rattle.vm_kernel.specs.Serving.{Attempts, HasQueue, IsServed, RunsFirst};
+ghost use Rattle.vm_kernel.specs.Serving.{Attempts, HasQueue, QueueIsServed, RunsFirst};
 ghost use Rattle.vm_kernel.specs.Plays.{Plays, paging};
 ghost use Rattle.vm_kernel.specs.Taking.{EachGone};
 ghost use Rattle.vm_kernel.specs.Turns.{KeepsOthers, LeavesInTurn, Restarted, RunsNone, RunsOnce};
@@ -84,7 +84,7 @@ impl Parts {
         requires rests { Rests given.header given.host self.old ids.now (log.old.items ++ given.past) }
         ensures rests { OnOk result (Rests given.header given.host self.new ids.now (log.new.items ++ given.past)) }
         ensures goes { OnOk result (LegalEvents given.header given.host given.outside given.command given.past log.old.items log.new.items) }
-        ensures served { OnOk result (IsServed given.header given.host self.new (log.new.items ++ given.past)) }
+        ensures served { OnOk result (QueueIsServed given.header given.host self.new (log.new.items ++ given.past)) }
         ensures plays { OnOk result (Plays given.header given.past log.old.items (paging self.old) log.new.items (paging self.new)) }
         ensures leaves { OnOk result (LeavesInTurn self.old.waits.queue self.new.waits log.old.items log.new.items) }
         ensures others { OnOk result (KeepsOthers self.old.waits.queue self.old.waits.rows self.new.waits.rows) }

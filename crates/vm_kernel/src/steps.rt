@@ -1,7 +1,8 @@
 // What an access is about, and what running it comes to.
 ghost use Rattle.std.specs.Prelude.{◌≡◌};
-ghost use Rattle.vm_legal.specs.Licences.{access_number};
-ghost use Rattle.vm_kernel.specs.Waiters.{access_in, address_in, need_in};
+ghost use Rattle.vm_legal.specs.Licences.{desired_access};
+ghost use Rattle.vm_kernel.specs.Waiters.{access_in};
+ghost use Rattle.vm_waits.specs.Wants.{address_in, need_in};
 
 use vm_base::{Access, ObjectId, PageKey};
 use vm_waits::Want;
@@ -42,7 +43,7 @@ pub fn need_of(want: Want) -> Access
 
 /// The access that a request names: 3 for a store, and 1 for a load.
 pub fn access_number(want: Want) -> u32
-    ensures { result ≡ access_number (access_in want) 0 }
+    ensures { result ≡ desired_access (access_in want) 0 }
 {
     match want {
         Want::Load { .. } => 1,

@@ -3,9 +3,9 @@ ghost use Rattle.std.specs.Prelude.{◌≡◌, ◌+◌, ◌<◌, ℕ, [], drop, 
 ghost use Rattle.vm_base.specs.Entries.{by_address};
 ghost use Rattle.vm_resident.specs.Resident.{row_at};
 ghost use Rattle.vm_kernel.specs.Begun.{Doing};
-ghost use Rattle.vm_kernel.specs.Sweeping.{Ends, Releasing, Strands, Sweeps};
+ghost use Rattle.vm_kernel.specs.Sweeping.{EndsRegion, Releasing, Strands, Sweeps};
 ghost use Rattle.vm_kernel.specs.Plays.{Plays, paging};
-ghost use Rattle.vm_kernel.specs.Turns.{Quiet};
+ghost use Rattle.vm_kernel.specs.Turns.{QueueIsStill};
 
 use crate::counting::{count_of, set_count};
 use crate::parts::Parts;
@@ -22,7 +22,7 @@ impl Parts {
         requires { Sweeps given.header given.host given.outside given.command given.past self.old ids.now (by_address gone.now) log.old.items }
         ensures sweeps { OnOk result (Sweeps given.header given.host given.outside given.command given.past self.new ids.now [] log.new.items) }
         ensures plays { OnOk result (Plays given.header given.past log.old.items (paging self.old) log.new.items (paging self.new)) }
-        ensures quiet { OnOk result (Quiet self.old.waits.queue self.new.waits.queue log.old.items log.new.items) }
+        ensures quiet { OnOk result (QueueIsStill self.old.waits.queue self.new.waits.queue log.old.items log.new.items) }
     {
         'all: for i in 0..gone.len() {
             self.release(ids, gone, i, log)?;
@@ -45,7 +45,7 @@ impl Parts {
         requires sweeps { Sweeps given.header given.host given.outside given.command given.past self.old ids.now (drop i (by_address gone.now)) log.old.items }
         ensures sweeps { OnOk result (Sweeps given.header given.host given.outside given.command given.past self.new ids.now given.rest log.new.items) }
         ensures plays { OnOk result (Plays given.header given.past log.old.items (paging self.old) log.new.items (paging self.new)) }
-        ensures quiet { OnOk result (Quiet self.old.waits.queue self.new.waits.queue log.old.items log.new.items) }
+        ensures quiet { OnOk result (QueueIsStill self.old.waits.queue self.new.waits.queue log.old.items log.new.items) }
     {
         let region = gone.at(i).region;
         let count = count_of(&self.chains, region);
@@ -59,10 +59,10 @@ impl Parts {
     // Drops the pages of a region without entries, and ends it.
     fn end_region(&mut self, ids: &Ids, region: RegionId, log: &mut Events) -> Result<(), NoMemory>
         ghost given: { Releasing }
-        requires { Ends given.header given.host given.outside given.command given.past self.old ids.now given.rest region.0 log.old.items }
+        requires { EndsRegion given.header given.host given.outside given.command given.past self.old ids.now given.rest region.0 log.old.items }
         ensures sweeps { OnOk result (Sweeps given.header given.host given.outside given.command given.past self.new ids.now given.rest log.new.items) }
         ensures plays { OnOk result (Plays given.header given.past log.old.items (paging self.old) log.new.items (paging self.new)) }
-        ensures quiet { OnOk result (Quiet self.old.waits.queue self.new.waits.queue log.old.items log.new.items) }
+        ensures quiet { OnOk result (QueueIsStill self.old.waits.queue self.new.waits.queue log.old.items log.new.items) }
     {
         self.drop_pages(ids, ObjectId(region.0), log)?;
         let object = self.chains.drop_region(region);
@@ -77,7 +77,7 @@ impl Parts {
         requires { Strands given.header given.host given.outside given.command given.past self.old ids.now given.rest object.0 log.old.items }
         ensures sweeps { OnOk result (Sweeps given.header given.host given.outside given.command given.past self.new ids.now given.rest log.new.items) }
         ensures plays { OnOk result (Plays given.header given.past log.old.items (paging self.old) log.new.items (paging self.new)) }
-        ensures quiet { OnOk result (Quiet self.old.waits.queue self.new.waits.queue log.old.items log.new.items) }
+        ensures quiet { OnOk result (QueueIsStill self.old.waits.queue self.new.waits.queue log.old.items log.new.items) }
     {
         let Some(row) = self.memory.objects.find(object) else {
             unreachable!()
@@ -101,11 +101,11 @@ impl Parts {
     #[tactic(auto, using(crate::proofs::Playing::plays_still))]
     fn drop_pages(&mut self, ids: &Ids, object: ObjectId, log: &mut Events) -> Result<(), NoMemory>
         ghost given: { Releasing }
-        requires { Ends given.header given.host given.outside given.command given.past self.old ids.now given.rest object.0 log.old.items }
-        ensures ends { OnOk result (Ends given.header given.host given.outside given.command given.past self.new ids.now given.rest object.0 log.new.items) }
+        requires { EndsRegion given.header given.host given.outside given.command given.past self.old ids.now given.rest object.0 log.old.items }
+        ensures ends { OnOk result (EndsRegion given.header given.host given.outside given.command given.past self.new ids.now given.rest object.0 log.new.items) }
         ensures plays { OnOk result (Plays given.header given.past log.old.items (paging self.old) log.new.items (paging self.new)) }
         ensures gone { OnOk result ((p : ℕ) → row_at self.new.memory.resident object.0 p ≡ None) }
-        ensures quiet { OnOk result (Quiet self.old.waits.queue self.new.waits.queue log.old.items log.new.items) }
+        ensures quiet { OnOk result (QueueIsStill self.old.waits.queue self.new.waits.queue log.old.items log.new.items) }
     {
         'pages: while let Some(page) = self.memory.resident.next_page(object, PageNo(0)) {
             self.drop_page(PageKey { object, page }, log)?;

@@ -10,7 +10,7 @@ ghost use Rattle.vm_objects.specs.Objects.{object_at};
 ghost use Rattle.vm_resident.specs.Resident.{row_at};
 ghost use Rattle.vm_supply.specs.Answers.{outcome_of};
 ghost use Rattle.vm_kernel.specs.Plays.{AnswerBrings, Plays, PlaysAnswer, paging};
-ghost use Rattle.vm_kernel.specs.Turns.{Quiet, Restarted};
+ghost use Rattle.vm_kernel.specs.Turns.{QueueIsStill, Restarted};
 
 use crate::parts::Parts;
 use vm_base::{NoMemory, ObjectId, PageKey};
@@ -60,7 +60,7 @@ impl Parts {
         ensures failed { OnOk result (HasFailed woken (log.new.items ++ given.past)) }
         ensures plays { OnOk result (Plays given.header given.past log.old.items (paging self.old) log.new.items (paging self.new)) }
         ensures ended { OnOk result (HasEnded woken self.old.waits.rows (log.new.items ++ given.past)) }
-        ensures quiet { OnOk result (Quiet self.old.waits.queue self.new.waits.queue log.old.items log.new.items) }
+        ensures quiet { OnOk result (QueueIsStill self.old.waits.queue self.new.waits.queue log.old.items log.new.items) }
     {
         match woken {
             Woken::Nobody => Ok(()),
@@ -90,7 +90,7 @@ impl Parts {
         ensures failed { OnOk result (HasFailed (who.Fails key) (log.new.items ++ given.past)) }
         ensures plays { OnOk result (Plays given.header given.past log.old.items (paging self.old) log.new.items (paging self.new)) }
         ensures ended { OnOk result (HasEnded (who.Fails key) self.old.waits.rows (log.new.items ++ given.past)) }
-        ensures quiet { OnOk result (Quiet self.old.waits.queue self.new.waits.queue log.old.items log.new.items) }
+        ensures quiet { OnOk result (QueueIsStill self.old.waits.queue self.new.waits.queue log.old.items log.new.items) }
     {
         'all: while let Some(waiting) = self.waits.next_on(key) {
             log.push(Event::Failed {

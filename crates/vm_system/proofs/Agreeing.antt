@@ -1,15 +1,6 @@
 -- What the kernels say leaves the pagers.
-use Rattle.std.proofs.Common.{◌≡◌, ℕ, List, [], ◌∷◌, ◌++◌, refl, ◌∙◌}
-use Rattle.vm_model.specs.declared.event.Event.{Event}
+use Rattle.vm_system.proofs.Common.{AllInner, AllServe, EachIn, Event, Header, IsInner, IsOther, List, SlotTable, SomeKernelSays, [], content_of, devices, others, refl, ℕ, ◌++◌, ◌∙◌, ◌∷◌, ◌≡◌}
 use Rattle.vm_model.specs.declared.event.Event.TheVariants as event
-use Rattle.vm_model.specs.declared.script.Header.{Header}
-use Rattle.vm_legal.specs.Stretches.{AllInner, EachIn, IsInner}
-use Rattle.pg_slots.specs.Slots.{SlotTable}
-use Rattle.pg_default.specs.Stands.{IsOther, content_of}
-use Rattle.pg_default.proofs.Others.{others}
-use Rattle.vm_kernel.specs.Begun.{SomeKernelSays}
-use Rattle.vm_system.specs.Stands.{AllServe}
-use Rattle.vm_system.specs.Steps.{devices}
 
 -- no pager has a part in an event
 pub serve_other : (header : Header) (pagers : List SlotTable) (e : Event) (past : List Event) → ((h : ℕ) → IsOther header h e past) → AllServe header pagers past → AllServe header pagers (e ∷ past)

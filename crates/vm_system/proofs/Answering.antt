@@ -1,31 +1,10 @@
 -- What a pager answers, as events of a step.
-use Rattle.std.proofs.Common.{◌≡◌, ◌⊎◌, ℕ, ◌+◌, ◌≤◌, ◌==◌, ◌&&◌, Bool, true, false, List, [], ◌∷◌, ◌++◌, Option, Some, None, Ok, if◌then◌else◌, refl, sym, ◌∙◌, ap, subst, arith, inl, inr}
-use Rattle.std.proofs.lemmas.Bool.Decides.{nat_tests}
-use Rattle.std.specs.Prelude.{IsSome, is_some}
-use Rattle.pg_slots.specs.Contents.{IsTold, PutTold, area_name}
-use Rattle.pg_slots.specs.Slots.{KeepsShape, PutEffects, SlotTable, held_at, slot_at, slot_of}
-use Rattle.pg_slots.specs.declared.answers.Put.{Put}
+use Rattle.vm_system.proofs.Common.{AllInner, Bool, Down, EachIn, EachOf, Event, FramesSuffice, Header, Held, IsAreaTold, IsConsequence, IsInner, IsNobodys, IsSome, IsToPager, IsWordUp, KeepsShape, LeavesAreas, List, Listed, Message, MomentsIn, None, ObjectId, Ok, Option, OwnBytes, PageNo, PagerAnswer, Put, PutEffects, PutTold, RequestAnswer, ReturnsWhole, SameAreas, SlotTable, Some, Suffice, TellsFault, Told, Up, [], ap, area_name, arith, became, devices, false, held_at, held_slot, if◌then◌else◌, inl, inr, is_some, nat_tests, refl, slot_in_table, subst, sym, told_of, true, ℕ, ◌++◌, ◌+◌, ◌∙◌, ◌∷◌, ◌≡◌, ◌≤◌, ◌⊎◌}
+use Rattle.std.proofs.Common.{◌==◌, ◌&&◌}
 use Rattle.pg_slots.specs.declared.answers.Put.TheVariants as put
-use Rattle.pg_slots.specs.declared.slot_row.Held.{Held}
 use Rattle.pg_slots.specs.declared.slot_row.Held.TheVariants as held
-use Rattle.pg_default.specs.Answers.{IsToPager, LeavesAreas, PagerAnswer, RequestAnswer, ReturnsWhole, TellsFault, became, told_of}
-use Rattle.vm_base.specs.Listing.{Listed}
-use Rattle.vm_base.specs.declared.ids.ObjectId.{ObjectId}
-use Rattle.vm_base.specs.declared.ids.PageNo.{PageNo}
-use Rattle.vm_model.specs.declared.event.Event.{Event}
 use Rattle.vm_model.specs.declared.event.Event.TheVariants as event
-use Rattle.vm_model.specs.declared.message.Channel.TheVariants.{Up, Down}
-use Rattle.vm_model.specs.declared.message.Message.{Message}
 use Rattle.vm_model.specs.declared.message.Message.TheVariants as message
-use Rattle.vm_model.specs.declared.script.Header.{Header}
-use Rattle.vm_legal.specs.Bytes.{OwnBytes}
-use Rattle.vm_legal.specs.Follows.{IsConsequence}
-use Rattle.vm_legal.specs.Frames.{FramesSuffice, Suffice}
-use Rattle.vm_legal.specs.Stretches.{AllInner, EachIn, EachOf, IsInner, MomentsIn}
-use Rattle.vm_outside.specs.Areas.{SameAreas, Told}
-use Rattle.vm_kernel.specs.Abroad.{IsNobodys}
-use Rattle.vm_system.specs.Orderly.{IsWordUp}
-use Rattle.vm_system.specs.Steps.{devices}
 
 -- what a kernel says to its pager
 pub word_up : (size : ℕ) (made : ℕ → Bool) (m : Message) → IsWordUp size made m → IsToPager m × ReturnsWhole size m
@@ -176,7 +155,7 @@ some_of (Some a) is = (a, refl)
 some_is : {A : Type 0} → (x : Option A) (a : A) → x ≡ Some a → IsSome x
 some_is x a is = ap is_some is
 
-same_told : (before after : List ℕ → Told) (old new : SlotTable) → new.host ≡ old.host → SameAreas before after → IsTold before old → IsTold after new
+same_told : (before after : List ℕ → Told) (old new : SlotTable) → new.host ≡ old.host → SameAreas before after → IsAreaTold before old → IsAreaTold after new
 same_told before after old new host same is =
     let was = some_of (before (area_name old.host)) is in
     some_is (after (area_name new.host)) was.0 (ap (λ (z : ℕ). after (area_name z)) host ∙ same (area_name old.host) was.0 was.1)
@@ -184,22 +163,22 @@ same_told before after old new host same is =
 pub own_place : (o p : ℕ) → (o == o && p == p) ≡ true
 own_place o p = grind (arith, nat_tests)
 
-put_told : (p : Put) (object page : ℕ) (bytes : List ℕ) (before after : List ℕ → Told) (old new : SlotTable) → new.host ≡ old.host → PutEffects p object page old new → PutTold (Ok p) before after new (slot_at new object page) bytes
-    → IsTold before old → IsTold after new
+put_told : (p : Put) (object page : ℕ) (bytes : List ℕ) (before after : List ℕ → Told) (old new : SlotTable) → new.host ≡ old.host → PutEffects p object page old new → PutTold (Ok p) before after new (slot_in_table new object page) bytes
+    → IsAreaTold before old → IsAreaTold after new
 put_told put.Kept object page bytes before after old new host leaves put is =
     let was = some_of (before (area_name old.host)) is in
-    let at : slot_at new object page ≡ Some leaves.0 = ap slot_of (leaves.2.at object page ∙ ap (λ (z : Bool). if z then Some (held.Kept leaves.0) else held_at old object page) (own_place object page)) in
+    let at : slot_in_table new object page ≡ Some leaves.0 = ap held_slot (leaves.2.at object page ∙ ap (λ (z : Bool). if z then Some (held.Kept leaves.0) else held_at old object page) (own_place object page)) in
     let wrote = put leaves.0 at in
     some_is (after (area_name new.host)) _ (wrote.written was.0 (ap (λ (z : ℕ). before (area_name z)) host ∙ was.1))
 put_told put.Failed object page bytes before after old new host leaves put is =
     let was = some_of (before (area_name old.host)) is in
-    let at : slot_at new object page ≡ Some leaves.0 = ap slot_of (leaves.2.at object page ∙ ap (λ (z : Bool). if z then Some (held.Torn leaves.0) else held_at old object page) (own_place object page)) in
+    let at : slot_in_table new object page ≡ Some leaves.0 = ap held_slot (leaves.2.at object page ∙ ap (λ (z : Bool). if z then Some (held.Torn leaves.0) else held_at old object page) (own_place object page)) in
     let wrote = put leaves.0 at in
     let now = wrote.failed was.0 (ap (λ (z : ℕ). before (area_name z)) host ∙ was.1) refl in
     some_is (after (area_name new.host)) now.0 now.1
 put_told put.NoSlot object page bytes before after old new host leaves put is = same_told before after old new host put is
 
 pub told_after : (m : Message) (object : ObjectId) (before after : List ℕ → Told) (old new : SlotTable) (events : Listed Event) → KeepsShape old new → PagerAnswer m object old new events.items → LeavesAreas m object new before after (Ok events)
-    → IsTold before old → IsTold after new
+    → IsAreaTold before old → IsAreaTold after new
 told_after (message.Return control page dirty keep bytes) object before after old new events shape a leaves is = put_told (became events.items) object.0 page.0 bytes before after old new shape.host a.held leaves is
 told_after other object before after old new events shape a leaves is = same_told before after old new shape.host leaves is

@@ -1,34 +1,11 @@
 -- What the pager of one host does leaves those of the others.
-use Rattle.std.proofs.Common.{zero, suc, ◌≡◌, ◌≢◌, ◌⊎◌, ℕ, ◌<◌, ◌==◌, ◌&&◌, ◌||◌, not, Bool, true, false, List, [], ◌∷◌, ◌++◌, length, Option, Some, None, Ok, if◌then◌else◌, refl, sym, ◌∙◌, ap, subst, arith, inl, inr}
-use Rattle.std.proofs.Math.ListN.{set}
-use Rattle.std.proofs.lemmas.Bool.{false≢true}
-use Rattle.std.proofs.lemmas.Bool.Decides.{nat_tests}
-use Rattle.std.proofs.lemmas.Option.{same_Some}
-use Rattle.std.specs.Prelude.{IsSome, slice_get}
-use Rattle.pg_slots.specs.Contents.{Content, IsTold, PutTold, SlotsFit, area_name}
-use Rattle.pg_slots.specs.Slots.{PutEffects, SlotTable, held_at, slot_at, slot_of}
-use Rattle.pg_slots.specs.declared.answers.Put.{Put}
+use Rattle.vm_system.proofs.Common.{Bool, Content, Down, EachOf, Event, Header, Held, IsApart, IsAreaTold, IsOrderly, IsOther, IsSome, LeavesAreas, List, Listed, Message, None, ObjectId, Ok, Option, PageNo, PagerAnswer, PagerStands, Put, PutEffects, PutTold, RequestAnswer, SlotTable, SlotsFit, Some, Told, Up, [], ap, area_name, arith, became, content_of, false, false≢true, held_at, held_slot, home_of, if◌then◌else◌, inl, inr, is_heard_elsewhere, last_return, length, nat_tests, not, others, others_carry, refl, same_Some, set, slice_get, slot_in_table, subst, suc, sym, told_of, true, zero, ℕ, ◌++◌, ◌<◌, ◌∙◌, ◌∷◌, ◌≡◌, ◌⊎◌}
+use Rattle.std.proofs.Common.{◌≢◌, ◌==◌, ◌&&◌, ◌||◌}
 use Rattle.pg_slots.specs.declared.answers.Put.TheVariants as put
-use Rattle.pg_slots.specs.declared.slot_row.Held.{Held}
 use Rattle.pg_slots.specs.declared.slot_row.Held.TheVariants as held
-use Rattle.pg_default.specs.Answers.{LeavesAreas, PagerAnswer, RequestAnswer, became, told_of}
-use Rattle.pg_default.specs.Stands.{IsApart, IsOther, PagerStands, content_of, is_elsewhere}
-use Rattle.pg_default.proofs.Others.{others, others_carry}
-use Rattle.vm_base.specs.Listing.{Listed}
-use Rattle.vm_base.specs.declared.ids.ObjectId.{ObjectId}
-use Rattle.vm_base.specs.declared.ids.PageNo.{PageNo}
-use Rattle.vm_model.specs.declared.event.Event.{Event}
 use Rattle.vm_model.specs.declared.event.Event.TheVariants as event
-use Rattle.vm_model.specs.declared.message.Channel.TheVariants.{Up, Down}
-use Rattle.vm_model.specs.declared.message.Message.{Message}
 use Rattle.vm_model.specs.declared.message.Message.TheVariants as message
-use Rattle.vm_model.specs.declared.script.Header.{Header}
-use Rattle.vm_legal.specs.Pagers.{last_return}
-use Rattle.vm_legal.specs.Stretches.{EachOf}
-use Rattle.vm_abroad.specs.Home.{home_of}
-use Rattle.vm_outside.specs.Areas.{Told}
 use Rattle.vm_system.proofs.Answering.{own_place, some_of}
-use Rattle.vm_system.specs.Orderly.{IsOrderly}
 
 -- an object is one host's
 
@@ -48,10 +25,10 @@ or_no true b is = absurd (false≢true (sym is))
 or_no false b is = is
 
 -- where no other pager took a message about the object, none took a return of it
-unheard : (h g o p : ℕ) (past : List Event) → h ≢ g → is_elsewhere g o past ≡ false → last_return h o p past ≡ None
+unheard : (h g o p : ℕ) (past : List Event) → h ≢ g → is_heard_elsewhere g o past ≡ false → last_return h o p past ≡ None
 unheard h g o p [] other is = refl
 unheard h g o p (event.Taken (Up at object) m ∷ past) other is =
-    rw (no_part at.0 object.0 h g o (is_elsewhere g o past) other is) (unheard h g o p past other (or_no (not (at.0 == g) && object.0 == o) (is_elsewhere g o past) is))
+    rw (no_part at.0 object.0 h g o (is_heard_elsewhere g o past) other is) (unheard h g o p past other (or_no (not (at.0 == g) && object.0 == o) (is_heard_elsewhere g o past) is))
 unheard h g o p (e ∷ past) other is = unheard h g o p past other is
 
 pub apart_of : (header : Header) (past : List Event) → IsOrderly header past → (h : ℕ) → IsApart header h past
@@ -101,22 +78,22 @@ about other object old new events a = absurd a
 
 -- so no other pager has a part in it
 
-away_one : (g : ℕ) (object : ObjectId) (e : Event) (past : List Event) → IsAbout object e → is_elsewhere g object.0 past ≡ true → is_elsewhere g object.0 (e ∷ past) ≡ true
+away_one : (g : ℕ) (object : ObjectId) (e : Event) (past : List Event) → IsAbout object e → is_heard_elsewhere g object.0 past ≡ true → is_heard_elsewhere g object.0 (e ∷ past) ≡ true
 away_one g object (event.Sent (Down host o control) m) past about away = away
 away_one g object (event.Sent (Up host o) m) past about away = absurd about
 away_one g object (event.DeviceFailed who way o page) past about away = away
 away_one g object (event.NoSlot o page) past about away = away
 away_one g object other past about away = absurd about
 
-away_all : (g : ℕ) (object : ObjectId) (events past : List Event) → EachOf (IsAbout object) events → is_elsewhere g object.0 past ≡ true → is_elsewhere g object.0 (events ++ past) ≡ true
+away_all : (g : ℕ) (object : ObjectId) (events past : List Event) → EachOf (IsAbout object) events → is_heard_elsewhere g object.0 past ≡ true → is_heard_elsewhere g object.0 (events ++ past) ≡ true
 away_all g object [] past about away = away
 away_all g object (e ∷ events) past about away = away_one g object e (events ++ past) about.0 (away_all g object events past about.1 away)
 
-about_other : (header : Header) (g : ℕ) (object : ObjectId) (e : Event) (past : List Event) → IsAbout object e → is_elsewhere g object.0 past ≡ true → IsOther header g e past
+about_other : (header : Header) (g : ℕ) (object : ObjectId) (e : Event) (past : List Event) → IsAbout object e → is_heard_elsewhere g object.0 past ≡ true → IsOther header g e past
 about_other header g object (event.Sent (Down host o control) m) past about away = tt
 about_other header g object (event.Sent (Up host o) m) past about away = absurd about
-about_other header g object (event.DeviceFailed who way o page) past about away = inr (subst (λ (z : ObjectId). is_elsewhere g z.0 past ≡ true) (sym about) away)
-about_other header g object (event.NoSlot o page) past about away = inr (subst (λ (z : ObjectId). is_elsewhere g z.0 past ≡ true) (sym about) away)
+about_other header g object (event.DeviceFailed who way o page) past about away = inr (subst (λ (z : ObjectId). is_heard_elsewhere g z.0 past ≡ true) (sym about) away)
+about_other header g object (event.NoSlot o page) past about away = inr (subst (λ (z : ObjectId). is_heard_elsewhere g z.0 past ≡ true) (sym about) away)
 about_other header g object other past about away = absurd about
 
 apart_one : (header : Header) (g : ℕ) (object : ObjectId) (e : Event) (past : List Event) → IsAbout object e → IsApart header g past → IsApart header g (e ∷ past)
@@ -130,13 +107,13 @@ apart_all : (header : Header) (g : ℕ) (object : ObjectId) (events past : List 
 apart_all header g object [] past about apart = apart
 apart_all header g object (e ∷ events) past about apart = apart_one header g object e (events ++ past) about.0 (apart_all header g object events past about.1 apart)
 
-pub others_stand : (header : Header) (g : ℕ) (pager : SlotTable) (object : ObjectId) (events past : List Event) → EachOf (IsAbout object) events → is_elsewhere g object.0 past ≡ true → PagerStands header g pager past
+pub others_stand : (header : Header) (g : ℕ) (pager : SlotTable) (object : ObjectId) (events past : List Event) → EachOf (IsAbout object) events → is_heard_elsewhere g object.0 past ≡ true → PagerStands header g pager past
     → PagerStands header g pager (events ++ past)
 others_stand header g pager object [] past about away stands = stands
 others_stand header g pager object (e ∷ events) past about away stands =
     others header g pager e (events ++ past) (about_other header g object e (events ++ past) about.0 (away_all g object events past about.1 away)) (others_stand header g pager object events past about.1 away stands)
 
-pub others_fit : (header : Header) (g : ℕ) (pager : SlotTable) (object : ObjectId) (areas : List ℕ → Told) (events past : List Event) → EachOf (IsAbout object) events → is_elsewhere g object.0 past ≡ true → IsApart header g past → IsTold areas pager
+pub others_fit : (header : Header) (g : ℕ) (pager : SlotTable) (object : ObjectId) (areas : List ℕ → Told) (events past : List Event) → EachOf (IsAbout object) events → is_heard_elsewhere g object.0 past ≡ true → IsApart header g past → IsAreaTold areas pager
     → SlotsFit areas pager (content_of header g past) → SlotsFit areas pager (content_of header g (events ++ past))
 others_fit header g pager object areas [] past about away apart told fits = fits
 others_fit header g pager object areas (e ∷ events) past about away apart told fits =
@@ -154,13 +131,13 @@ other_area h g other same = other (omega (arith, ap (λ (z : List ℕ). last z) 
     last (x ∷ []) = x
     last (x ∷ y ∷ more) = last (y ∷ more)
 
-put_others : (p : Put) (object page : ℕ) (bytes : List ℕ) (before after : List ℕ → Told) (old new : SlotTable) → PutEffects p object page old new → PutTold (Ok p) before after new (slot_at new object page) bytes
+put_others : (p : Put) (object page : ℕ) (bytes : List ℕ) (before after : List ℕ → Told) (old new : SlotTable) → PutEffects p object page old new → PutTold (Ok p) before after new (slot_in_table new object page) bytes
     → (name : List ℕ) (was : Option (List ℕ)) → name ≢ area_name new.host → before name ≡ Some was → after name ≡ Some was
 put_others put.Kept object page bytes before after old new leaves wrote name was other is =
-    let at : slot_at new object page ≡ Some leaves.0 = ap slot_of (leaves.2.at object page ∙ ap (λ (z : Bool). if z then Some (held.Kept leaves.0) else held_at old object page) (own_place object page)) in
+    let at : slot_in_table new object page ≡ Some leaves.0 = ap held_slot (leaves.2.at object page ∙ ap (λ (z : Bool). if z then Some (held.Kept leaves.0) else held_at old object page) (own_place object page)) in
     (wrote leaves.0 at).others name was other is
 put_others put.Failed object page bytes before after old new leaves wrote name was other is =
-    let at : slot_at new object page ≡ Some leaves.0 = ap slot_of (leaves.2.at object page ∙ ap (λ (z : Bool). if z then Some (held.Torn leaves.0) else held_at old object page) (own_place object page)) in
+    let at : slot_in_table new object page ≡ Some leaves.0 = ap held_slot (leaves.2.at object page ∙ ap (λ (z : Bool). if z then Some (held.Torn leaves.0) else held_at old object page) (own_place object page)) in
     (wrote leaves.0 at).others name was other is
 put_others put.NoSlot object page bytes before after old new leaves wrote name was other is = wrote name was is
 
@@ -169,12 +146,12 @@ pub areas_others : (m : Message) (object : ObjectId) (before after : List ℕ �
 areas_others (message.Return control page dirty keep bytes) object before after old new events a leaves name was apart is = put_others (became events.items) object.0 page.0 bytes before after old new a.held leaves name was apart is
 areas_others other object before after old new events a leaves name was apart is = leaves name was is
 
-pub told_still : (pager : SlotTable) (before after : List ℕ → Told) → ((was : Option (List ℕ)) → before (area_name pager.host) ≡ Some was → after (area_name pager.host) ≡ Some was) → IsTold before pager → IsTold after pager
+pub told_still : (pager : SlotTable) (before after : List ℕ → Told) → ((was : Option (List ℕ)) → before (area_name pager.host) ≡ Some was → after (area_name pager.host) ≡ Some was) → IsAreaTold before pager → IsAreaTold after pager
 told_still pager before after stays told =
     let was = some_of (before (area_name pager.host)) told in
     subst (λ (z : Told). IsSome z) (sym (stays was.0 was.1)) refl
 
-pub fits_still : (pager : SlotTable) (content : Content) (before after : List ℕ → Told) → ((was : Option (List ℕ)) → before (area_name pager.host) ≡ Some was → after (area_name pager.host) ≡ Some was) → IsTold before pager
+pub fits_still : (pager : SlotTable) (content : Content) (before after : List ℕ → Told) → ((was : Option (List ℕ)) → before (area_name pager.host) ≡ Some was → after (area_name pager.host) ≡ Some was) → IsAreaTold before pager
     → SlotsFit before pager content → SlotsFit after pager content
 fits_still pager content before after stays told fits =
     let was = some_of (before (area_name pager.host)) told in

@@ -1,29 +1,9 @@
 -- A system stands for its history behind the step of a command that takes no message.
-use Rattle.std.proofs.Common.{◌≡◌, ℕ, List, [], ◌∷◌, ◌++◌, refl, sym, ◌∙◌, ap, subst, arith, inl, Some, None, false}
-use Rattle.std.specs.Prelude.{OnErr, OnOk, Result, Ok, Err}
-use Rattle.vm_base.specs.declared.code.Code.{Code}
-use Rattle.vm_model.specs.declared.event.Event.{Event}
+use Rattle.vm_system.proofs.Common.{AllQueued, AllRest, AllServe, Arming, CanTellAll, Channel, Code, Command, DevicesHaveCause, Event, Header, HostTable, IsOrderly, KeepsLegal, LeavesFiles, LeavesPaging, List, Makes, None, Numbered, OnErr, OnOk, Outside, Posts, Result, SameHosts, Some, Spares, State, Stretch, SystemStands, [], all_lined, all_refused, all_suffice, ap, arith, arms_paging, devices, false, inl, queued_lined, queued_refused, refl, refusal, stretch_none, subst, sym, takes_up, ℕ, ◌++◌, ◌∙◌, ◌∷◌, ◌≡◌}
+use Rattle.std.specs.Prelude.{Ok, Err}
 use Rattle.vm_model.specs.declared.event.Event.TheVariants as event
-use Rattle.vm_model.specs.declared.command.Command.{Command}
-use Rattle.vm_model.specs.declared.command.Numbered.{Numbered}
 use Rattle.vm_model.specs.declared.command.Command.TheVariants as command
-use Rattle.vm_model.specs.declared.message.Channel.{Channel}
-use Rattle.vm_model.specs.declared.script.Header.{Header}
-use Rattle.vm_legal.specs.Outside.{Outside}
-use Rattle.vm_legal.specs.Refusal.{refusal}
-use Rattle.vm_outside.specs.Arming.{Arming}
-use Rattle.vm_hosts.proofs.Stretches.{stretch_none}
-use Rattle.vm_hosts.specs.Hosts.{AllQueued, AllRest, HostTable}
-use Rattle.vm_hosts.specs.Steps.{Stretch}
-use Rattle.vm_system.specs.Orderly.{IsOrderly}
-use Rattle.vm_system.specs.Posts.{CanTellAll, Posts, SameHosts}
-use Rattle.vm_system.specs.Stands.{AllServe, SystemStands}
-use Rattle.vm_system.specs.Making.{Makes, Spares}
-use Rattle.vm_system.specs.Steps.{DevicesHaveCause, KeepsLegal, LeavesFiles, LeavesPaging, arms_paging, devices, takes_up}
-use Rattle.vm_system.specs.declared.state.State.{State}
 use Rattle.vm_system.proofs.Agreeing.{devices_said, serve_other, serve_said}
-use Rattle.vm_hosts.proofs.Nobodys.{all_lined, all_refused, queued_lined, queued_refused}
-use Rattle.vm_hosts.proofs.Tables.{all_suffice}
 use Rattle.vm_system.proofs.Letters.{orderly_line}
 use Rattle.vm_system.proofs.Sayings.{can_say, orderly_said}
 use Rattle.vm_system.proofs.Following.{kept_behind, kept_same, same_pagers}

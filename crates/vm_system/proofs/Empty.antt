@@ -1,25 +1,11 @@
 -- Whether a channel was made, and whether it is empty, by its number and by the history.
-use Rattle.std.proofs.Common.{◌≡◌, ℕ, suc, ◌==◌, Bool, true, false, not, List, [], ◌∷◌, refl, ap, sym, ◌∙◌, arith, Some, None, Option, subst}
-use Rattle.std.proofs.lemmas.Bool.Decides.{nat_tests}
-use Rattle.std.specs.Prelude.{is_some, if◌then◌else◌, option_map}
+use Rattle.vm_system.proofs.Common.{AreSame, Bool, Channel, Event, Header, Letter, List, Message, None, Option, Posts, Some, State, [], ap, arith, channel_code, channel_number, code_at, code_where, false, is_channel, is_empty, is_some, messages_on, nat_tests, not, option_map, queue_is, refl, refusal, same_channel, subst, suc, sym, true, undelivered, ℕ, ◌∙◌, ◌∷◌, ◌≡◌}
+use Rattle.std.proofs.Common.{◌==◌}
+use Rattle.std.specs.Prelude.{if◌then◌else◌}
 use Rattle.vm_base.specs.declared.code.Code.TheVariants as code
 use Rattle.vm_model.specs.declared.command.Command.TheVariants as command
-use Rattle.vm_model.specs.declared.event.Event.{Event}
-use Rattle.vm_model.specs.declared.message.Channel.{Channel}
-use Rattle.vm_model.specs.declared.message.Message.{Message}
-use Rattle.vm_model.specs.declared.script.Header.{Header}
-use Rattle.vm_model.specs.Channels.{is_channel}
-use Rattle.vm_legal.specs.Refusal.{is_empty, refusal, where_true}
-use Rattle.vm_legal.specs.Steps.{Letter}
-use Rattle.vm_legal.specs.Undelivered.{undelivered}
 use Rattle.vm_ports.specs.Ports.{queue}
 use Rattle.vm_ports.specs.declared.letter.Letter.{Letter as Posted}
-use Rattle.vm_quiet.specs.Letters.{messages_on}
-use Rattle.vm_quiet.proofs.Letters.{queue_is, same_channel}
-use Rattle.vm_system.specs.Channels.{number_in}
-use Rattle.vm_system.specs.Posts.{AreSame, Posts}
-use Rattle.vm_system.specs.Refusing.{code_at, channel_code}
-use Rattle.vm_system.specs.declared.state.State.{State}
 
 never : {A : Type 0} → false ≡ true → A
 never e = absurd (let bad : false ≡ true = e in cc)
@@ -33,23 +19,23 @@ zero_is : (n : ℕ) → Some 0 ≡ Some n → 0 ≡ n
 zero_is n e = cc
 
 -- two channels with one number are one
-number_tells : (made : List Channel) (c d : Channel) (n : ℕ) → number_in c made ≡ Some n → number_in d made ≡ Some n → is_channel c d ≡ true
+number_tells : (made : List Channel) (c d : Channel) (n : ℕ) → channel_number c made ≡ Some n → channel_number d made ≡ Some n → is_channel c d ≡ true
 number_tells [] c d n one other = absurd (let bad : None ≡ Some n = one in cc)
 number_tells (e ∷ made) c d n one other = by (is_channel c e) (is_channel d e) refl refl one other (number_tells made c d)
   where
-    by : (t u : Bool) → is_channel c e ≡ t → is_channel d e ≡ u → (if t then Some 0 else option_map suc (number_in c made)) ≡ Some n → (if u then Some 0 else option_map suc (number_in d made)) ≡ Some n
-        → ((m : ℕ) → number_in c made ≡ Some m → number_in d made ≡ Some m → is_channel c d ≡ true) → is_channel c d ≡ true
+    by : (t u : Bool) → is_channel c e ≡ t → is_channel d e ≡ u → (if t then Some 0 else option_map suc (channel_number c made)) ≡ Some n → (if u then Some 0 else option_map suc (channel_number d made)) ≡ Some n
+        → ((m : ℕ) → channel_number c made ≡ Some m → channel_number d made ≡ Some m → is_channel c d ≡ true) → is_channel c d ≡ true
     by true true first second p q tells = subst (λ (x : Channel). is_channel c x ≡ true) (same_channel d e second) first
-    by true false first second p q tells = let more = next_is n (number_in d made) q in absurd (omega (arith, zero_is n p, more.2))
-    by false true first second p q tells = let more = next_is n (number_in c made) p in absurd (omega (arith, zero_is n q, more.2))
+    by true false first second p q tells = let more = next_is n (channel_number d made) q in absurd (omega (arith, zero_is n p, more.2))
+    by false true first second p q tells = let more = next_is n (channel_number c made) p in absurd (omega (arith, zero_is n q, more.2))
     by false false first second p q tells =
-        let mine = next_is n (number_in c made) p in
-        let other = next_is n (number_in d made) q in
+        let mine = next_is n (channel_number c made) p in
+        let other = next_is n (channel_number d made) q in
         let same : other.0 ≡ mine.0 = omega (arith, mine.2, other.2) in
         tells mine.0 mine.1 (other.1 ∙ ap (λ z. Some z) same)
 
 -- the letters with a number are those of its channel
-messages_same : (made : List Channel) (c : Channel) (n : ℕ) (posted : List (Posted Message)) (letters : List Letter) → number_in c made ≡ Some n → AreSame made posted letters → queue n posted ≡ messages_on c letters
+messages_same : (made : List Channel) (c : Channel) (n : ℕ) (posted : List (Posted Message)) (letters : List Letter) → channel_number c made ≡ Some n → AreSame made posted letters → queue n posted ≡ messages_on c letters
 messages_same made c n [] [] is same = refl
 messages_same made c n [] (letter ∷ letters) is same = absurd same
 messages_same made c n (post ∷ posted) [] is same = absurd same
@@ -70,15 +56,15 @@ messages_same made c n (post ∷ posted) (letter ∷ letters) is same =
 
     test : (b : Bool) → is_channel c letter.channel ≡ b → (post.channel.0 == n) ≡ b
     test true t =
-        let found : Some post.channel.0 ≡ Some n = sym same.0 ∙ (ap (λ (x : Channel). number_in x made) (same_channel c letter.channel t) ∙ is) in
+        let found : Some post.channel.0 ≡ Some n = sym same.0 ∙ (ap (λ (x : Channel). channel_number x made) (same_channel c letter.channel t) ∙ is) in
         let e : post.channel.0 ≡ n = cc in
         grind (arith, nat_tests)
     test false t = miss (post.channel.0 == n) refl t
 
 -- why nothing is taken from a channel
 pub take_code : (header : Header) (s : State) (past : List Event) (channel : Channel) → Posts s past → refusal header past (command.Take channel) ≡ channel_code channel s.channels.made s.ports.letters
-take_code header s past channel posts = rw (← posts.channels channel, queue_is channel past) (go (number_in channel s.channels.made) refl)
+take_code header s past channel posts = rw (← posts.channels channel, queue_is channel past) (go (channel_number channel s.channels.made) refl)
   where
-    go : (o : Option ℕ) → number_in channel s.channels.made ≡ o → where_true (not (is_some o)) code.NoSuchName (where_true (is_empty (messages_on channel (undelivered past))) code.EmptyPort None) ≡ code_at o s.ports.letters
+    go : (o : Option ℕ) → channel_number channel s.channels.made ≡ o → code_where (not (is_some o)) code.NoSuchName (code_where (is_empty (messages_on channel (undelivered past))) code.EmptyPort None) ≡ code_at o s.ports.letters
     go None e = refl
-    go (Some n) e = ap (λ z. where_true (is_empty z) code.EmptyPort None) (sym (messages_same s.channels.made channel n s.ports.letters (undelivered past) e posts.letters))
+    go (Some n) e = ap (λ z. code_where (is_empty z) code.EmptyPort None) (sym (messages_same s.channels.made channel n s.ports.letters (undelivered past) e posts.letters))

@@ -1,13 +1,5 @@
 -- Behind the end of an object nothing is on the way up.
-use Rattle.std.proofs.Common.{ℕ, ◌≡◌, inl, inr, List, [], ◌∷◌, ◌++◌, Bool, true, false, refl, sym, ap, subst, ◌∙◌, arith, Option, Some, None, if◌then◌else◌}
-use Rattle.std.proofs.lemmas.Bool.Decides.{nat_tests}
-use Rattle.std.specs.Prelude.{◌==◌, ◌||◌}
-use Rattle.vm_model.specs.declared.message.Message.{Message}
-use Rattle.vm_model.specs.Controls.{without_control}
-use Rattle.vm_model.specs.Server.{first}
-use Rattle.vm_model.specs.Side.{rest}
-use Rattle.vm_quiet.proofs.Letters.{never}
-use Rattle.vm_system.specs.Orderly.{Ending, EndsLast, NoEnd, is_end}
+use Rattle.vm_system.proofs.Common.{Bool, Ending, EndsLast, List, Message, NoEnd, None, Option, Some, [], ap, arith, false, first, if◌then◌else◌, inl, inr, is_end, nat_tests, never, refl, rest, subst, sym, true, without_control, ℕ, ◌++◌, ◌==◌, ◌||◌, ◌∙◌, ◌∷◌, ◌≡◌}
 
 -- messages without an end have none after one more that isn't
 none_more : (q : List Message) (m : Message) → NoEnd q → is_end m ≡ false → NoEnd (q ++ m ∷ [])

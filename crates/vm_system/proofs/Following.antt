@@ -1,28 +1,7 @@
 -- What the kernels say leaves the pagers and what was stored.
-use Rattle.std.proofs.Common.{◌≡◌, ℕ, Bool, true, List, ◌++◌, Some, refl, sym, ◌∙◌, ap, subst}
-use Rattle.std.specs.Prelude.{slice_get}
-use Rattle.pg_slots.specs.Contents.{Content, SlotsFit}
-use Rattle.pg_slots.specs.Slots.{SlotTable}
-use Rattle.pg_default.specs.Stands.{content_of}
-use Rattle.vm_base.specs.declared.ids.HostId.{HostId}
-use Rattle.vm_model.specs.declared.event.Event.{Event}
-use Rattle.vm_model.specs.declared.command.Command.{Command}
-use Rattle.vm_model.specs.declared.script.Header.{Header}
-use Rattle.vm_legal.specs.Outside.{Outside}
-use Rattle.vm_legal.specs.Stretches.{AllInner, EachIn}
-use Rattle.vm_outside.specs.Areas.{Told}
-use Rattle.vm_kernel.specs.Begun.{SomeKernelSays}
-use Rattle.vm_hosts.specs.Hosts.{HostTable}
-use Rattle.vm_hosts.specs.Steps.{Going, HostsPart, Stretch}
+use Rattle.vm_system.proofs.Common.{Agrees, AllInner, AllServe, AllTold, Bool, CanTellAll, Command, Content, EachIn, Event, Followed, Going, Header, HostId, HostTable, HostsPart, IsOrderly, List, Outside, PagerHasAnswered, PagingIsKept, Posts, SameHosts, SlotTable, SlotsFit, Some, SomeKernelSays, Spares, State, Stretch, Told, ap, content_of, devices, refl, slice_get, subst, sym, true, ℕ, ◌++◌, ◌∙◌, ◌≡◌}
 use Rattle.vm_system.proofs.Agreeing.{content_stays, devices_said, serve_said}
 use Rattle.vm_system.proofs.Sayings.{can_say, orderly_said}
-use Rattle.vm_system.specs.Orderly.{IsOrderly}
-use Rattle.vm_system.specs.Posts.{CanTellAll, Posts, SameHosts}
-use Rattle.vm_system.specs.Making.{Spares}
-use Rattle.vm_system.specs.Steps.{devices}
-use Rattle.vm_system.specs.Stands.{Agrees, AllServe, AllTold, PagingIsKept}
-use Rattle.vm_system.specs.Takings.{Followed, PagerHasAnswered}
-use Rattle.vm_system.specs.declared.state.State.{State}
 
 pub same_pagers : (old new : State) → SameHosts old new → new.pagers.items ≡ old.pagers.items
 same_pagers old new same = rw same.pagers refl

@@ -1,16 +1,6 @@
 -- A step makes the history longer, and begins where it may.
-use Rattle.std.proofs.Common.{◌≡◌, ℕ, ◌<◌, ◌≤◌, arith, length-append, List, [], ◌∷◌, ◌++◌, ◌+◌, length, refl, ap, sym, ◌∙◌, subst, append_assoc, Some, None, Option, inl, inr}
-use Rattle.vm_model.specs.Limits.{most_events}
-use Rattle.vm_legal.proofs.Inside.{before_more, takings_more}
-use Rattle.vm_model.specs.declared.event.Event.{Event}
+use Rattle.vm_system.proofs.Common.{AllInner, Event, GrowsWithinLimit, IsBelowLimit, IsInner, List, MayBeCut, MayBegin, None, Option, Some, Step, TakesStep, [], ap, append_assoc, arith, before_last_line, before_more, before_step, devices, inl, inr, length, length-append, lined, most_events, refl, steps_whole, subst, sym, takings, takings_more, ℕ, ◌++◌, ◌+◌, ◌<◌, ◌∙◌, ◌∷◌, ◌≡◌, ◌≤◌}
 use Rattle.vm_model.specs.declared.event.Event.TheVariants as event
-use Rattle.vm_model.specs.Moments.{before_last_line}
-use Rattle.vm_legal.specs.Steps.{before_step, takings}
-use Rattle.vm_legal.specs.Stretches.{AllInner, IsInner}
-use Rattle.vm_hosts.specs.Steps.{Step}
-use Rattle.vm_system.specs.Steps.{GrowsWithinLimit, IsBelowLimit, MayBegin, devices, lined}
-use Rattle.vm_system.specs.Takings.{MayBeCut, TakesStep}
-use Rattle.vm_system.proofs.Stretched.{steps_whole}
 
 -- what stands in front of a line, or of a step, is the same behind events inside it
 

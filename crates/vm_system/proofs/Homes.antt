@@ -1,20 +1,7 @@
 -- Only the pager of the host of an object's region hears of the object.
-use Rattle.std.proofs.Common.{ℕ, ◌≡◌, ◌⊎◌, inl, inr, List, ◌∷◌, Bool, true, false, refl, sym, ap, subst, ◌∙◌, arith, Option, Some, None}
-use Rattle.std.proofs.lemmas.Bool.Decides.{nat_tests}
-use Rattle.std.proofs.lemmas.Option.{none-some, same_Some}
-use Rattle.std.specs.Prelude.{◌==◌, ◌&&◌, ◌||◌, ◌≢◌, not}
-use Rattle.vm_base.specs.declared.ids.HostId.{HostId}
-use Rattle.vm_base.specs.declared.ids.ObjectId.{ObjectId}
-use Rattle.vm_model.specs.declared.event.Event.{Event}
+use Rattle.vm_system.proofs.Common.{Bool, Event, HostId, IsHome, List, Message, None, ObjectId, Option, Some, Up, ap, arith, false, home_of, home_stays, inl, inr, is_heard_elsewhere, is_made, nat_tests, none-some, refl, same_Some, subst, sym, true, up, ℕ, ◌&&◌, ◌==◌, ◌||◌, ◌∙◌, ◌∷◌, ◌≡◌, ◌≢◌, ◌⊎◌}
+use Rattle.std.specs.Prelude.{not}
 use Rattle.vm_model.specs.declared.event.Event.TheVariants as event
-use Rattle.vm_model.specs.declared.message.Channel.TheVariants.{Up}
-use Rattle.vm_model.specs.declared.message.Message.{Message}
-use Rattle.vm_legal.specs.Licences.{up}
-use Rattle.vm_legal.specs.Undelivered.{is_made}
-use Rattle.vm_abroad.specs.Home.{home_of}
-use Rattle.vm_abroad.proofs.Home.{home_stays}
-use Rattle.pg_default.specs.Stands.{is_elsewhere}
-use Rattle.vm_system.specs.Orderly.{IsHome}
 
 -- an object that has no home, or this one, had no other before
 before : (h o : ℕ) (e : Event) (past : List Event) → (home_of o (e ∷ past) ≡ None) ⊎ (home_of o (e ∷ past) ≡ Some h) → (home_of o past ≡ None) ⊎ (home_of o past ≡ Some h)
@@ -26,7 +13,7 @@ before h o e past home = by (home_of o past) refl home
     by (Some g) is (inr here) = inr (is ∙ sym (home_stays o g e past is) ∙ here)
 
 -- no pager hears of an object, and a channel is made on the host of its region alone
-pub home_kept : (h o : ℕ) (e : Event) (past : List Event) → IsHome h o past → (is_made (up h o) (e ∷ past) ≡ true → home_of o past ≡ Some h) → is_elsewhere h o (e ∷ past) ≡ is_elsewhere h o past → IsHome h o (e ∷ past)
+pub home_kept : (h o : ℕ) (e : Event) (past : List Event) → IsHome h o past → (is_made (up h o) (e ∷ past) ≡ true → home_of o past ≡ Some h) → is_heard_elsewhere h o (e ∷ past) ≡ is_heard_elsewhere h o past → IsHome h o (e ∷ past)
 home_kept h o e past old made same = record { made = λ is. home_stays o h e past (made is); own = λ home. same ∙ old.own (before h o e past home) }
 
 other_host : (a h n o : ℕ) → (not (a == h) && n == o) ≡ true → a ≢ h
@@ -45,11 +32,11 @@ home_taken host object m past h o old here = record { made = old.made; own = λ 
     its : (not (host.0 == h) && object.0 == o) ≡ true → home_of o past ≡ Some host.0
     its is = subst (λ (n : ℕ). home_of n past ≡ Some host.0) (same_object host.0 h object.0 o is) here
 
-    by : (b : Bool) → (not (host.0 == h) && object.0 == o) ≡ b → (home_of o past ≡ None) ⊎ (home_of o past ≡ Some h) → b || is_elsewhere h o past ≡ false
+    by : (b : Bool) → (not (host.0 == h) && object.0 == o) ≡ b → (home_of o past ≡ None) ⊎ (home_of o past ≡ Some h) → b || is_heard_elsewhere h o past ≡ false
     by false is home = old.own home
     by true is (inl none) = absurd (none-some host.0 (sym none ∙ its is))
     by true is (inr own) = absurd (other_host host.0 h object.0 o is (same_Some host.0 h (sym (its is) ∙ own)))
 
 -- it is another host's for all other pagers
-pub elsewhere_taken : (host : HostId) (object : ObjectId) (m : Message) (past : List Event) (g : ℕ) → g ≢ host.0 → is_elsewhere g object.0 (event.Taken (Up host object) m ∷ past) ≡ true
-elsewhere_taken host object m past g other = ap (λ (b : Bool). b || is_elsewhere g object.0 past) (elsewhere host.0 g object.0 other)
+pub elsewhere_taken : (host : HostId) (object : ObjectId) (m : Message) (past : List Event) (g : ℕ) → g ≢ host.0 → is_heard_elsewhere g object.0 (event.Taken (Up host object) m ∷ past) ≡ true
+elsewhere_taken host object m past g other = ap (λ (b : Bool). b || is_heard_elsewhere g object.0 past) (elsewhere host.0 g object.0 other)

@@ -1,40 +1,11 @@
 -- The history stays legal with the step of each command.
-use Rattle.std.proofs.Common.{◌≡◌, ℕ, zero, suc, ◌+◌, ◌||◌, ◌&&◌, not, nat_lt, nat_le, length, if◌then◌else◌, Bool, Option, ap, true, false, List, [], ◌∷◌, ◌++◌, append-nil, refl, sym, ◌∙◌, Some, None, inl}
-use Rattle.std.specs.Prelude.{◌/◌, IfNone, is_none, is_some}
-use Rattle.vm_base.specs.declared.code.Code.{Code}
+use Rattle.vm_system.proofs.Common.{AllInner, Began, Bool, Code, Command, EachEvent, EachIn, Entry, Event, FlatBytes, FollowsSoFar, FramesSuffice, Header, Holds, HostTable, HostsPart, IfNone, IsAtRest, IsDone, IsDoneSoFar, IsGroup, IsPaid, IsPlain, IsRun, IsWholeGroup, IsWholeSoFar, KeepsLegal, List, MomentsIn, None, Numbered, Option, Outside, OwnBytes, Prompt, Some, [], acting, answers, ap, code_where, copies, copies_entries, copies_from, copy_refusal, each_whole, entries_of, entry_at, false, has_copy_mark, head, host_of, if◌then◌else◌, inl, is_copied, is_copy_full, is_elsewhere, is_fork_full, is_full, is_idle, is_none, is_range, is_some, length, marked_below, marked_regions, meets_range, moment_last, moments_whole, most_entries, nat_le, new_marks, next_object, next_region, not, refl, refusal, region_of, settles, so_far, steps_whole, suc, sym, takings_more, true, waiting, zero, ℕ, ◌++◌, ◌+◌, ◌/◌, ◌∙◌, ◌∷◌, ◌≡◌}
+use Rattle.std.proofs.Common.{◌||◌, ◌&&◌, nat_lt, append-nil}
 use Rattle.vm_base.specs.declared.code.Code.TheVariants as code
-use Rattle.vm_base.specs.declared.entry.Entry.{Entry}
-use Rattle.vm_base.specs.Entries.{entry_at, is_range, meets_range, most_entries}
-use Rattle.vm_model.specs.declared.event.Event.{Event}
 use Rattle.vm_model.specs.declared.event.Event.TheVariants as event
-use Rattle.vm_model.specs.declared.command.Command.{Command}
 use Rattle.vm_model.specs.declared.command.Command.TheVariants as command
-use Rattle.vm_model.specs.declared.command.Numbered.{Numbered}
-use Rattle.vm_model.specs.declared.script.Header.{Header}
-use Rattle.vm_model.specs.Moments.{EachEvent}
-use Rattle.vm_model.specs.Regions.{marked_below, marked_regions, next_object, next_region, region_of}
-use Rattle.vm_model.specs.Tasks.{copies, copies_from, entries_of, host_of, is_copied, new_marks}
-use Rattle.vm_model.specs.Waiting.{waiting}
-use Rattle.vm_legal.specs.Bytes.{FlatBytes, OwnBytes}
-use Rattle.vm_legal.specs.Debts.{IsPaid}
-use Rattle.vm_legal.specs.Follows.{FollowsSoFar, IsDone, IsDoneSoFar, IsGroup, IsRun, IsWholeGroup, IsWholeSoFar, head}
-use Rattle.vm_legal.specs.Frames.{FramesSuffice}
-use Rattle.vm_legal.specs.Legal.{Holds, IsAtRest}
-use Rattle.vm_legal.specs.Outside.{Outside}
-use Rattle.vm_legal.specs.Prompt.{Prompt}
-use Rattle.vm_legal.specs.Refusal.{acting, copy_refusal, is_copy_full, is_elsewhere, is_fork_full, is_full, is_marked, refusal, where_true}
-use Rattle.vm_legal.specs.Stretches.{AllInner, EachIn, MomentsIn}
-use Rattle.vm_legal.proofs.Groups.{so_far}
-use Rattle.vm_flat.proofs.Loads.{answers}
-use Rattle.vm_kernel.specs.Built.{copies_entries}
-use Rattle.vm_kernel.specs.Matches.{IsPlain}
-use Rattle.vm_hosts.specs.Hosts.{HostTable}
-use Rattle.vm_hosts.specs.Steps.{Began, HostsPart}
-use Rattle.vm_system.specs.Steps.{KeepsLegal, is_idle, settles}
-use Rattle.vm_legal.proofs.Inside.{takings_more}
 use Rattle.vm_system.proofs.Silent.{all_returned, paid_inner, prompt_code, prompt_line}
 use Rattle.vm_system.proofs.Unfilled.{all_current}
-use Rattle.vm_system.proofs.Stretched.{each_whole, moment_last, moments_whole, steps_whole}
 
 -- a line in front changes no refusal and no head
 
@@ -42,7 +13,7 @@ marks_line : (header : Header) (line n : ℕ) (h : List Event) → marked_below 
 marks_line header line zero h = refl
 marks_line header line (suc n) h = ap (λ (z : ℕ). if (region_of header n h).mark then z + 1 else z) (marks_line header line n h)
 
-new_line : (header : Header) (line : ℕ) (h : List Event) (rows : List Entry) → new_marks (is_marked header (event.Line line ∷ h)) rows ≡ new_marks (is_marked header h) rows
+new_line : (header : Header) (line : ℕ) (h : List Event) (rows : List Entry) → new_marks (has_copy_mark header (event.Line line ∷ h)) rows ≡ new_marks (has_copy_mark header h) rows
 new_line header line h [] = refl
 new_line header line h (row ∷ rows) =
     ap (λ (z : ℕ). if is_copied row.inherit && (not (copies_from row.region.0 rows) && not (region_of header row.region.0 h).mark) then z + 1 else z) (new_line header line h rows)
@@ -56,7 +27,7 @@ full_line header line task h =
 
 fork_line : (header : Header) (line : ℕ) (h : List Event) (rows : List Entry) → is_fork_full header rows (event.Line line ∷ h) ≡ is_fork_full header rows h
 fork_line header line h rows =
-    ap (λ (m : ℕ). nat_lt 8192 (next_region header h + copies rows) || nat_lt 8192 (next_object header h + m + copies rows + new_marks (is_marked header (event.Line line ∷ h)) rows)) (all_marks_line header line h)
+    ap (λ (m : ℕ). nat_lt 8192 (next_region header h + copies rows) || nat_lt 8192 (next_object header h + m + copies rows + new_marks (has_copy_mark header (event.Line line ∷ h)) rows)) (all_marks_line header line h)
     ∙ ap (λ (n : ℕ). nat_lt 8192 (next_region header h + copies rows) || nat_lt 8192 (next_object header h + marked_regions header h + copies rows + n)) (new_line header line h rows)
 
 copy_line : (header : Header) (line source : ℕ) (h : List Event) → is_copy_full header source (event.Line line ∷ h) ≡ is_copy_full header source h
@@ -78,11 +49,11 @@ enough_line header line h other = refl
 pub refusal_line : (header : Header) (line : ℕ) (h : List Event) (c : Command) → refusal header (event.Line line ∷ h) c ≡ refusal header h c
 refusal_line header line h (command.Task task host) = refl
 refusal_line header line h (command.Fork task child) =
-    ap (λ (b : Bool). where_true (is_none (host_of task.0 h)) code.NoSuchName (where_true (is_some (host_of child.0 h)) code.NameTaken (where_true (is_some (waiting task.0 h)) code.Blocked (where_true b code.TableFull None))))
+    ap (λ (b : Bool). code_where (is_none (host_of task.0 h)) code.NoSuchName (code_where (is_some (host_of child.0 h)) code.NameTaken (code_where (is_some (waiting task.0 h)) code.Blocked (code_where b code.TableFull None))))
     (fork_line header line h (entries_of header.size task.0 h))
 refusal_line header line h (command.Exit task) = refl
 refusal_line header line h (command.Allocate task address bytes) =
-    ap (λ (b : Bool). acting h task.0 (where_true (not (is_range header.size address bytes) || nat_lt 4096 (bytes / header.size)) code.InvalidArgument (where_true (meets_range address bytes (entries_of header.size task.0 h)) code.NoSpace (where_true b code.TableFull None))))
+    ap (λ (b : Bool). acting h task.0 (code_where (not (is_range header.size address bytes) || nat_lt 4096 (bytes / header.size)) code.InvalidArgument (code_where (meets_range address bytes (entries_of header.size task.0 h)) code.NoSpace (code_where b code.TableFull None))))
     (full_line header line task.0 h)
 refusal_line header line h (command.Map task address bytes object offset) = rw (elsewhere_line header line object.0 (host_of task.0 h) h) refl
 refusal_line header line h (command.Copy task address bytes target to) = rw (copied_line header line address bytes target.0 to h (entry_at address (entries_of header.size task.0 h))) refl

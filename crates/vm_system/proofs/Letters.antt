@@ -1,31 +1,8 @@
 -- The letters on their way under events that begin a step, and the first of a channel.
-use Rattle.std.proofs.Common.{ℕ, ◌≡◌, inr, List, [], ◌∷◌, ◌++◌, Bool, true, false, refl, sym, subst, Some, None, if◌then◌else◌}
-use Rattle.std.specs.Prelude.{◌<◌, ◌==◌, ◌&&◌, ◌≢◌}
-use Rattle.vm_base.specs.declared.ids.HostId.{HostId}
-use Rattle.vm_base.specs.declared.ids.ObjectId.{ObjectId}
-use Rattle.vm_model.specs.declared.event.Event.{Event}
+use Rattle.vm_system.proofs.Common.{AllLetters, Bool, Channel, Down, Ending, Event, Header, HostId, IsHostLetter, IsOrderly, IsTempAnswer, IsWordUp, Letter, List, Message, None, ObjectId, Some, Up, [], false, first, first_is, gives_frame, home_of, host_id, if◌then◌else◌, inr, is_channel, is_ended, is_heard_elsewhere, is_made, live_control, lock_taken, messages_on, never, queue, queue_is, refl, rest, returns_out, same_channel, subst, sym, true, undelivered, up, without_first, ℕ, ◌&&◌, ◌++◌, ◌==◌, ◌∷◌, ◌≡◌, ◌≢◌}
+use Rattle.std.specs.Prelude.{◌<◌}
 use Rattle.vm_model.specs.declared.event.Event.TheVariants as event
-use Rattle.vm_model.specs.declared.message.Channel.{Channel}
-use Rattle.vm_model.specs.declared.message.Channel.TheVariants.{Up, Down}
-use Rattle.vm_model.specs.declared.message.Message.{Message}
 use Rattle.vm_model.specs.declared.message.Message.TheVariants as message
-use Rattle.vm_model.specs.declared.script.Header.{Header}
-use Rattle.vm_model.specs.Channels.{is_channel, queue}
-use Rattle.vm_model.specs.Controls.{live_control}
-use Rattle.vm_model.specs.Server.{first}
-use Rattle.vm_model.specs.Side.{rest}
-use Rattle.vm_legal.specs.Frames.{returns_out}
-use Rattle.vm_legal.specs.Homes.{gives_frame}
-use Rattle.vm_legal.specs.Licences.{lock_taken, up}
-use Rattle.vm_legal.specs.Steps.{Letter}
-use Rattle.vm_legal.specs.Undelivered.{is_made, undelivered, without_first}
-use Rattle.vm_abroad.specs.Home.{home_of}
-use Rattle.vm_kernel.specs.Matches.{host_id}
-use Rattle.vm_kernel.specs.Taking.{IsTempAnswer}
-use Rattle.vm_quiet.specs.Letters.{messages_on}
-use Rattle.vm_quiet.proofs.Letters.{first_is, never, queue_is, same_channel}
-use Rattle.pg_default.specs.Stands.{is_elsewhere, is_ended}
-use Rattle.vm_system.specs.Orderly.{AllLetters, Ending, IsLetter, IsOrderly, IsWordUp}
 use Rattle.vm_system.proofs.Endings.{ends_taken}
 use Rattle.vm_system.proofs.Homes.{elsewhere_taken, home_kept, home_taken}
 use Rattle.vm_system.proofs.Makings.{at_place, ended_is, is_open, made_taken, own}
@@ -42,7 +19,7 @@ word_stays size old new (message.Return control page dirty keep bytes) kept word
 word_stays size old new (message.Terminate control) kept word = word
 word_stays size old new m kept word = absurd word
 
-letter_stays : (header : Header) (old new : List Event) → Grew old new → (c : Channel) (m : Message) → IsLetter header old (record { channel = c; message = m }) → IsLetter header new (record { channel = c; message = m })
+letter_stays : (header : Header) (old new : List Event) → Grew old new → (c : Channel) (m : Message) → IsHostLetter header old (record { channel = c; message = m }) → IsHostLetter header new (record { channel = c; message = m })
 letter_stays header old new grew (Up host object) m letter =
     (letter.0, word_stays header.size (λ k. is_made (Down host object k) old) (λ k. is_made (Down host object k) new) m (λ k made. grew.kept (Down host object k) made) letter.1)
 letter_stays header old new grew (Down host object control) m letter = letter
@@ -51,7 +28,7 @@ pub letters_stay : (header : Header) (old new : List Event) → Grew old new →
 letters_stay header old new grew [] all = tt
 letters_stay header old new grew (l ∷ ls) all = (letter_stays header old new grew l.channel l.message all.0, letters_stay header old new grew ls all.1)
 
-pub letters_end : (header : Header) (past : List Event) (ls : List Letter) (l : Letter) → AllLetters header past ls → IsLetter header past l → AllLetters header past (ls ++ l ∷ [])
+pub letters_end : (header : Header) (past : List Event) (ls : List Letter) (l : Letter) → AllLetters header past ls → IsHostLetter header past l → AllLetters header past (ls ++ l ∷ [])
 letters_end header past [] l all letter = (letter, tt)
 letters_end header past (k ∷ ls) l all letter = (all.0, letters_end header past ls l all.1 letter)
 
@@ -63,7 +40,7 @@ letters_without header past c (l ∷ ls) all = one (is_channel c l.channel) (let
     one true more = all.1
     one false more = (all.0, more)
 
-letter_among : (header : Header) (past : List Event) (c : Channel) (m : Message) (ls : List Letter) → AllLetters header past ls → first (messages_on c ls) ≡ Some m → IsLetter header past (record { channel = c; message = m })
+letter_among : (header : Header) (past : List Event) (c : Channel) (m : Message) (ls : List Letter) → AllLetters header past ls → first (messages_on c ls) ≡ Some m → IsHostLetter header past (record { channel = c; message = m })
 letter_among header past c m [] all head = absurd (let bad : None ≡ Some m = head in cc)
 letter_among header past c m (l ∷ ls) all head = one (is_channel c l.channel) refl head (letter_among header past c m ls all.1)
   where
@@ -71,13 +48,13 @@ letter_among header past c m (l ∷ ls) all head = one (is_channel c l.channel) 
     inner x q e = cc
 
     one : (b : Bool) → is_channel c l.channel ≡ b → first (if b then l.message ∷ messages_on c ls else messages_on c ls) ≡ Some m
-        → (first (messages_on c ls) ≡ Some m → IsLetter header past (record { channel = c; message = m })) → IsLetter header past (record { channel = c; message = m })
+        → (first (messages_on c ls) ≡ Some m → IsHostLetter header past (record { channel = c; message = m })) → IsHostLetter header past (record { channel = c; message = m })
     one true is at more =
-        subst (λ (x : Message). IsLetter header past (record { channel = c; message = x })) (inner l.message (messages_on c ls) at)
-        (subst (λ (d : Channel). IsLetter header past (record { channel = d; message = l.message })) (same_channel c l.channel is) all.0)
+        subst (λ (x : Message). IsHostLetter header past (record { channel = c; message = x })) (inner l.message (messages_on c ls) at)
+        (subst (λ (d : Channel). IsHostLetter header past (record { channel = d; message = l.message })) (same_channel c l.channel is) all.0)
     one false is at more = more at
 
-pub letter_first : (header : Header) (channel : Channel) (m : Message) (past : List Event) → IsOrderly header past → first (queue channel past) ≡ Some m → IsLetter header past (record { channel = channel; message = m })
+pub letter_first : (header : Header) (channel : Channel) (m : Message) (past : List Event) → IsOrderly header past → first (queue channel past) ≡ Some m → IsHostLetter header past (record { channel = channel; message = m })
 letter_first header channel m past orderly head = letter_among header past channel m (undelivered past) orderly.letters (first_is channel m past head)
 
 -- what is on the way up, by the channel's queue
@@ -101,11 +78,11 @@ unended_first header h object m past orderly head = one (is_ended h object.0 pas
 at_home : (header : Header) (host : HostId) (object : ObjectId) (m : Message) (past : List Event) → IsOrderly header past → first (queue (Up host object) past) ≡ Some m → home_of object.0 past ≡ Some host.0
 at_home header host object m past orderly head = (orderly.home host.0 object.0).made (is_open host.0 object.0 m past (orderly.made host.0 object.0) head)
 
-pub home_first : (header : Header) (h : ℕ) (object : ObjectId) (m : Message) (past : List Event) → IsOrderly header past → first (queue (Up (host_id h) object) past) ≡ Some m → is_elsewhere h object.0 past ≡ false
+pub home_first : (header : Header) (h : ℕ) (object : ObjectId) (m : Message) (past : List Event) → IsOrderly header past → first (queue (Up (host_id h) object) past) ≡ Some m → is_heard_elsewhere h object.0 past ≡ false
 home_first header h object m past orderly head = (orderly.home h object.0).own (inr (at_home header (host_id h) object m past orderly head))
 
 pub elsewhere_first : (header : Header) (h : ℕ) (object : ObjectId) (m : Message) (past : List Event) → IsOrderly header past → first (queue (Up (host_id h) object) past) ≡ Some m → (g : ℕ) → g ≢ h
-    → is_elsewhere g object.0 (event.Taken (Up (host_id h) object) m ∷ past) ≡ true
+    → is_heard_elsewhere g object.0 (event.Taken (Up (host_id h) object) m ∷ past) ≡ true
 elsewhere_first header h object m past orderly head g other = elsewhere_taken (host_id h) object m past g other
 
 pub washed_out : (header : Header) (h : ℕ) (object : ObjectId) (m : Message) (past : List Event) → IsOrderly header past → first (queue (Up (host_id h) object) past) ≡ Some m → gives_frame m ≡ true → 0 < returns_out h past

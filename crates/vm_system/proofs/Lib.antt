@@ -1,3 +1,4 @@
+mod Common
 pub mod Agreeing
 pub mod Answering
 pub mod Apart
@@ -11,17 +12,14 @@ pub mod Legal
 pub mod Letters
 pub mod Made
 pub mod Makings
-pub mod Noting
 pub mod Numbers
 pub mod Opening
-pub mod Paying
 pub mod Posting
 pub mod Sayings
 pub mod Sending
 pub mod Settled
 pub mod Silent
 pub mod Starting
-pub mod Stretched
 pub mod Taken
 pub mod TakenDown
 pub mod TakenFrom

@@ -1,22 +1,7 @@
 -- Which channels were made, once a message is sent.
-use Rattle.std.proofs.Common.{ℕ, ◌≡◌, Bool, true, false, List, [], ◌∷◌, ◌++◌, Option, Some, None, refl, sym, ap, ◌∙◌, append_assoc, arith}
-use Rattle.std.proofs.lemmas.Bool.{false≢true, or_left}
-use Rattle.std.proofs.lemmas.Bool.Decides.{nat_tests}
-use Rattle.std.proofs.lemmas.List.{append-nil}
-use Rattle.std.specs.Prelude.{◌||◌, ◌&&◌, ◌==◌, is_some}
-use Rattle.vm_base.specs.declared.ids.HostId.{HostId}
-use Rattle.vm_base.specs.declared.ids.ObjectId.{ObjectId}
-use Rattle.vm_model.specs.declared.event.Event.{Event}
+use Rattle.vm_system.proofs.Common.{AreFresh, Bool, CanSend, Channel, Down, Event, HostId, List, Message, None, ObjectId, Option, Some, Up, [], ap, append-nil, append_assoc, arith, channel_number, false, false≢true, is_channel, is_made, is_of_control, is_some, made_by, nat_tests, or_left, refl, sym, true, ℕ, ◌&&◌, ◌++◌, ◌==◌, ◌||◌, ◌∙◌, ◌∷◌, ◌≡◌}
 use Rattle.vm_model.specs.declared.event.Event.TheVariants as event
-use Rattle.vm_model.specs.declared.message.Channel.{Channel}
-use Rattle.vm_model.specs.declared.message.Channel.TheVariants.{Up, Down}
-use Rattle.vm_model.specs.declared.message.Message.{Message}
 use Rattle.vm_model.specs.declared.message.Message.TheVariants as message
-use Rattle.vm_model.specs.Channels.{is_channel}
-use Rattle.vm_legal.specs.Undelivered.{is_made, is_of_control}
-use Rattle.vm_system.specs.Channels.{number_in}
-use Rattle.vm_system.specs.Posts.{CanSend}
-use Rattle.vm_system.specs.Sends.{AreFresh, made_by}
 use Rattle.vm_system.proofs.Numbers.{has_number_end, number_end}
 
 -- the two channels of a control
@@ -24,21 +9,21 @@ of_control : (c : Channel) (h : HostId) (o : ObjectId) (k : ℕ) (b : Bool) → 
 of_control (Up host object) h o k b = grind (arith, nat_tests)
 of_control (Down host object control) h o k b = grind (arith, nat_tests)
 
-has_numbers_end : (c d e : Channel) (made : List Channel) → is_some (number_in c (made ++ d ∷ e ∷ [])) ≡ (is_channel c e || (is_channel c d || is_some (number_in c made)))
+has_numbers_end : (c d e : Channel) (made : List Channel) → is_some (channel_number c (made ++ d ∷ e ∷ [])) ≡ (is_channel c e || (is_channel c d || is_some (channel_number c made)))
 has_numbers_end c d e made =
-    ap (λ (all : List Channel). is_some (number_in c all)) (sym (append_assoc made (d ∷ []) (e ∷ [])))
+    ap (λ (all : List Channel). is_some (channel_number c all)) (sym (append_assoc made (d ∷ []) (e ∷ [])))
     ∙ has_number_end c e (made ++ d ∷ [])
     ∙ ap (λ (b : Bool). is_channel c e || b) (has_number_end c d made)
 
-same_end : (c : Channel) (made : List Channel) (b : Bool) → is_some (number_in c made) ≡ b → is_some (number_in c (made ++ [])) ≡ b
-same_end c made b is = ap (λ (all : List Channel). is_some (number_in c all)) (append-nil made) ∙ is
+same_end : (c : Channel) (made : List Channel) (b : Bool) → is_some (channel_number c made) ≡ b → is_some (channel_number c (made ++ [])) ≡ b
+same_end c made b is = ap (λ (all : List Channel). is_some (channel_number c all)) (append-nil made) ∙ is
 
 -- numbers go to the channels that were made
-pub numbers_made : (c channel : Channel) (m : Message) (past : List Event) (made : List Channel) → CanSend channel m past → is_some (number_in c made) ≡ is_made c past
-    → is_some (number_in c (made ++ made_by channel m)) ≡ is_made c (event.Sent channel m ∷ past)
+pub numbers_made : (c channel : Channel) (m : Message) (past : List Event) (made : List Channel) → CanSend channel m past → is_some (channel_number c made) ≡ is_made c past
+    → is_some (channel_number c (made ++ made_by channel m)) ≡ is_made c (event.Sent channel m ∷ past)
 numbers_made c (Up host object) (message.Create control size) past made can is =
     has_numbers_end c (Up host object) (Down host object control) made
-    ∙ of_control c host object control (is_some (number_in c made))
+    ∙ of_control c host object control (is_some (channel_number c made))
     ∙ ap (λ (b : Bool). is_of_control c host.0 object.0 control || b) is
 numbers_made c (Up host object) (message.Init control size) past made can is = absurd can
 numbers_made c (Up host object) m past made can is = same_end c made (is_made c past) is
@@ -56,10 +41,10 @@ no_number None is = refl
 no_number (Some n) is = absurd (false≢true (sym is))
 
 -- those that a message makes were not made before
-pub fresh_made : (channel : Channel) (m : Message) (past : List Event) (made : List Channel) → CanSend channel m past → ((c : Channel) → is_some (number_in c made) ≡ is_made c past) → AreFresh (made_by channel m) made
+pub fresh_made : (channel : Channel) (m : Message) (past : List Event) (made : List Channel) → CanSend channel m past → ((c : Channel) → is_some (channel_number c made) ≡ is_made c past) → AreFresh (made_by channel m) made
 fresh_made (Up host object) (message.Create control size) past made can is =
-    let up = no_number (number_in (Up host object) made) (is (Up host object) ∙ can.0) in
-    let down = no_number (number_in (Down host object control) made) (is (Down host object control) ∙ can.1) in
+    let up = no_number (channel_number (Up host object) made) (is (Up host object) ∙ can.0) in
+    let down = no_number (channel_number (Down host object control) made) (is (Down host object control) ∙ can.1) in
     (up, (number_end (Down host object control) (Up host object) made down, tt))
 fresh_made (Up host object) (message.Init control size) past made can is = absurd can
 fresh_made (Up host object) m past made can is = tt

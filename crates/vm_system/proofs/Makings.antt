@@ -1,25 +1,7 @@
 -- Channels are made with the controls of their objects.
-use Rattle.std.proofs.Common.{ℕ, ◌≡◌, List, [], ◌∷◌, ◌++◌, Bool, true, false, refl, sym, subst, ◌∙◌, arith, Option, Some, None, if◌then◌else◌}
-use Rattle.std.proofs.lemmas.Bool.Decides.{nat_tests}
-use Rattle.std.specs.Prelude.{◌==◌, ◌||◌, ◌&&◌}
-use Rattle.vm_base.specs.declared.ids.HostId.{HostId}
-use Rattle.vm_base.specs.declared.ids.ObjectId.{ObjectId}
-use Rattle.vm_base.specs.declared.ids.PageNo.{PageNo}
-use Rattle.vm_model.specs.declared.event.Event.{Event}
+use Rattle.vm_system.proofs.Common.{Bool, Down, Event, HasMade, HostId, List, Message, None, ObjectId, Option, PageNo, Some, Up, [], arith, false, first, host_id, if◌then◌else◌, is_end, is_ended, is_made, last_control, live_control, nat_tests, never, queue, refl, rest, subst, sym, true, up, without_control, ℕ, ◌&&◌, ◌++◌, ◌==◌, ◌||◌, ◌∙◌, ◌∷◌, ◌≡◌}
 use Rattle.vm_model.specs.declared.event.Event.TheVariants as event
-use Rattle.vm_model.specs.declared.message.Channel.TheVariants.{Up, Down}
-use Rattle.vm_model.specs.declared.message.Message.{Message}
 use Rattle.vm_model.specs.declared.message.Message.TheVariants as message
-use Rattle.vm_model.specs.Channels.{queue}
-use Rattle.vm_model.specs.Controls.{last_control, live_control, without_control}
-use Rattle.vm_model.specs.Server.{first}
-use Rattle.vm_model.specs.Side.{rest}
-use Rattle.vm_legal.specs.Licences.{up}
-use Rattle.vm_legal.specs.Undelivered.{is_made}
-use Rattle.vm_kernel.specs.Matches.{host_id}
-use Rattle.vm_quiet.proofs.Letters.{never}
-use Rattle.pg_default.specs.Stands.{is_ended}
-use Rattle.vm_system.specs.Orderly.{HasMade, is_end}
 
 pub own : (o : ℕ) → o == o ≡ true
 own o = grind (arith, nat_tests)

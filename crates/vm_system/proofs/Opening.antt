@@ -1,46 +1,10 @@
 -- A history stays legal with one message more taken.
-use Rattle.std.proofs.Common.{append_assoc, ◌≡◌, ℕ, true, false, List, [], ◌∷◌, ◌++◌, None, Some, refl, sym, ◌∙◌, ap, subst, inl, inr}
-use Rattle.std.specs.Prelude.{is_some}
-use Rattle.vm_base.specs.declared.ids.ChannelId.{ChannelId}
-use Rattle.vm_model.specs.declared.command.Command.{Command}
+use Rattle.vm_system.proofs.Common.{AllLicensed, AreSame, BeforeSteps, Channel, ChannelId, Command, EachEvent, EachMoment, EachOf, Event, FollowsSoFar, FramesSuffice, HasCause, HasMore, Header, Holds, IsConsequence, IsGroup, IsPaid, IsPlain, KeepsOpen, LegalOpen, Letter, List, MayBeCut, MayCutOpen, MayTakeFrom, Message, None, Numbered, Outside, OwnBytes, Prompt, Some, State, Step, SystemStands, TakesStep, Took, [], answers, ap, append_assoc, channel_number, channel_of_first, cut_of, each_whole, false, inl, inr, is_some, licensed_both, messages_on, moments_whole, of_both, oldest_channel, queue, queue_is, refl, so_far, steps_whole, subst, sym, takings, takings_more, true, undelivered, ℕ, ◌++◌, ◌∙◌, ◌∷◌, ◌≡◌}
 use Rattle.vm_model.specs.declared.command.Command.TheVariants as command
-use Rattle.vm_model.specs.declared.command.Numbered.{Numbered}
-use Rattle.vm_model.specs.declared.event.Event.{Event}
 use Rattle.vm_model.specs.declared.event.Event.TheVariants as event
-use Rattle.vm_model.specs.declared.message.Channel.{Channel}
-use Rattle.vm_model.specs.declared.message.Message.{Message}
-use Rattle.vm_model.specs.declared.script.Header.{Header}
-use Rattle.vm_model.specs.Channels.{queue}
-use Rattle.vm_model.specs.Moments.{BeforeSteps, EachEvent, EachMoment}
-use Rattle.vm_legal.specs.Bytes.{OwnBytes}
-use Rattle.vm_legal.specs.Debts.{IsPaid}
-use Rattle.vm_legal.specs.Follows.{FollowsSoFar, IsConsequence, IsGroup}
-use Rattle.vm_legal.specs.Frames.{FramesSuffice}
-use Rattle.vm_legal.specs.Legal.{Holds}
-use Rattle.vm_legal.specs.Licences.{AllLicensed, HasCause}
-use Rattle.vm_legal.specs.Outside.{Outside}
-use Rattle.vm_legal.specs.Prompt.{Prompt}
-use Rattle.vm_legal.specs.Stretches.{EachOf}
-use Rattle.vm_legal.specs.Steps.{Letter, takings}
-use Rattle.vm_legal.specs.Undelivered.{channel_of_first, oldest, undelivered}
 use Rattle.vm_ports.specs.Ports.{oldest as oldest_on}
 use Rattle.vm_ports.specs.declared.letter.Letter.{Letter as Posted}
-use Rattle.vm_quiet.proofs.Letters.{queue_is}
-use Rattle.vm_quiet.specs.Letters.{messages_on}
-use Rattle.vm_legal.proofs.Groups.{cut_of, so_far}
-use Rattle.vm_flat.proofs.Loads.{answers}
-use Rattle.vm_kernel.specs.Matches.{IsPlain}
-use Rattle.vm_legal.proofs.Stretched.{licensed_both, of_both}
-use Rattle.vm_legal.proofs.Inside.{takings_more}
-use Rattle.vm_system.specs.Channels.{number_in}
-use Rattle.vm_system.specs.Posts.{AreSame}
-use Rattle.vm_system.specs.Stands.{SystemStands}
-use Rattle.vm_hosts.specs.Steps.{Step}
-use Rattle.vm_system.specs.Steps.{HasMore, KeepsOpen, LegalOpen, MayCutOpen}
-use Rattle.vm_system.specs.Takings.{May, MayBeCut, TakesStep, Took}
-use Rattle.vm_system.specs.declared.state.State.{State}
 use Rattle.vm_system.proofs.Taken.{is_itself}
-use Rattle.vm_system.proofs.Stretched.{each_whole, moments_whole, steps_whole}
 use Rattle.vm_system.proofs.Unfilled.{all_current}
 
 -- what holds in front of a taking
@@ -142,7 +106,7 @@ pub record Foremost (made : List Channel) (number : ChannelId) (letters : List L
   pub letter : Letter
   pub more : List Letter
   pub is : letters ≡ letter ∷ more
-  pub at : number_in letter.channel made ≡ Some number.0
+  pub at : channel_number letter.channel made ≡ Some number.0
 
 foremost : (made : List Channel) (posted : List (Posted Message)) (letters : List Letter) (number : ChannelId) → AreSame made posted letters → oldest_on posted ≡ Some number → Foremost made number letters
 foremost made [] [] number same is = absurd (let bad : false ≡ true = ap is_some is in cc)
@@ -156,12 +120,12 @@ first_on : (letter : Letter) (letters : List Letter) → messages_on letter.chan
 first_on letter letters = rw (is_itself letter.channel) refl
 
 pub may_settle : (given : Step) (number : ChannelId) (s : State) → SystemStands given.header given.outside s → given.past ≡ s.history.items → HasMore given.command s.history.items → oldest_on s.ports.letters ≡ Some number
-    → (channel : Channel) × May given None number channel s
+    → (channel : Channel) × MayTakeFrom given None number channel s
 may_settle given number s stands past more is =
     let items = s.history.items in
     let f = foremost s.channels.made s.ports.letters (undelivered items) number stands.agrees.posts.letters is in
     let channel = f.letter.channel in
-    let ahead : oldest given.past ≡ Some channel = ap oldest past ∙ ap channel_of_first f.is in
+    let ahead : oldest_channel given.past ≡ Some channel = ap oldest_channel past ∙ ap channel_of_first f.is in
     let queued : queue channel items ≡ f.letter.message ∷ messages_on channel f.more = queue_is channel items ∙ ap (λ (z : List Letter). messages_on channel z) f.is ∙ first_on f.letter f.more in (
       channel,
       record {

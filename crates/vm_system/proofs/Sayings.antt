@@ -1,40 +1,10 @@
 -- The letters on their way under what a kernel says, and under what the default pager answers.
-use Rattle.std.proofs.Common.{ℕ, ◌≡◌, inl, inr, List, [], ◌∷◌, ◌++◌, length, Bool, true, false, refl, sym, subst, ◌∙◌, arith, Option, Some, None}
-use Rattle.std.proofs.lemmas.Bool.Decides.{nat_tests}
-use Rattle.std.specs.Prelude.{◌<◌, ◌==◌, ◌||◌, ◌&&◌}
-use Rattle.vm_base.specs.declared.ids.HostId.{HostId}
-use Rattle.vm_base.specs.declared.ids.ObjectId.{ObjectId}
-use Rattle.vm_base.specs.declared.ids.PageNo.{PageNo}
-use Rattle.vm_model.specs.declared.command.Command.{Command}
-use Rattle.vm_model.specs.declared.event.Event.{Event}
+use Rattle.vm_system.proofs.Common.{AllInner, AllLetters, AllLicensed, Bool, CanSend, CanTell, CanTellAll, Channel, Command, CreatesHere, Down, EachIn, Ending, Event, HasMade, HasPageOf, Header, Held, HostId, IsHostLetter, IsInner, IsOrderly, IsPlain, IsTempAnswer, KernelSays, Licensed, List, MaySendUp, Message, None, ObjectId, Option, Outside, PageNo, PagerAnswer, Put, Read, RequestAnswer, SlotTable, Some, SomeKernelSays, Up, Write, [], arith, became, device_failed, error, false, held_at, home_of, host_id, inl, inr, is_ended, is_made, last_control, length, live_control, makes, nat_tests, never, queue, refl, sent_to, subst, supply, sym, taking, told_of, true, undelivered, up, ℕ, ◌&&◌, ◌++◌, ◌==◌, ◌||◌, ◌∙◌, ◌∷◌, ◌≡◌}
+use Rattle.std.specs.Prelude.{◌<◌}
 use Rattle.vm_model.specs.declared.event.Event.TheVariants as event
-use Rattle.vm_model.specs.declared.event.Way.TheVariants.{Read, Write}
-use Rattle.vm_model.specs.declared.message.Channel.{Channel}
-use Rattle.vm_model.specs.declared.message.Channel.TheVariants.{Up, Down}
-use Rattle.vm_model.specs.declared.message.Message.{Message}
 use Rattle.vm_model.specs.declared.message.Message.TheVariants as message
-use Rattle.vm_model.specs.declared.script.Header.{Header}
-use Rattle.vm_model.specs.Channels.{queue}
-use Rattle.vm_model.specs.Controls.{last_control, live_control}
-use Rattle.vm_model.specs.Copies.{HasPageOf}
-use Rattle.vm_legal.specs.Licences.{AllLicensed, Licensed, MaySendUp, up}
-use Rattle.vm_legal.specs.Outside.{Outside}
-use Rattle.vm_legal.specs.Stretches.{AllInner, EachIn, IsInner}
-use Rattle.vm_legal.specs.Undelivered.{is_made, makes, undelivered}
-use Rattle.vm_quiet.proofs.Letters.{never}
-use Rattle.vm_abroad.specs.Home.{home_of}
-use Rattle.vm_kernel.specs.Begun.{CreatesHere, KernelSays, SomeKernelSays}
-use Rattle.vm_kernel.specs.Matches.{IsPlain, host_id}
-use Rattle.vm_kernel.specs.Taking.{IsTempAnswer}
-use Rattle.pg_slots.specs.Slots.{SlotTable, held_at}
-use Rattle.pg_slots.specs.declared.answers.Put.{Put}
 use Rattle.pg_slots.specs.declared.answers.Put.TheVariants as put
-use Rattle.pg_slots.specs.declared.slot_row.Held.{Held}
 use Rattle.pg_slots.specs.declared.slot_row.Held.TheVariants as held
-use Rattle.pg_default.specs.Answers.{PagerAnswer, RequestAnswer, became, device_failed, error, sent_to, supply, told_of}
-use Rattle.pg_default.specs.Stands.{is_ended, taking}
-use Rattle.vm_system.specs.Orderly.{AllLetters, Ending, HasMade, IsLetter, IsOrderly}
-use Rattle.vm_system.specs.Posts.{CanSend, CanTell, CanTellAll}
 use Rattle.vm_system.proofs.Endings.{ends_created, ends_ended, ends_said}
 use Rattle.vm_system.proofs.Homes.{home_kept}
 use Rattle.vm_system.proofs.Letters.{Grew, lettered, letters_end, letters_stay, orderly_silent, queued}
@@ -50,13 +20,13 @@ grew_sent (Up host object) m past = record { kept = λ c is. either (makes c hos
     either false c is = is
 grew_sent (Down host object control) m past = record { kept = λ c is. is }
 
-letters_sent : (header : Header) (c : Channel) (m : Message) (past : List Event) → AllLetters header past (undelivered past) → IsLetter header (event.Sent c m ∷ past) (record { channel = c; message = m })
+letters_sent : (header : Header) (c : Channel) (m : Message) (past : List Event) → AllLetters header past (undelivered past) → IsHostLetter header (event.Sent c m ∷ past) (record { channel = c; message = m })
     → AllLetters header (event.Sent c m ∷ past) (undelivered (event.Sent c m ∷ past))
 letters_sent header c m past old letter =
     letters_end header (event.Sent c m ∷ past) (undelivered past) (record { channel = c; message = m }) (letters_stay header past (event.Sent c m ∷ past) (grew_sent c m past) (undelivered past) old) letter
 
 -- a message up is sent: what is left to show is of its object
-sent_up : (header : Header) (host : HostId) (object : ObjectId) (m : Message) (past : List Event) → IsOrderly header past → IsLetter header (event.Sent (Up host object) m ∷ past) (record { channel = Up host object; message = m })
+sent_up : (header : Header) (host : HostId) (object : ObjectId) (m : Message) (past : List Event) → IsOrderly header past → IsHostLetter header (event.Sent (Up host object) m ∷ past) (record { channel = Up host object; message = m })
     → ((h o : ℕ) → is_made (up h o) (event.Sent (Up host object) m ∷ past) ≡ true → home_of o past ≡ Some h)
     → ((h o : ℕ) → Ending (live_control h o (event.Sent (Up host object) m ∷ past)) (is_ended h o past) (queue (up h o) (event.Sent (Up host object) m ∷ past)))
     → ((h o : ℕ) → HasMade h o (event.Sent (Up host object) m ∷ past)) → IsOrderly header (event.Sent (Up host object) m ∷ past)
@@ -253,7 +223,7 @@ kept_told header object page put.Failed past old = record { orderly = orderly_si
 
 -- what the default pager answers
 answered : (header : Header) (host : ℕ) (object : ObjectId) (m : Message) (past : List Event) (old new : SlotTable) (events : List Event) → IsOrderly header (taking host object m past)
-    → IsLetter header past (record { channel = Up (host_id host) object; message = m }) → old.host ≡ host → old.size ≡ header.size → PagerAnswer m object old new events → AllTold header events (taking host object m past)
+    → IsHostLetter header past (record { channel = Up (host_id host) object; message = m }) → old.host ≡ host → old.size ≡ header.size → PagerAnswer m object old new events → AllTold header events (taking host object m past)
 answered header host object (message.Create control size) past old new events orderly letter home sized is =
     subst (λ (x : List Event). AllTold header x (taking host object (message.Create control size) past)) (sym is.1)
     (told_one header host old.host object control (message.Ready false 3) (taking host object (message.Create control size) past) orderly (record { known = letter.0; own = home; made = letter.1 }) tt)
@@ -267,9 +237,9 @@ answered header host object (message.Terminate control) past old new events orde
 answered header host object m past old new events orderly letter home sized is = absurd letter.1
 
 pub orderly_answered : (header : Header) (host : ℕ) (object : ObjectId) (m : Message) (past : List Event) (old new : SlotTable) (events : List Event) → IsOrderly header (taking host object m past)
-    → IsLetter header past (record { channel = Up (host_id host) object; message = m }) → old.host ≡ host → old.size ≡ header.size → PagerAnswer m object old new events → IsOrderly header (events ++ taking host object m past)
+    → IsHostLetter header past (record { channel = Up (host_id host) object; message = m }) → old.host ≡ host → old.size ≡ header.size → PagerAnswer m object old new events → IsOrderly header (events ++ taking host object m past)
 orderly_answered header host object m past old new events orderly letter home sized is = (answered header host object m past old new events orderly letter home sized is).orderly
 
 pub can_answer : (header : Header) (host : ℕ) (object : ObjectId) (m : Message) (past : List Event) (old new : SlotTable) (events : List Event) → IsOrderly header (taking host object m past)
-    → IsLetter header past (record { channel = Up (host_id host) object; message = m }) → old.host ≡ host → old.size ≡ header.size → PagerAnswer m object old new events → CanTellAll header.size events (taking host object m past)
+    → IsHostLetter header past (record { channel = Up (host_id host) object; message = m }) → old.host ≡ host → old.size ≡ header.size → PagerAnswer m object old new events → CanTellAll header.size events (taking host object m past)
 can_answer header host object m past old new events orderly letter home sized is = (answered header host object m past old new events orderly letter home sized is).can

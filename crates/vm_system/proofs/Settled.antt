@@ -1,19 +1,6 @@
 -- A settle goes on being legal with each message that it takes.
-use Rattle.std.proofs.Common.{◌≡◌, ℕ, ◌+◌, ◌<◌, ◌≤◌, ◌⊎◌, ◌∙◌, Bool, false, Ok, Err, IsErrOf, List, [], ◌∷◌, length, Result, ap, arith, inl, inr, refl, sym, subst}
-use Rattle.std.specs.Prelude.{◌≢◌}
-use Rattle.vm_model.specs.Limits.{most_events}
-use Rattle.vm_model.specs.declared.event.Event.{Event}
-use Rattle.vm_model.specs.declared.command.Command.{Command}
-use Rattle.vm_model.specs.declared.command.Numbered.{Numbered}
-use Rattle.vm_model.specs.declared.script.Header.{Header}
-use Rattle.vm_legal.specs.Outside.{Outside}
-use Rattle.vm_legal.specs.Steps.{Letter}
-use Rattle.vm_legal.specs.Undelivered.{undelivered}
-use Rattle.vm_legal.proofs.Groups.{cut_of}
-use Rattle.vm_outside.specs.Causes.{Rose}
-use Rattle.vm_system.specs.Settling.{DevicesCounted, StaysOpen}
-use Rattle.vm_system.specs.Steps.{DevicesHaveCause, GrowsWithinLimit, KeepsOpen, LegalCut, LegalOpen, MayCutOpen, devices, EndsCut}
-use Rattle.vm_system.specs.declared.stop.SystemStop.{SystemStop}
+use Rattle.vm_system.proofs.Common.{Bool, Command, CountRises, DevicesCounted, DevicesHaveCause, EndsCut, Err, Event, GrowsWithinLimit, Header, IsErrOf, KeepsOpen, LegalCut, LegalOpen, Letter, List, MayCutOpen, Numbered, Ok, Outside, StaysOpen, SystemStop, [], ap, arith, cut_of, devices, false, inl, inr, length, most_events, refl, subst, sym, undelivered, ℕ, ◌+◌, ◌<◌, ◌∙◌, ◌∷◌, ◌≡◌, ◌≢◌, ◌≤◌, ◌⊎◌}
+use Rattle.std.proofs.Common.{Result}
 use Rattle.vm_system.specs.declared.stop.SystemStop.TheVariants as stops
 use Rattle.vm_system.proofs.Growth.{devices_grow, grew_more}
 
@@ -51,7 +38,7 @@ grew_stop stops.NoMemory result first old new is same calm full one two = grew_m
 
 -- the failures of the takings are counted together
 
-counted : (before was now a b c : ℕ) → before ≤ was → was ≤ now → (b + before ≤ a + was) ⊎ Rose was was → (c ≡ b) ⊎ Rose was now → c ≤ b + 1 → (c + before ≤ a + now) ⊎ Rose now now
+counted : (before was now a b c : ℕ) → before ≤ was → was ≤ now → (b + before ≤ a + was) ⊎ CountRises was was → (c ≡ b) ⊎ CountRises was now → c ≤ b + 1 → (c + before ≤ a + now) ⊎ CountRises now now
 counted before was now a b c first then few cause one = grind arith
 
 spared_more : (before was now a b c : ℕ) → a ≤ b → b ≤ c → (b ≡ a → was ≡ before) → (c ≡ b → now ≡ was) → c ≡ a → now ≡ before

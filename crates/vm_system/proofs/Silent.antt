@@ -1,18 +1,6 @@
 -- What holds at the end of a step doesn't change with a line, or with the code of a refusal.
-use Rattle.std.proofs.Common.{◌≡◌, ℕ, Bool, List, ◌∷◌, ◌++◌, None, refl, inl, inr}
-use Rattle.vm_base.specs.declared.code.Code.{Code}
-use Rattle.vm_hosts.proofs.Tables.{common_all}
-use Rattle.vm_kernel.proofs.Growing.{paid_of}
-use Rattle.vm_hosts.specs.Hosts.{AllRest, HostTable}
-use Rattle.vm_model.specs.declared.event.Event.{Event}
+use Rattle.vm_system.proofs.Common.{AReady, Access, AllInner, AllRest, AnAnswer, AnUnlock, Awaits, Bool, Code, Comes, Copies, Elsewhere, Event, HasPlace, Header, HostIsFull, HostTable, IsExhausted, IsPaid, IsSource, List, None, NoneInVain, Nowhere, Prompt, Raises, Waits, WaitsForPager, WaitsUnlocked, WantsFrame, common_all, created, inl, inr, is_store, page_of, paid_of, refl, ℕ, ◌++◌, ◌∷◌, ◌≡◌}
 use Rattle.vm_model.specs.declared.event.Event.TheVariants as event
-use Rattle.vm_model.specs.declared.script.Header.{Header}
-use Rattle.vm_model.specs.Waiting.{Access, is_store}
-use Rattle.vm_legal.specs.Accesses.{Comes, Copies, Elsewhere, HasPlace, Nowhere, Raises, Waits, WaitsUnlocked, WantsFrame, page_of}
-use Rattle.vm_legal.specs.Debts.{IsPaid}
-use Rattle.vm_legal.specs.Licences.{created}
-use Rattle.vm_legal.specs.Prompt.{AReady, AnAnswer, AnUnlock, Awaits, HostIsFull, IsExhausted, IsSource, NoneInVain, Prompt, WaitsForPager}
-use Rattle.vm_legal.specs.Stretches.{AllInner}
 
 -- the accesses that wait, and what they wait for
 

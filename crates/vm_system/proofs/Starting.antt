@@ -1,19 +1,6 @@
 -- A new system stands for the empty history.
-use Rattle.std.proofs.Common.{zero, suc, ◌≡◌, ◌⊎◌, ℕ, ◌+◌, List, [], ◌∷◌, ◌++◌, length, true, None, Some, refl, sym, ◌∙◌, ap, subst, length-append, inl, inr}
-use Rattle.std.proofs.lemmas.Option.{same_Some}
-use Rattle.std.specs.Prelude.{slice_get}
-use Rattle.vm_model.specs.declared.script.Header.{Header}
-use Rattle.vm_legal.specs.Outside.{Outside}
-use Rattle.vm_outside.specs.Areas.{Told}
-use Rattle.pg_slots.specs.Contents.{Content, Kept as Stored, SlotsFit}
-use Rattle.pg_slots.specs.Slots.{SlotTable}
-use Rattle.pg_default.specs.Stands.{PagerStands, content_of}
-use Rattle.pg_default.proofs.Others.{empty}
-use Rattle.pg_default.proofs.Standing.{start}
-use Rattle.vm_hosts.specs.Hosts.{AllQueued, AllRest}
-use Rattle.vm_system.specs.Posts.{Posts}
-use Rattle.vm_system.specs.Stands.{AllServe, AllTold, AreEmpty, AreNumbered, PagingIsKept, SystemStands}
-use Rattle.vm_system.specs.declared.state.State.{State}
+use Rattle.vm_system.proofs.Common.{AllQueued, AllRest, AllServe, AllTold, AreEmpty, AreNumbered, Content, Header, List, None, Outside, PagerStands, PagingIsKept, Posts, SlotTable, SlotsFit, Some, State, SystemStands, Told, [], ap, content_of, empty, inl, inr, length, length-append, refl, same_Some, slice_get, start, subst, suc, sym, true, zero, ℕ, ◌++◌, ◌+◌, ◌∙◌, ◌∷◌, ◌≡◌, ◌⊎◌}
+use Rattle.pg_slots.specs.Contents.{Kept as Stored}
 use Rattle.vm_system.proofs.Letters.{orderly_none}
 
 -- a system to which nothing has happened

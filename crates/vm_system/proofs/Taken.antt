@@ -1,47 +1,11 @@
 -- A message is taken: what stands in front of that, and its cause.
-use Rattle.std.proofs.Common.{◌≡◌, ℕ, zero, suc, ◌<◌, ◌≤◌, ◌==◌, ◌&&◌, Bool, true, false, List, [], ◌∷◌, ◌++◌, length, Option, Some, None, if◌then◌else◌, MatchOption, refl, sym, ◌∙◌, ap, subst, arith}
-use Rattle.std.proofs.lemmas.Bool.Decides.{nat_tests}
-use Rattle.std.specs.Prelude.{IfSome, reverse, slice_get}
-use Rattle.pg_slots.specs.Slots.{SlotTable}
-use Rattle.pg_default.specs.Stands.{content_of}
-use Rattle.vm_base.specs.declared.ids.ChannelId.{ChannelId}
-use Rattle.vm_model.specs.declared.command.Command.{Command}
-use Rattle.vm_model.specs.declared.event.Event.{Event}
+use Rattle.vm_system.proofs.Common.{AllInner, AllLicensed, AllQueued, AllRest, AllServe, AreSame, Bool, Channel, ChannelId, Command, Down, EachIn, EachOf, Event, FramesSuffice, Gives, Header, HostTable, IfSome, IsConsequence, IsOrderly, Letter, Licensed, List, MatchOption, MayTake, MayTakeFrom, Message, MomentsIn, None, Option, Outside, OwnBytes, ReturnsOn, SlotTable, Some, State, Step, TakesStep, Up, [], all_lined, all_suffice, ap, arith, change_where, channel_number, content_of, created, devices, each_both, false, first, frames_after, frames_held, frames_used, if◌then◌else◌, is_channel, is_control, length, licensed_both, lined, live_control, local, messages_on, moments_both, nat_tests, queue, queue_is, queued_lined, refl, reverse, same_channel, slice_get, subst, suc, sym, taken_down_change, taken_up_change, true, undelivered, zero, ℕ, ◌++◌, ◌<◌, ◌∙◌, ◌∷◌, ◌≡◌, ◌≤◌}
+use Rattle.std.proofs.Common.{◌==◌, ◌&&◌}
 use Rattle.vm_model.specs.declared.event.Event.TheVariants as event
-use Rattle.vm_model.specs.declared.message.Channel.{Channel}
-use Rattle.vm_model.specs.declared.message.Channel.TheVariants.{Up, Down}
-use Rattle.vm_model.specs.declared.message.Message.{Message}
 use Rattle.vm_model.specs.declared.message.Message.TheVariants as message
-use Rattle.vm_model.specs.declared.script.Header.{Header}
-use Rattle.vm_model.specs.Channels.{is_channel, queue}
-use Rattle.vm_model.specs.Controls.{is_control, live_control}
-use Rattle.vm_model.specs.Local.{local}
-use Rattle.vm_model.specs.Server.{first}
-use Rattle.vm_legal.specs.Bytes.{OwnBytes}
-use Rattle.vm_legal.specs.Follows.{IsConsequence}
-use Rattle.vm_legal.specs.Frames.{FramesSuffice, Gives, frames_after, frames_held, frames_used, taken_down, taken_up, where_true}
-use Rattle.vm_legal.specs.Licences.{AllLicensed, Licensed, MayTake, ReturnsOn, created}
-use Rattle.vm_legal.specs.Outside.{Outside}
-use Rattle.vm_legal.specs.Steps.{Letter}
-use Rattle.vm_legal.specs.Stretches.{AllInner, EachIn, EachOf, MomentsIn}
-use Rattle.vm_legal.specs.Undelivered.{undelivered}
-use Rattle.vm_quiet.proofs.Letters.{queue_is, same_channel}
-use Rattle.vm_quiet.specs.Letters.{messages_on}
 use Rattle.vm_ports.specs.Ports.{queue as queue_on}
 use Rattle.vm_ports.specs.declared.letter.Letter.{Letter as Posted}
-use Rattle.vm_hosts.specs.Hosts.{AllQueued, AllRest, HostTable}
-use Rattle.vm_legal.proofs.Stretched.{each_both, licensed_both, moments_both}
-use Rattle.vm_system.specs.Channels.{number_in}
-use Rattle.vm_system.specs.Orderly.{IsOrderly}
-use Rattle.vm_system.specs.Posts.{AreSame}
-use Rattle.vm_hosts.specs.Steps.{Step}
-use Rattle.vm_system.specs.Stands.{AllServe}
-use Rattle.vm_system.specs.Steps.{devices, lined}
-use Rattle.vm_system.specs.Takings.{May, TakesStep}
-use Rattle.vm_system.specs.declared.state.State.{State}
 use Rattle.vm_system.proofs.Agreeing.{serve_other}
-use Rattle.vm_hosts.proofs.Nobodys.{all_lined, queued_lined}
-use Rattle.vm_hosts.proofs.Tables.{all_suffice}
 use Rattle.vm_system.proofs.Silent.{all_returned}
 use Rattle.vm_system.proofs.Letters.{orderly_line}
 use Rattle.vm_system.proofs.Numbers.{number_read}
@@ -56,13 +20,13 @@ is_itself (Up host object) = rw (itself host.0, itself object.0) refl
 is_itself (Down host object control) = rw (itself host.0, itself object.0, itself control) refl
 
 -- two channels with one number are the same
-same_number : (c d : Channel) (made : List Channel) (n : ℕ) → number_in c made ≡ Some n → number_in d made ≡ Some n → d ≡ c
+same_number : (c d : Channel) (made : List Channel) (n : ℕ) → channel_number c made ≡ Some n → channel_number d made ≡ Some n → d ≡ c
 same_number c d made n one two =
     let both : Some d ≡ Some c = sym (number_read d made n two) ∙ number_read c made n one in
     cc
 
 -- the letters of a number are those of its channel
-pub posted_queue : (made : List Channel) (posted : List (Posted Message)) (letters : List Letter) (c : Channel) (n : ℕ) → number_in c made ≡ Some n → AreSame made posted letters → queue_on n posted ≡ messages_on c letters
+pub posted_queue : (made : List Channel) (posted : List (Posted Message)) (letters : List Letter) (c : Channel) (n : ℕ) → channel_number c made ≡ Some n → AreSame made posted letters → queue_on n posted ≡ messages_on c letters
 posted_queue made [] [] c n is same = refl
 posted_queue made [] (letter ∷ letters) c n is same = absurd same
 posted_queue made (p ∷ posted) [] c n is same = absurd same
@@ -78,11 +42,11 @@ posted_queue made (p ∷ posted) (letter ∷ letters) c n is same = by (p.channe
         absurd (let bad : true ≡ false = sym (is_itself c) ∙ ap (λ (z : Channel). is_channel c z) (sym on) ∙ there in cc)
     by false true here there rest =
         let on : letter.channel ≡ c = same_channel c letter.channel there in
-        let equal : Some p.channel.0 ≡ Some n = sym same.0 ∙ ap (λ (z : Channel). number_in z made) on ∙ is in
+        let equal : Some p.channel.0 ≡ Some n = sym same.0 ∙ ap (λ (z : Channel). channel_number z made) on ∙ is in
         let at : p.channel.0 ≡ n = cc in
         absurd (let bad : true ≡ false = sym (itself n) ∙ ap (λ (z : ℕ). z == n) (sym at) ∙ here in cc)
 
-pub head_is : (made : List Channel) (posted : List (Posted Message)) (c : Channel) (n : ℕ) (past : List Event) → number_in c made ≡ Some n → AreSame made posted (undelivered past) → queue_on n posted ≡ queue c past
+pub head_is : (made : List Channel) (posted : List (Posted Message)) (c : Channel) (n : ℕ) (past : List Event) → channel_number c made ≡ Some n → AreSame made posted (undelivered past) → queue_on n posted ≡ queue c past
 head_is made posted c n past is same = posted_queue made posted (undelivered past) c n is same ∙ sym (queue_is c past)
 
 -- the first of a list is what stands at its place 0
@@ -123,18 +87,18 @@ serve_lined header pagers (Some line) past serve = serve_other header pagers (ev
 
 -- the frames
 
-gives_less : (test : Bool) (held : ℕ) → frames_after (where_true test Gives) held ≤ held
+gives_less : (test : Bool) (held : ℕ) → frames_after (change_where test Gives) held ≤ held
 gives_less true held = omega arith
 gives_less false held = omega arith
 
 keeps_same : (held : ℕ) → held ≤ held
 keeps_same held = omega arith
 
-up_less : (here : Bool) (m : Message) (held : ℕ) → frames_after (taken_up here m) held ≤ held
+up_less : (here : Bool) (m : Message) (held : ℕ) → frames_after (taken_up_change here m) held ≤ held
 up_less here (message.Return control page dirty keep bytes) held = gives_less _ held
 up_less here other held = keeps_same held
 
-down_less : (asked : ℕ → Bool) (m : Message) (held : ℕ) → frames_after (taken_down asked m) held ≤ held
+down_less : (asked : ℕ → Bool) (m : Message) (held : ℕ) → frames_after (taken_down_change asked m) held ≤ held
 down_less asked (message.Unavailable page) held = gives_less _ held
 down_less asked (message.Error page reason) held = gives_less _ held
 down_less asked other held = keeps_same held
@@ -188,7 +152,7 @@ pub record Front (given : Step) (s : State) : Type 0 where
   pub pagers : AllServe given.header s.pagers.items given.past
   pub orderly : IsOrderly given.header given.past
 
-pub front_of : (given : Step) (line : Option ℕ) (number : ChannelId) (channel : Channel) (s : State) → May given line number channel s → Front given s
+pub front_of : (given : Step) (line : Option ℕ) (number : ChannelId) (channel : Channel) (s : State) → MayTakeFrom given line number channel s → Front given s
 front_of given line number channel s may =
     let stands = may.stands in
     let agrees = stands.agrees in
@@ -207,17 +171,17 @@ pub front_suffice : (given : Step) (s : State) → Front given s → FramesSuffi
 front_suffice given s front = all_suffice given.header s.hosts given.past front.rests
 
 -- the contents are those of the history
-pub front_content : (given : Step) (line : Option ℕ) (number : ChannelId) (channel : Channel) (s : State) → May given line number channel s → (h : ℕ) → content_of given.header h given.past ≡ content_of given.header h s.history.items
+pub front_content : (given : Step) (line : Option ℕ) (number : ChannelId) (channel : Channel) (s : State) → MayTakeFrom given line number channel s → (h : ℕ) → content_of given.header h given.past ≡ content_of given.header h s.history.items
 front_content given line number channel s may h = ap (λ (z : List Event). content_of given.header h z) may.past ∙ content_lined given.header h line s.history.items
 
 -- the channel's queue is that of its number
-may_queue : (given : Step) (line : Option ℕ) (number : ChannelId) (channel : Channel) (s : State) → May given line number channel s → queue_on number.0 s.ports.letters ≡ queue channel s.history.items
+may_queue : (given : Step) (line : Option ℕ) (number : ChannelId) (channel : Channel) (s : State) → MayTakeFrom given line number channel s → queue_on number.0 s.ports.letters ≡ queue channel s.history.items
 may_queue given line number channel s may = head_is s.channels.made s.ports.letters channel number.0 s.history.items may.made may.stands.agrees.posts.letters
 
-pub may_some : (given : Step) (line : Option ℕ) (number : ChannelId) (channel : Channel) (s : State) → May given line number channel s → queue_on number.0 s.ports.letters ≡ [] → ⊥
+pub may_some : (given : Step) (line : Option ℕ) (number : ChannelId) (channel : Channel) (s : State) → MayTakeFrom given line number channel s → queue_on number.0 s.ports.letters ≡ [] → ⊥
 may_some given line number channel s may none = may.some (sym (may_queue given line number channel s may) ∙ none)
 
-pub may_head : (given : Step) (line : Option ℕ) (number : ChannelId) (channel : Channel) (m : Message) (s : State) → May given line number channel s → slice_get (queue_on number.0 s.ports.letters) 0 ≡ Some m
+pub may_head : (given : Step) (line : Option ℕ) (number : ChannelId) (channel : Channel) (m : Message) (s : State) → MayTakeFrom given line number channel s → slice_get (queue_on number.0 s.ports.letters) 0 ≡ Some m
     → first (queue channel given.past) ≡ Some m
 may_head given line number channel m s may head =
     let items = s.history.items in
@@ -229,17 +193,17 @@ inside [] n x is = absurd (cc)
 inside (y ∷ xs) zero x is = omega arith
 inside (y ∷ xs) (suc n) x is = let low = inside xs n x is in omega (arith, low)
 
-pub may_there : (given : Step) (line : Option ℕ) (number : ChannelId) (channel : Channel) (s : State) → May given line number channel s → number.0 < length s.channels.made
+pub may_there : (given : Step) (line : Option ℕ) (number : ChannelId) (channel : Channel) (s : State) → MayTakeFrom given line number channel s → number.0 < length s.channels.made
 may_there given line number channel s may = inside s.channels.made number.0 channel (number_read channel s.channels.made number.0 may.made)
 
 -- no other channel has the number
-pub may_only : (given : Step) (line : Option ℕ) (number : ChannelId) (channel other : Channel) (s : State) → May given line number channel s → slice_get s.channels.made number.0 ≡ Some other → other ≡ channel
+pub may_only : (given : Step) (line : Option ℕ) (number : ChannelId) (channel other : Channel) (s : State) → MayTakeFrom given line number channel s → slice_get s.channels.made number.0 ≡ Some other → other ≡ channel
 may_only given line number channel other s may is =
     let both : Some other ≡ Some channel = sym is ∙ number_read channel s.channels.made number.0 may.made in
     cc
 
 -- the message that was taken is the one that was looked at
-pub first_told : (given : Step) (line : Option ℕ) (number : ChannelId) (channel : Channel) (m : Message) (s mid new : State) → May given line number channel s → first (queue channel given.past) ≡ Some m
+pub first_told : (given : Step) (line : Option ℕ) (number : ChannelId) (channel : Channel) (m : Message) (s mid new : State) → MayTakeFrom given line number channel s → first (queue channel given.past) ≡ Some m
     → mid.history.items ≡ s.history.items → mid.channels.made ≡ s.channels.made
     → ((c : Channel) → slice_get mid.channels.made number.0 ≡ Some c → (n : Message) × (first (queue c mid.history.items) ≡ Some n) × (new.history.items ≡ event.Taken c n ∷ lined line mid.history.items))
     → new.history.items ≡ event.Taken channel m ∷ given.past
@@ -252,9 +216,9 @@ first_told given line number channel m s mid new may head items made told =
     let one : t.0 ≡ m = cc in
     t.2 ∙ ap (λ (z : Message). event.Taken channel z ∷ lined line mid.history.items) one ∙ ap (λ (z : List Event). event.Taken channel m ∷ z) (sym past)
 
-pub may_port : (given : Step) (line : Option ℕ) (number : ChannelId) (channel : Channel) (s : State) → May given line number channel s → number.0 < s.ports.channels
+pub may_port : (given : Step) (line : Option ℕ) (number : ChannelId) (channel : Channel) (s : State) → MayTakeFrom given line number channel s → number.0 < s.ports.channels
 may_port given line number channel s may = subst (λ (z : ℕ). number.0 < z) may.stands.agrees.posts.count (may_there given line number channel s may)
 
 -- the channel is the one that was found
-pub may_found : (given : Step) (line : Option ℕ) (number : ChannelId) (channel other : Channel) (s : State) → May given line number channel s → slice_get s.channels.made number.0 ≡ Some other → May given line number other s
-may_found given line number channel other s may is = subst (λ (z : Channel). May given line number z s) (sym (may_only given line number channel other s may is)) may
+pub may_found : (given : Step) (line : Option ℕ) (number : ChannelId) (channel other : Channel) (s : State) → MayTakeFrom given line number channel s → slice_get s.channels.made number.0 ≡ Some other → MayTakeFrom given line number other s
+may_found given line number channel other s may is = subst (λ (z : Channel). MayTakeFrom given line number z s) (sym (may_only given line number channel other s may is)) may

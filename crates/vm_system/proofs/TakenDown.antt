@@ -1,48 +1,20 @@
 -- An answer of a pager is taken by its host.
-use Rattle.std.proofs.Common.{◌≡◌, ℕ, ◌<◌, Bool, true, false, List, ◌∷◌, ◌++◌, length, Option, Some, None, sym, ◌∙◌, ap, arith}
-use Rattle.vm_base.specs.declared.ids.ChannelId.{ChannelId}
-use Rattle.vm_base.specs.declared.ids.HostId.{HostId}
-use Rattle.vm_base.specs.declared.ids.ObjectId.{ObjectId}
-use Rattle.vm_model.specs.declared.event.Event.{Event}
+use Rattle.vm_system.proofs.Common.{AllInner, AllServe, Bool, CanTellAll, Channel, ChannelId, Down, EndsAll, Event, Header, HostId, HostTable, HostsPart, IsErrorPaid, IsPaid, IsPlain, IsTempAnswer, Letter, Licensed, List, MayTakeFrom, Message, None, ObjectId, Option, PagingIsKept, Posts, Some, State, Step, Told, Took, Up, ap, arith, created, devices, false, first, length, lock_more, lock_taken, named, no_request, queue, sym, taken_letter, taken_more, true, up, ℕ, ◌++◌, ◌<◌, ◌∙◌, ◌∷◌, ◌≡◌}
 use Rattle.vm_model.specs.declared.event.Event.TheVariants as event
-use Rattle.vm_model.specs.declared.message.Channel.{Channel}
-use Rattle.vm_model.specs.declared.message.Channel.TheVariants.{Up, Down}
-use Rattle.vm_model.specs.declared.message.Message.{Message}
-use Rattle.vm_model.specs.declared.script.Header.{Header}
-use Rattle.vm_model.specs.Channels.{queue}
-use Rattle.vm_model.specs.Named.{named}
-use Rattle.vm_model.specs.Server.{first}
-use Rattle.vm_legal.proofs.Locks.{no_request}
-use Rattle.vm_legal.specs.Debts.{IsPaid}
-use Rattle.vm_legal.specs.Licences.{Licensed, created, lock_taken, up}
-use Rattle.vm_legal.specs.Steps.{Letter, taken_letter}
-use Rattle.vm_outside.specs.Areas.{Told}
-use Rattle.vm_kernel.specs.Matches.{IsPlain}
-use Rattle.vm_kernel.specs.Taking.{EndsAll, IsErrorPaid, IsTempAnswer}
-use Rattle.vm_hosts.specs.Hosts.{HostTable}
-use Rattle.vm_hosts.specs.Steps.{HostsPart, Step}
-use Rattle.vm_legal.specs.Stretches.{AllInner}
-use Rattle.vm_legal.proofs.Inside.{taken_more}
-use Rattle.vm_system.specs.Posts.{CanTellAll, Posts}
-use Rattle.vm_system.specs.Stands.{AllServe, PagingIsKept}
-use Rattle.vm_system.specs.Steps.{devices}
-use Rattle.vm_system.specs.Takings.{May, Took}
-use Rattle.vm_system.specs.declared.state.State.{State}
 use Rattle.vm_system.proofs.Agreeing.{devices_said, serve_other}
 use Rattle.vm_system.proofs.Silent.{all_returned}
 use Rattle.vm_system.proofs.Letters.{letter_first, orderly_taken}
 use Rattle.vm_system.proofs.Sayings.{can_say, orderly_said}
 use Rattle.vm_system.proofs.Following.{agrees_said, kept_behind}
-use Rattle.vm_system.proofs.Paying.{lock_more}
 use Rattle.vm_system.proofs.Taken.{Front, devices_lined, front_content, front_of, front_settled, front_suffice, taken_licensed, takes_step}
 
-pub down_letter : (given : Step) (line : Option ℕ) (number : ChannelId) (host : HostId) (object : ObjectId) (control : ℕ) (m : Message) (s : State) → May given line number (Down host object control) s
+pub down_letter : (given : Step) (line : Option ℕ) (number : ChannelId) (host : HostId) (object : ObjectId) (control : ℕ) (m : Message) (s : State) → MayTakeFrom given line number (Down host object control) s
     → first (queue (Down host object control) given.past) ≡ Some m → (host.0 < length given.header.frames.items) × IsTempAnswer given.header.size m
 down_letter given line number host object control m s may head =
     let front = front_of given line number (Down host object control) s may in
     letter_first given.header (Down host object control) m given.past front.orderly head
 
-pub down_licensed : (given : Step) (line : Option ℕ) (number : ChannelId) (host : HostId) (object : ObjectId) (control : ℕ) (m : Message) (s : State) → May given line number (Down host object control) s
+pub down_licensed : (given : Step) (line : Option ℕ) (number : ChannelId) (host : HostId) (object : ObjectId) (control : ℕ) (m : Message) (s : State) → MayTakeFrom given line number (Down host object control) s
     → first (queue (Down host object control) given.past) ≡ Some m → Licensed given.header given.outside given.command (event.Taken (Down host object control) m) given.past
 down_licensed given line number host object control m s may head =
     let front = front_of given line number (Down host object control) s may in
@@ -97,7 +69,7 @@ down_paid header at object control m events past plain inner returned unlocked f
 front_serves : (given : Step) (host : HostId) (object : ObjectId) (control : ℕ) (m : Message) (s : State) → Front given s → AllServe given.header s.pagers.items (event.Taken (Down host object control) m ∷ given.past)
 front_serves given host object control m s front = serve_other given.header s.pagers.items (event.Taken (Down host object control) m) given.past (λ h. tt) front.pagers
 
-pub took_down : (given : Step) (line : Option ℕ) (number : ChannelId) (host : HostId) (object : ObjectId) (control : ℕ) (m : Message) (s new : State) (events : List Event) → May given line number (Down host object control) s
+pub took_down : (given : Step) (line : Option ℕ) (number : ChannelId) (host : HostId) (object : ObjectId) (control : ℕ) (m : Message) (s new : State) (events : List Event) → MayTakeFrom given line number (Down host object control) s
     → first (queue (Down host object control) given.past) ≡ Some m → HostsPart given.header given.outside given.command (event.Taken (Down host object control) m ∷ given.past) new.hosts events
     → IsErrorPaid given.header (events ++ event.Taken (Down host object control) m ∷ given.past) → EndsAll given.header (events ++ event.Taken (Down host object control) m ∷ given.past) → new.size ≡ s.size
     → new.pagers.items ≡ s.pagers.items → new.history.items ≡ events ++ event.Taken (Down host object control) m ∷ given.past → Posts new new.history.items → Took given new
@@ -125,7 +97,7 @@ took_down given line number host object control m s new events may head passed f
 
 -- pagers and contents have no part in that
 pub kept_down : (given : Step) (line : Option ℕ) (number : ChannelId) (host : HostId) (object : ObjectId) (control : ℕ) (m : Message) (s new : State) (hosts : HostTable) (events : List Event) (areas : List ℕ → Told)
-    → May given line number (Down host object control) s → HostsPart given.header given.outside given.command (event.Taken (Down host object control) m ∷ given.past) hosts events → new.pagers.items ≡ s.pagers.items
+    → MayTakeFrom given line number (Down host object control) s → HostsPart given.header given.outside given.command (event.Taken (Down host object control) m ∷ given.past) hosts events → new.pagers.items ≡ s.pagers.items
     → new.history.items ≡ events ++ event.Taken (Down host object control) m ∷ given.past → PagingIsKept given.header given.outside areas s → PagingIsKept given.header given.outside areas new
 kept_down given line number host object control m s new hosts events areas may passed pagers items kept =
     let channel = Down host object control in
@@ -133,7 +105,7 @@ kept_down given line number host object control m s new hosts events areas may p
     let stretch = passed.follows.stretch in
     kept_behind given.header given.outside areas s new events (event.Taken channel m ∷ given.past) (front_serves given host object control m s front) (front_content given line number channel s may) stretch.said stretch.inner pagers items kept
 
-pub devices_down : (given : Step) (line : Option ℕ) (number : ChannelId) (host : HostId) (object : ObjectId) (control : ℕ) (m : Message) (s new : State) (hosts : HostTable) (events : List Event) → May given line number (Down host object control) s
+pub devices_down : (given : Step) (line : Option ℕ) (number : ChannelId) (host : HostId) (object : ObjectId) (control : ℕ) (m : Message) (s new : State) (hosts : HostTable) (events : List Event) → MayTakeFrom given line number (Down host object control) s
     → HostsPart given.header given.outside given.command (event.Taken (Down host object control) m ∷ given.past) hosts events → new.history.items ≡ events ++ event.Taken (Down host object control) m ∷ given.past
     → devices new.history.items ≡ devices s.history.items
 devices_down given line number host object control m s new hosts events may passed items =

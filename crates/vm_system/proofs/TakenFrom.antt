@@ -1,30 +1,9 @@
 -- A `take` is run.
-use Rattle.std.proofs.Common.{◌≡◌, ℕ, true, false, List, [], ◌∷◌, ◌++◌, None, Some, refl, sym, ap, subst, inl, inr}
-use Rattle.std.specs.Prelude.{is_some}
+use Rattle.vm_system.proofs.Common.{Channel, Event, Follows, FollowsSoFar, FramesSuffice, Header, Holds, IsAtRest, IsGroup, IsPaid, IsRun, IsWholeGroup, KeepsLegal, LegalFor, List, MayBeCut, MayCut, None, Numbered, Outside, Some, State, Step, SystemStands, TakesStep, Took, [], ap, cut_of, false, first, head, inl, inr, is_some, licensed_front, moment_last, no_request, open_of, queue, refl, refusal, so_far, subst, sym, take_head, true, ℕ, ◌++◌, ◌∷◌, ◌≡◌}
 use Rattle.vm_model.specs.declared.command.Command.TheVariants as command
-use Rattle.vm_model.specs.declared.command.Numbered.{Numbered}
-use Rattle.vm_model.specs.declared.event.Event.{Event}
 use Rattle.vm_model.specs.declared.event.Event.TheVariants as event
-use Rattle.vm_model.specs.declared.message.Channel.{Channel}
-use Rattle.vm_model.specs.declared.script.Header.{Header}
-use Rattle.vm_model.specs.Channels.{queue}
-use Rattle.vm_model.specs.Server.{first}
-use Rattle.vm_legal.proofs.Locks.{no_request}
-use Rattle.vm_legal.specs.Debts.{IsPaid}
-use Rattle.vm_legal.specs.Follows.{Follows, FollowsSoFar, IsGroup, IsRun, IsWholeGroup, head, take_head}
-use Rattle.vm_legal.specs.Frames.{FramesSuffice}
-use Rattle.vm_legal.specs.Legal.{Holds, IsAtRest, LegalFor}
-use Rattle.vm_legal.specs.Outside.{Outside}
-use Rattle.vm_legal.specs.Refusal.{refusal}
-use Rattle.vm_legal.proofs.Groups.{cut_of, open_of, so_far}
-use Rattle.vm_system.specs.Stands.{SystemStands}
-use Rattle.vm_hosts.specs.Steps.{Step}
-use Rattle.vm_system.specs.Steps.{KeepsLegal, MayCut}
-use Rattle.vm_system.specs.Takings.{MayBeCut, TakesStep, Took}
-use Rattle.vm_system.specs.declared.state.State.{State}
 use Rattle.vm_system.proofs.Opening.{HoldsUpTo, holds_taken, step_is}
 use Rattle.vm_system.proofs.Silent.{prompt_line}
-use Rattle.vm_system.proofs.Stretched.{licensed_front, moment_last}
 
 some_none : {A : Type 0} → {x : A} → Some x ≡ None → ⊥
 some_none is = absurd (let bad : true ≡ false = ap is_some is in cc)

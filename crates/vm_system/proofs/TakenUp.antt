@@ -1,71 +1,31 @@
 -- A message is taken by the pager of a host, which answers.
-use Rattle.std.proofs.Common.{append_assoc, length-append, ◌≡◌, ◌≢◌, ◌⊎◌, ℕ, zero, suc, ◌+◌, ◌<◌, ◌≤◌, true, List, [], ◌∷◌, ◌++◌, length, take, Option, Some, Ok, Err, refl, sym, ◌∙◌, ap, subst, arith, inl, inr}
-use Rattle.std.proofs.Math.ListN.{set, length-set}
-use Rattle.std.proofs.lemmas.Option.{same_Some, slice_get-get_or, slice_get_within}
-use Rattle.std.specs.Prelude.{get_or, slice_get}
-use Rattle.pg_slots.specs.Contents.{Carries, Content, IsTold, SlotsFit, area_name}
-use Rattle.pg_slots.specs.Slots.{KeepsShape, SlotTable}
-use Rattle.pg_default.proofs.Carrying.{carries}
-use Rattle.pg_default.proofs.Causes.{causes}
-use Rattle.pg_default.proofs.Debts.{paid}
-use Rattle.pg_default.proofs.Others.{others, others_carry}
-use Rattle.pg_default.proofs.Standing.{stands}
-use Rattle.pg_default.specs.Answers.{AnswerHasCause, IsToPager, LeavesAreas, PagerAnswer as Answers, ReturnsWhole, SuppliesStored, TellsFault, after_message}
-use Rattle.pg_default.specs.Stands.{PagerStands, Serves, content_of, is_elsewhere}
-use Rattle.vm_base.specs.Listing.{Listed}
+use Rattle.vm_system.proofs.Common.{AllLicensed, AllServe, AnswerHasCause, AreNumbered, CanTellAll, CarriesContent, Channel, ChannelId, Content, CountRises, DevicesHaveCause, EachIn, Err, Event, Followed, FramesSuffice, Going, HasRoom, Header, HostId, IsAreaTold, IsConsequence, IsHostLetter, IsToPager, KeepsShape, LeavesAreas, List, Listed, MayTake, MayTakeFrom, Message, MomentsIn, ObjectId, Ok, Option, Outside, OwnBytes, PagerHasAnswered, PagerServes, PagerStands, PagingIsKept, Posts, ReturnsWhole, SameAreas, SameHosts, SlotTable, SlotsFit, Some, State, Step, SuppliesStored, TakesStep, TellsFault, Told, Took, Up, [], after_message, ap, append_assoc, area_name, arith, carries, causes, content_of, devices, each_both, first, get_or, gives_frame, inl, inner_both, inr, is_heard_elsewhere, length, length-append, length-set, licensed_both, lined, moments_both, named, of_both, others, others_carry, paid, paid_more, queue, refl, same_Some, set, slice_get, slice_get-get_or, slice_get_within, stands, subst, suc, sym, take, true, zero, ℕ, ◌++◌, ◌+◌, ◌<◌, ◌∙◌, ◌∷◌, ◌≡◌, ◌≤◌, ◌⊎◌}
+use Rattle.std.proofs.Common.{◌≢◌}
+use Rattle.pg_default.specs.Answers.{PagerAnswer as Answers}
 use Rattle.vm_base.specs.declared.failure.NoMemory.{NoMemory}
-use Rattle.vm_base.specs.declared.ids.ChannelId.{ChannelId}
-use Rattle.vm_base.specs.declared.ids.HostId.{HostId}
-use Rattle.vm_base.specs.declared.ids.ObjectId.{ObjectId}
-use Rattle.vm_model.specs.declared.event.Event.{Event}
 use Rattle.vm_model.specs.declared.event.Event.TheVariants as event
-use Rattle.vm_model.specs.declared.message.Channel.{Channel}
-use Rattle.vm_model.specs.declared.message.Channel.TheVariants.{Up}
-use Rattle.vm_model.specs.declared.message.Message.{Message}
 use Rattle.vm_model.specs.declared.message.Message.TheVariants as message
-use Rattle.vm_model.specs.declared.script.Header.{Header}
-use Rattle.vm_model.specs.Channels.{queue}
-use Rattle.vm_model.specs.Named.{named}
-use Rattle.vm_model.specs.Server.{first}
-use Rattle.vm_legal.specs.Bytes.{OwnBytes}
-use Rattle.vm_legal.specs.Follows.{IsConsequence}
-use Rattle.vm_legal.specs.Frames.{FramesSuffice}
-use Rattle.vm_legal.specs.Homes.{gives_frame}
-use Rattle.vm_legal.specs.Licences.{AllLicensed, MayTake}
-use Rattle.vm_legal.specs.Outside.{Outside}
-use Rattle.vm_legal.specs.Stretches.{EachIn, MomentsIn}
-use Rattle.vm_outside.specs.Areas.{SameAreas, Told}
-use Rattle.vm_outside.specs.Causes.{Rose}
-use Rattle.vm_hosts.specs.Steps.{Going, Step}
-use Rattle.vm_legal.proofs.Stretched.{each_both, inner_both, licensed_both, moments_both, of_both}
-use Rattle.vm_system.specs.Orderly.{IsLetter}
-use Rattle.vm_system.specs.Posts.{CanTellAll, HasRoom, Posts, SameHosts}
-use Rattle.vm_system.specs.Stands.{AllServe, AreNumbered, PagingIsKept}
-use Rattle.vm_system.specs.Steps.{DevicesHaveCause, devices, lined}
-use Rattle.vm_system.specs.Takings.{Followed, May, PagerHasAnswered, TakesStep, Took}
-use Rattle.vm_system.specs.declared.state.State.{State}
 use Rattle.vm_system.proofs.Answering.{Faults, faults, replies, reply_consequences, reply_frames, reply_inner, reply_nobodys, reply_own, told_after, word_up}
 use Rattle.vm_system.proofs.Apart.{about, apart_of, areas_others, fits_still, other_area, others_fit, others_stand, set_cases, told_still}
 use Rattle.vm_system.proofs.Silent.{all_returned}
 use Rattle.vm_system.proofs.Letters.{elsewhere_first, home_first, letter_first, orderly_taken, unended_first, washed_out}
 use Rattle.vm_system.proofs.Sayings.{can_answer, orderly_answered}
 use Rattle.vm_system.proofs.Following.{kept_at, same_pagers}
-use Rattle.vm_system.proofs.Paying.{paid_more}
 use Rattle.vm_system.proofs.Taken.{Front, devices_lined, front_content, front_of, front_settled, front_suffice, taken_licensed, takes_step, taken_suffice}
 
 -- what stands on a channel up is a host's letter
-pub up_letter : (given : Step) (line : Option ℕ) (number : ChannelId) (host : HostId) (object : ObjectId) (m : Message) (s : State) → May given line number (Up host object) s
-    → first (queue (Up host object) given.past) ≡ Some m → IsLetter given.header given.past (record { channel = Up host object; message = m })
+pub up_letter : (given : Step) (line : Option ℕ) (number : ChannelId) (host : HostId) (object : ObjectId) (m : Message) (s : State) → MayTakeFrom given line number (Up host object) s
+    → first (queue (Up host object) given.past) ≡ Some m → IsHostLetter given.header given.past (record { channel = Up host object; message = m })
 up_letter given line number host object m s may head =
     let front = front_of given line number (Up host object) s may in
     letter_first given.header (Up host object) m given.past front.orderly head
 
-pub up_word : (given : Step) (line : Option ℕ) (number : ChannelId) (host : HostId) (object : ObjectId) (m : Message) (s : State) → May given line number (Up host object) s
+pub up_word : (given : Step) (line : Option ℕ) (number : ChannelId) (host : HostId) (object : ObjectId) (m : Message) (s : State) → MayTakeFrom given line number (Up host object) s
     → first (queue (Up host object) given.past) ≡ Some m → IsToPager m × ReturnsWhole given.header.size m
 up_word given line number host object m s may head = word_up given.header.size _ m (up_letter given line number host object m s may head).1
 
 -- the host has a pager
-pub up_known : (given : Step) (line : Option ℕ) (number : ChannelId) (host : HostId) (object : ObjectId) (m : Message) (s : State) → May given line number (Up host object) s
+pub up_known : (given : Step) (line : Option ℕ) (number : ChannelId) (host : HostId) (object : ObjectId) (m : Message) (s : State) → MayTakeFrom given line number (Up host object) s
     → first (queue (Up host object) given.past) ≡ Some m → host.0 < length s.pagers.items
 up_known given line number host object m s may head =
     let letter = up_letter given line number host object m s may head in
@@ -84,7 +44,7 @@ pub record Reply (given : Step) (host : HostId) (object : ObjectId) (m : Message
 
 -- the pager of the host serves it
 serves_of : (given : Step) (host : HostId) (object : ObjectId) (m : Message) (s : State) (old new : SlotTable) (events : List Event) → Front given s → first (queue (Up host object) given.past) ≡ Some m → slice_get s.pagers.items host.0 ≡ Some old
-    → Answers m object old new events → Serves given.header host.0 given.past object m old new events
+    → Answers m object old new events → PagerServes given.header host.0 given.past object m old new events
 serves_of given host object m s old new events front head at answered =
     let none : named given.header ≡ 0 = ap length front.rests.plain.objects in
     record {
@@ -95,13 +55,13 @@ serves_of given host object m s old new events front head at answered =
       answered = answered;
     }
 
-reply_serves : (given : Step) (host : HostId) (object : ObjectId) (m : Message) (s : State) (old new : SlotTable) (events : List Event) → Reply given host object m s old new events → Serves given.header host.0 given.past object m old new events
+reply_serves : (given : Step) (host : HostId) (object : ObjectId) (m : Message) (s : State) (old new : SlotTable) (events : List Event) → Reply given host object m s old new events → PagerServes given.header host.0 given.past object m old new events
 reply_serves given host object m s old new events reply = serves_of given host object m s old new events reply.front reply.head reply.at reply.answered
 
 -- where the areas hold what was stored
-pub reply_of : (given : Step) (line : Option ℕ) (number : ChannelId) (host : HostId) (object : ObjectId) (m : Message) (areas : List ℕ → Told) (s : State) (old new : SlotTable) (events : List Event) → May given line number (Up host object) s
+pub reply_of : (given : Step) (line : Option ℕ) (number : ChannelId) (host : HostId) (object : ObjectId) (m : Message) (areas : List ℕ → Told) (s : State) (old new : SlotTable) (events : List Event) → MayTakeFrom given line number (Up host object) s
     → first (queue (Up host object) given.past) ≡ Some m → slice_get s.pagers.items host.0 ≡ Some old → Answers m object old new events → KeepsShape old new → PagingIsKept given.header given.outside areas s
-    → ((content : Content) → IsTold areas old → SlotsFit areas old content → SuppliesStored object events content) → Reply given host object m s old new events
+    → ((content : Content) → IsAreaTold areas old → SlotsFit areas old content → SuppliesStored object events content) → Reply given host object m s old new events
 reply_of given line number host object m areas s old new events may head at answered shape kept bytes =
     let front = front_of given line number (Up host object) s may in
     let same = front_content given line number (Up host object) s may host.0 in
@@ -117,7 +77,7 @@ reply_of given line number host object m areas s old new events may head at answ
     }
 
 reply_letter : (given : Step) (host : HostId) (object : ObjectId) (m : Message) (s : State) (old new : SlotTable) (events : List Event) → Reply given host object m s old new events
-    → IsLetter given.header given.past (record { channel = Up host object; message = m })
+    → IsHostLetter given.header given.past (record { channel = Up host object; message = m })
 reply_letter given host object m s old new events reply = letter_first given.header (Up host object) m given.past reply.front.orderly reply.head
 
 pub can_reply : (given : Step) (host : HostId) (object : ObjectId) (m : Message) (s : State) (old new : SlotTable) (events : List Event) → Reply given host object m s old new events
@@ -133,7 +93,7 @@ reply_host given host object m s old new events reply = reply.shape.host ∙ rep
 
 -- a message to the pager of another host
 away_from : (given : Step) (host : HostId) (object : ObjectId) (m : Message) (s : State) (old new : SlotTable) (events : List Event) → Reply given host object m s old new events → (g : ℕ) → g ≢ host.0
-    → is_elsewhere g object.0 (event.Taken (Up host object) m ∷ given.past) ≡ true
+    → is_heard_elsewhere g object.0 (event.Taken (Up host object) m ∷ given.past) ≡ true
 away_from given host object m s old new events reply g other = elsewhere_first given.header host.0 object m given.past reply.front.orderly reply.head g other
 
 -- all pagers stand for the history behind the answer
@@ -244,8 +204,8 @@ took_up given host object m s new old slots events reply followed =
     }
 
 -- what was stored stands in the areas behind the answer
-pub kept_up : (given : Step) (line : Option ℕ) (number : ChannelId) (host : HostId) (object : ObjectId) (m : Message) (s now : State) (old slots : SlotTable) (before after : List ℕ → Told) (events : Listed Event) → May given line number (Up host object) s
-    → Reply given host object m s old slots events.items → Carries before after old slots (after_message m object (Ok events)) → LeavesAreas m object slots before after (Ok events) → PagingIsKept given.header given.outside before s
+pub kept_up : (given : Step) (line : Option ℕ) (number : ChannelId) (host : HostId) (object : ObjectId) (m : Message) (s now : State) (old slots : SlotTable) (before after : List ℕ → Told) (events : Listed Event) → MayTakeFrom given line number (Up host object) s
+    → Reply given host object m s old slots events.items → CarriesContent before after old slots (after_message m object (Ok events)) → LeavesAreas m object slots before after (Ok events) → PagingIsKept given.header given.outside before s
     → now.pagers.items ≡ set s.pagers.items host.0 slots → now.history.items ≡ events.items ++ event.Taken (Up host object) m ∷ given.past → PagingIsKept given.header given.outside after now
 kept_up given line number host object m s now old slots before after events may reply carried leaves kept pagers items =
     kept_at given.header given.outside after now (set s.pagers.items host.0 slots) (events.items ++ event.Taken (Up host object) m ∷ given.past) pagers items (serve_up given host object m s old slots events.items reply)
@@ -261,8 +221,8 @@ kept_up given line number host object m s now old slots before after events may 
         let apart : pager.host ≢ slots.host = λ same. other (sym (reply.front.pagers.numbered.hosts g pager at) ∙ same ∙ reply_host given host object m s old slots events.items reply) in
         areas_others m object before after old slots events reply.answered leaves (area_name pager.host) was (other_area pager.host slots.host apart) is
 
-    told : given.outside.paging ≡ true → (g : ℕ) (pager : SlotTable) → ((g ≡ host.0) × (slots ≡ pager)) ⊎ ((g ≢ host.0) × (slice_get s.pagers.items g ≡ Some pager)) → IsTold after pager
-    told on g pager (inl same) = subst (λ (z : SlotTable). IsTold after z) same.1 (told_after m object before after old slots events reply.shape reply.answered leaves (kept.told on host.0 old reply.at))
+    told : given.outside.paging ≡ true → (g : ℕ) (pager : SlotTable) → ((g ≡ host.0) × (slots ≡ pager)) ⊎ ((g ≢ host.0) × (slice_get s.pagers.items g ≡ Some pager)) → IsAreaTold after pager
+    told on g pager (inl same) = subst (λ (z : SlotTable). IsAreaTold after z) same.1 (told_after m object before after old slots events reply.shape reply.answered leaves (kept.told on host.0 old reply.at))
     told on g pager (inr apart) = told_still pager before after (still g pager apart.0 apart.1) (kept.told on g pager apart.1)
 
     fit : given.outside.paging ≡ true → (g : ℕ) (pager : SlotTable) → ((g ≡ host.0) × (slots ≡ pager)) ⊎ ((g ≢ host.0) × (slice_get s.pagers.items g ≡ Some pager))
@@ -318,7 +278,7 @@ device_cause before now events past old new f cause same front = record {
   spared = λ none. spared f.cause none;
 }
   where
-    by : ((devices (events.items ++ past) ≡ devices past) × (TellsFault events.items → ⊥)) ⊎ ((devices (events.items ++ past) ≡ devices past + 1) × TellsFault events.items) → (devices new ≡ devices old) ⊎ Rose before now
+    by : ((devices (events.items ++ past) ≡ devices past) × (TellsFault events.items → ⊥)) ⊎ ((devices (events.items ++ past) ≡ devices past + 1) × TellsFault events.items) → (devices new ≡ devices old) ⊎ CountRises before now
     by (inl none) = inl (same ∙ none.0 ∙ front)
     by (inr tells) = inr (cause.failed tells.1)
 
@@ -326,7 +286,7 @@ device_cause before now events past old new f cause same front = record {
     spared (inl none) is = cause.spared none.1
     spared (inr tells) is = let more = tells.0 in absurd (omega (arith, more, same, front, is))
 
-pub devices_up : (given : Step) (line : Option ℕ) (number : ChannelId) (host : HostId) (object : ObjectId) (m : Message) (s : State) (old slots : SlotTable) (events : Listed Event) (before now : ℕ) (new : List Event) → May given line number (Up host object) s
+pub devices_up : (given : Step) (line : Option ℕ) (number : ChannelId) (host : HostId) (object : ObjectId) (m : Message) (s : State) (old slots : SlotTable) (events : Listed Event) (before now : ℕ) (new : List Event) → MayTakeFrom given line number (Up host object) s
     → Answers m object old slots events.items → AnswerHasCause before now (Ok events) → devices new ≡ devices (events.items ++ event.Taken (Up host object) m ∷ given.past) → DevicesHaveCause before now s.history.items new
 devices_up given line number host object m s old slots events before now new may answered cause same =
     let past = event.Taken (Up host object) m ∷ given.past in
@@ -353,8 +313,8 @@ fewer_room n m s less room = record {
 
 -- with room made all is as it was
 
-pub may_reserved : (given : Step) (line : Option ℕ) (number : ChannelId) (channel : Channel) (s t : State) → May given line number channel s → SameHosts s t → t.history.items ≡ s.history.items → t.channels.made ≡ s.channels.made
-    → t.ports.channels ≡ s.ports.channels → t.ports.letters ≡ s.ports.letters → t.buffers.size ≡ s.buffers.size → May given line number channel t
+pub may_reserved : (given : Step) (line : Option ℕ) (number : ChannelId) (channel : Channel) (s t : State) → MayTakeFrom given line number channel s → SameHosts s t → t.history.items ≡ s.history.items → t.channels.made ≡ s.channels.made
+    → t.ports.channels ≡ s.ports.channels → t.ports.letters ≡ s.ports.letters → t.buffers.size ≡ s.buffers.size → MayTakeFrom given line number channel t
 may_reserved given line number channel s t may same items made numbers letters buffers =
     let stands = may.stands in
     let agrees = stands.agrees in

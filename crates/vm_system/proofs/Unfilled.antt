@@ -1,13 +1,6 @@
 -- Where no object is declared no slow copy takes a page: what is asked of slow copies holds of each history whose events have their causes.
-use Rattle.std.proofs.Common.{length, List, [], ◌∷◌, ap, arith}
-use Rattle.vm_model.specs.declared.event.Event.{Event}
+use Rattle.vm_system.proofs.Common.{CopiesCurrent, EachEvent, Event, HasCause, Header, IsPlain, List, Outside, [], ap, arith, length, ◌∷◌}
 use Rattle.vm_model.specs.declared.event.Event.TheVariants as event
-use Rattle.vm_model.specs.declared.script.Header.{Header}
-use Rattle.vm_model.specs.Moments.{EachEvent}
-use Rattle.vm_legal.specs.Bytes.{CopiesCurrent}
-use Rattle.vm_legal.specs.Licences.{HasCause}
-use Rattle.vm_legal.specs.Outside.{Outside}
-use Rattle.vm_kernel.specs.Matches.{IsPlain}
 
 current : (header : Header) (outside : Outside) (e : Event) (past : List Event) → IsPlain header → HasCause header outside e past → CopiesCurrent header outside e past
 current header outside (event.CopiedPage task page object object_page target) past plain cause = let none = ap length plain.objects in let below = cause.1.declared in absurd (omega (arith, none, below))

@@ -1,24 +1,8 @@
 -- The paging area is asked only where a pager took a message.
-use Rattle.std.proofs.Common.{◌≡◌, ℕ, Bool, inl, inr, true, false, List, [], ◌∷◌, ◌++◌, refl, ap, sym, ◌∙◌}
-use Rattle.std.proofs.lemmas.Option.{same_Some}
-use Rattle.vm_model.specs.declared.command.Command.{Command}
+use Rattle.vm_system.proofs.Common.{AllInner, Arming, Bool, Channel, Command, Down, Event, Header, IsInner, IsMemoryStop, List, MayBeCut, MayTake, Message, Outside, Step, TakesStep, Up, [], ap, before_last_line, false, inl, inr, licensed_front, refl, same_Some, sym, takes_up, took_up, true, ℕ, ◌++◌, ◌∙◌, ◌∷◌, ◌≡◌}
 use Rattle.vm_model.specs.declared.command.Command.TheVariants as command
-use Rattle.vm_model.specs.declared.event.Event.{Event}
 use Rattle.vm_model.specs.declared.event.Event.TheVariants as event
-use Rattle.vm_model.specs.declared.message.Channel.{Channel}
-use Rattle.vm_model.specs.declared.message.Channel.TheVariants.{Up, Down}
-use Rattle.vm_model.specs.declared.message.Message.{Message}
-use Rattle.vm_model.specs.declared.script.Header.{Header}
-use Rattle.vm_legal.specs.Licences.{MayTake}
-use Rattle.vm_legal.specs.Outside.{Outside}
-use Rattle.vm_legal.specs.Stretches.{AllInner, IsInner}
-use Rattle.vm_model.specs.Moments.{before_last_line}
-use Rattle.vm_outside.specs.Arming.{Arming}
-use Rattle.vm_hosts.specs.Steps.{Step}
-use Rattle.vm_system.specs.Steps.{IsMemoryStop, takes_up, took_up}
-use Rattle.vm_system.specs.Takings.{MayBeCut, TakesStep}
 use Rattle.vm_system.proofs.Growth.{line_taken}
-use Rattle.vm_system.proofs.Stretched.{licensed_front}
 use Rattle.vm_system.proofs.TakenFrom.{taking_of}
 
 -- events inside a step leave what it began with

@@ -1,19 +1,8 @@
 -- The returns on their way are those that are out.
-use Rattle.std.proofs.Common.{ℕ, ◌≡◌, List, [], ◌∷◌, Bool, true, false, refl, sym, ◌∙◌, arith, Some, if◌then◌else◌}
-use Rattle.std.specs.Prelude.{◌+◌, suc, ◌<◌, ◌==◌, ◌&&◌}
-use Rattle.vm_model.specs.declared.event.Event.{Event}
+use Rattle.vm_system.proofs.Common.{Bool, Channel, Down, Event, Letter, List, Message, Some, Up, [], arith, false, first, if◌then◌else◌, is_out, is_washed, never, outs, outs_sent, outs_taken, queue, refl, returns_out, some_out, sym, true, undelivered, washed_in, ℕ, ◌&&◌, ◌==◌, ◌∙◌, ◌∷◌, ◌≡◌}
+use Rattle.std.specs.Prelude.{◌+◌, suc, ◌<◌}
 use Rattle.vm_model.specs.declared.event.Event.TheVariants as event
-use Rattle.vm_model.specs.declared.message.Channel.{Channel}
-use Rattle.vm_model.specs.declared.message.Channel.TheVariants.{Up, Down}
-use Rattle.vm_model.specs.declared.message.Message.{Message}
 use Rattle.vm_model.specs.declared.message.Message.TheVariants as message
-use Rattle.vm_model.specs.Channels.{queue}
-use Rattle.vm_model.specs.Server.{first}
-use Rattle.vm_legal.specs.Frames.{returns_out}
-use Rattle.vm_legal.specs.Steps.{Letter}
-use Rattle.vm_legal.specs.Undelivered.{undelivered}
-use Rattle.vm_quiet.proofs.Letters.{is_out, never, outs, outs_sent, outs_taken, some_out}
-use Rattle.vm_system.specs.Orderly.{is_washed, washed_in}
 
 out_is : (h : ℕ) (c : Channel) (m : Message) → is_out h c m ≡ is_washed h c m
 out_is h (Up host object) (message.Return control page dirty keep bytes) = refl

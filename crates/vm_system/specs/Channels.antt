@@ -9,6 +9,6 @@ pub record ChannelTable : Type 0 where
   pub room : ℕ
 
 -- the number of a channel
-abbrev pub number_in : Channel → List Channel → Option ℕ
-number_in channel [] = None
-number_in channel (first ∷ made) = if is_channel channel first then Some 0 else option_map suc (number_in channel made)
+abbrev pub channel_number : Channel → List Channel → Option ℕ
+channel_number channel [] = None
+channel_number channel (first ∷ made) = if is_channel channel first then Some 0 else option_map suc (channel_number channel made)

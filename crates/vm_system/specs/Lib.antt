@@ -1,7 +1,6 @@
 pub mod Channels
 pub mod Keeping
 pub mod Making
-pub mod Noted
 pub mod Orderly
 pub mod Posts
 pub mod Refusing

@@ -14,7 +14,7 @@ use Rattle.vm_legal.specs.Licences.{lock_taken, up}
 use Rattle.vm_legal.specs.Steps.{Letter}
 use Rattle.vm_legal.specs.Undelivered.{is_made, undelivered}
 use Rattle.vm_quiet.specs.Letters.{messages_on}
-use Rattle.pg_default.specs.Stands.{is_elsewhere, is_ended}
+use Rattle.pg_default.specs.Stands.{is_ended, is_heard_elsewhere}
 use Rattle.vm_abroad.specs.Home.{home_of}
 use Rattle.vm_kernel.specs.Matches.{host_id}
 use Rattle.vm_kernel.specs.Taking.{IsTempAnswer}
@@ -28,8 +28,8 @@ IsWordUp size made (message.Terminate control) = Unit {0}
 IsWordUp size made other = ⊥
 
 -- a letter from a host of the header, or an answer to it
-abbrev pub IsLetter : Header → List Event → Letter → Type 0
-IsLetter header past letter = IsOn letter.channel letter.message
+abbrev pub IsHostLetter : Header → List Event → Letter → Type 0
+IsHostLetter header past letter = IsOn letter.channel letter.message
   where
     IsOn : Channel → Message → Type 0
     IsOn (Up host object) m = (host.0 < length header.frames.items) × IsWordUp header.size (λ control. is_made (Down host object control) past) m
@@ -37,7 +37,7 @@ IsLetter header past letter = IsOn letter.channel letter.message
 
 abbrev pub AllLetters : Header → List Event → List Letter → Type 0
 AllLetters header past [] = Unit {0}
-AllLetters header past (letter ∷ letters) = IsLetter header past letter × AllLetters header past letters
+AllLetters header past (letter ∷ letters) = IsHostLetter header past letter × AllLetters header past letters
 
 -- a host returns a page that it doesn't keep
 abbrev pub is_washed : ℕ → Channel → Message → Bool
@@ -80,7 +80,7 @@ pub record HasMade (h o : ℕ) (past : List Event) : Type 0 where
 -- only the pager of the host of an object's region hears of the object
 pub record IsHome (h o : ℕ) (past : List Event) : Type 0 where
   pub made : is_made (up h o) past ≡ true → home_of o past ≡ Some h
-  pub own : (home_of o past ≡ None) ⊎ (home_of o past ≡ Some h) → is_elsewhere h o past ≡ false
+  pub own : (home_of o past ≡ None) ⊎ (home_of o past ≡ Some h) → is_heard_elsewhere h o past ≡ false
 
 pub record IsOrderly (header : Header) (past : List Event) : Type 0 where
   pub letters : AllLetters header past (undelivered past)

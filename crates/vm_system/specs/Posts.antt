@@ -11,18 +11,18 @@ use Rattle.vm_legal.specs.Steps.{Letter}
 use Rattle.vm_legal.specs.Undelivered.{is_made, undelivered}
 use Rattle.vm_ports.specs.Ports.{spare_channels}
 use Rattle.vm_ports.specs.declared.letter.Letter.{Letter as Posted}
-use Rattle.vm_system.specs.Channels.{number_in}
+use Rattle.vm_system.specs.Channels.{channel_number}
 use Rattle.vm_system.specs.declared.state.State.{State}
 
 -- the letters of the ports are these, by the numbers of their channels
 abbrev pub AreSame : List Channel → List (Posted Message) → List Letter → Type 0
 AreSame made [] [] = Unit {0}
-AreSame made (posted ∷ more) (letter ∷ letters) = (number_in letter.channel made ≡ Some posted.channel.0) × (posted.message ≡ letter.message) × AreSame made more letters
+AreSame made (posted ∷ more) (letter ∷ letters) = (channel_number letter.channel made ≡ Some posted.channel.0) × (posted.message ≡ letter.message) × AreSame made more letters
 AreSame made posted letters = ⊥
 
 -- channels and letters are those of the history
 pub record Posts (s : State) (past : List Event) : Type 0 where
-  pub channels : (c : Channel) → is_some (number_in c s.channels.made) ≡ is_made c past
+  pub channels : (c : Channel) → is_some (channel_number c s.channels.made) ≡ is_made c past
   pub count : length s.channels.made ≡ s.ports.channels
   pub letters : AreSame s.channels.made s.ports.letters (undelivered past)
   pub buffers : s.buffers.size ≡ s.size

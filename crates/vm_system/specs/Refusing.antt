@@ -2,17 +2,17 @@
 use Rattle.std.specs.Prelude.{ℕ, List, Option, Some, None}
 use Rattle.vm_base.specs.declared.code.Code.{Code}
 use Rattle.vm_base.specs.declared.code.Code.TheVariants.{EmptyPort, NoSuchName}
-use Rattle.vm_legal.specs.Refusal.{is_empty, where_true}
+use Rattle.vm_legal.specs.Refusal.{code_where, is_empty}
 use Rattle.vm_model.specs.declared.message.Channel.{Channel}
 use Rattle.vm_model.specs.declared.message.Message.{Message}
 use Rattle.vm_ports.specs.Ports.{queue}
 use Rattle.vm_ports.specs.declared.letter.Letter.{Letter as Posted}
-use Rattle.vm_system.specs.Channels.{number_in}
+use Rattle.vm_system.specs.Channels.{channel_number}
 
 -- the code of a taking from a channel with this number, if it was made, where the letters are these
 abbrev pub code_at : Option ℕ → List (Posted Message) → Option Code
 code_at None letters = Some NoSuchName
-code_at (Some number) letters = where_true (is_empty (queue number letters)) EmptyPort None
+code_at (Some number) letters = code_where (is_empty (queue number letters)) EmptyPort None
 
 abbrev pub channel_code : Channel → List Channel → List (Posted Message) → Option Code
-channel_code channel made letters = code_at (number_in channel made) letters
+channel_code channel made letters = code_at (channel_number channel made) letters

@@ -5,7 +5,7 @@ use Rattle.vm_model.specs.declared.message.Channel.{Channel}
 use Rattle.vm_model.specs.declared.message.Channel.TheVariants.{Up, Down}
 use Rattle.vm_model.specs.declared.message.Message.{Message}
 use Rattle.vm_model.specs.declared.message.Message.TheVariants as message
-use Rattle.vm_system.specs.Channels.{number_in}
+use Rattle.vm_system.specs.Channels.{channel_number}
 use Rattle.vm_system.specs.Posts.{SameHosts}
 use Rattle.vm_system.specs.declared.state.State.{State}
 
@@ -17,7 +17,7 @@ made_by channel m = []
 -- none of these was made, and each is another
 abbrev pub AreFresh : List Channel → List Channel → Type 0
 AreFresh [] made = Unit {0}
-AreFresh (channel ∷ more) made = (number_in channel made ≡ None) × AreFresh more (made ++ channel ∷ [])
+AreFresh (channel ∷ more) made = (channel_number channel made ≡ None) × AreFresh more (made ++ channel ∷ [])
 
 -- channels were added, and nothing else was changed
 pub record Added (channels : List Channel) (old new : State) : Type 0 where
@@ -33,7 +33,7 @@ pub record Added (channels : List Channel) (old new : State) : Type 0 where
 -- a message was sent, and nothing else was changed
 pub record HasSent (channel : Channel) (m : Message) (old new : State) : Type 0 where
   pub number : ChannelId
-  pub is : number_in channel old.channels.made ≡ Some number.0
+  pub is : channel_number channel old.channels.made ≡ Some number.0
   pub letters : new.ports.letters ≡ old.ports.letters ++ record { channel = number; message = m } ∷ []
   pub room : old.ports.room ≤ new.ports.room + 1
   pub count : new.ports.channels ≡ old.ports.channels
@@ -48,7 +48,7 @@ pub record Delivered (channel : Channel) (m : Message) (old new : State) : Type 
   pub count : new.ports.channels ≡ old.ports.channels + length (made_by channel m)
   pub room : old.channels.room ≤ new.channels.room + length (made_by channel m)
   pub number : ChannelId
-  pub is : number_in channel new.channels.made ≡ Some number.0
+  pub is : channel_number channel new.channels.made ≡ Some number.0
   pub letters : new.ports.letters ≡ old.ports.letters ++ record { channel = number; message = m } ∷ []
   pub letter_room : old.ports.room ≤ new.ports.room + 1
   pub size : new.buffers.size ≡ old.buffers.size

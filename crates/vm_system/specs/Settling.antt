@@ -7,7 +7,7 @@ use Rattle.vm_model.specs.declared.command.Numbered.{Numbered}
 use Rattle.vm_model.specs.declared.script.Header.{Header}
 use Rattle.vm_legal.specs.Outside.{Outside}
 use Rattle.vm_legal.specs.Steps.{takings}
-use Rattle.vm_outside.specs.Causes.{Rose}
+use Rattle.vm_outside.specs.Causes.{CountRises}
 use Rattle.vm_system.specs.Steps.{LegalOpen, devices}
 
 -- a settle has so many takings left, or more
@@ -23,5 +23,5 @@ StaysOpen header outside doing old new = (line : ℕ) (run : List Numbered) → 
 -- the failures that are told are at most as many as the count of faults rose, unless that stands at its last value; and where none is told the count stays
 pub record DevicesCounted (before now : ℕ) (old new : List Event) : Type 0 where
   pub later : before ≤ now
-  pub few : (devices new + before ≤ devices old + now) ⊎ Rose now now
+  pub few : (devices new + before ≤ devices old + now) ⊎ CountRises now now
   pub spared : devices new ≡ devices old → now ≡ before

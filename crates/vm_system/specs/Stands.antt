@@ -4,7 +4,7 @@ use Rattle.vm_model.specs.declared.script.Header.{Header}
 use Rattle.vm_model.specs.declared.event.Event.{Event}
 use Rattle.vm_legal.specs.Outside.{Outside}
 use Rattle.vm_outside.specs.Areas.{Told}
-use Rattle.pg_slots.specs.Contents.{IsTold, SlotsFit}
+use Rattle.pg_slots.specs.Contents.{IsAreaTold, SlotsFit}
 use Rattle.pg_slots.specs.Slots.{SlotTable}
 use Rattle.pg_default.specs.Stands.{PagerStands, content_of}
 use Rattle.vm_hosts.specs.Hosts.{AllQueued, AllRest}
@@ -28,7 +28,7 @@ pub record AllServe (header : Header) (pagers : List SlotTable) (past : List Eve
 
 -- their areas are told
 abbrev pub AllTold : (List ℕ → Told) → List SlotTable → Type 0
-AllTold areas pagers = (h : ℕ) (pager : SlotTable) → slice_get pagers h ≡ Some pager → IsTold areas pager
+AllTold areas pagers = (h : ℕ) (pager : SlotTable) → slice_get pagers h ≡ Some pager → IsAreaTold areas pager
 
 -- pagers, ports and letters are those of the history, also inside a step
 pub record Agrees (header : Header) (outside : Outside) (s : State) : Type 0 where

@@ -15,9 +15,9 @@ use Rattle.vm_kernel.specs.Built.{copies_entries}
 use Rattle.vm_legal.specs.Legal.{Holds, IsAtRest, LegalFor}
 use Rattle.vm_legal.specs.Outside.{Outside}
 use Rattle.vm_legal.specs.Steps.{takings}
-use Rattle.vm_kernel.specs.Built.{is_built as is_run}
+use Rattle.vm_kernel.specs.Built.{kernel_runs as is_run}
 use Rattle.vm_outside.specs.Arming.{Arming}
-use Rattle.vm_outside.specs.Causes.{Rose}
+use Rattle.vm_outside.specs.Causes.{CountRises}
 
 -- what is told to calls: the script's header, and what is told of the outside
 pub record Setting : Type 0 where
@@ -41,13 +41,13 @@ settles (command.Settle count) = Some count
 settles other = None
 
 -- a legal history stays so with one command more; a settle has not begun to take
-pub record IsNext (header : Header) (outside : Outside) (numbered : Numbered) (run : List Numbered) (new : List Event) : Type 0 where
+pub record IsNextLegal (header : Header) (outside : Outside) (numbered : Numbered) (run : List Numbered) (new : List Event) : Type 0 where
   pub so_far : LegalOpen header outside (numbered ∷ run) new
   pub whole : settles numbered.command ≡ None → LegalFor header outside (numbered ∷ run) new
   pub none : takings new ≡ 0 ⊎ (settles numbered.command ≡ None)
 
 abbrev pub KeepsLegal : Header → Outside → Numbered → List Event → List Event → Type 0
-KeepsLegal header outside numbered old new = (run : List Numbered) → LegalFor header outside run old → IsNext header outside numbered run new
+KeepsLegal header outside numbered old new = (run : List Numbered) → LegalFor header outside run old → IsNextLegal header outside numbered run new
 
 -- where memory ended in the step of a command, the history is as it was, or its last step is cut
 abbrev pub MayCut : Header → Outside → Numbered → List Event → List Event → Type 0
@@ -85,7 +85,7 @@ devices (e ∷ past) = devices past
 pub record DevicesHaveCause (before now : ℕ) (old new : List Event) : Type 0 where
   pub later : before ≤ now
   pub few : devices new ≤ devices old + 1
-  pub cause : (devices new ≡ devices old) ⊎ Rose before now
+  pub cause : (devices new ≡ devices old) ⊎ CountRises before now
   pub spared : devices new ≡ devices old → now ≡ before
 
 -- a step may begin: the history has few enough events; the taking of a `take` begins with its line
@@ -144,12 +144,12 @@ is_idle (command.FailPaging count) = true
 is_idle other = false
 
 -- the commands that a system runs
-abbrev pub is_built : Command → Bool
-is_built (command.Take channel) = true
-is_built (command.Settle count) = true
-is_built (command.FailFiles count) = true
-is_built (command.FailPaging count) = true
-is_built other = is_run other
+abbrev pub system_runs : Command → Bool
+system_runs (command.Take channel) = true
+system_runs (command.Settle count) = true
+system_runs (command.FailFiles count) = true
+system_runs (command.FailPaging count) = true
+system_runs other = is_run other
 
 -- a fork that isn't refused, and would copy an entry
 abbrev pub is_held_up : Header → List Event → Command → Bool

@@ -16,16 +16,16 @@ use Rattle.vm_legal.specs.Prompt.{Prompt}
 use Rattle.vm_legal.specs.Stretches.{AllInner, EachIn, EachOf, MomentsIn}
 use Rattle.vm_hosts.specs.Hosts.{AllRest}
 use Rattle.vm_hosts.specs.Steps.{EventsFollow, Going, PagerStep, Step}
-use Rattle.vm_system.specs.Channels.{number_in}
+use Rattle.vm_system.specs.Channels.{channel_number}
 use Rattle.vm_system.specs.Stands.{Agrees, SystemStands}
 use Rattle.vm_system.specs.Steps.{lined}
 use Rattle.vm_system.specs.declared.state.State.{State}
 
 -- the channel with a number has a message, and the command may take it
-pub record May (given : Step) (line : Option ℕ) (number : ChannelId) (channel : Channel) (s : State) : Type 0 where
+pub record MayTakeFrom (given : Step) (line : Option ℕ) (number : ChannelId) (channel : Channel) (s : State) : Type 0 where
   pub stands : SystemStands given.header given.outside s
   pub past : given.past ≡ lined line s.history.items
-  pub made : number_in channel s.channels.made ≡ Some number.0
+  pub made : channel_number channel s.channels.made ≡ Some number.0
   pub may : MayTake given.command channel given.past
   pub some : queue channel s.history.items ≢ []
 

@@ -1,9 +1,9 @@
 // The numbers of the channels that were made.
-ghost use Rattle.std.specs.Prelude.{◌≡◌, ◌≤◌, ◌+◌, ◌<◌, ◌++◌, ◌∷◌, [], length, slice_get, IsOk, OnOk, OnErr, None, Some, option_map};
+ghost use Rattle.std.specs.Prelude.{◌≡◌, ◌≤◌, ◌+◌, ◌<◌, ◌++◌, ◌∷◌, [], length, slice_get, OnOk, None, Some, option_map};
 ghost use Rattle.vm_base.specs.declared.ids.ChannelId.{ChannelId};
-ghost use Rattle.vm_system.specs.Channels.{number_in};
+ghost use Rattle.vm_system.specs.Channels.{channel_number};
 
-use crate::noted::{Noted, is_same, place};
+use indexmap::IndexSet;
 use std::alloc::Global;
 use std::marker::Model;
 use vm_base::{ChannelId, NoMemory};
@@ -11,25 +11,23 @@ use vm_model::Channel;
 
 /// The channels that were made, each with its number, from 0 on in the order of making.
 ///
-/// A look-up by channel is a binary search.
+/// A look-up by channel is one in a hash table, and takes no memory.
 #[derive(Drop)]
 pub struct Channels {
-    // By number.
-    made: Vec<Channel>,
-    // By rising channel.
-    order: Vec<Noted>,
+    // A channel's index is its number.
+    made: IndexSet<Channel>,
 }
 
 impl Model for Channels {
-    ghost use Rattle.std.specs.Prelude.{length, vec_capacity, min, ◌-◌, ◌^◌};
+    ghost use Rattle.std.specs.Prelude.{length, min, ◌-◌, ◌^◌, ◌≤◌};
+    ghost use Rattle.indexmap.specs.IndexSet.{spare};
     ghost use Rattle.vm_system.specs.Channels.{ChannelTable};
-    ghost use Rattle.vm_system.specs.Noted.{AreNoted};
 
     ghost Value = { ChannelTable };
 
-    ghost view = { λ s. record { made = s.made.items; room = min (vec_capacity s.made) (min (vec_capacity s.order) (2 ^ 32 - 1)) - length s.made.items } };
+    ghost view = { λ s. record { made = s.made.keys; room = min (spare s.made) (2 ^ 32 - 1 - length s.made.keys) } };
 
-    ghost invariant = { λ s. AreNoted s.made.items s.order.items };
+    ghost invariant = { λ s. length s.made.keys ≤ 2 ^ 32 - 1 };
 }
 
 impl Channels {
@@ -38,8 +36,7 @@ impl Channels {
         ensures { result.made ≡ [] }
     {
         Channels {
-            made: Vec::new(alloc),
-            order: Vec::new(alloc),
+            made: IndexSet::new(alloc),
         }
     }
 
@@ -52,46 +49,38 @@ impl Channels {
             return Err(NoMemory);
         }
         self.made.reserve(n as usize)?;
-        self.order.reserve(n as usize)?;
         Ok(())
     }
 
     /// Notes a channel, which has the next number.
+    #[tactic(auto, using(crate::proofs::Numbers::number_listed))]
     pub fn add(&mut self, channel: Channel)
-        requires fresh { number_in channel self.old.made ≡ None }
+        requires fresh { channel_number channel self.old.made ≡ None }
         requires room { 0 < self.old.room }
         ensures made { self.new.made ≡ self.old.made ++ channel ∷ [] }
         ensures room { self.old.room ≤ self.new.room + 1 }
     {
-        let number = ChannelId(self.made.len() as u32);
-        let at = place(&self.order, channel);
-        let Ok(()) = self.made.push(channel) else {
-            unreachable!()
-        };
-        let Ok(()) = self.order.insert(at, Noted { channel, number }) else {
+        let Ok(_) = self.made.insert(channel) else {
             unreachable!()
         };
     }
 
     /// The number of a channel; None where it was never made.
+    #[tactic(auto, using(crate::proofs::Numbers::number_position))]
     pub fn number(&self, channel: Channel) -> Option<ChannelId>
-        ensures { option_map (λ (n : ChannelId). n.0) result ≡ number_in channel self.now.made }
+        ensures { option_map (λ (n : ChannelId). n.0) result ≡ channel_number channel self.now.made }
     {
-        let at = place(&self.order, channel);
-        let noted = self.order.get(at)?;
-        if is_same(channel, noted.channel) {
-            Some(noted.number)
-        } else {
-            None
-        }
+        let number = self.made.get_index_of(&channel)?;
+        Some(ChannelId(number as u32))
     }
 
     /// The channel with a number.
+    #[tactic(auto, using(crate::proofs::Numbers::number_at))]
     pub fn channel(&self, number: ChannelId) -> Channel
         requires { number.0 < length self.now.made }
         ensures channel { slice_get self.now.made number.0 ≡ Some result }
-        ensures number { number_in result self.now.made ≡ Some number.0 }
+        ensures number { channel_number result self.now.made ≡ Some number.0 }
     {
-        self.made[number.0 as usize]
+        self.made.as_slice()[number.0 as usize]
     }
 }

@@ -7,7 +7,7 @@ ghost use Rattle.vm_model.specs.declared.message.Channel.{Channel};
 ghost use Rattle.vm_model.specs.declared.message.Message.{Message};
 ghost use Rattle.vm_model.specs.Copies.{HasPageOf};
 ghost use Rattle.vm_ports.specs.Ports.{spare_channels};
-ghost use Rattle.vm_system.specs.Channels.{number_in};
+ghost use Rattle.vm_system.specs.Channels.{channel_number};
 ghost use Rattle.vm_system.specs.Posts.{CanTell, CanTellAll, HasRoom, Posts, SameHosts};
 ghost use Rattle.vm_system.specs.Sends.{Added, AreFresh, Delivered, HasSent, SameLetters, made_by};
 ghost use Rattle.vm_system.specs.Steps.{lined};
@@ -86,7 +86,7 @@ impl State {
     // Sends a message once more, on its channel, which it makes if it is a create.
     fn deliver(&mut self, channel: Channel, message: &Message)
         requires fresh { AreFresh (made_by channel message.now) self.old.channels.made }
-        requires known { is_some (number_in channel (self.old.channels.made ++ made_by channel message.now)) ≡ true }
+        requires known { is_some (channel_number channel (self.old.channels.made ++ made_by channel message.now)) ≡ true }
         requires count { length self.old.channels.made ≡ self.old.ports.channels }
         requires size { HasPageOf self.old.buffers.size message.now }
         requires room { HasRoom 1 self.old }
@@ -118,7 +118,7 @@ impl State {
 
     // Makes a channel, for which there is room.
     fn add(&mut self, channel: Channel)
-        requires fresh { number_in channel self.old.channels.made ≡ None }
+        requires fresh { channel_number channel self.old.channels.made ≡ None }
         requires room { 0 < self.old.channels.room }
         requires spare { 0 < spare_channels self.old.ports }
         ensures { Added (channel ∷ []) self.old self.new }
@@ -131,7 +131,7 @@ impl State {
 
     // Sends a message on a channel that was made.
     fn send(&mut self, channel: Channel, message: Message)
-        requires known { is_some (number_in channel self.old.channels.made) ≡ true }
+        requires known { is_some (channel_number channel self.old.channels.made) ≡ true }
         requires count { length self.old.channels.made ≡ self.old.ports.channels }
         requires room { 0 < self.old.ports.room }
         ensures { HasSent channel message self.old self.new }

@@ -3,7 +3,6 @@
 
 mod channels;
 mod committing;
-mod noted;
 mod refusing;
 mod running;
 mod settling;

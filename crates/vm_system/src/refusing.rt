@@ -6,7 +6,7 @@ ghost use Rattle.vm_kernel.specs.Built.{copies_entries};
 ghost use Rattle.vm_system.specs.Refusing.{channel_code};
 ghost use Rattle.vm_system.specs.Stands.{SystemStands};
 ghost use Rattle.vm_hosts.specs.Steps.{Step};
-ghost use Rattle.vm_system.specs.Steps.{is_built};
+ghost use Rattle.vm_system.specs.Steps.{system_runs};
 
 use crate::state::State;
 use vm_base::Code;
@@ -19,7 +19,7 @@ impl State {
         requires stands { SystemStands given.header given.outside self.now }
         requires past { given.past ≡ self.now.history.items }
         requires range { InRange given.header command.now }
-        requires built { is_built command.now ≡ true }
+        requires built { system_runs command.now ≡ true }
         ensures { result ≡ refusal given.header self.now.history.items command.now }
     {
         match command {
@@ -35,7 +35,7 @@ impl State {
         requires stands { SystemStands given.header given.outside self.now }
         requires past { given.past ≡ self.now.history.items }
         requires range { InRange given.header command.now }
-        requires built { is_built command.now ≡ true }
+        requires built { system_runs command.now ≡ true }
         requires accepted { refusal given.header self.now.history.items command.now ≡ None }
         ensures { result ≡ copies_entries given.header self.now.history.items command.now }
     {

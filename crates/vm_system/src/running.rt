@@ -6,7 +6,7 @@ ghost use Rattle.vm_model.specs.declared.event.Event.TheVariants as event;
 ghost use Rattle.vm_model.specs.Ranges.{InRange};
 ghost use Rattle.vm_legal.specs.Refusal.{refusal};
 ghost use Rattle.vm_hosts.specs.Steps.{Step};
-ghost use Rattle.vm_kernel.specs.Built.{copies_entries, is_built as is_run};
+ghost use Rattle.vm_kernel.specs.Built.{copies_entries, kernel_runs as is_run};
 ghost use Rattle.vm_model.specs.declared.command.Command.TheVariants as command;
 ghost use Rattle.vm_system.specs.Posts.{CanTellAll, Posts, SameHosts};
 ghost use Rattle.vm_system.specs.Making.{Makes, Spares};

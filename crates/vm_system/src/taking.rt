@@ -9,7 +9,7 @@ ghost use Rattle.vm_system.specs.Stands.{PagingIsKept, SystemStands};
 ghost use Rattle.vm_legal.specs.Homes.{gives_frame};
 ghost use Rattle.vm_hosts.specs.Steps.{Going, Step};
 ghost use Rattle.vm_system.specs.Steps.{DevicesHaveCause, takes_up};
-ghost use Rattle.vm_system.specs.Takings.{Followed, May, MayBeCut, PagerHasAnswered, Took};
+ghost use Rattle.vm_system.specs.Takings.{Followed, MayBeCut, MayTakeFrom, PagerHasAnswered, Took};
 
 use crate::state::State;
 use vm_base::{ChannelId, HostId, NoMemory, ObjectId};
@@ -35,7 +35,7 @@ impl State {
         paging: &mut Armed<P>,
     ) -> Result<(), NoMemory>
         ghost given: { Step }
-        requires may { (channel : Channel) × May given line number channel self.old }
+        requires may { (channel : Channel) × MayTakeFrom given line number channel self.old }
         requires kept { PagingIsKept given.header given.outside (P.area paging.old.inner) self.old }
         ensures took { OnOk result (Took given self.new) }
         ensures cut { OnErr result (MayBeCut given self.old.history.items self.new.history.items) }
@@ -67,7 +67,7 @@ impl State {
         control: u32,
     ) -> Result<(), NoMemory>
         ghost given: { Step }
-        requires { May given line number (channels.Down host object control) self.old }
+        requires { MayTakeFrom given line number (channels.Down host object control) self.old }
         ensures took { OnOk result (Took given self.new) }
         ensures err { OnErr result (self.new.history.items ≡ self.old.history.items) }
         ensures spares { Spares given.header given.outside self.old self.new }
@@ -95,7 +95,7 @@ impl State {
         paging: &mut Armed<P>,
     ) -> Result<(), NoMemory>
         ghost given: { Step }
-        requires may { May given line number (channels.Up host object) self.old }
+        requires may { MayTakeFrom given line number (channels.Up host object) self.old }
         requires kept { PagingIsKept given.header given.outside (P.area paging.old.inner) self.old }
         ensures took { OnOk result (Took given self.new) }
         ensures cut { OnErr result (MayBeCut given self.old.history.items self.new.history.items) }

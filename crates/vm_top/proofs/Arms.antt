@@ -10,7 +10,7 @@ use Rattle.vm_model.specs.Moments.{before_last_line}
 use Rattle.vm_model.specs.Ranges.{InRange}
 use Rattle.vm_legal.specs.Steps.{before_step, takings}
 use Rattle.vm_outside.specs.Arming.{Arming, ArmedLater}
-use Rattle.vm_outside.specs.Causes.{Rose, next_count, sum_count}
+use Rattle.vm_outside.specs.Causes.{CountRises, next_count, sum_count}
 use Rattle.vm_system.specs.Steps.{DevicesHaveCause, GrowsWithinLimit, LeavesFiles, LeavesPaging, arms_paging, devices, takes_up, took_up}
 use Rattle.vm_system.proofs.Growth.{devices_grow}
 use Rattle.vm_top.specs.Arming.{FailuresCounted, FilesLeft, armings, arms_files, is_untouched, last_arming, ran_of}
@@ -71,7 +71,7 @@ paging_armed n run old_h new_h start old new count arms some is was =
 later_rises : (start l r m s : ℕ) → ArmedLater l r m s → next_count start ≤ next_count r → next_count start ≤ next_count s
 later_rises start l r m s later was = grind arith
 
-later_some : (start l r m s : ℕ) → ArmedLater l r m s → next_count start ≤ next_count r → (0 < l) ⊎ Rose start r → (0 < m) ⊎ Rose start s
+later_some : (start l r m s : ℕ) → ArmedLater l r m s → next_count start ≤ next_count r → (0 < l) ⊎ CountRises start r → (0 < m) ⊎ CountRises start s
 later_some start l r m s later rising was = grind arith
 
 later_none : (start l r m s : ℕ) → ArmedLater l r m s → (l ≡ 0) × (r ≡ start) → (m ≡ 0) × (s ≡ start)
@@ -114,7 +114,7 @@ paging_taking n run old_h new_h start old new later unasked front more was =
     paging_later (n ∷ run) (n ∷ run) old_h new_h start old new refl refl later (λ un. let both = untouched_taking n run new_h old_h front more un in (ap (λ z. z.left) (unasked both.0), both.1)) was
 
 -- the failures of a step are counted
-counted_more : (before was now a b : ℕ) → was ≤ now → (a ≡ b) ⊎ Rose was now → a ≤ b + 1 → (b + before ≤ was) ⊎ Rose was was → (a + before ≤ now) ⊎ Rose now now
+counted_more : (before was now a b : ℕ) → was ≤ now → (a ≡ b) ⊎ CountRises was now → a ≤ b + 1 → (b + before ≤ was) ⊎ CountRises was was → (a + before ≤ now) ⊎ CountRises now now
 counted_more before was now a b later cause few old = grind arith
 
 stays : (before was now a b : ℕ) → b ≤ a → (a ≡ b → now ≡ was) → (b ≡ 0 → was ≡ before) → a ≡ 0 → now ≡ before
@@ -163,5 +163,5 @@ arms_up given n old new f0 f1 p0 p1 ran up files later took was =
     (paging_later run (n ∷ run) old new given.paging p0 p1 (last_none arms_paging n run unarmed.0) (armings_none arms_paging n run unarmed.0) later (λ un. absurd (untouched_up (n ∷ run) new took un)) was.paging)
 
 -- the failures that were told are bounded by the backing's own and by the commands
-pub bounded : (d i0 i1 r0 r1 l k : ℕ) → (d + sum_count i0 r0 ≤ sum_count i1 r1) ⊎ Rose (sum_count i1 r1) (sum_count i1 r1) → r1 + min 1 l ≤ r0 + k → (d + i0 ≤ i1 + k) ⊎ Rose (sum_count i1 r1) (sum_count i1 r1)
+pub bounded : (d i0 i1 r0 r1 l k : ℕ) → (d + sum_count i0 r0 ≤ sum_count i1 r1) ⊎ CountRises (sum_count i1 r1) (sum_count i1 r1) → r1 + min 1 l ≤ r0 + k → (d + i0 ≤ i1 + k) ⊎ CountRises (sum_count i1 r1) (sum_count i1 r1)
 bounded d i0 i1 r0 r1 l k counted few = grind arith

@@ -12,19 +12,19 @@ use Rattle.vm_model.specs.declared.fault.ScriptFault.TheVariants as fault
 use Rattle.vm_model.specs.declared.script.Script.{Script}
 use Rattle.std.specs.List.{All}
 use Rattle.vm_model.specs.Ranges.{IsBetween, KeepsRanges}
-use Rattle.vm_text.specs.Script.{Whole, script_of, seen}
+use Rattle.vm_text.specs.Script.{Whole, script_of, whole_script}
 use Rattle.vm_text.specs.Unbuilt.{IsBuilt, unbuilt_of}
 use Rattle.vm_top.specs.declared.top.Status.{Status}
 use Rattle.vm_top.specs.declared.top.Status.TheVariants as status
 use Rattle.vm_top.specs.declared.words.Report.{Report}
 use Rattle.vm_top.specs.declared.words.Report.TheVariants as reports
-use Rattle.vm_top.specs.Ending.{EndsAs, HasEnded, Tells, WroteStuck, status_after}
+use Rattle.vm_top.specs.Ending.{EndsAs, RunHasEnded, Tells, WroteStuck, status_after}
 use Rattle.vm_top.specs.Reading.{ReadWhole}
 use Rattle.vm_top.specs.Run.{CutIn, IsOutOfEvents, IsRunnable, IsStuck, IsWholeRun, report_text}
 use Rattle.vm_legal.specs.Legal.{LegalSoFar}
 use Rattle.vm_legal.specs.Outside.{Outside}
 use Rattle.vm_legal.proofs.Groups.{cut_of}
-use Rattle.vm_top.specs.Top.{IsBad, IsReadFrom, IsBadFrom, IsUnbuiltFrom, IsHeaderBuilt, NothingRun, IsDone, IsEventLimit, IsStopped, IsNotBuilt, IsOutputFault, IsNoMemory, WroteFailed, WroteStopped, bad_text, not_built_text, stopped_text}
+use Rattle.vm_top.specs.Top.{IsBad, IsReadFrom, IsBadFrom, IsUnbuiltFrom, IsHeaderBuilt, NothingRun, IsRunDone, IsEventLimit, IsStopped, IsNotBuilt, IsOutputFault, IsNoMemory, WroteFailed, WroteStopped, bad_text, not_built_text, stopped_text}
 use Rattle.vm_top.specs.Writing.{WroteStart}
 use Rattle.vm_top.proofs.Closing.{full_so_far, none_legal, part_so_far, whole_so_far}
 use Rattle.vm_top.proofs.Readings.{no_longer}
@@ -59,7 +59,7 @@ script_read told after bytes whole script read spells is =
       | inr long ↦ let long_is = long_bad bytes long in absurd (cc)
     ]
 
-pub read_from : (told after : Option (List ℕ)) (bytes : List ℕ) (script : Script) → ReadWhole told after bytes → script_of bytes ≡ Ok (seen script) → IsReadFrom told script
+pub read_from : (told after : Option (List ℕ)) (bytes : List ℕ) (script : Script) → ReadWhole told after bytes → script_of bytes ≡ Ok (whole_script script) → IsReadFrom told script
 read_from told after bytes script read spells = λ whole is. read_same told after bytes whole read is ∙ spells
 
 pub bad_from : (told after : Option (List ℕ)) (bytes : List ℕ) (line : ℕ) (kind : ScriptFault) → ReadWhole told after bytes → script_of bytes ≡ Err (line, kind) → IsBadFrom told line kind
@@ -73,13 +73,13 @@ pub record IsReady (told : Option (List ℕ)) (run : Script) : Type 0 where
   pub read : IsReadFrom told run
   pub header : IsHeaderBuilt told run
 
-pub ready_of : (told after : Option (List ℕ)) (bytes first second : List ℕ) (script : Script) → ReadWhole told after bytes → first ≡ bytes → script_of first ≡ Ok (seen script) → second ≡ bytes → None ≡ unbuilt_of second
-    → (script_of second ≡ Ok (seen script) → IsBuilt script.header) → IsReady told script
+pub ready_of : (told after : Option (List ℕ)) (bytes first second : List ℕ) (script : Script) → ReadWhole told after bytes → first ≡ bytes → script_of first ≡ Ok (whole_script script) → second ≡ bytes → None ≡ unbuilt_of second
+    → (script_of second ≡ Ok (whole_script script) → IsBuilt script.header) → IsReady told script
 ready_of told after bytes first second script read one spells two none built =
     let same = ap script_of (sym one) ∙ spells in
     record {
       read = read_from told after bytes script read same;
-      header = record { lines = unbuilt_from told after bytes (seen script) None read same (ap unbuilt_of (sym two) ∙ sym none); built = built (ap script_of (two ∙ sym one) ∙ spells) };
+      header = record { lines = unbuilt_from told after bytes (whole_script script) None read same (ap unbuilt_of (sym two) ∙ sym none); built = built (ap script_of (two ∙ sym one) ∙ spells) };
     }
 
 stuck_stops : (told : Option (List ℕ)) (run : Script) (outside : Outside) (script : Option Script) (h : List Event) (line : ℕ) → IsReady told run → script ≡ Some run → IsStuck run outside line h
@@ -96,32 +96,32 @@ stuck_wrote : (told : Option (List ℕ)) (run : Script) (outside : Outside) (scr
 stuck_wrote told run outside script h before after ready held wrote = (wrote.0, stuck_stops told run outside script h wrote.0 ready held wrote.1, wrote.2)
 
 pub done_of : (told before after : Option (List ℕ)) (outside : Outside) (report : Report) (run : Script) (script : Option Script) (h : List Event) (s : Status)
-    → IsReady told run → HasEnded report run outside script h before after s → s ≡ status.Done → IsDone told outside report script h before after
+    → IsReady told run → RunHasEnded report run outside script h before after s → s ≡ status.Done → IsRunDone told outside report script h before after
 done_of told before after outside report run script h s ready has is =
     let ends = subst (EndsAs report run outside h before after) is has.ends in
     record { run = run; held = record { held = has.held; read = ready.read }; header = ready.header; whole = ends.0; written = ends.1 }
 
 pub full_of : (told before after : Option (List ℕ)) (outside : Outside) (report : Report) (run : Script) (script : Option Script) (h : List Event) (s : Status)
-    → IsReady told run → HasEnded report run outside script h before after s → s ≡ status.EventLimit → IsEventLimit told outside report script h before after
+    → IsReady told run → RunHasEnded report run outside script h before after s → s ≡ status.EventLimit → IsEventLimit told outside report script h before after
 full_of told before after outside report run script h s ready has is =
     let ends = subst (EndsAs report run outside h before after) is has.ends in
     record { run = run; held = record { held = has.held; read = ready.read }; header = ready.header; full = ends.0; written = ends.1 }
 
 pub not_built_of : (told before after : Option (List ℕ)) (outside : Outside) (report : Report) (run : Script) (script : Option Script) (h : List Event) (s : Status) (line : ℕ)
-    → IsReady told run → HasEnded report run outside script h before after s → s ≡ status.NotBuilt line → IsNotBuilt told outside line script h before after
+    → IsReady told run → RunHasEnded report run outside script h before after s → s ≡ status.NotBuilt line → IsNotBuilt told outside line script h before after
 not_built_of told before after outside report run script h s line ready has is =
     let ends = subst (EndsAs report run outside h before after) is has.ends in
     record { stopped = stuck_stops told run outside script h line ready has.held ends.0; written = ends.1 }
 
 pub output_of : (told before after : Option (List ℕ)) (outside : Outside) (report : Report) (run : Script) (script : Option Script) (h : List Event) (s : Status)
-    → IsReady told run → HasEnded report run outside script h before after s → s ≡ status.OutputFault → IsOutputFault told outside report script h before after
+    → IsReady told run → RunHasEnded report run outside script h before after s → s ≡ status.OutputFault → IsOutputFault told outside report script h before after
 output_of told before after outside report run script h s ready has is = elim (subst (EndsAs report run outside h before after) is has.ends) [
   | inl failed ↦ inl (record { run = run; held = record { held = has.held; read = ready.read }; header = ready.header; failed = failed })
   | inr stuck ↦ inr (inl (stuck_wrote told run outside script h before after ready has.held stuck))
 ]
 
 pub memory_of : (told before after : Option (List ℕ)) (outside : Outside) (report : Report) (run : Script) (script : Option Script) (h : List Event) (s : Status)
-    → IsReady told run → HasEnded report run outside script h before after s → s ≡ status.NoMemory → IsNoMemory told outside report script h before after
+    → IsReady told run → RunHasEnded report run outside script h before after s → s ≡ status.NoMemory → IsNoMemory told outside report script h before after
 memory_of told before after outside report run script h s ready has is = elim (subst (EndsAs report run outside h before after) is has.ends) [
   | inl cut ↦ inr (inl (record { run = run; held = record { held = has.held; read = ready.read }; header = ready.header; cut = cut.0 }, cut.1))
   | inr stuck ↦ inr (inr (inl (stuck_wrote told run outside script h before after ready has.held stuck)))
@@ -142,13 +142,13 @@ pub held_ranges : (script : Option Script) (run : Script) → script ≡ Some ru
 held_ranges script run held keeps = rw held keeps
 
 -- other ends have no such status
-pub never_usage : (report : Report) (run : Script) (outside : Outside) (script : Option Script) (h : List Event) (before after : Option (List ℕ)) (s : Status) → HasEnded report run outside script h before after s → s ≡ status.Usage → ⊥
+pub never_usage : (report : Report) (run : Script) (outside : Outside) (script : Option Script) (h : List Event) (before after : Option (List ℕ)) (s : Status) → RunHasEnded report run outside script h before after s → s ≡ status.Usage → ⊥
 never_usage report run outside script h before after s has is = subst (EndsAs report run outside h before after) is has.ends
 
-pub never_read : (report : Report) (run : Script) (outside : Outside) (script : Option Script) (h : List Event) (before after : Option (List ℕ)) (s : Status) → HasEnded report run outside script h before after s → s ≡ status.ReadFault → ⊥
+pub never_read : (report : Report) (run : Script) (outside : Outside) (script : Option Script) (h : List Event) (before after : Option (List ℕ)) (s : Status) → RunHasEnded report run outside script h before after s → s ≡ status.ReadFault → ⊥
 never_read report run outside script h before after s has is = subst (EndsAs report run outside h before after) is has.ends
 
-pub never_bad : (report : Report) (run : Script) (outside : Outside) (script : Option Script) (h : List Event) (before after : Option (List ℕ)) (s : Status) (line : ℕ) (kind : ScriptFault) → HasEnded report run outside script h before after s → s ≡ status.BadScript line kind → ⊥
+pub never_bad : (report : Report) (run : Script) (outside : Outside) (script : Option Script) (h : List Event) (before after : Option (List ℕ)) (s : Status) (line : ℕ) (kind : ScriptFault) → RunHasEnded report run outside script h before after s → s ≡ status.BadScript line kind → ⊥
 never_bad report run outside script h before after s line kind has is = subst (EndsAs report run outside h before after) is has.ends
 
 -- a script was read whose header has a line that isn't built

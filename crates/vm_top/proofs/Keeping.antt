@@ -9,28 +9,28 @@ use Rattle.vm_model.specs.Named.{named}
 use Rattle.vm_legal.specs.Outside.{Outside}
 use Rattle.vm_legal.specs.Pagers.{is_lost, last_return, slot_at}
 use Rattle.vm_outside.specs.Areas.{Told, read_at}
-use Rattle.pg_slots.specs.Contents.{IsHeldAs, IsTold, Kept, area_name}
-use Rattle.pg_slots.specs.Slots.{SlotTable, held_at, slot_of}
+use Rattle.pg_slots.specs.Contents.{IsAreaTold, IsHeldAs, Kept, area_name}
+use Rattle.pg_slots.specs.Slots.{SlotTable, held_at, held_slot}
 use Rattle.pg_slots.specs.declared.slot_row.Held.{Held}
 use Rattle.pg_slots.specs.declared.slot_row.Held.TheVariants as held
 use Rattle.pg_default.specs.Stands.{PagerStands, content_of, is_ended}
-use Rattle.vm_system.specs.Keeping.{HasPages, KeepsPages}
+use Rattle.vm_system.specs.Keeping.{PagingHasPages, PagingKeepsPages}
 use Rattle.vm_system.specs.Stands.{AllTold, AreNumbered, PagingIsKept as SystemKept}
 use Rattle.vm_top.specs.Run.{only_host, outside_of}
 use Rattle.vm_system.specs.declared.state.State.{State}
 
 -- a page that has a slot, and of which bytes were stored, is kept there
-kept_of : (count size : ℕ) (has : Option Held) (s : ℕ) (bytes : List ℕ) → IsHeldAs count size has (Some (Kept bytes)) → slot_of has ≡ Some s → has ≡ Some (held.Kept s)
+kept_of : (count size : ℕ) (has : Option Held) (s : ℕ) (bytes : List ℕ) → IsHeldAs count size has (Some (Kept bytes)) → held_slot has ≡ Some s → has ≡ Some (held.Kept s)
 kept_of count size None s bytes is slot = absurd is
 kept_of count size (Some (held.Kept t)) s bytes is slot = let same : t ≡ s = cc in ap (λ z. Some (held.Kept z)) same
 kept_of count size (Some (held.Torn t)) s bytes is slot = absurd is
 kept_of count size (Some held.Lost) s bytes is slot = absurd is
 
-no_slot : (has : Option Held) (s : ℕ) → has ≡ None → slot_of has ≡ Some s → ⊥
-no_slot has s none is = let bad : None ≡ Some s = sym (ap slot_of none) ∙ is in cc
+no_slot : (has : Option Held) (s : ℕ) → has ≡ None → held_slot has ≡ Some s → ⊥
+no_slot has s none is = let bad : None ≡ Some s = sym (ap held_slot none) ∙ is in cc
 
 -- a page that has a slot is a temporary object's that hasn't ended
-stored_at : (slots : SlotTable) (header : Header) (host : ℕ) (h : List Event) (o p s : ℕ) (bytes : List ℕ) → PagerStands header host slots h → slot_of (held_at slots o p) ≡ Some s → last_return host o p h ≡ Some bytes → is_lost o p h ≡ false
+stored_at : (slots : SlotTable) (header : Header) (host : ℕ) (h : List Event) (o p s : ℕ) (bytes : List ℕ) → PagerStands header host slots h → held_slot (held_at slots o p) ≡ Some s → last_return host o p h ≡ Some bytes → is_lost o p h ≡ false
     → content_of header host h o p ≡ Some (Kept bytes)
 stored_at slots header host h o p s bytes stands slot returned fine = by_tests (nat_lt o (named header)) (is_ended host o h) refl refl
   where
@@ -40,7 +40,7 @@ stored_at slots header host h o p s bytes stands slot returned fine = by_tests (
     by_tests false false is ended = rw (is, ended, returned, fine) refl
 
 -- where the paging area of a host told before, it tells, and has the bytes of each page that was returned and isn't lost
-pub kept_pages : (header : Header) (host : ℕ) (outside : Outside) (areas : List ℕ → Told) (s : State) (pager : SlotTable) → slice_get s.pagers.items host ≡ Some pager → SystemKept header outside areas s → KeepsPages header host outside areas s.history.items
+pub kept_pages : (header : Header) (host : ℕ) (outside : Outside) (areas : List ℕ → Told) (s : State) (pager : SlotTable) → slice_get s.pagers.items host ≡ Some pager → SystemKept header outside areas s → PagingKeepsPages header host outside areas s.history.items
 kept_pages header host outside areas s pager found kept = record { at = λ paging. by (areas (area_name host)) refl paging }
   where
     stands : PagerStands header host pager s.history.items
@@ -53,14 +53,14 @@ kept_pages header host outside areas s pager found kept = record { at = λ pagin
         → last_return host o p s.history.items ≡ Some bytes → read_at (unwrap_or was []) (at * header.size) header.size ≡ bytes
     at_page paging was told o p at bytes slotted fine returned =
         let fits = kept.fits paging host pager found in
-        let slot : slot_of (held_at pager o p) ≡ Some at = stands.slot o p ∙ slotted in
+        let slot : held_slot (held_at pager o p) ≡ Some at = stands.slot o p ∙ slotted in
         let stored = stored_at pager header host s.history.items o p at bytes stands slot returned fine in
         let agrees = subst (IsHeldAs pager.count pager.size (held_at pager o p)) stored (fits.agrees.at o p) in
         let here = kept_of pager.count pager.size (held_at pager o p) at bytes agrees slot in
         let named_so : areas (area_name pager.host) ≡ Some was = ap (λ z. areas (area_name z)) stands.host_is ∙ told in
         subst (λ z. read_at (unwrap_or was []) (at * z) z ≡ bytes) stands.size (fits.bytes o p at bytes here stored was named_so)
 
-    by : (t : Option (Option (List ℕ))) → areas (area_name host) ≡ t → outside.paging ≡ true → HasPages header host areas s.history.items
+    by : (t : Option (Option (List ℕ))) → areas (area_name host) ≡ t → outside.paging ≡ true → PagingHasPages header host areas s.history.items
     by None is paging = absurd (let some = tells paging in let bad : false ≡ true = ap is_some (sym is) ∙ some in cc)
     by (Some was) is paging = (was, is, at_page paging was is)
 
@@ -77,9 +77,9 @@ told_of header areas pagers one numbered paging h pager found =
     subst (λ z. IsSome (areas (area_name z))) (sym (numbered.hosts h pager found ∙ zero)) paging
 
 -- nothing was returned yet
-pub kept_none : (header : Header) (areas : List ℕ → Told) (h : List Event) → h ≡ [] → KeepsPages header only_host (outside_of areas) areas h
-kept_none header areas h none = subst (KeepsPages header only_host (outside_of areas) areas) (sym none) (record { at = λ paging. by (areas (area_name only_host)) refl paging })
+pub kept_none : (header : Header) (areas : List ℕ → Told) (h : List Event) → h ≡ [] → PagingKeepsPages header only_host (outside_of areas) areas h
+kept_none header areas h none = subst (PagingKeepsPages header only_host (outside_of areas) areas) (sym none) (record { at = λ paging. by (areas (area_name only_host)) refl paging })
   where
-    by : (t : Option (Option (List ℕ))) → areas (area_name only_host) ≡ t → is_some (areas (area_name only_host)) ≡ true → HasPages header only_host areas []
+    by : (t : Option (Option (List ℕ))) → areas (area_name only_host) ≡ t → is_some (areas (area_name only_host)) ≡ true → PagingHasPages header only_host areas []
     by None is some = absurd (let bad : false ≡ true = ap is_some (sym is) ∙ some in cc)
     by (Some was) is some = (was, is, λ o p s bytes slotted. absurd (cc))

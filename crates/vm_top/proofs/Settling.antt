@@ -19,8 +19,8 @@ use Rattle.vm_system.proofs.Settled.{may_be_cut}
 use Rattle.vm_system.specs.Steps.{DevicesHaveCause, GrowsWithinLimit, HasMore, IsMemoryStop, KeepsOpen, LegalCut, LegalOpen, MayCutOpen, TakesMore, settles, took_up}
 use Rattle.vm_top.specs.Arming.{FilesLeft, is_untouched, ran_of}
 use Rattle.vm_top.specs.Run.{CutIn, RanAs, front_of, text_so_far, unbuilt_line}
-use Rattle.vm_top.specs.Running.{Arms, IsBetweenCommands, PagingRuns, Running, Settles, Stops, Taking, Turned}
-use Rattle.vm_top.specs.Writing.{WroteBeyond, oldest}
+use Rattle.vm_top.specs.Running.{Arms, IsBetweenCommands, PagingRuns, RunStops, RunTaking, Running, Settles, Turned}
+use Rattle.vm_top.specs.Writing.{WroteBeyond, oldest_items}
 use Rattle.vm_top.specs.declared.run.RunEnd.{RunEnd}
 use Rattle.vm_top.specs.declared.run.RunEnd.TheVariants as ends
 use Rattle.vm_top.specs.declared.words.Report.{Report}
@@ -31,11 +31,11 @@ use Rattle.vm_top.proofs.Starts.{order_at}
 use Rattle.vm_top.proofs.Turns.{Left, shown_grown}
 
 -- the command in whose step messages are taken, at a line
-abbrev pub settle_at : {F P : Type 0} → Taking F P → ℕ → Numbered
+abbrev pub settle_at : {F P : Type 0} → RunTaking F P → ℕ → Numbered
 settle_at given line = record { line = line; command = given.command }
 
 -- what the taking of a message does, where it is made
-pub record Took {F P : Type 0} (given : Taking F P) (old new : List Event) (f0 f1 : Arming F) (p0 p1 : Arming P) (e0 e1 : ℕ) : Type 0 where
+pub record Took {F P : Type 0} (given : RunTaking F P) (old new : List Event) (f0 f1 : Arming F) (p0 p1 : Arming P) (e0 e1 : ℕ) : Type 0 where
   pub legal : KeepsOpen given.running.script.header given.running.outside given.command old new
   pub grew : GrowsWithinLimit old new
   pub front : before_step new ≡ old
@@ -46,21 +46,21 @@ pub record Took {F P : Type 0} (given : Taking F P) (old new : List Event) (f0 f
   pub devices : DevicesHaveCause e0 e1 old new
 
 -- a taking was made
-pub record Held {F P : Type 0} (given : Taking F P) (line : ℕ) (run : List Numbered) (old new : List Event) (f1 : Arming F) (p1 : Arming P) (e1 : ℕ) : Type 0 where
+pub record Held {F P : Type 0} (given : RunTaking F P) (line : ℕ) (run : List Numbered) (old new : List Event) (f1 : Arming F) (p1 : Arming P) (e1 : ℕ) : Type 0 where
   pub lines : count_of is_line new ≡ count_of is_line old
   pub here : ran_of given.running.script new ≡ settle_at given line ∷ run
   pub legal : TakesMore given.running.script.header given.running.outside (settle_at given line) run old new
   pub built : unbuilt_line (ran_of given.running.script new) ≡ None
   pub left : Left given.running new f1 p1 e1
 
-pub held : {F P : Type 0} (report : Report) (given : Taking F P) (old new : List Event) (was : Option (List ℕ)) (f0 f1 : Arming F) (p0 p1 : Arming P) (e0 e1 : ℕ)
+pub held : {F P : Type 0} (report : Report) (given : RunTaking F P) (old new : List Event) (was : Option (List ℕ)) (f0 f1 : Arming F) (p0 p1 : Arming P) (e0 e1 : ℕ)
     → (settles : Settles report given old was f0 p0 e0) → Took given old new f0 f1 p0 p1 e0 e1 → Held given settles.line settles.run old new f1 p1 e1
 held report given old new was f0 f1 p0 p1 e0 e1 settles took =
     let n = settle_at given settles.line in
     let run = settles.run in
     let legal = took.legal settles.line run settles.legal in
     let lines = lines_same new old took.front legal.more in
-    let same : ran_of given.running.script new ≡ ran_of given.running.script old = ap (λ z. oldest z given.running.script.commands.items) lines in
+    let same : ran_of given.running.script new ≡ ran_of given.running.script old = ap (λ z. oldest_items z given.running.script.commands.items) lines in
     let here : ran_of given.running.script new ≡ n ∷ run = same ∙ settles.here in
     let files = subst (λ z. FilesLeft z given.running.files f1) settles.here (subst (FilesLeft (ran_of given.running.script old) given.running.files) (sym took.files) settles.keeps.arms.files) in
     let paging = paging_taking n run old new given.running.paging p0 p1 took.later took.unasked took.front legal.more (subst (λ z. PagingRuns z old given.running.paging p0) settles.here settles.keeps.arms.paging) in
@@ -77,7 +77,7 @@ held report given old new was f0 f1 p0 p1 e0 e1 settles took =
     }
 
 -- the settle goes on, where the taking was shown
-pub settles_on : {F P : Type 0} (report : Report) (given : Taking F P) (line : ℕ) (run : List Numbered) (old new : List Event) (now : Option (List ℕ)) (f1 : Arming F) (p1 : Arming P) (e1 : ℕ)
+pub settles_on : {F P : Type 0} (report : Report) (given : RunTaking F P) (line : ℕ) (run : List Numbered) (old new : List Event) (now : Option (List ℕ)) (f1 : Arming F) (p1 : Arming P) (e1 : ℕ)
     → Held given line run old new f1 p1 e1 → Appends given.running.start now (text_so_far report new) → Settles report given new now f1 p1 e1
 settles_on report given line run old new now f1 p1 e1 step wrote = record {
   keeps = record { built = step.built; below = step.left.below; written = wrote; arms = step.left.arms; failed = step.left.failed };
@@ -88,14 +88,14 @@ settles_on report given line run old new now f1 p1 e1 step wrote = record {
 }
 
 -- the commands that are left behind the settle
-abbrev pub behind : {F P : Type 0} → Taking F P → List Event → List Numbered
+abbrev pub behind : {F P : Type 0} → RunTaking F P → List Event → List Numbered
 behind given h = take (length given.running.script.commands.items - count_of is_line h) given.running.script.commands.items
 
-order_of : {F P : Type 0} (given : Taking F P) (n : Numbered) (run : List Numbered) (h : List Event) → ran_of given.running.script h ≡ n ∷ run → given.running.script.commands.items ≡ behind given h ++ n ∷ run
+order_of : {F P : Type 0} (given : RunTaking F P) (n : Numbered) (run : List Numbered) (h : List Event) → ran_of given.running.script h ≡ n ∷ run → given.running.script.commands.items ≡ behind given h ++ n ∷ run
 order_of given n run h here = order_at given.running.script.commands.items (count_of is_line h) ∙ ap (λ z. behind given h ++ z) here
 
 -- a write failed behind the taking
-take_failed : {F P : Type 0} (report : Report) (given : Taking F P) (line : ℕ) (run : List Numbered) (old new : List Event) (now : Option (List ℕ)) (f1 : Arming F) (p1 : Arming P) (e1 : ℕ)
+take_failed : {F P : Type 0} (report : Report) (given : RunTaking F P) (line : ℕ) (run : List Numbered) (old new : List Event) (now : Option (List ℕ)) (f1 : Arming F) (p1 : Arming P) (e1 : ℕ)
     → HasMore given.command old → before_step new ≡ old → Held given line run old new f1 p1 e1 → (report ≡ reports.History) × WroteBeyond given.running.start now (text old) (text new)
     → RanAs report given.running.script given.running.outside new ends.Failed given.running.start now
 take_failed report given line run old new now f1 p1 e1 more front step wrote =
@@ -112,7 +112,7 @@ take_failed report given line run old new now f1 p1 e1 more front step wrote =
     )
 
 -- memory ended behind the taking
-take_unshown : {F P : Type 0} (report : Report) (given : Taking F P) (line : ℕ) (run : List Numbered) (old new : List Event) (now : Option (List ℕ)) (f1 : Arming F) (p1 : Arming P) (e1 : ℕ)
+take_unshown : {F P : Type 0} (report : Report) (given : RunTaking F P) (line : ℕ) (run : List Numbered) (old new : List Event) (now : Option (List ℕ)) (f1 : Arming F) (p1 : Arming P) (e1 : ℕ)
     → GrowsWithinLimit old new → Held given line run old new f1 p1 e1 → Appends given.running.start now (text_so_far report old) → RanAs report given.running.script given.running.outside new ends.NoMemory given.running.start now
 take_unshown report given line run old new now f1 p1 e1 grew step wrote = (
   record {
@@ -125,21 +125,21 @@ take_unshown report given line run old new now f1 p1 e1 grew step wrote = (
 )
 
 -- how the run stops behind a taking: a write failed, or memory ended
-pub held_stops : {F P : Type 0} (report : Report) (given : Taking F P) (line : ℕ) (run : List Numbered) (old new : List Event) (now : Option (List ℕ)) (f1 : Arming F) (p1 : Arming P) (e1 : ℕ) (how : RunEnd)
+pub held_stops : {F P : Type 0} (report : Report) (given : RunTaking F P) (line : ℕ) (run : List Numbered) (old new : List Event) (now : Option (List ℕ)) (f1 : Arming F) (p1 : Arming P) (e1 : ℕ) (how : RunEnd)
     → HasMore given.command old → before_step new ≡ old → GrowsWithinLimit old new → Held given line run old new f1 p1 e1
     → (how ≡ ends.Failed → (report ≡ reports.History) × WroteBeyond given.running.start now (text old) (text new)) → (how ≡ ends.NoMemory → Appends given.running.start now (text_so_far report old))
-    → (how ≡ ends.Failed) ⊎ (how ≡ ends.NoMemory) → Stops report given.running new now f1 p1 e1 how
+    → (how ≡ ends.Failed) ⊎ (how ≡ ends.NoMemory) → RunStops report given.running new now f1 p1 e1 how
 held_stops report given line run old new now f1 p1 e1 how more front grew step failed none (inl is) =
-    subst (Stops report given.running new now f1 p1 e1) (sym is)
+    subst (RunStops report given.running new now f1 p1 e1) (sym is)
     (record { ran = take_failed report given line run old new now f1 p1 e1 more front step (failed is); below = step.left.below; arms = step.left.arms; failed = step.left.failed })
 held_stops report given line run old new now f1 p1 e1 how more front grew step failed none (inr is) =
-    subst (Stops report given.running new now f1 p1 e1) (sym is)
+    subst (RunStops report given.running new now f1 p1 e1) (sym is)
     (record { ran = take_unshown report given line run old new now f1 p1 e1 grew step (none is); below = step.left.below; arms = step.left.arms; failed = step.left.failed })
 
 -- memory ended in the taking
-pub take_stops : {F P : Type 0} (report : Report) (given : Taking F P) (old new : List Event) (now : Option (List ℕ)) (f0 f1 : Arming F) (p0 p1 : Arming P) (e0 e1 : ℕ)
+pub take_stops : {F P : Type 0} (report : Report) (given : RunTaking F P) (old new : List Event) (now : Option (List ℕ)) (f0 f1 : Arming F) (p0 p1 : Arming P) (e0 e1 : ℕ)
     → Settles report given old now f0 p0 e0 → GrowsWithinLimit old new → length old < most_events → MayCutOpen given.running.script.header given.running.outside given.command old new → f1 ≡ f0
-    → ArmedLater p0.left p0.reached p1.left p1.reached → IsMemoryStop before_step old new p0 p1 → DevicesHaveCause e0 e1 old new → Stops report given.running new now f1 p1 e1 ends.NoMemory
+    → ArmedLater p0.left p0.reached p1.left p1.reached → IsMemoryStop before_step old new p0 p1 → DevicesHaveCause e0 e1 old new → RunStops report given.running new now f1 p1 e1 ends.NoMemory
 take_stops report given old new now f0 f1 p0 p1 e0 e1 settles grew below may files later stops devices = record {
   ran = (by_way may, shown_grown report given.running.start now old new grew settles.keeps.written);
   below = grew.limit below settles.keeps.below;
@@ -148,7 +148,7 @@ take_stops report given old new now f0 f1 p0 p1 e0 e1 settles grew below may fil
 }
   where
     ran : count_of is_line new ≡ count_of is_line old → ran_of given.running.script new ≡ ran_of given.running.script old
-    ran lines = ap (λ z. oldest z given.running.script.commands.items) lines
+    ran lines = ap (λ z. oldest_items z given.running.script.commands.items) lines
 
     by_stop : IsMemoryStop before_step old new p0 p1 → Arms given.running new f1 p1
     by_stop (inl same) =
@@ -172,8 +172,8 @@ take_stops report given old new now f0 f1 p0 p1 e0 e1 settles grew below may fil
     }
 
 -- the history is full, and something is there to take
-pub take_full : {F P : Type 0} (report : Report) (given : Taking F P) (h : List Event) (now : Option (List ℕ)) (f : Arming F) (p : Arming P) (e : ℕ)
-    → Settles report given h now f p e → HasMore given.command h → most_events ≤ length h → undelivered h ≢ [] → Stops report given.running h now f p e ends.EventLimit
+pub take_full : {F P : Type 0} (report : Report) (given : RunTaking F P) (h : List Event) (now : Option (List ℕ)) (f : Arming F) (p : Arming P) (e : ℕ)
+    → Settles report given h now f p e → HasMore given.command h → most_events ≤ length h → undelivered h ≢ [] → RunStops report given.running h now f p e ends.EventLimit
 take_full report given h now f p e settles more full some = record {
   ran = (
     record {
@@ -197,14 +197,14 @@ take_full report given h now f p e settles more full some = record {
 }
 
 -- nothing has changed
-pub stops_same : {F P : Type 0} (report : Report) (given : Taking F P) (old new : List Event) (now : Option (List ℕ)) (f0 f1 : Arming F) (p0 p1 : Arming P) (e0 e1 : ℕ) (how end : RunEnd)
-    → new ≡ old → f1 ≡ f0 → p1 ≡ p0 → e1 ≡ e0 → end ≡ how → Stops report given.running old now f0 p0 e0 how → Stops report given.running new now f1 p1 e1 end
+pub stops_same : {F P : Type 0} (report : Report) (given : RunTaking F P) (old new : List Event) (now : Option (List ℕ)) (f0 f1 : Arming F) (p0 p1 : Arming P) (e0 e1 : ℕ) (how end : RunEnd)
+    → new ≡ old → f1 ≡ f0 → p1 ≡ p0 → e1 ≡ e0 → end ≡ how → RunStops report given.running old now f0 p0 e0 how → RunStops report given.running new now f1 p1 e1 end
 stops_same report given old new now f0 f1 p0 p1 e0 e1 how end h f p e is was =
-    subst (λ z. Stops report given.running z now f1 p1 e1 end) (sym h)
-    (subst (λ z. Stops report given.running old now z p1 e1 end) (sym f)
-    (subst (λ z. Stops report given.running old now f0 z e1 end) (sym p)
-    (subst (λ z. Stops report given.running old now f0 p0 z end) (sym e)
-    (subst (Stops report given.running old now f0 p0 e0) (sym is) was))))
+    subst (λ z. RunStops report given.running z now f1 p1 e1 end) (sym h)
+    (subst (λ z. RunStops report given.running old now z p1 e1 end) (sym f)
+    (subst (λ z. RunStops report given.running old now f0 z e1 end) (sym p)
+    (subst (λ z. RunStops report given.running old now f0 p0 z end) (sym e)
+    (subst (RunStops report given.running old now f0 p0 e0) (sym is) was))))
 
 -- a settle that has taken its messages, or all, is whole
 settled : (header : Header) (outside : Outside) (line count : ℕ) (run : List Numbered) (h : List Event) → (takings h ≡ count) ⊎ (undelivered h ≡ [])
@@ -215,7 +215,7 @@ settled header outside line count run h end legal = record { follows = whole_of 
     whole_of (past, group, is, made, done, follows) = (past, group, is, made, subst (λ z. (takings z ≡ count) ⊎ (undelivered z ≡ [])) is end, follows)
 
 -- a settle has ended
-pub settle_runs : {F P : Type 0} (report : Report) (given : Taking F P) (count : ℕ) (h : List Event) (now : Option (List ℕ)) (f : Arming F) (p : Arming P) (e : ℕ) → given.command ≡ command.Settle count
+pub settle_runs : {F P : Type 0} (report : Report) (given : RunTaking F P) (count : ℕ) (h : List Event) (now : Option (List ℕ)) (f : Arming F) (p : Arming P) (e : ℕ) → given.command ≡ command.Settle count
     → Settles report given h now f p e → (takings h ≡ count) ⊎ (undelivered h ≡ []) → IsBetweenCommands report given.running h now f p e
 settle_runs report given count h now f p e is settles end =
     let header = given.running.script.header in

@@ -13,8 +13,8 @@ use Rattle.vm_legal.specs.Legal.{LegalFor}
 use Rattle.vm_legal.specs.Outside.{Outside}
 use Rattle.vm_legal.specs.Prompt.{NoneInVain}
 use Rattle.vm_top.specs.Run.{IsRunnable, unbuilt_line}
-use Rattle.vm_system.specs.Steps.{is_built}
-use Rattle.vm_top.specs.Writing.{oldest}
+use Rattle.vm_system.specs.Steps.{system_runs}
+use Rattle.vm_top.specs.Writing.{oldest_items}
 
 some_frames : (frames : Option ℕ) → IfSome frames (λ count. 0 ≤ count)
 some_frames None = tt
@@ -59,10 +59,10 @@ drop_whole : {A : Type 0} (items : List A) → drop (length items) items ≡ []
 drop_whole [] = refl
 drop_whole (x ∷ items) = drop_whole items
 
-pub oldest_none : {A : Type 0} (items : List A) → oldest 0 items ≡ []
+pub oldest_none : {A : Type 0} (items : List A) → oldest_items 0 items ≡ []
 oldest_none items = let whole : length items - 0 ≡ length items = omega arith in ap (λ z. drop z items) whole ∙ drop_whole items
 
-pub oldest_all : {A : Type 0} (items : List A) (n : ℕ) → length items ≤ n → oldest n items ≡ items
+pub oldest_all : {A : Type 0} (items : List A) (n : ℕ) → length items ≤ n → oldest_items n items ≡ items
 oldest_all items n le = let nothing : length items - n ≡ 0 = omega arith in ap (λ z. drop z items) nothing
 
 -- the commands, one after another
@@ -77,19 +77,19 @@ range_at script i n runs found =
 
 -- one more command that is built, or the first that isn't
 
-pub next_built : (n : Numbered) (before : List Numbered) → unbuilt_line before ≡ None → is_built n.command ≡ true → unbuilt_line (n ∷ before) ≡ None
+pub next_built : (n : Numbered) (before : List Numbered) → unbuilt_line before ≡ None → system_runs n.command ≡ true → unbuilt_line (n ∷ before) ≡ None
 next_built n before none is = rw (none, is) refl
 
-pub next_unbuilt : (n : Numbered) (before : List Numbered) → unbuilt_line before ≡ None → is_built n.command ≡ false → unbuilt_line (n ∷ before) ≡ Some n.line
+pub next_unbuilt : (n : Numbered) (before : List Numbered) → unbuilt_line before ≡ None → system_runs n.command ≡ false → unbuilt_line (n ∷ before) ≡ Some n.line
 next_unbuilt n before none is = rw (none, is) refl
 
 -- the commands behind so many
-pub order_at : {A : Type 0} (items : List A) (i : ℕ) → items ≡ take (length items - i) items ++ oldest i items
+pub order_at : {A : Type 0} (items : List A) (i : ℕ) → items ≡ take (length items - i) items ++ oldest_items i items
 order_at items i = sym (take-append-drop (length items - i) items)
 
-pub order_next : {A : Type 0} (items : List A) (i : ℕ) (n : A) → oldest (i + 1) items ≡ n ∷ oldest i items → items ≡ take (length items - (i + 1)) items ++ n ∷ oldest i items
+pub order_next : {A : Type 0} (items : List A) (i : ℕ) (n : A) → oldest_items (i + 1) items ≡ n ∷ oldest_items i items → items ≡ take (length items - (i + 1)) items ++ n ∷ oldest_items i items
 order_next items i n next = order_at items (i + 1) ∙ ap (λ z. take (length items - (i + 1)) items ++ z) next
 
 -- the same, with the command among those that are left
-pub order_left : {A : Type 0} (items : List A) (i : ℕ) (n : A) → oldest (i + 1) items ≡ n ∷ oldest i items → items ≡ (take (length items - (i + 1)) items ++ n ∷ []) ++ oldest i items
-order_left items i n next = order_next items i n next ∙ sym (append_assoc (take (length items - (i + 1)) items) (n ∷ []) (oldest i items))
+pub order_left : {A : Type 0} (items : List A) (i : ℕ) (n : A) → oldest_items (i + 1) items ≡ n ∷ oldest_items i items → items ≡ (take (length items - (i + 1)) items ++ n ∷ []) ++ oldest_items i items
+order_left items i n next = order_next items i n next ∙ sym (append_assoc (take (length items - (i + 1)) items) (n ∷ []) (oldest_items i items))

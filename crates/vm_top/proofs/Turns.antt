@@ -20,13 +20,13 @@ use Rattle.vm_legal.specs.Steps.{takings}
 use Rattle.vm_legal.proofs.Groups.{cut_of as follows_cut, open_of}
 use Rattle.vm_outside.specs.Arming.{Arming, ArmedLater}
 use Rattle.vm_system.proofs.Settled.{may_be_cut}
-use Rattle.vm_system.specs.Steps.{DevicesHaveCause, GrowsWithinLimit, IsNext, KeepsLegal, LeavesFiles, LeavesPaging, LegalCut, LegalOpen, MayCut, IsBelowLimit, IsMemoryStop, arms_paging, is_built, is_held_up, settles, takes_up, took_up}
+use Rattle.vm_system.specs.Steps.{DevicesHaveCause, GrowsWithinLimit, IsNextLegal, KeepsLegal, LeavesFiles, LeavesPaging, LegalCut, LegalOpen, MayCut, IsBelowLimit, IsMemoryStop, arms_paging, system_runs, is_held_up, settles, takes_up, took_up}
 use Rattle.vm_system.specs.declared.stop.SystemStop.{SystemStop}
 use Rattle.vm_system.specs.declared.stop.SystemStop.TheVariants as stops
 use Rattle.vm_top.specs.Arming.{FailuresCounted, is_untouched, ran_of}
 use Rattle.vm_top.specs.Run.{CutIn, IsPart, IsRunnable, RanAs, front_of, text_so_far, unbuilt_line}
-use Rattle.vm_top.specs.Running.{Arms, IsBetweenCommands, IsNextOf, Running, Stops, Turned}
-use Rattle.vm_top.specs.Writing.{WroteBeyond, WroteStart, oldest}
+use Rattle.vm_top.specs.Running.{Arms, IsBetweenCommands, IsNextOf, RunStops, Running, Turned}
+use Rattle.vm_top.specs.Writing.{WroteBeyond, WroteStart, oldest_items}
 use Rattle.vm_top.specs.declared.run.RunEnd.{RunEnd}
 use Rattle.vm_top.specs.declared.run.RunEnd.TheVariants as ends
 use Rattle.vm_top.specs.declared.words.Report.{Report}
@@ -48,7 +48,7 @@ pub record Stepped {F P : Type 0} (header : Header) (outside : Outside) (n : Num
   pub devices : DevicesHaveCause e0 e1 old new
 
 -- the command's line is one more
-pub lines_step : (header : Header) (outside : Outside) (n : Numbered) (run : List Numbered) (old new : List Event) → before_last_line new ≡ old → IsNext header outside n run new
+pub lines_step : (header : Header) (outside : Outside) (n : Numbered) (run : List Numbered) (old new : List Event) → before_last_line new ≡ old → IsNextLegal header outside n run new
     → count_of is_line new ≡ count_of is_line old + 1
 lines_step header outside n run old new front next = by_group next.so_far
   where
@@ -65,18 +65,18 @@ pub record Left {F P : Type 0} (given : Running F P) (new : List Event) (f1 : Ar
 pub record Made {F P : Type 0} (given : Running F P) (n : Numbered) (old new : List Event) (f1 : Arming F) (p1 : Arming P) (e1 : ℕ) : Type 0 where
   pub lines : count_of is_line new ≡ count_of is_line old + 1
   pub here : ran_of given.script new ≡ n ∷ ran_of given.script old
-  pub next : IsNext given.script.header given.outside n (ran_of given.script old) new
+  pub next : IsNextLegal given.script.header given.outside n (ran_of given.script old) new
   pub built : unbuilt_line (ran_of given.script new) ≡ None
   pub left : Left given new f1 p1 e1
 
 pub made : {F P : Type 0} (report : Report) (given : Running F P) (n : Numbered) (old new : List Event) (was : Option (List ℕ)) (f0 f1 : Arming F) (p0 p1 : Arming P) (e0 e1 : ℕ)
-    → IsBetweenCommands report given old was f0 p0 e0 → IsNextOf given.script n old → is_built n.command ≡ true → InRange given.script.header n.command → length old < most_events
+    → IsBetweenCommands report given old was f0 p0 e0 → IsNextOf given.script n old → system_runs n.command ≡ true → InRange given.script.header n.command → length old < most_events
     → Stepped given.script.header given.outside n old new f0 f1 p0 p1 e0 e1 → Made given n old new f1 p1 e1
 made {F = F} {P = P} report given n old new was f0 f1 p0 p1 e0 e1 runs follows built range below step =
     let run = ran_of given.script old in
     let next = step.legal run runs.legal in
     let lines = lines_step given.script.header given.outside n run old new step.front next in
-    let here : ran_of given.script new ≡ n ∷ run = ap (λ z. oldest z given.script.commands.items) lines ∙ follows in
+    let here : ran_of given.script new ≡ n ∷ run = ap (λ z. oldest_items z given.script.commands.items) lines ∙ follows in
     let files = files_step n run given.files f0 f1 step.files runs.keeps.arms.files in
     let paging = paging_step given.script.header n run old new given.paging p0 p1 range step.paging step.later step.unasked step.front runs.keeps.arms.paging in
     record {
@@ -174,11 +174,11 @@ turn_cut report given n old new now follows grew legal may wrote = (by_way may, 
 pub shown_stops : {F P : Type 0} (report : Report) (given : Running F P) (n : Numbered) (old new : List Event) (now : Option (List ℕ)) (f1 : Arming F) (p1 : Arming P) (e1 : ℕ) (how : RunEnd)
     → IsNextOf given.script n old → before_last_line new ≡ old → GrowsWithinLimit old new → Made given n old new f1 p1 e1
     → (how ≡ ends.Failed → (report ≡ reports.History) × WroteBeyond given.start now (text old) (text new)) → (how ≡ ends.NoMemory → Appends given.start now (text_so_far report old))
-    → (how ≡ ends.Failed) ⊎ (how ≡ ends.NoMemory) → Stops report given new now f1 p1 e1 how
+    → (how ≡ ends.Failed) ⊎ (how ≡ ends.NoMemory) → RunStops report given new now f1 p1 e1 how
 shown_stops report given n old new now f1 p1 e1 how follows front grew step failed none (inl is) =
-    subst (Stops report given new now f1 p1 e1) (sym is) (record { ran = turn_failed report given n old new now f1 p1 e1 follows front step (failed is); below = step.left.below; arms = step.left.arms; failed = step.left.failed })
+    subst (RunStops report given new now f1 p1 e1) (sym is) (record { ran = turn_failed report given n old new now f1 p1 e1 follows front step (failed is); below = step.left.below; arms = step.left.arms; failed = step.left.failed })
 shown_stops report given n old new now f1 p1 e1 how follows front grew step failed none (inr is) =
-    subst (Stops report given new now f1 p1 e1) (sym is) (record { ran = turn_unshown report given n old new now f1 p1 e1 follows grew step (none is); below = step.left.below; arms = step.left.arms; failed = step.left.failed })
+    subst (RunStops report given new now f1 p1 e1) (sym is) (record { ran = turn_unshown report given n old new now f1 p1 e1 follows grew step (none is); below = step.left.below; arms = step.left.arms; failed = step.left.failed })
 
 -- how the backings are armed where memory ended in the step
 pub record Halted {F P : Type 0} (n : Numbered) (old new : List Event) (f0 f1 : Arming F) (p0 p1 : Arming P) : Type 0 where
@@ -197,7 +197,7 @@ arms_halted given n old new f0 f1 p0 p1 follows legal may halted was = by (takes
     here : before_last_line new ≡ old → LegalCut given.script.header given.outside (n ∷ ran_of given.script old) new → ran_of given.script new ≡ n ∷ ran_of given.script old
     here front cut =
         let made = cut.follows in
-        ap (λ z. oldest z given.script.commands.items) (lines_more new old made.1 made.0 n.line front made.2) ∙ follows
+        ap (λ z. oldest_items z given.script.commands.items) (lines_more new old made.1 made.0 n.line front made.2) ∙ follows
 
     at : takes_up n.command ≡ true → ArmedLater p0.left p0.reached p1.left p1.reached → IsMemoryStop before_last_line old new p0 p1 → MayCut given.script.header given.outside n old new → Arms given new f1 p1
     at up later (inl same) cut = arms_later given old new f0 f1 p0 p1 (same_ran same.0) halted.unarmed later (λ un. (same.1, subst (λ z. is_untouched (ran_of given.script old) z ≡ true) same.0 un)) was
@@ -211,7 +211,7 @@ arms_halted given n old new f0 f1 p0 p1 follows legal may halted was = by (takes
 -- how a turn stops in its step
 pub step_stops : {F P : Type 0} (report : Report) (given : Running F P) (n : Numbered) (old new : List Event) (now : Option (List ℕ)) (f0 f1 : Arming F) (p0 p1 : Arming P) (e0 e1 : ℕ)
     → IsBetweenCommands report given old now f0 p0 e0 → IsNextOf given.script n old → GrowsWithinLimit old new → length old < most_events → MayCut given.script.header given.outside n old new → Halted n old new f0 f1 p0 p1 → DevicesHaveCause e0 e1 old new
-    → Stops report given new now f1 p1 e1 ends.NoMemory
+    → RunStops report given new now f1 p1 e1 ends.NoMemory
 step_stops report given n old new now f0 f1 p0 p1 e0 e1 runs follows grew below may halted devices = record {
   ran = turn_cut report given n old new now follows grew runs.legal may runs.keeps.written;
   below = grew.limit below runs.keeps.below;
@@ -246,7 +246,7 @@ part_of report given n h now f p e runs follows = record {
 
 -- the next command isn't built
 pub unbuilt_stops : {F P : Type 0} (report : Report) (given : Running F P) (n : Numbered) (h : List Event) (now : Option (List ℕ)) (f : Arming F) (p : Arming P) (e : ℕ) → IsBetweenCommands report given h now f p e → IsNextOf given.script n h
-    → is_built n.command ≡ false → Stops report given h now f p e (ends.NotBuilt n.line)
+    → system_runs n.command ≡ false → RunStops report given h now f p e (ends.NotBuilt n.line)
 unbuilt_stops report given n h now f p e runs follows unbuilt = record {
   ran = (
     record {
@@ -265,7 +265,7 @@ unbuilt_stops report given n h now f p e runs follows unbuilt = record {
 
 -- it is held up
 pub held_up_stops : {F P : Type 0} (report : Report) (given : Running F P) (n : Numbered) (h : List Event) (now : Option (List ℕ)) (f : Arming F) (p : Arming P) (e : ℕ) → IsBetweenCommands report given h now f p e → IsNextOf given.script n h
-    → is_built n.command ≡ true → length h < most_events → is_held_up given.script.header h n.command ≡ true → Stops report given h now f p e (ends.NotBuilt n.line)
+    → system_runs n.command ≡ true → length h < most_events → is_held_up given.script.header h n.command ≡ true → RunStops report given h now f p e (ends.NotBuilt n.line)
 held_up_stops report given n h now f p e runs follows built below held = record {
   ran = (
     record {
@@ -284,7 +284,7 @@ held_up_stops report given n h now f p e runs follows built below held = record 
 
 -- the history is full
 pub full_stops : {F P : Type 0} (report : Report) (given : Running F P) (n : Numbered) (h : List Event) (now : Option (List ℕ)) (f : Arming F) (p : Arming P) (e : ℕ) → IsBetweenCommands report given h now f p e → IsNextOf given.script n h
-    → is_built n.command ≡ true → most_events ≤ length h → Stops report given h now f p e ends.EventLimit
+    → system_runs n.command ≡ true → most_events ≤ length h → RunStops report given h now f p e ends.EventLimit
 full_stops report given n h now f p e runs follows built full = record {
   ran = (
     record {
@@ -323,14 +323,14 @@ same_end is = cc
 pub next_at : (given script : Script) (i : ℕ) (n : Numbered) (h : List Event) → given ≡ script → slice_get (reverse script.commands.items) i ≡ Some n → count_of is_line h ≡ i → IsNextOf given n h
 next_at given script i n h same found lines =
     subst (λ z. IsNextOf z n h) (sym same)
-    (subst (λ z. oldest (z + 1) script.commands.items ≡ n ∷ oldest z script.commands.items) (sym lines) (oldest_step script.commands.items i n found))
+    (subst (λ z. oldest_items (z + 1) script.commands.items ≡ n ∷ oldest_items z script.commands.items) (sym lines) (oldest_step script.commands.items i n found))
 
 pub range_of : (given script : Script) (i : ℕ) (n : Numbered) → given ≡ script → IsRunnable script → slice_get (reverse script.commands.items) i ≡ Some n → InRange given.header n.command
 range_of given script i n same runs found = subst (λ z. InRange z.header n.command) (sym same) (range_at script i n runs found)
 
 -- all commands have a line
 pub all_stops : {F P : Type 0} (report : Report) (given : Running F P) (h : List Event) (now : Option (List ℕ)) (f : Arming F) (p : Arming P) (e : ℕ) → IsBetweenCommands report given h now f p e
-    → length given.script.commands.items ≤ count_of is_line h → Stops report given h now f p e ends.Done
+    → length given.script.commands.items ≤ count_of is_line h → RunStops report given h now f p e ends.Done
 all_stops report given h now f p e runs all =
     let whole = oldest_all given.script.commands.items (count_of is_line h) all in
     record {

@@ -9,12 +9,12 @@ use Rattle.std.specs.Io.KnownBytes.{Appends, Keeps}
 use Rattle.std.specs.Prelude.{Result, Ok, Err, OnOk, IsErrOf}
 use Rattle.vm_base.specs.declared.failure.WriteStop.{WriteStop}
 use Rattle.vm_base.specs.declared.failure.WriteStop.TheVariants as stop
-use Rattle.vm_outside.specs.Causes.{Wrote}
+use Rattle.vm_outside.specs.Causes.{WriteEffects}
 use Rattle.vm_model.specs.declared.event.Event.{Event}
 use Rattle.vm_model.specs.Text.{text, line_of}
-use Rattle.vm_top.specs.Writing.{oldest, WroteBeyond, WroteStart}
+use Rattle.vm_top.specs.Writing.{oldest_items, WroteBeyond, WroteStart}
 
-pub oldest_step : {A : Type 0} (h : List A) (i : ℕ) (e : A) → slice_get (reverse h) i ≡ Some e → oldest (i + 1) h ≡ e ∷ oldest i h
+pub oldest_step : {A : Type 0} (h : List A) (i : ℕ) (e : A) → slice_get (reverse h) i ≡ Some e → oldest_items (i + 1) h ≡ e ∷ oldest_items i h
 oldest_step h i e found =
     let inside = slice_get_within (reverse h) i e found in
     let below : i < length h = omega (arith, length-reverse h) in
@@ -24,7 +24,7 @@ oldest_step h i e found =
     let two : suc (length h - 1 - i) ≡ length h - i = omega arith in
     ap (λ z. drop z h) one ∙ drop-cons h (length h - 1 - i) e (omega arith) ∙ ap (λ z. z ∷ drop (suc (length h - 1 - i)) h) there ∙ ap (λ z. e ∷ drop z h) two
 
-pub oldest_before : {A : Type 0} (h more old : List A) (from : ℕ) → from ≡ length old → h ≡ more ++ old → oldest from h ≡ old
+pub oldest_before : {A : Type 0} (h more old : List A) (from : ℕ) → from ≡ length old → h ≡ more ++ old → oldest_items from h ≡ old
 oldest_before h more old from is_length grown =
     let cut : length h - from ≡ length more = omega (arith, ap length grown, length-append more old) in
     ap (λ z. drop z h) cut ∙ ap (λ z. drop (length more) z) grown ∙ drop-append_seam more old
@@ -36,10 +36,10 @@ beyond_of start old new front piece whole n is one two =
     (length front + n, omega arith, rw (← is, take-append-add front piece n) (Appends-trans start old new front (take n piece) one two))
 
 -- one event's line more
-pub grown_more : (h : List Event) (i : ℕ) (e : Event) (front begun piece : List ℕ) → oldest (i + 1) h ≡ e ∷ oldest i h → front ++ begun ≡ text (oldest i h) → piece ≡ line_of e
-    → front ++ (begun ++ piece) ≡ text (oldest (i + 1) h)
+pub grown_more : (h : List Event) (i : ℕ) (e : Event) (front begun piece : List ℕ) → oldest_items (i + 1) h ≡ e ∷ oldest_items i h → front ++ begun ≡ text (oldest_items i h) → piece ≡ line_of e
+    → front ++ (begun ++ piece) ≡ text (oldest_items (i + 1) h)
 grown_more h i e front begun piece step is line =
-    sym (append_assoc front begun piece) ∙ (ap (λ z. z ++ piece) is ∙ (ap (λ z. text (oldest i h) ++ z) line ∙ sym (ap text step)))
+    sym (append_assoc front begun piece) ∙ (ap (λ z. z ++ piece) is ∙ (ap (λ z. text (oldest_items i h) ++ z) line ∙ sym (ap text step)))
 
 keeps_more : (start old new : Option (List ℕ)) (bytes : List ℕ) → Appends start old bytes → Keeps old new → Appends start new bytes
 keeps_more None old new bytes one two = tt
@@ -49,18 +49,18 @@ keeps_more (Some s) (Some o) (Some n) bytes one two = two ∙ one
 
 -- what a write of the last piece leaves
 pub whole_of : (start old new : Option (List ℕ)) (front piece whole : List ℕ) (result : Result (Unit {0}) WriteStop) → front ++ piece ≡ whole
-    → Appends start old front → Wrote old new result piece → OnOk result (Appends start new whole)
+    → Appends start old front → WriteEffects old new result piece → OnOk result (Appends start new whole)
 whole_of start old new front piece whole (Ok done) is one two = rw (← is) (Appends-trans start old new front piece one two)
 whole_of start old new front piece whole (Err why) is one two = tt
 
 pub failed_of : (start old new : Option (List ℕ)) (front piece whole : List ℕ) (result : Result (Unit {0}) WriteStop) → front ++ piece ≡ whole
-    → Appends start old front → Wrote old new result piece → IsErrOf result stop.Failed → WroteBeyond start new front whole
+    → Appends start old front → WriteEffects old new result piece → IsErrOf result stop.Failed → WroteBeyond start new front whole
 failed_of start old new front piece whole (Ok done) is one two failed = absurd (cc)
 failed_of start old new front piece whole (Err stop.Failed) is one two failed = beyond_of start old new front piece whole two.0 is one two.1
 failed_of start old new front piece whole (Err stop.NoMemory) is one two failed = absurd (cc)
 
 pub kept_of : (start old new : Option (List ℕ)) (front piece : List ℕ) (result : Result (Unit {0}) WriteStop)
-    → Appends start old front → Wrote old new result piece → IsErrOf result stop.NoMemory → Appends start new front
+    → Appends start old front → WriteEffects old new result piece → IsErrOf result stop.NoMemory → Appends start new front
 kept_of start old new front piece (Ok done) one two none = absurd (cc)
 kept_of start old new front piece (Err stop.Failed) one two none = absurd (cc)
 kept_of start old new front piece (Err stop.NoMemory) one two none = keeps_more start old new front one two
@@ -82,7 +82,7 @@ start_none before after text kept = (0, keeps_nothing before after kept)
     keeps_nothing (Some b) (Some a) kept = kept ∙ sym (append-nil b)
 
 -- whatever a write answers, a first part of its piece was written
-pub start_of_write : (before after : Option (List ℕ)) (piece text : List ℕ) (result : Result (Unit {0}) WriteStop) → piece ≡ text → Wrote before after result piece → WroteStart before after text
+pub start_of_write : (before after : Option (List ℕ)) (piece text : List ℕ) (result : Result (Unit {0}) WriteStop) → piece ≡ text → WriteEffects before after result piece → WroteStart before after text
 start_of_write before after piece text (Ok done) same wrote = start_all before after text (rw (← same) wrote)
 start_of_write before after piece text (Err stop.Failed) same wrote = rw (← same) wrote
 start_of_write before after piece text (Err stop.NoMemory) same wrote = start_none before after text wrote
@@ -93,7 +93,7 @@ front_start before after front more wrote = (length front, rw (take-append_seam 
 
 -- whatever a write of the last piece answers, a first part of the whole was written
 pub piece_start : (start old new : Option (List ℕ)) (front piece whole : List ℕ) (result : Result (Unit {0}) WriteStop) → front ++ piece ≡ whole
-    → Appends start old front → Wrote old new result piece → WroteStart start new whole
+    → Appends start old front → WriteEffects old new result piece → WroteStart start new whole
 piece_start start old new front piece whole (Ok done) is one two = start_all start new whole (whole_of start old new front piece whole (Ok done) is one two)
 piece_start start old new front piece whole (Err stop.Failed) is one two = let beyond = beyond_of start old new front piece whole two.0 is one two.1 in (beyond.0, beyond.2)
 piece_start start old new front piece whole (Err stop.NoMemory) is one two = subst (WroteStart start new) is (front_start start new front piece (keeps_more start old new front one two))

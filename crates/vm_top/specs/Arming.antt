@@ -9,13 +9,13 @@ use Rattle.vm_model.specs.declared.message.Channel.TheVariants.{Up}
 use Rattle.vm_model.specs.declared.script.Script.{Script}
 use Rattle.vm_model.specs.Summary.{count_of, is_line}
 use Rattle.vm_outside.specs.Arming.{Arming}
-use Rattle.vm_outside.specs.Causes.{Rose}
+use Rattle.vm_outside.specs.Causes.{CountRises}
 use Rattle.vm_system.specs.Steps.{arms_paging, devices}
-use Rattle.vm_top.specs.Writing.{oldest}
+use Rattle.vm_top.specs.Writing.{oldest_items}
 
 -- the commands of a script that have a line in the history
 abbrev pub ran_of : Script → List Event → List Numbered
-ran_of script history = oldest (count_of is_line history) script.commands.items
+ran_of script history = oldest_items (count_of is_line history) script.commands.items
 
 abbrev pub arms_files : Command → Option ℕ
 arms_files (command.FailFiles count) = Some count
@@ -55,7 +55,7 @@ pub record FilesLeft {B : Type 0} (run : List Numbered) (old new : Arming B) : T
 -- were run
 pub record PagingLeft {B : Type 0} (run : List Numbered) (history : List Event) (old new : Arming B) : Type 0 where
   pub none : last_arming arms_paging run ≡ None → (new.left ≡ 0) × (new.reached ≡ old.reached)
-  pub some : (count : ℕ) → last_arming arms_paging run ≡ Some count → (0 < new.left) ⊎ Rose old.reached new.reached
+  pub some : (count : ℕ) → last_arming arms_paging run ≡ Some count → (0 < new.left) ⊎ CountRises old.reached new.reached
   pub untouched : (count : ℕ) → last_arming arms_paging run ≡ Some count → is_untouched run history ≡ true
       → new.left ≡ count
   pub few : new.reached + min 1 new.left ≤ old.reached + armings arms_paging run
@@ -64,11 +64,11 @@ pub record PagingLeft {B : Type 0} (run : List Numbered) (history : List Event) 
 -- stands at its last value; and where
 -- none is told the count stays
 pub record FailuresCounted (before now : ℕ) (history : List Event) : Type 0 where
-  pub few : (devices history + before ≤ now) ⊎ Rose now now
+  pub few : (devices history + before ≤ now) ⊎ CountRises now now
   pub none : devices history ≡ 0 → now ≡ before
 
 -- and at most as many as the backing within failed of its own and `fail` commands were run, unless the whole count
 -- stands at its last value
 abbrev pub FailuresBounded : List Numbered → ℕ → ℕ → ℕ → List Event → Type 0
 FailuresBounded run before now whole history =
-    (devices history + before ≤ now + armings arms_paging run) ⊎ Rose whole whole
+    (devices history + before ≤ now + armings arms_paging run) ⊎ CountRises whole whole

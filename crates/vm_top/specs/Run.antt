@@ -21,7 +21,7 @@ use Rattle.vm_legal.specs.Undelivered.{undelivered}
 use Rattle.vm_outside.specs.Areas.{Told}
 use Rattle.pg_slots.specs.Contents.{area_name}
 use Rattle.vm_kernel.specs.Matches.{IsPlain}
-use Rattle.vm_system.specs.Steps.{HasMore, LegalCut, LegalOpen, is_built, is_held_up}
+use Rattle.vm_system.specs.Steps.{HasMore, LegalCut, LegalOpen, is_held_up, system_runs}
 use Rattle.vm_top.specs.Writing.{WroteStart, WroteBeyond}
 use Rattle.vm_top.specs.declared.run.RunEnd.{RunEnd}
 use Rattle.vm_top.specs.declared.run.RunEnd.TheVariants as end
@@ -48,7 +48,7 @@ abbrev pub unbuilt_line : List Numbered → Option ℕ
 unbuilt_line [] = None
 unbuilt_line (numbered ∷ before) = elim (unbuilt_line before) [
   | Some line ↦ Some line
-  | None ↦ if is_built numbered.command then None else Some numbered.line
+  | None ↦ if system_runs numbered.command then None else Some numbered.line
 ]
 
 -- the commands that were run are all built, and the history is legal for them

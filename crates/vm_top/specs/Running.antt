@@ -10,10 +10,10 @@ use Rattle.vm_legal.specs.Legal.{LegalFor}
 use Rattle.vm_legal.specs.Outside.{Outside}
 use Rattle.vm_outside.specs.Arming.{Arming}
 use Rattle.vm_outside.specs.Causes.{next_count}
-use Rattle.vm_system.specs.Steps.{IsBelowLimit, IsNext, LegalOpen}
+use Rattle.vm_system.specs.Steps.{IsBelowLimit, IsNextLegal, LegalOpen}
 use Rattle.vm_top.specs.Arming.{FailuresCounted, FilesLeft, PagingLeft, ran_of}
 use Rattle.vm_top.specs.Run.{RanAs, text_so_far, unbuilt_line}
-use Rattle.vm_top.specs.Writing.{oldest}
+use Rattle.vm_top.specs.Writing.{oldest_items}
 use Rattle.vm_top.specs.declared.run.RunEnd.{RunEnd}
 use Rattle.vm_top.specs.declared.words.Report.{Report}
 
@@ -28,15 +28,15 @@ pub record Running (F P : Type 0) : Type 0 where
   pub faults : ℕ
 
 -- the command in whose step messages are taken, too
-pub record Taking (F P : Type 0) : Type 0 where
+pub record RunTaking (F P : Type 0) : Type 0 where
   pub running : Running F P
   pub command : Command
 
 -- the command is the one behind those that have a line in the history
 abbrev pub IsNextOf : Script → Numbered → List Event → Type 0
 IsNextOf script numbered history =
-    oldest (count_of is_line history + 1) script.commands.items
-    ≡ numbered ∷ oldest (count_of is_line history) script.commands.items
+    oldest_items (count_of is_line history + 1) script.commands.items
+    ≡ numbered ∷ oldest_items (count_of is_line history) script.commands.items
 
 -- the arming of the paging area between two steps; its count of reached failures rose where one was reached
 pub record PagingRuns {B : Type 0} (run : List Numbered) (history : List Event) (old new : Arming B) : Type 0 where
@@ -66,10 +66,10 @@ pub record Turned {F P : Type 0} (report : Report) (given : Running F P) (number
   pub keeps : Keeps report given history now f p faults
   pub run : List Numbered
   pub here : ran_of given.script history ≡ numbered ∷ run
-  pub next : IsNext given.script.header given.outside numbered run history
+  pub next : IsNextLegal given.script.header given.outside numbered run history
 
 -- what holds inside a settle
-pub record Settles {F P : Type 0} (report : Report) (given : Taking F P) (history : List Event) (now : Option (List ℕ)) (f : Arming F) (p : Arming P) (faults : ℕ) : Type 0 where
+pub record Settles {F P : Type 0} (report : Report) (given : RunTaking F P) (history : List Event) (now : Option (List ℕ)) (f : Arming F) (p : Arming P) (faults : ℕ) : Type 0 where
   pub keeps : Keeps report given.running history now f p faults
   pub line : ℕ
   pub run : List Numbered
@@ -77,7 +77,7 @@ pub record Settles {F P : Type 0} (report : Report) (given : Taking F P) (histor
   pub legal : LegalOpen given.running.script.header given.running.outside (record { line = line; command = given.command } ∷ run) history
 
 -- how a run stops, and what it leaves
-pub record Stops {F P : Type 0} (report : Report) (given : Running F P) (history : List Event) (now : Option (List ℕ)) (f : Arming F) (p : Arming P) (faults : ℕ) (how : RunEnd) : Type 0 where
+pub record RunStops {F P : Type 0} (report : Report) (given : Running F P) (history : List Event) (now : Option (List ℕ)) (f : Arming F) (p : Arming P) (faults : ℕ) (how : RunEnd) : Type 0 where
   pub ran : RanAs report given.script given.outside history how given.start now
   pub below : IsBelowLimit history
   pub arms : Arms given history f p

@@ -6,16 +6,16 @@ use Rattle.vm_model.specs.declared.event.Event.{Event}
 use Rattle.vm_model.specs.declared.fault.ScriptFault.{ScriptFault}
 use Rattle.vm_model.specs.declared.fault.ScriptFault.TheVariants as fault
 use Rattle.vm_model.specs.declared.script.Script.{Script}
-use Rattle.vm_model.specs.Fault.{number}
+use Rattle.vm_model.specs.Fault.{fault_number}
 use Rattle.vm_legal.specs.Legal.{LegalSoFar}
 use Rattle.vm_legal.specs.Outside.{Outside}
 use Rattle.vm_model.specs.Text.{text, field}
-use Rattle.vm_text.specs.Script.{script_of, seen}
+use Rattle.vm_text.specs.Script.{script_of, whole_script}
 use Rattle.vm_text.specs.Unbuilt.{IsBuilt, unbuilt_of}
 use Rattle.vm_outside.specs.Areas.{Told}
 use Rattle.vm_outside.specs.Arming.{Arming}
 use Rattle.pg_slots.specs.Contents.{area_name}
-use Rattle.vm_system.specs.Keeping.{KeepsPages}
+use Rattle.vm_system.specs.Keeping.{PagingKeepsPages}
 use Rattle.vm_top.specs.Arming.{FilesLeft, PagingLeft, ran_of}
 use Rattle.vm_top.specs.Run.{CutIn, FailedIn, IsOutOfEvents, IsStuck, IsWholeRun, only_host, report_text}
 use Rattle.vm_top.specs.Writing.{WroteStart}
@@ -38,7 +38,7 @@ fault_name fault.HeaderLate = codes "HeaderLate"
 fault_name fault.NoHosts = codes "NoHosts"
 
 abbrev pub bad_text : ℕ → ScriptFault → List ℕ
-bad_text line kind = codes "bad" ++ field line ++ field (number kind) ++ codes " " ++ fault_name kind ++ codes "\n"
+bad_text line kind = codes "bad" ++ field line ++ field (fault_number kind) ++ codes " " ++ fault_name kind ++ codes "\n"
 
 -- P of the bytes that the source had, where it tells them
 abbrev pub OfBytes : Option (List ℕ) → (List ℕ → Type 0) → Type 0
@@ -46,7 +46,7 @@ OfBytes told P = (bytes : List ℕ) → told ≡ Some bytes → P bytes
 
 -- the source's bytes spell this script
 abbrev pub IsReadFrom : Option (List ℕ) → Script → Type 0
-IsReadFrom told script = OfBytes told (λ bytes. script_of bytes ≡ Ok (seen script))
+IsReadFrom told script = OfBytes told (λ bytes. script_of bytes ≡ Ok (whole_script script))
 
 -- this is their first fault
 abbrev pub IsBadFrom : Option (List ℕ) → ℕ → ScriptFault → Type 0
@@ -77,7 +77,7 @@ pub record IsHeaderBuilt (told : Option (List ℕ)) (run : Script) : Type 0 wher
   pub built : IsBuilt run.header
 
 -- the whole script was run, all of which is built: its history is legal, and its report was written and nothing else
-pub record IsDone (told : Option (List ℕ)) (outside : Outside) (report : Report) (script : Option Script) (history : List Event) (before after : Option (List ℕ)) : Type 0 where
+pub record IsRunDone (told : Option (List ℕ)) (outside : Outside) (report : Report) (script : Option Script) (history : List Event) (before after : Option (List ℕ)) : Type 0 where
   pub run : Script
   pub held : IsHeld told run script
   pub header : IsHeaderBuilt told run
@@ -94,15 +94,15 @@ pub record IsEventLimit (told : Option (List ℕ)) (outside : Outside) (report :
 
 -- this line isn't built: one of the header, and nothing was run; or that of the first such command, and those in front
 -- of it were run
-abbrev pub Stops : Option (List ℕ) → Outside → Script → ℕ → List Event → Type 0
-Stops told outside run line history =
+abbrev pub StopsUnbuilt : Option (List ℕ) → Outside → Script → ℕ → List Event → Type 0
+StopsUnbuilt told outside run line history =
     (IsUnbuiltFrom told (Some line) × (history ≡ [])) ⊎ (IsHeaderBuilt told run × IsStuck run outside line history)
 
 -- a script was read, and run up to the line that isn't built
 pub record IsStopped (told : Option (List ℕ)) (outside : Outside) (line : ℕ) (script : Option Script) (history : List Event) : Type 0 where
   pub run : Script
   pub held : IsHeld told run script
-  pub stops : Stops told outside run line history
+  pub stops : StopsUnbuilt told outside run line history
   pub legal : LegalSoFar run outside history
 
 -- the text of what was run, and then the line
@@ -170,7 +170,7 @@ IsNoMemory told outside report script history before after =
 -- the paging area goes on telling, and each page that was returned and not lost stands at its slot
 abbrev pub KeptAt : Outside → (List ℕ → Told) → Option Script → List Event → Type 0
 KeptAt outside areas None history = outside.paging ≡ true → IsSome (areas (area_name only_host))
-KeptAt outside areas (Some script) history = KeepsPages script.header only_host outside areas history
+KeptAt outside areas (Some script) history = PagingKeepsPages script.header only_host outside areas history
 
 -- the commands that were run
 abbrev pub commands_run : Option Script → List Event → List Numbered

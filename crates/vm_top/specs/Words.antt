@@ -4,7 +4,7 @@ use Rattle.std.specs.Str.{bytes_eq}
 use Rattle.std.specs.declared.alloc.Global.{Global}
 use Rattle.vm_model.specs.declared.fault.ScriptFault.{ScriptFault}
 use Rattle.vm_model.specs.declared.fault.ScriptFault.TheVariants.{OutOfRange}
-use Rattle.vm_text.specs.Words.{number_of, number_in, word_in}
+use Rattle.vm_text.specs.Words.{number_of, number_between, word_in}
 use Rattle.vm_top.specs.declared.words.Job.{Job}
 use Rattle.vm_top.specs.declared.words.Job.TheVariants.{Run, Generate}
 use Rattle.vm_top.specs.declared.words.Report.TheVariants.{History, Summary}
@@ -26,7 +26,7 @@ generate_of (Err fault) other = None
 abbrev pub asked : List (List ℕ) → Option Job
 asked (word ∷ []) = word_in words_alone word
 asked (word ∷ number ∷ lines ∷ []) =
-    if bytes_eq word (codes "generate") then generate_of (short 20 number (number_of number)) (short 5 lines (number_in 1 10000 lines)) else None
+    if bytes_eq word (codes "generate") then generate_of (short 20 number (number_of number)) (short 5 lines (number_between 1 10000 lines)) else None
 asked other = None
 
 abbrev pub asked_by : List (String Global) → Option Job

@@ -3,8 +3,8 @@ use Rattle.std.specs.Prelude.{ℕ, ◌-◌, ◌≤◌, List, length, take, drop,
 use Rattle.std.specs.Io.KnownBytes.{Appends}
 
 -- the oldest so many of a list that has the newest first
-abbrev pub oldest : {A : Type 0} → ℕ → List A → List A
-oldest n items = drop (length items - n) items
+abbrev pub oldest_items : {A : Type 0} → ℕ → List A → List A
+oldest_items n items = drop (length items - n) items
 
 -- a first part of the text was written
 abbrev pub WroteStart : Option (List ℕ) → Option (List ℕ) → List ℕ → Type 0

@@ -1,6 +1,6 @@
 // Reads a source to its end, or beyond the bytes that a script may have, by 4,096 at most.
 ghost use Rattle.std.specs.Prelude.{◌≤◌, IfOk, IsErrOf};
-ghost use Rattle.vm_outside.specs.Causes.{Rose};
+ghost use Rattle.vm_outside.specs.Causes.{CountRises};
 ghost use Rattle.vm_model.specs.Limits.{most_script_bytes};
 ghost use Rattle.vm_top.specs.Reading.{ReadAtMost, ReadWhole, most_read};
 ghost use Rattle.vm_top.specs.declared.reading.ReadStop.TheVariants.{Failed, NoMemory};
@@ -24,7 +24,7 @@ pub fn read_all<S: Source>(alloc: Global, source: &mut S) -> Result<Vec<u8>, Rea
     ensures failed { IsErrOf result Failed → ReadAtMost most_script_bytes (S.left source.old) (S.left source.new) }
     ensures stopped { IsErrOf result NoMemory → ReadAtMost most_read (S.left source.old) (S.left source.new) }
     ensures later { S.faults source.old ≤ S.faults source.new }
-    ensures cause { IsErrOf result Failed → Rose (S.faults source.old) (S.faults source.new) }
+    ensures cause { IsErrOf result Failed → CountRises (S.faults source.old) (S.faults source.new) }
 {
     let mut bytes = Vec::new(alloc);
     let mut piece = [0u8; 4096];

@@ -3,10 +3,10 @@ ghost use Rattle.std.specs.Prelude.{◌≡◌, ◌++◌, ◌≤◌, ◌<◌, len
 ghost use Rattle.std.specs.Io.KnownBytes.{Appends};
 ghost use Rattle.std.specs.declared.option.Option.{Option};
 ghost use Rattle.vm_model.specs.Text.{text, field};
-ghost use Rattle.vm_outside.specs.Causes.{Rose};
+ghost use Rattle.vm_outside.specs.Causes.{CountRises};
 ghost use Rattle.vm_top.specs.Run.{report_text, text_so_far};
 ghost use Rattle.vm_top.specs.Top.{bad_text, fault_name, not_built_text, stopped_text};
-ghost use Rattle.vm_top.specs.Writing.{oldest, WroteBeyond, WroteStart};
+ghost use Rattle.vm_top.specs.Writing.{oldest_items, WroteBeyond, WroteStart};
 
 use crate::summary::summary_text;
 use crate::words::Report;
@@ -19,7 +19,7 @@ use vm_text::write_event;
 // The text of the events from an index on.
 fn step_text(alloc: Global, history: &History, from: u32) -> Result<Vec<u8>, NoMemory>
     requires { from ≤ length history.now.items }
-    ensures { IfOk result (λ bytes. text (oldest from history.now.items) ++ bytes.items ≡ text history.now.items) }
+    ensures { IfOk result (λ bytes. text (oldest_items from history.now.items) ++ bytes.items ≡ text history.now.items) }
 {
     let mut bytes = Vec::new(alloc);
     for i in from..history.len() {
@@ -39,17 +39,17 @@ pub fn write_step<K: Sink>(
 ) -> Result<(), WriteStop>
     requires { from ≤ length history.now.items }
     ensures later { K.faults out.old ≤ K.faults out.new }
-    ensures cause { IsErrOf result WriteStop.Failed → Rose (K.faults out.old) (K.faults out.new) }
+    ensures cause { IsErrOf result WriteStop.Failed → CountRises (K.faults out.old) (K.faults out.new) }
     ensures written { (start : Option (List ℕ))
-        → Appends start (K.written out.old) (text (oldest from history.now.items))
+        → Appends start (K.written out.old) (text (oldest_items from history.now.items))
         → OnOk result (Appends start (K.written out.new) (text history.now.items)) }
     ensures failed { (start : Option (List ℕ))
-        → Appends start (K.written out.old) (text (oldest from history.now.items))
+        → Appends start (K.written out.old) (text (oldest_items from history.now.items))
         → IsErrOf result WriteStop.Failed
-        → WroteBeyond start (K.written out.new) (text (oldest from history.now.items)) (text history.now.items) }
+        → WroteBeyond start (K.written out.new) (text (oldest_items from history.now.items)) (text history.now.items) }
     ensures memory { (start : Option (List ℕ))
-        → Appends start (K.written out.old) (text (oldest from history.now.items))
-        → IsErrOf result WriteStop.NoMemory → Appends start (K.written out.new) (text (oldest from history.now.items)) }
+        → Appends start (K.written out.old) (text (oldest_items from history.now.items))
+        → IsErrOf result WriteStop.NoMemory → Appends start (K.written out.new) (text (oldest_items from history.now.items)) }
 {
     let Ok(bytes) = step_text(alloc, history, from) else {
         return Err(WriteStop::NoMemory);
@@ -140,7 +140,7 @@ pub fn write_report<K: Sink>(
     out: &mut K,
 ) -> Result<(), WriteStop>
     ensures later { K.faults out.old ≤ K.faults out.new }
-    ensures cause { IsErrOf result WriteStop.Failed → Rose (K.faults out.old) (K.faults out.new) }
+    ensures cause { IsErrOf result WriteStop.Failed → CountRises (K.faults out.old) (K.faults out.new) }
     ensures written { (start : Option (List ℕ)) → Appends start (K.written out.old) (text_so_far report history.now.items)
         → OnOk result (Appends start (K.written out.new) (report_text report history.now.items)) }
     ensures failed { (start : Option (List ℕ)) → Appends start (K.written out.old) (text_so_far report history.now.items)
@@ -170,7 +170,7 @@ pub fn write_stop<K: Sink>(
     out: &mut K,
 ) -> Result<(), WriteStop>
     ensures later { K.faults out.old ≤ K.faults out.new }
-    ensures cause { IsErrOf result WriteStop.Failed → Rose (K.faults out.old) (K.faults out.new) }
+    ensures cause { IsErrOf result WriteStop.Failed → CountRises (K.faults out.old) (K.faults out.new) }
     ensures written { (start : Option (List ℕ)) → Appends start (K.written out.old) (text_so_far report history.now.items)
         → OnOk result (Appends start (K.written out.new) (stopped_text history.now.items line)) }
     ensures start { (start : Option (List ℕ)) → Appends start (K.written out.old) (text_so_far report history.now.items)

@@ -8,14 +8,14 @@ ghost use Rattle.vm_model.specs.Summary.{count_of, is_line};
 ghost use Rattle.vm_model.specs.Text.{text};
 ghost use Rattle.vm_legal.specs.Steps.{takings};
 ghost use Rattle.vm_legal.specs.Undelivered.{undelivered};
-ghost use Rattle.vm_outside.specs.Causes.{Rose};
-ghost use Rattle.vm_system.specs.Keeping.{KeepsPages};
+ghost use Rattle.vm_outside.specs.Causes.{CountRises};
+ghost use Rattle.vm_system.specs.Keeping.{PagingKeepsPages};
 ghost use Rattle.vm_system.specs.Stands.{PagingIsKept, SystemStands};
-ghost use Rattle.vm_system.specs.Steps.{HasMore, IsBelowLimit, is_built, is_held_up};
+ghost use Rattle.vm_system.specs.Steps.{HasMore, IsBelowLimit, is_held_up, system_runs};
 ghost use Rattle.vm_top.specs.Arming.{FailuresBounded, FailuresCounted, FilesLeft, PagingLeft, ran_of};
 ghost use Rattle.vm_top.specs.Run.{IsRunnable, RanAs, only_host, outside_of, text_so_far};
-ghost use Rattle.vm_top.specs.Running.{IsBetweenCommands, IsNextOf, Running, Settles, Stops, Taking, Turned};
-ghost use Rattle.vm_top.specs.Writing.{WroteBeyond, oldest};
+ghost use Rattle.vm_top.specs.Running.{IsBetweenCommands, IsNextOf, RunStops, RunTaking, Running, Settles, Turned};
+ghost use Rattle.vm_top.specs.Writing.{WroteBeyond, oldest_items};
 
 use crate::render::write_step;
 use crate::words::Report;
@@ -50,7 +50,7 @@ pub struct Ran {
 
 // Whether the command is one that is built.
 fn is_built(command: &Command) -> bool
-    ensures { result ≡ is_built command.now }
+    ensures { result ≡ system_runs command.now }
 {
     match command {
         Command::Task { .. }
@@ -93,17 +93,17 @@ fn show<K: Sink>(
 ) -> Result<(), RunEnd>
     requires { from ≤ length system.now.history.items }
     ensures later { K.faults out.old ≤ K.faults out.new }
-    ensures cause { IsErrOf result RunEnd.Failed → Rose (K.faults out.old) (K.faults out.new) }
+    ensures cause { IsErrOf result RunEnd.Failed → CountRises (K.faults out.old) (K.faults out.new) }
     ensures written { (start : Option (List ℕ))
-        → Appends start (K.written out.old) (text_so_far report (oldest from system.now.history.items))
+        → Appends start (K.written out.old) (text_so_far report (oldest_items from system.now.history.items))
         → OnOk result (Appends start (K.written out.new) (text_so_far report system.now.history.items)) }
     ensures failed { (start : Option (List ℕ))
-        → Appends start (K.written out.old) (text_so_far report (oldest from system.now.history.items))
-        → IsErrOf result RunEnd.Failed → (report ≡ Report.History) × WroteBeyond start (K.written out.new) (text (oldest from system.now.history.items)) (text system.now.history.items) }
+        → Appends start (K.written out.old) (text_so_far report (oldest_items from system.now.history.items))
+        → IsErrOf result RunEnd.Failed → (report ≡ Report.History) × WroteBeyond start (K.written out.new) (text (oldest_items from system.now.history.items)) (text system.now.history.items) }
     ensures memory { (start : Option (List ℕ))
-        → Appends start (K.written out.old) (text_so_far report (oldest from system.now.history.items))
+        → Appends start (K.written out.old) (text_so_far report (oldest_items from system.now.history.items))
         → IsErrOf result RunEnd.NoMemory
-        → Appends start (K.written out.new) (text_so_far report (oldest from system.now.history.items)) }
+        → Appends start (K.written out.new) (text_so_far report (oldest_items from system.now.history.items)) }
     ensures ends { (end : RunEnd) → IsErrOf result end → (end ≡ RunEnd.Failed) ⊎ (end ≡ RunEnd.NoMemory) }
 {
     match report {
@@ -130,7 +130,7 @@ fn turn<K: Sink, F: Backing, P: Backing>(
     requires stands { SystemStands given.script.header given.outside system.old }
     requires kept { PagingIsKept given.script.header given.outside (P.area paging.old.inner) system.old }
     requires range { InRange given.script.header numbered.now.command }
-    requires built { is_built numbered.now.command ≡ true }
+    requires built { system_runs numbered.now.command ≡ true }
     requires free { is_held_up given.script.header system.old.history.items numbered.now.command ≡ false }
     requires below { length system.old.history.items < most_events }
     requires runs { IsBetweenCommands report given system.old.history.items (K.written out.old) files.old paging.old (⟦<Armed<P> as Backing>⟧.faults paging.old) }
@@ -140,9 +140,9 @@ fn turn<K: Sink, F: Backing, P: Backing>(
     ensures turned { OnOk result (Turned report given numbered.now system.new.history.items (K.written out.new) files.new paging.new (⟦<Armed<P> as Backing>⟧.faults paging.new)) }
     ensures lines { OnOk result (count_of is_line system.new.history.items
         ≡ count_of is_line system.old.history.items + 1) }
-    ensures stops { (end : RunEnd) → IsErrOf result end → Stops report given system.new.history.items (K.written out.new) files.new paging.new (⟦<Armed<P> as Backing>⟧.faults paging.new) end }
+    ensures stops { (end : RunEnd) → IsErrOf result end → RunStops report given system.new.history.items (K.written out.new) files.new paging.new (⟦<Armed<P> as Backing>⟧.faults paging.new) end }
     ensures later { K.faults out.old ≤ K.faults out.new }
-    ensures cause { IsErrOf result RunEnd.Failed → Rose (K.faults out.old) (K.faults out.new) }
+    ensures cause { IsErrOf result RunEnd.Failed → CountRises (K.faults out.old) (K.faults out.new) }
 {
     let from = system.history().len();
     if let Err(stop) = system.step(numbered.line, &numbered.command, files, paging) {
@@ -161,7 +161,7 @@ fn take_one<K: Sink, F: Backing, P: Backing>(
     files: &mut Armed<F>,
     paging: &mut Armed<P>,
 ) -> Result<bool, RunEnd>
-    ghost given: { Taking F P }
+    ghost given: { RunTaking F P }
     requires stands { SystemStands given.running.script.header given.running.outside system.old }
     requires kept { PagingIsKept given.running.script.header given.running.outside (P.area paging.old.inner) system.old }
     requires settles { Settles report given system.old.history.items (K.written out.old) files.old paging.old (⟦<Armed<P> as Backing>⟧.faults paging.old) }
@@ -174,9 +174,9 @@ fn take_one<K: Sink, F: Backing, P: Backing>(
     ensures quiet { IfOk result (λ took. took ≡ false → undelivered system.new.history.items ≡ []) }
     ensures lines { OnOk result (count_of is_line system.new.history.items
         ≡ count_of is_line system.old.history.items) }
-    ensures stops { (end : RunEnd) → IsErrOf result end → Stops report given.running system.new.history.items (K.written out.new) files.new paging.new (⟦<Armed<P> as Backing>⟧.faults paging.new) end }
+    ensures stops { (end : RunEnd) → IsErrOf result end → RunStops report given.running system.new.history.items (K.written out.new) files.new paging.new (⟦<Armed<P> as Backing>⟧.faults paging.new) end }
     ensures later { K.faults out.old ≤ K.faults out.new }
-    ensures cause { IsErrOf result RunEnd.Failed → Rose (K.faults out.old) (K.faults out.new) }
+    ensures cause { IsErrOf result RunEnd.Failed → CountRises (K.faults out.old) (K.faults out.new) }
 {
     let from = system.history().len();
     match system.take_oldest(files, paging) {
@@ -199,7 +199,7 @@ fn settle<K: Sink, F: Backing, P: Backing>(
     files: &mut Armed<F>,
     paging: &mut Armed<P>,
 ) -> Result<(), RunEnd>
-    ghost given: { Taking F P }
+    ghost given: { RunTaking F P }
     requires stands { SystemStands given.running.script.header given.running.outside system.old }
     requires kept { PagingIsKept given.running.script.header given.running.outside (P.area paging.old.inner) system.old }
     requires settles { Settles report given system.old.history.items (K.written out.old) files.old paging.old (⟦<Armed<P> as Backing>⟧.faults paging.old) }
@@ -210,9 +210,9 @@ fn settle<K: Sink, F: Backing, P: Backing>(
     ensures runs { OnOk result (IsBetweenCommands report given.running system.new.history.items (K.written out.new) files.new paging.new (⟦<Armed<P> as Backing>⟧.faults paging.new)) }
     ensures lines { OnOk result (count_of is_line system.new.history.items
         ≡ count_of is_line system.old.history.items) }
-    ensures stops { (end : RunEnd) → IsErrOf result end → Stops report given.running system.new.history.items (K.written out.new) files.new paging.new (⟦<Armed<P> as Backing>⟧.faults paging.new) end }
+    ensures stops { (end : RunEnd) → IsErrOf result end → RunStops report given.running system.new.history.items (K.written out.new) files.new paging.new (⟦<Armed<P> as Backing>⟧.faults paging.new) end }
     ensures later { K.faults out.old ≤ K.faults out.new }
-    ensures cause { IsErrOf result RunEnd.Failed → Rose (K.faults out.old) (K.faults out.new) }
+    ensures cause { IsErrOf result RunEnd.Failed → CountRises (K.faults out.old) (K.faults out.new) }
 {
     'all: for _taken in 0..count {
         if !take_one(alloc, report, system, out, files, paging)? {
@@ -239,10 +239,10 @@ pub fn run_script<K: Sink, F: Backing, P: Backing>(
     ensures ran { RanAs report script.now (outside_of (P.area paging.old.inner)) result.history.items result.end (K.written out.old) (K.written out.new) }
     ensures limit { IsBelowLimit result.history.items }
     ensures later { K.faults out.old ≤ K.faults out.new }
-    ensures cause { result.end ≡ RunEnd.Failed → Rose (K.faults out.old) (K.faults out.new) }
+    ensures cause { result.end ≡ RunEnd.Failed → CountRises (K.faults out.old) (K.faults out.new) }
 
     // What the backings keep, and how they are armed.
-    ensures kept { KeepsPages script.now.header only_host (outside_of (P.area paging.old.inner)) (P.area paging.new.inner) result.history.items }
+    ensures kept { PagingKeepsPages script.now.header only_host (outside_of (P.area paging.old.inner)) (P.area paging.new.inner) result.history.items }
     ensures files { FilesLeft (ran_of script.now result.history.items) files.old files.new }
     ensures paging { PagingLeft (ran_of script.now result.history.items) result.history.items paging.old paging.new }
     ensures devices { FailuresCounted (⟦<Armed<P> as Backing>⟧.faults paging.old) (⟦<Armed<P> as Backing>⟧.faults paging.new) result.history.items }
@@ -279,9 +279,9 @@ fn run_all<K: Sink, F: Backing, P: Backing>(
     requires runs { IsBetweenCommands report given system.old.history.items (K.written out.old) files.old paging.old (⟦<Armed<P> as Backing>⟧.faults paging.old) }
     requires none { system.old.history.items ≡ [] }
     ensures kept { PagingIsKept given.script.header given.outside (P.area paging.new.inner) system.new }
-    ensures stops { Stops report given system.new.history.items (K.written out.new) files.new paging.new (⟦<Armed<P> as Backing>⟧.faults paging.new) result }
+    ensures stops { RunStops report given system.new.history.items (K.written out.new) files.new paging.new (⟦<Armed<P> as Backing>⟧.faults paging.new) result }
     ensures later { K.faults out.old ≤ K.faults out.new }
-    ensures cause { result ≡ RunEnd.Failed → Rose (K.faults out.old) (K.faults out.new) }
+    ensures cause { result ≡ RunEnd.Failed → CountRises (K.faults out.old) (K.faults out.new) }
 {
     'commands: for i in 0..script.commands.len() {
         let numbered = script.commands.at(i);
@@ -313,9 +313,9 @@ fn run_one<K: Sink, F: Backing, P: Backing>(
     ensures runs { OnOk result (IsBetweenCommands report given system.new.history.items (K.written out.new) files.new paging.new (⟦<Armed<P> as Backing>⟧.faults paging.new)) }
     ensures lines { OnOk result (count_of is_line system.new.history.items
         ≡ count_of is_line system.old.history.items + 1) }
-    ensures stops { (end : RunEnd) → IsErrOf result end → Stops report given system.new.history.items (K.written out.new) files.new paging.new (⟦<Armed<P> as Backing>⟧.faults paging.new) end }
+    ensures stops { (end : RunEnd) → IsErrOf result end → RunStops report given system.new.history.items (K.written out.new) files.new paging.new (⟦<Armed<P> as Backing>⟧.faults paging.new) end }
     ensures later { K.faults out.old ≤ K.faults out.new }
-    ensures cause { IsErrOf result RunEnd.Failed → Rose (K.faults out.old) (K.faults out.new) }
+    ensures cause { IsErrOf result RunEnd.Failed → CountRises (K.faults out.old) (K.faults out.new) }
 {
     if !is_built(&numbered.command) {
         return Err(RunEnd::NotBuilt {

@@ -1,7 +1,7 @@
 // What a run came to, in numbers.
 ghost use Rattle.std.specs.Prelude.{◌≡◌, [], ◌∷◌, ◌++◌, ◌<◌, ◌-◌, ◌+◌, ◌^◌, List, length, IfOk, OnOk};
 ghost use Rattle.vm_model.specs.declared.event.Event.{Event};
-ghost use Rattle.vm_model.specs.Summary.{is_line, is_refused, is_begun, is_loaded, is_stored, is_copy_ended, is_failed, is_sent, is_taken, is_dropped, value_of, waiting_of, row, summary_text};
+ghost use Rattle.vm_model.specs.Summary.{is_line, is_refused, is_begun, is_loaded, is_stored, is_copy_ended, is_failed, is_sent, is_taken_event, is_dropped, value_of, waiting_of, row, summary_text};
 ghost use Rattle.vm_model.specs.Text.{flag};
 ghost use Rattle.vm_top.specs.Summary.{IsSummary};
 
@@ -77,7 +77,7 @@ fn is_sent(event: &Event) -> bool
 }
 
 fn is_taken(event: &Event) -> bool
-    ensures { result ≡ is_taken event.now }
+    ensures { result ≡ is_taken_event event.now }
 {
     matches!(event, Event::Taken { .. })
 }

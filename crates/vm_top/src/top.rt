@@ -5,16 +5,16 @@ ghost use Rattle.std.specs.Io.KnownBytes.{Appends};
 ghost use Rattle.vm_model.specs.declared.fault.ScriptFault.{ScriptFault};
 ghost use Rattle.vm_model.specs.declared.script.Script.{Script};
 ghost use Rattle.vm_model.specs.Ranges.{KeepsRanges};
-ghost use Rattle.vm_outside.specs.Causes.{Rose};
-ghost use Rattle.vm_top.specs.Ending.{EndsAs, HasEnded, Tells, status_after};
-ghost use Rattle.vm_top.specs.Top.{IsBad, IsDone, IsEventLimit, NothingRun, IsOutputFault, IsNoMemory, IsNotBuilt, NothingDone, OfBytes, KeptAt, FilesEnd, PagingEnds, bad_text, commands_run, not_built_text, usage_text};
+ghost use Rattle.vm_outside.specs.Causes.{CountRises};
+ghost use Rattle.vm_top.specs.Ending.{EndsAs, RunHasEnded, Tells, status_after};
+ghost use Rattle.vm_top.specs.Top.{IsBad, IsRunDone, IsEventLimit, NothingRun, IsOutputFault, IsNoMemory, IsNotBuilt, NothingDone, OfBytes, KeptAt, FilesEnd, PagingEnds, bad_text, commands_run, not_built_text, usage_text};
 ghost use Rattle.vm_legal.specs.Outside.{Outside};
 ghost use Rattle.vm_system.specs.Steps.{IsBelowLimit};
 ghost use Rattle.vm_top.specs.Arming.{FailuresBounded, FailuresCounted};
 ghost use Rattle.vm_top.specs.Reading.{LeavesBytes, LeavesSource};
 ghost use Rattle.vm_top.specs.Resting.{CarriesAll, WaitsForFramesAlone};
 ghost use Rattle.vm_top.specs.Run.{IsRunnable, RanAs, outside_of};
-ghost use Rattle.vm_top.specs.Status.{number_of};
+ghost use Rattle.vm_top.specs.Status.{status_number};
 ghost use Rattle.vm_top.specs.Words.{asked_by};
 ghost use Rattle.vm_top.specs.declared.words.Job.TheVariants as jobs;
 ghost use Rattle.vm_top.specs.declared.words.Report.{Report};
@@ -57,7 +57,7 @@ pub enum Status {
 impl Status {
     /// The exit status of the program.
     pub fn number(self) -> u8
-        ensures { result ≡ number_of self }
+        ensures { result ≡ status_number self }
     {
         match self {
             Status::Done => 0,
@@ -107,7 +107,7 @@ fn status_after(wrote: Result<(), WriteStop>, status: Status) -> Status
 fn tell<K: Sink>(text: &[u8], status: Status, out: &mut K) -> Status
     requires { ¬ (status ≡ Status.OutputFault) }
     ensures told { Tells status text.now (K.written out.old) (K.written out.new) result }
-    ensures cause { result ≡ Status.OutputFault → Rose (K.faults out.old) (K.faults out.new) }
+    ensures cause { result ≡ Status.OutputFault → CountRises (K.faults out.old) (K.faults out.new) }
     ensures later { K.faults out.old ≤ K.faults out.new }
 {
     status_after(out.write(text), status)
@@ -116,7 +116,7 @@ fn tell<K: Sink>(text: &[u8], status: Status, out: &mut K) -> Status
 // Writes the line that tells what isn't built.
 fn tell_not_built<K: Sink>(alloc: Global, line: u32, out: &mut K) -> Status
     ensures told { Tells (Status.NotBuilt line) (not_built_text line) (K.written out.old) (K.written out.new) result }
-    ensures cause { result ≡ Status.OutputFault → Rose (K.faults out.old) (K.faults out.new) }
+    ensures cause { result ≡ Status.OutputFault → CountRises (K.faults out.old) (K.faults out.new) }
     ensures later { K.faults out.old ≤ K.faults out.new }
 {
     match not_built_text(alloc, line) {
@@ -128,7 +128,7 @@ fn tell_not_built<K: Sink>(alloc: Global, line: u32, out: &mut K) -> Status
 // Writes the line that tells the script's fault.
 fn tell_bad<K: Sink>(alloc: Global, line: u32, kind: ScriptFault, out: &mut K) -> Status
     ensures told { Tells (Status.BadScript line kind) (bad_text line kind) (K.written out.old) (K.written out.new) result }
-    ensures cause { result ≡ Status.OutputFault → Rose (K.faults out.old) (K.faults out.new) }
+    ensures cause { result ≡ Status.OutputFault → CountRises (K.faults out.old) (K.faults out.new) }
     ensures later { K.faults out.old ≤ K.faults out.new }
 {
     match bad_text(alloc, line, kind) {
@@ -144,7 +144,7 @@ fn finish<K: Sink>(alloc: Global, report: Report, ran: &Ran, out: &mut K) -> Sta
         → EndsAs report run outside ran.now.history.items start (K.written out.new) result }
     ensures memory { ran.now.end ≡ RunEnd.NoMemory → result ≡ Status.NoMemory }
     ensures cause { result ≡ Status.OutputFault
-        → (ran.now.end ≡ RunEnd.Failed) ⊎ Rose (K.faults out.old) (K.faults out.new) }
+        → (ran.now.end ≡ RunEnd.Failed) ⊎ CountRises (K.faults out.old) (K.faults out.new) }
     ensures later { K.faults out.old ≤ K.faults out.new }
 {
     match ran.end {
@@ -176,11 +176,11 @@ fn run_read<K: Sink, F: Backing, P: Backing>(
     requires run { IsRunnable script }
     requires files { files.old.left ≡ 0 }
     requires paging { paging.old.left ≡ 0 }
-    ensures ended { HasEnded report script (outside_of (P.area paging.old.inner)) result.script result.history.items (K.written out.old) (K.written out.new) result.status }
+    ensures ended { RunHasEnded report script (outside_of (P.area paging.old.inner)) result.script result.history.items (K.written out.old) (K.written out.new) result.status }
     ensures quiet { result.status ≢ Status.NoMemory → WaitsForFramesAlone result.script result.history.items }
     ensures carried { result.status ≢ Status.NoMemory → CarriesAll result.script result.history.items }
     ensures limit { IsBelowLimit result.history.items }
-    ensures cause { result.status ≡ Status.OutputFault → Rose (K.faults out.old) (K.faults out.new) }
+    ensures cause { result.status ≡ Status.OutputFault → CountRises (K.faults out.old) (K.faults out.new) }
     ensures later { K.faults out.old ≤ K.faults out.new }
     ensures kept { KeptAt (outside_of (P.area paging.old.inner)) (P.area paging.new.inner) result.script result.history.items }
     ensures files { FilesEnd result.script result.history.items files.old files.new }
@@ -208,7 +208,7 @@ fn run<S: Source, K: Sink, F: Backing, P: Backing>(
 ) -> Outcome
     requires files { files.old.left ≡ 0 }
     requires paging { paging.old.left ≡ 0 }
-    ensures done { result.status ≡ Status.Done → IsDone (S.left source.old) (outside_of (P.area paging.old.inner)) report result.script result.history.items (K.written out.old) (K.written out.new) }
+    ensures done { result.status ≡ Status.Done → IsRunDone (S.left source.old) (outside_of (P.area paging.old.inner)) report result.script result.history.items (K.written out.old) (K.written out.new) }
     ensures bad { (line : ℕ) → (kind : ScriptFault) → result.status ≡ Status.BadScript line kind → IsBad (S.left source.old) line kind result.script result.history.items (K.written out.old) (K.written out.new) }
     ensures usage { ¬ (result.status ≡ Status.Usage) }
     ensures read { result.status ≡ Status.ReadFault
@@ -222,8 +222,8 @@ fn run<S: Source, K: Sink, F: Backing, P: Backing>(
     ensures limit { IsBelowLimit result.history.items }
     ensures not_built { (line : ℕ) → result.status ≡ Status.NotBuilt line → IsNotBuilt (S.left source.old) (outside_of (P.area paging.old.inner)) line result.script result.history.items (K.written out.old) (K.written out.new) }
     ensures source { OfBytes (S.left source.old) (λ bytes. LeavesBytes result.status result.script bytes (S.left source.new)) }
-    ensures read_cause { result.status ≡ Status.ReadFault → Rose (S.faults source.old) (S.faults source.new) }
-    ensures output_cause { result.status ≡ Status.OutputFault → Rose (K.faults out.old) (K.faults out.new) }
+    ensures read_cause { result.status ≡ Status.ReadFault → CountRises (S.faults source.old) (S.faults source.new) }
+    ensures output_cause { result.status ≡ Status.OutputFault → CountRises (K.faults out.old) (K.faults out.new) }
     ensures source_later { S.faults source.old ≤ S.faults source.new }
     ensures sink_later { K.faults out.old ≤ K.faults out.new }
     ensures kept { KeptAt (outside_of (P.area paging.old.inner)) (P.area paging.new.inner) result.script result.history.items }
@@ -276,7 +276,7 @@ pub fn pagers_main<S: Source, K: Sink, F: Backing, P: Backing>(
 ) -> Outcome
     // The whole script of the source was run: the history is legal for it, and its report was written and nothing else.
     ensures done { result.status ≡ Status.Done
-        → (report : Report) × (asked_by words.now ≡ Some (jobs.Run report)) × IsDone (S.left script.old) (outside_of (P.area paging.old.inner)) report result.script result.history.items (K.written out.old) (K.written out.new) }
+        → (report : Report) × (asked_by words.now ≡ Some (jobs.Run report)) × IsRunDone (S.left script.old) (outside_of (P.area paging.old.inner)) report result.script result.history.items (K.written out.old) (K.written out.new) }
 
     // The source's bytes are no script: their first fault was written.
     ensures bad { (line : ℕ) → (kind : ScriptFault) → result.status ≡ Status.BadScript line kind
@@ -299,11 +299,11 @@ pub fn pagers_main<S: Source, K: Sink, F: Backing, P: Backing>(
     ensures read { result.status ≡ Status.ReadFault
         → (report : Report) × (asked_by words.now ≡ Some (jobs.Run report))
         × NothingDone result.script result.history.items (K.written out.old) (K.written out.new) }
-    ensures read_cause { result.status ≡ Status.ReadFault → Rose (S.faults script.old) (S.faults script.new) }
+    ensures read_cause { result.status ≡ Status.ReadFault → CountRises (S.faults script.old) (S.faults script.new) }
     ensures output { result.status ≡ Status.OutputFault → (report : Report)
         → asked_by words.now ≡ Some (jobs.Run report)
         → IsOutputFault (S.left script.old) (outside_of (P.area paging.old.inner)) report result.script result.history.items (K.written out.old) (K.written out.new) }
-    ensures output_cause { result.status ≡ Status.OutputFault → Rose (K.faults out.old) (K.faults out.new) }
+    ensures output_cause { result.status ≡ Status.OutputFault → CountRises (K.faults out.old) (K.faults out.new) }
 
     // Memory ended.
     ensures memory { result.status ≡ Status.NoMemory → (report : Report) → asked_by words.now ≡ Some (jobs.Run report)

@@ -1,6 +1,6 @@
 // What the words ask the program to do.
 ghost use Rattle.std.specs.Prelude.{◌≡◌};
-ghost use Rattle.vm_text.specs.Words.{number_in, number_of, word_in};
+ghost use Rattle.vm_text.specs.Words.{number_between, number_of, word_in};
 ghost use Rattle.vm_top.specs.Words.{asked_by, generate_of, short, words_alone};
 
 use vm_text::{count_in, number_of};
@@ -54,7 +54,7 @@ fn word_alone(word: &[u8]) -> Option<Job>
 
 fn generate(number: &[u8], lines: &[u8]) -> Option<Job>
     ensures { result
-        ≡ generate_of (short 20 number.now (number_of number.now)) (short 5 lines.now (number_in 1 10000 lines.now)) }
+        ≡ generate_of (short 20 number.now (number_of number.now)) (short 5 lines.now (number_between 1 10000 lines.now)) }
 {
     if number.len() > 20 || lines.len() > 5 {
         return None;

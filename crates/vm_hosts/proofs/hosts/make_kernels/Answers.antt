@@ -1,5 +1,4 @@
-use Rattle.std.proofs.Common.{◌≡◌, ◌+◌, length, sym, subst, arith, inl}
-use Rattle.vm_hosts.specs.Hosts.{AreNew}
+use Rattle.vm_hosts.proofs.Common.{AreNew, arith, inl, length, subst, sym, ◌+◌, ◌≡◌}
 use Rattle.vm_hosts.proofs.Newest.{new_more, none_new}
 use Rattle.vm_hosts.proofs.hosts.make_kernels.Goals as goal
 

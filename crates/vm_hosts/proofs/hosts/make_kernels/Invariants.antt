@@ -1,4 +1,4 @@
-use Rattle.vm_hosts.specs.Hosts.{AreNew}
+use Rattle.vm_hosts.proofs.Common.{AreNew}
 use Rattle.vm_hosts.proofs.hosts.make_kernels.Given as goal
 
 abbrev pub invariant-hosts : goal.invariant-hosts

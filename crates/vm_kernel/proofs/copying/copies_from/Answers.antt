@@ -1,7 +1,4 @@
-use Rattle.std.proofs.Common.{ap, sym, ◌∙◌, arith}
-use Rattle.std.proofs.lemmas.List.{length-reverse}
-use Rattle.vm_base.specs.Entries.{by_address}
-use Rattle.vm_model.specs.Tasks.{copies_from}
+use Rattle.vm_kernel.proofs.Common.{ap, arith, by_address, copies_from, length-reverse, sym, ◌∙◌}
 use Rattle.vm_kernel.proofs.Copied.{drop_past}
 use Rattle.vm_kernel.proofs.Copied.{from_one, from_other}
 use Rattle.vm_kernel.proofs.copying.copies_from.Goals as goal

@@ -1,6 +1,4 @@
-use Rattle.std.proofs.Common.{◌≡◌, drop}
-use Rattle.vm_base.specs.Entries.{by_address}
-use Rattle.vm_model.specs.Tasks.{copies_from}
+use Rattle.vm_kernel.proofs.Common.{by_address, copies_from, drop, ◌≡◌}
 use Rattle.vm_kernel.proofs.copying.copies_from.Given as goal
 
 abbrev pub invariant-all : goal.invariant-all

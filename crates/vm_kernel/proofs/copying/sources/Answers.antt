@@ -1,7 +1,4 @@
-use Rattle.std.proofs.Common.{ap, sym, ◌∙◌, arith}
-use Rattle.std.proofs.lemmas.List.{length-reverse}
-use Rattle.vm_base.specs.Entries.{by_address}
-use Rattle.vm_model.specs.Tasks.{sources}
+use Rattle.vm_kernel.proofs.Common.{ap, arith, by_address, length-reverse, sources, sym, ◌∙◌}
 use Rattle.vm_kernel.proofs.Copied.{drop_past}
 use Rattle.vm_kernel.proofs.Copied.{sources_one, sources_other}
 use Rattle.vm_kernel.proofs.copying.sources.Goals as goal

@@ -1,6 +1,4 @@
-use Rattle.std.proofs.Common.{◌≡◌, ◌+◌, ◌≤◌, drop}
-use Rattle.vm_base.specs.Entries.{by_address}
-use Rattle.vm_model.specs.Tasks.{sources}
+use Rattle.vm_kernel.proofs.Common.{by_address, drop, sources, ◌+◌, ◌≡◌, ◌≤◌}
 use Rattle.vm_kernel.proofs.copying.sources.Given as goal
 
 abbrev pub invariant-all : goal.invariant-all

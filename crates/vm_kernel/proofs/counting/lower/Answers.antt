@@ -1,10 +1,5 @@
-use Rattle.std.proofs.Common.{◌≡◌, ◌-◌, ℕ, take, arith, sym, ◌∙◌, subst}
-use Rattle.vm_base.specs.Entries.{by_address}
-use Rattle.vm_kernel.specs.Places.{has_region}
-use Rattle.vm_kernel.specs.Sweeping.{PutsEntries}
+use Rattle.vm_kernel.proofs.Common.{Entry, Lowered, PutsEntries, arith, by_address, has_region, subst, sym, take, ℕ, ◌-◌, ◌∙◌, ◌≡◌}
 use Rattle.vm_kernel.proofs.Recounts.{has_same, lower_fits, lowered_more, lowered_recounts, row_among, more_taken}
-use Rattle.vm_kernel.specs.Sweeping.{Lowered}
-use Rattle.vm_base.specs.declared.entry.Entry.{Entry}
 use Rattle.std.specs.Prelude.{true, List}
 use Rattle.vm_kernel.proofs.counting.lower.Goals as goal
 

@@ -1,6 +1,4 @@
-use Rattle.std.proofs.Common.{take}
-use Rattle.vm_base.specs.Entries.{by_address}
-use Rattle.vm_kernel.specs.Sweeping.{Lowered}
+use Rattle.vm_kernel.proofs.Common.{Lowered, by_address, take}
 use Rattle.vm_kernel.proofs.counting.lower.Given as goal
 
 abbrev pub invariant-all : goal.invariant-all

@@ -1,11 +1,5 @@
-use Rattle.std.proofs.Common.{◌≡◌, ◌+◌, ℕ, take, arith, sym, ◌∙◌, subst}
-use Rattle.std.proofs.lemmas.List.{length-reverse}
-use Rattle.vm_base.specs.Entries.{by_address}
-use Rattle.vm_kernel.specs.Places.{has_region}
-use Rattle.vm_kernel.specs.Sweeping.{PutsEntries}
+use Rattle.vm_kernel.proofs.Common.{Entry, PutsEntries, Raised, arith, by_address, has_region, length-reverse, subst, sym, take, ℕ, ◌+◌, ◌∙◌, ◌≡◌}
 use Rattle.vm_kernel.proofs.Recounts.{has_same, raise_fits, raised_more, raised_recounts, row_among, more_taken}
-use Rattle.vm_kernel.specs.Sweeping.{Raised}
-use Rattle.vm_base.specs.declared.entry.Entry.{Entry}
 use Rattle.std.specs.Prelude.{true, List}
 use Rattle.vm_kernel.proofs.counting.raise.Goals as goal
 

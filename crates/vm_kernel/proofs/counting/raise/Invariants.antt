@@ -1,6 +1,4 @@
-use Rattle.std.proofs.Common.{take}
-use Rattle.vm_base.specs.Entries.{by_address}
-use Rattle.vm_kernel.specs.Sweeping.{Raised}
+use Rattle.vm_kernel.proofs.Common.{Raised, by_address, take}
 use Rattle.vm_kernel.proofs.counting.raise.Given as goal
 
 abbrev pub invariant-all : goal.invariant-all

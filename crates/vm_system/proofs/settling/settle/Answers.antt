@@ -1,11 +1,4 @@
-use Rattle.std.proofs.Common.{◌≡◌, ap, arith, subst, sym, ◌∙◌}
-use Rattle.vm_legal.specs.Steps.{takings}
-use Rattle.vm_outside.specs.Arming.{armed_later_more}
-use Rattle.vm_system.specs.Settling.{StaysOpen}
-use Rattle.vm_system.specs.Stands.{SystemStands}
-use Rattle.vm_system.specs.Steps.{GrowsWithinLimit}
-use Rattle.vm_system.specs.declared.state.State.{State}
-use Rattle.vm_system.specs.declared.stop.SystemStop.TheVariants.{EventLimit, NoMemory}
+use Rattle.vm_system.proofs.Common.{EventLimit, GrowsWithinLimit, NoMemory, State, StaysOpen, SystemStands, ap, arith, armed_later_more, subst, sym, takings, ◌∙◌, ◌≡◌}
 use Rattle.vm_system.proofs.Growth.{grew_more}
 use Rattle.vm_system.proofs.Settled.{counted_more, cut_more, grew_stop, other_err, stays_more}
 use Rattle.vm_system.proofs.settling.settle.Goals as goal

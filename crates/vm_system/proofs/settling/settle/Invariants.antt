@@ -1,10 +1,4 @@
-use Rattle.std.proofs.Common.{◌≡◌, ◌+◌}
-use Rattle.vm_legal.specs.Steps.{takings}
-use Rattle.vm_outside.specs.Arming.{ArmedLater}
-use Rattle.vm_outside.specs.Causes.{sum_count}
-use Rattle.vm_system.specs.Settling.{DevicesCounted, StaysOpen}
-use Rattle.vm_system.specs.Stands.{PagingIsKept, SystemStands}
-use Rattle.vm_system.specs.Steps.{GrowsWithinLimit}
+use Rattle.vm_system.proofs.Common.{ArmedLater, DevicesCounted, GrowsWithinLimit, PagingIsKept, StaysOpen, SystemStands, sum_count, takings, ◌+◌, ◌≡◌}
 use Rattle.vm_system.proofs.settling.settle.Given as goal
 
 abbrev pub invariant-all : goal.invariant-all

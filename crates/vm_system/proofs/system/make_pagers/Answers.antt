@@ -1,5 +1,4 @@
-use Rattle.std.proofs.Common.{◌≡◌, ◌+◌, length, ap, sym, ◌∙◌, subst, arith}
-use Rattle.pg_slots.specs.Slots.{SlotTable}
+use Rattle.vm_system.proofs.Common.{SlotTable, ap, arith, length, subst, sym, ◌+◌, ◌∙◌, ◌≡◌}
 use Rattle.vm_system.proofs.Starting.{AreMade, made_more, none_made}
 use Rattle.vm_system.proofs.system.make_pagers.Goals as goal
 

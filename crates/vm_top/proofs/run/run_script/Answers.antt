@@ -1,6 +1,6 @@
 use Rattle.std.proofs.Common.{refl, subst, sym, ◌∙◌}
 use Rattle.vm_outside.specs.Causes.{sum_count}
-use Rattle.vm_system.specs.Keeping.{KeepsPages}
+use Rattle.vm_system.specs.Keeping.{PagingKeepsPages}
 use Rattle.vm_system.specs.Steps.{IsBelowLimit, arms_paging, devices}
 use Rattle.vm_top.specs.Arming.{FailuresBounded, FailuresCounted, FilesLeft, PagingLeft, armings, ran_of}
 use Rattle.vm_top.specs.Run.{RanAs, only_host, outside_of}
@@ -48,7 +48,7 @@ returns-clause-kept g c =
     let outside = outside_of (g.P.Backing.area c.args.paging.now.inner) in
     let kept = c.run_all-end.ensures.kept in
     let pager = pager_of c.run_all-end.new.system.pagers.items (kept.pagers.numbered.count ∙ c.requires.run.one_host) in
-    subst (λ z. KeepsPages c.args.script.now.header only_host outside areas z.items) (sym c.into_history.ensures) (kept_pages c.args.script.now.header only_host outside areas c.run_all-end.new.system pager.0 pager.1 kept)
+    subst (λ z. PagingKeepsPages c.args.script.now.header only_host outside areas z.items) (sym c.into_history.ensures) (kept_pages c.args.script.now.header only_host outside areas c.run_all-end.new.system pager.0 pager.1 kept)
 
 pub returns-clause-files : goal.returns-clause-files
 returns-clause-files g c = subst (λ z. FilesLeft (ran_of c.args.script.now z.items) c.args.files.now c.run_all-end.new.files) (sym c.into_history.ensures) c.run_all-end.ensures.stops.arms.files

@@ -4,8 +4,8 @@ use Rattle.vm_model.specs.Text.{text}
 use Rattle.vm_outside.specs.Causes.{sum_count}
 use Rattle.vm_legal.specs.Undelivered.{undelivered}
 use Rattle.vm_top.specs.Run.{text_so_far}
-use Rattle.vm_top.specs.Running.{Stops}
-use Rattle.vm_top.specs.Writing.{WroteBeyond, oldest}
+use Rattle.vm_top.specs.Running.{RunStops}
+use Rattle.vm_top.specs.Writing.{WroteBeyond, oldest_items}
 use Rattle.vm_top.specs.declared.run.RunEnd.TheVariants as ends
 use Rattle.vm_system.proofs.Settled.{below_of}
 use Rattle.vm_top.proofs.Settling.{Took, held, held_stops, settles_on, stops_same, take_full, take_stops}
@@ -33,8 +33,8 @@ returns-in_err-show-in-Ok-true-clause-stops g c = λ end is.
       devices = all.devices;
     } in
     let done = held c.args.report g.given old new (g.K.Sink.written c.args.out.now) c.args.files.now c.take_oldest.new.files c.args.paging.now c.take_oldest.new.paging e0 e1 settles took in
-    let from : oldest c.len-from.result new ≡ old = oldest_before new all.grew.more old c.len-from.result (c.len-from.ensures ∙ ap (λ z. length z.items) c.history.ensures) all.grew.is in
-    let wrote : Appends g.given.running.start (g.K.Sink.written c.args.out.now) (text_so_far c.args.report (oldest c.len-from.result new)) =
+    let from : oldest_items c.len-from.result new ≡ old = oldest_before new all.grew.more old c.len-from.result (c.len-from.ensures ∙ ap (λ z. length z.items) c.history.ensures) all.grew.is in
+    let wrote : Appends g.given.running.start (g.K.Sink.written c.args.out.now) (text_so_far c.args.report (oldest_items c.len-from.result new)) =
     subst (λ z. Appends g.given.running.start (g.K.Sink.written c.args.out.now) (text_so_far c.args.report z)) (sym from) settles.keeps.written in
     let same : end ≡ c.in_err-show-in-Ok-true.field-0.0 = rw is at c.from_residual.ensures.1 in
     let show : c.show.result ≡ Err end = c.in_err-show-in-Ok-true.was ∙ ap Err (sym same) in
@@ -64,8 +64,8 @@ returns-in_ok-show-in-Ok-true-clause-settles g c =
       devices = all.devices;
     } in
     let done = held c.args.report g.given old new (g.K.Sink.written c.args.out.now) c.args.files.now c.take_oldest.new.files c.args.paging.now c.take_oldest.new.paging e0 e1 settles took in
-    let from : oldest c.len-from.result new ≡ old = oldest_before new all.grew.more old c.len-from.result (c.len-from.ensures ∙ ap (λ z. length z.items) c.history.ensures) all.grew.is in
-    let wrote : Appends g.given.running.start (g.K.Sink.written c.args.out.now) (text_so_far c.args.report (oldest c.len-from.result new)) =
+    let from : oldest_items c.len-from.result new ≡ old = oldest_before new all.grew.more old c.len-from.result (c.len-from.ensures ∙ ap (λ z. length z.items) c.history.ensures) all.grew.is in
+    let wrote : Appends g.given.running.start (g.K.Sink.written c.args.out.now) (text_so_far c.args.report (oldest_items c.len-from.result new)) =
     subst (λ z. Appends g.given.running.start (g.K.Sink.written c.args.out.now) (text_so_far c.args.report z)) (sym from) settles.keeps.written in
     settles_on c.args.report g.given settles.line settles.run old new (g.K.Sink.written c.show.new.out) c.take_oldest.new.files c.take_oldest.new.paging e1 done (c.in_ok-show-in-Ok-true.ensures.written g.given.running.start wrote)
 
@@ -122,7 +122,7 @@ returns-in-Err-clause-stops g c = λ end is.
     let all = c.take_oldest.ensures in
     let written = g.K.Sink.written c.args.out.now in
     let same : c.end_of.result ≡ end = same_end is in
-    let stop : Stops c.args.report g.given.running new written c.take_oldest.new.files c.take_oldest.new.paging e1 end = elim (step_ends c.in-Err.stop c.end_of.result end c.end_of.ensures.full c.end_of.ensures.none same) [
+    let stop : RunStops c.args.report g.given.running new written c.take_oldest.new.files c.take_oldest.new.paging e1 end = elim (step_ends c.in-Err.stop c.end_of.result end c.end_of.ensures.full c.end_of.ensures.none same) [
       | inl full ↦
           let err : c.take_oldest.result ≡ Err c.in-Err.stop = c.in-Err.is in
           let both = all.full.0 (err ∙ ap Err full.0) in
@@ -132,7 +132,7 @@ returns-in-Err-clause-stops g c = λ end is.
           (ap (λ z. z.history.items) kept.0) all.files kept.1 (ap (λ z. sum_count (g.P.Backing.faults z.inner) z.reached) kept.1) full.1 was
       | inr none ↦
           let err : c.take_oldest.result ≡ Err c.in-Err.stop = c.in-Err.is in
-          subst (Stops c.args.report g.given.running new written c.take_oldest.new.files c.take_oldest.new.paging e1) (sym none.1)
+          subst (RunStops c.args.report g.given.running new written c.take_oldest.new.files c.take_oldest.new.paging e1) (sym none.1)
           (take_stops c.args.report g.given old new written c.args.files.now c.take_oldest.new.files c.args.paging.now c.take_oldest.new.paging e0 e1
           c.requires.1.1.1.1.1.0 all.grew (below_of c.take_oldest.result (undelivered old) (length old) all.calm all.full.1 (err ∙ ap Err none.0)) (all.memory (err ∙ ap Err none.0)) all.files all.later.1 (all.stops (err ∙ ap Err none.0)) all.devices)
     ] in

@@ -4,8 +4,8 @@ use Rattle.vm_model.specs.Limits.{most_events}
 use Rattle.vm_model.specs.Text.{text}
 use Rattle.vm_outside.specs.Causes.{sum_count}
 use Rattle.vm_top.specs.Run.{text_so_far}
-use Rattle.vm_top.specs.Running.{Stops}
-use Rattle.vm_top.specs.Writing.{WroteBeyond, oldest}
+use Rattle.vm_top.specs.Running.{RunStops}
+use Rattle.vm_top.specs.Writing.{WroteBeyond, oldest_items}
 use Rattle.vm_top.proofs.Turns.{Halted, Stepped, made, same_end, shown_stops, step_ends, step_stops, turned}
 use Rattle.vm_top.proofs.Writings.{oldest_before}
 use Rattle.vm_top.proofs.run.turn.Goals as goal
@@ -25,10 +25,10 @@ returns-in-Err-clause-stops g c = λ end is.
       calm = c.in-Err.ensures.calm;
       stops = c.in-Err.ensures.stops;
     } in
-    let stop : Stops c.args.report g.given new (g.K.Sink.written c.args.out.now) c.step.new.files c.step.new.paging e1 end = elim (step_ends c.in-Err.stop c.end_of.result end c.end_of.ensures.full c.end_of.ensures.none same) [
+    let stop : RunStops c.args.report g.given new (g.K.Sink.written c.args.out.now) c.step.new.files c.step.new.paging e1 end = elim (step_ends c.in-Err.stop c.end_of.result end c.end_of.ensures.full c.end_of.ensures.none same) [
       | inl full ↦ let over : most_events ≤ length old = step.full.0 (c.in-Err.is ∙ ap Err full.0) in absurd (omega arith)
       | inr none ↦
-          subst (Stops c.args.report g.given new (g.K.Sink.written c.args.out.now) c.step.new.files c.step.new.paging e1) (sym none.1)
+          subst (RunStops c.args.report g.given new (g.K.Sink.written c.args.out.now) c.step.new.files c.step.new.paging e1) (sym none.1)
           (step_stops c.args.report g.given c.args.numbered.now old new (g.K.Sink.written c.args.out.now) c.args.files.now c.step.new.files c.args.paging.now c.step.new.paging e0 e1
           c.requires.1.1.1.1.1.1.1.1.1.0 c.requires.1.1.1.1.1.1.1.1.1.1 step.grew below (step.memory (c.in-Err.is ∙ ap Err none.0)) halted step.devices)
     ] in
@@ -54,8 +54,8 @@ returns-in_err-show-clause-stops g c = λ end is.
     } in
     let done = made c.args.report g.given c.args.numbered.now old new (g.K.Sink.written c.args.out.now) c.args.files.now c.step.new.files c.args.paging.now c.step.new.paging e0 e1
     runs c.requires.1.1.1.1.1.1.1.1.1.1 c.requires.1.1.1.1.1.1.0 c.requires.1.1.1.1.1.0 c.requires.1.1.1.1.1.1.1.1.0 stepped in
-    let from : oldest c.len-from.result new ≡ old = oldest_before new step.grew.more old c.len-from.result (c.len-from.ensures ∙ ap (λ z. length z.items) c.history.ensures) step.grew.is in
-    let wrote : Appends g.given.start (g.K.Sink.written c.args.out.now) (text_so_far c.args.report (oldest c.len-from.result new)) = subst (λ z. Appends g.given.start (g.K.Sink.written c.args.out.now) (text_so_far c.args.report z)) (sym from) runs.keeps.written in
+    let from : oldest_items c.len-from.result new ≡ old = oldest_before new step.grew.more old c.len-from.result (c.len-from.ensures ∙ ap (λ z. length z.items) c.history.ensures) step.grew.is in
+    let wrote : Appends g.given.start (g.K.Sink.written c.args.out.now) (text_so_far c.args.report (oldest_items c.len-from.result new)) = subst (λ z. Appends g.given.start (g.K.Sink.written c.args.out.now) (text_so_far c.args.report z)) (sym from) runs.keeps.written in
     let same : end ≡ c.in_err-show.field-0.0 = rw is at c.from_residual.ensures.1 in
     let show : c.show.result ≡ Err end = c.in_err-show.was ∙ ap Err (sym same) in
     shown_stops c.args.report g.given c.args.numbered.now old new (g.K.Sink.written c.show.new.out) c.step.new.files c.step.new.paging e1 end
@@ -84,8 +84,8 @@ returns-clause-turned g c =
     } in
     let done = made c.args.report g.given c.args.numbered.now old new (g.K.Sink.written c.args.out.now) c.args.files.now c.step.new.files c.args.paging.now c.step.new.paging e0 e1
     runs c.requires.1.1.1.1.1.1.1.1.1.1 c.requires.1.1.1.1.1.1.0 c.requires.1.1.1.1.1.0 c.requires.1.1.1.1.1.1.1.1.0 stepped in
-    let from : oldest c.len-from.result new ≡ old = oldest_before new step.grew.more old c.len-from.result (c.len-from.ensures ∙ ap (λ z. length z.items) c.history.ensures) step.grew.is in
-    let wrote : Appends g.given.start (g.K.Sink.written c.args.out.now) (text_so_far c.args.report (oldest c.len-from.result new)) = subst (λ z. Appends g.given.start (g.K.Sink.written c.args.out.now) (text_so_far c.args.report z)) (sym from) runs.keeps.written in
+    let from : oldest_items c.len-from.result new ≡ old = oldest_before new step.grew.more old c.len-from.result (c.len-from.ensures ∙ ap (λ z. length z.items) c.history.ensures) step.grew.is in
+    let wrote : Appends g.given.start (g.K.Sink.written c.args.out.now) (text_so_far c.args.report (oldest_items c.len-from.result new)) = subst (λ z. Appends g.given.start (g.K.Sink.written c.args.out.now) (text_so_far c.args.report z)) (sym from) runs.keeps.written in
     turned c.args.report g.given c.args.numbered.now old new (g.K.Sink.written c.show.new.out) c.step.new.files c.step.new.paging e1 done (c.in_ok-show.ensures.written g.given.start wrote)
 
 pub returns-clause-lines : goal.returns-clause-lines

@@ -1,5 +1,5 @@
 use Rattle.std.proofs.Common.{inl, inr, Err, Some, refl, ap, sym, ◌∙◌}
-use Rattle.vm_text.specs.Script.{script_of, seen}
+use Rattle.vm_text.specs.Script.{script_of, whole_script}
 use Rattle.vm_text.specs.Unbuilt.{unbuilt_of}
 use Rattle.vm_top.specs.declared.top.Status.TheVariants.{BadScript}
 use Rattle.vm_top.specs.Ending.{Tells}
@@ -85,7 +85,7 @@ returns-clause-output g c = λ is.
     let spells = ap script_of (sym c.deref.ensures.value) ∙ c.in-Ok-read_script.ensures.exact in
     let unbuilt = ap unbuilt_of (sym c.deref-2.ensures.value) ∙ sym c.in-Some.ensures.exact in
     let read = read_from (g.S.Source.left c.args.source.now) _ c.in-Ok.bytes.items c.in-Ok-read_script.script c.in-Ok.ensures.whole spells in
-    let header = unbuilt_from (g.S.Source.left c.args.source.now) _ c.in-Ok.bytes.items (seen c.in-Ok-read_script.script) (Some c.in-Some.line) c.in-Ok.ensures.whole spells unbuilt in
+    let header = unbuilt_from (g.S.Source.left c.args.source.now) _ c.in-Ok.bytes.items (whole_script c.in-Ok-read_script.script) (Some c.in-Some.line) c.in-Ok.ensures.whole spells unbuilt in
     let stopped = header_stops (g.S.Source.left c.args.source.now) c.in-Ok-read_script.script _ (Some c.in-Ok-read_script.script) c.new.result.items c.in-Some.line read header refl c.new.ensures in
     inr (inl (header_wrote _ _ _ _ c.in-Some.line _ _ _ stopped c.new.ensures c.tell_not_built-status.ensures.told))
 
@@ -94,7 +94,7 @@ returns-clause-memory g c = λ is.
     let spells = ap script_of (sym c.deref.ensures.value) ∙ c.in-Ok-read_script.ensures.exact in
     let unbuilt = ap unbuilt_of (sym c.deref-2.ensures.value) ∙ sym c.in-Some.ensures.exact in
     let read = read_from (g.S.Source.left c.args.source.now) _ c.in-Ok.bytes.items c.in-Ok-read_script.script c.in-Ok.ensures.whole spells in
-    let header = unbuilt_from (g.S.Source.left c.args.source.now) _ c.in-Ok.bytes.items (seen c.in-Ok-read_script.script) (Some c.in-Some.line) c.in-Ok.ensures.whole spells unbuilt in
+    let header = unbuilt_from (g.S.Source.left c.args.source.now) _ c.in-Ok.bytes.items (whole_script c.in-Ok-read_script.script) (Some c.in-Some.line) c.in-Ok.ensures.whole spells unbuilt in
     let stopped = header_stops (g.S.Source.left c.args.source.now) c.in-Ok-read_script.script _ (Some c.in-Ok-read_script.script) c.new.result.items c.in-Some.line read header refl c.new.ensures in
     inr (inr (inl (header_wrote _ _ _ _ c.in-Some.line _ _ _ stopped c.new.ensures c.tell_not_built-status.ensures.told)))
 
@@ -103,7 +103,7 @@ returns-clause-not_built g c = λ line is.
     let spells = ap script_of (sym c.deref.ensures.value) ∙ c.in-Ok-read_script.ensures.exact in
     let unbuilt = ap unbuilt_of (sym c.deref-2.ensures.value) ∙ sym c.in-Some.ensures.exact in
     let read = read_from (g.S.Source.left c.args.source.now) _ c.in-Ok.bytes.items c.in-Ok-read_script.script c.in-Ok.ensures.whole spells in
-    let header = unbuilt_from (g.S.Source.left c.args.source.now) _ c.in-Ok.bytes.items (seen c.in-Ok-read_script.script) (Some c.in-Some.line) c.in-Ok.ensures.whole spells unbuilt in
+    let header = unbuilt_from (g.S.Source.left c.args.source.now) _ c.in-Ok.bytes.items (whole_script c.in-Ok-read_script.script) (Some c.in-Some.line) c.in-Ok.ensures.whole spells unbuilt in
     let stopped = header_stops (g.S.Source.left c.args.source.now) c.in-Ok-read_script.script _ (Some c.in-Ok-read_script.script) c.new.result.items c.in-Some.line read header refl c.new.ensures in
     header_not_built _ _ _ _ c.in-Some.line line _ _ _ stopped c.new.ensures c.tell_not_built-status.ensures.told is
 

@@ -1,7 +1,4 @@
-use Rattle.std.proofs.Common.{sym, subst}
-use Rattle.vm_model.specs.declared.command.Command.{Command}
-use Rattle.vm_hosts.specs.Hosts.{AllRest, HostTable}
-use Rattle.vm_hosts.specs.Steps.{Went}
+use Rattle.vm_hosts.proofs.Common.{AllRest, Command, HostTable, Went, subst, sym}
 use Rattle.vm_hosts.proofs.Starting.{began, rests_ran, starts_of}
 use Rattle.vm_hosts.proofs.Tables.{found}
 use Rattle.vm_hosts.proofs.hosts.Hosts.begin.Goals as goal

@@ -1,5 +1,4 @@
-use Rattle.std.proofs.Common.{sym, subst}
-use Rattle.vm_hosts.specs.Hosts.{AllRest, HostTable}
+use Rattle.vm_hosts.proofs.Common.{AllRest, HostTable, subst, sym}
 use Rattle.vm_hosts.proofs.Behind.{behind_kept, behind_washed, held_out, laundered_front}
 use Rattle.vm_hosts.proofs.Tables.{found}
 use Rattle.vm_hosts.proofs.hosts.Hosts.behind.Goals as goal

@@ -1,4 +1,4 @@
-use Rattle.std.proofs.Common.{◌++◌}
+use Rattle.vm_hosts.proofs.Common.{◌++◌}
 use Rattle.vm_hosts.proofs.hosts.Hosts.follow.Given as goal
 
 abbrev pub ghost-behind : goal.ghost-behind

@@ -1,10 +1,6 @@
-use Rattle.std.proofs.Common.{[], ◌∷◌, ◌++◌, ap, sym, ◌∙◌, subst}
+use Rattle.vm_hosts.proofs.Common.{AllQueued, AllRest, Down, HasQueue, HostTable, [], ap, host_id, subst, sym, ◌++◌, ◌∙◌, ◌∷◌}
 use Rattle.vm_model.specs.declared.event.Event.TheVariants as event
-use Rattle.vm_model.specs.declared.message.Channel.TheVariants.{Down}
 use Rattle.vm_kernel.specs.Begun as begun
-use Rattle.vm_kernel.specs.Matches.{host_id}
-use Rattle.vm_kernel.specs.Serving.{HasQueue}
-use Rattle.vm_hosts.specs.Hosts.{AllQueued, AllRest, HostTable}
 use Rattle.vm_hosts.proofs.Tables.{found}
 use Rattle.vm_hosts.proofs.Taking.{ends_went, paid_went, passed_on, taken_follows, taken_rests}
 use Rattle.vm_hosts.proofs.hosts.Hosts.hear.Goals as goal

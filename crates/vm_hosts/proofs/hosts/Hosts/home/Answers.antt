@@ -1,7 +1,4 @@
-use Rattle.std.proofs.Common.{◌≡◌, ◌+◌, ◌<◌, true, false, length, ap, sym, ◌∙◌, subst, arith}
-use Rattle.std.specs.Prelude.{is_some}
-use Rattle.vm_maps.specs.Maps.{entries_in}
-use Rattle.vm_hosts.specs.Hosts.{AllRest, HostTable}
+use Rattle.vm_hosts.proofs.Common.{AllRest, HostTable, ap, arith, entries_in, false, is_some, length, subst, sym, true, ◌+◌, ◌<◌, ◌∙◌, ◌≡◌}
 use Rattle.vm_hosts.proofs.Homes.{NotBelow, home_found, home_nowhere, not_below_more}
 use Rattle.vm_hosts.proofs.Tables.{found}
 use Rattle.vm_hosts.proofs.hosts.Hosts.home.Goals as goal

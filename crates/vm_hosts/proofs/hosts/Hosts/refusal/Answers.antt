@@ -1,6 +1,4 @@
-use Rattle.std.proofs.Common.{ap, sym, ◌∙◌, subst}
-use Rattle.vm_kernel.specs.Begun.{acts_on}
-use Rattle.vm_hosts.specs.Hosts.{AllRest, HostTable}
+use Rattle.vm_hosts.proofs.Common.{AllRest, HostTable, acts_on, ap, subst, sym, ◌∙◌}
 use Rattle.vm_hosts.proofs.Tables.{found}
 use Rattle.vm_hosts.proofs.hosts.Hosts.refusal.Goals as goal
 

@@ -1,7 +1,4 @@
-use Rattle.std.proofs.Common.{◌<◌, ◌≤◌, ◌++◌, length, refl, sym, ◌∙◌, subst, arith}
-use Rattle.std.proofs.Math.ListN.{length-set}
-use Rattle.vm_kernel.specs.declared.parts.Parts.{Parts}
-use Rattle.vm_hosts.specs.Hosts.{AllRest, HostTable}
+use Rattle.vm_hosts.proofs.Common.{AllRest, HostTable, Parts, arith, length, length-set, refl, subst, sym, ◌++◌, ◌<◌, ◌∙◌, ◌≤◌}
 use Rattle.vm_hosts.proofs.Serving.{serving_done, serving_more, serving_start}
 use Rattle.vm_hosts.proofs.Tables.{found}
 use Rattle.vm_hosts.proofs.hosts.Hosts.serve.Goals as goal

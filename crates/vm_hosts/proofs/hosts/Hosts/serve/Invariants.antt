@@ -1,4 +1,4 @@
-use Rattle.std.proofs.Common.{◌≡◌, length}
+use Rattle.vm_hosts.proofs.Common.{length, ◌≡◌}
 use Rattle.vm_hosts.proofs.Serving.{Serving}
 use Rattle.vm_hosts.proofs.hosts.Hosts.serve.Given as goal
 

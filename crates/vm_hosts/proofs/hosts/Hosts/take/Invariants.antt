@@ -1,4 +1,4 @@
-use Rattle.std.proofs.Common.{[], ◌∷◌}
+use Rattle.vm_hosts.proofs.Common.{[], ◌∷◌}
 use Rattle.vm_model.specs.declared.event.Event.TheVariants as event
 use Rattle.vm_model.specs.declared.message.Channel.TheVariants as channels
 use Rattle.vm_hosts.proofs.hosts.Hosts.take.Given as goal

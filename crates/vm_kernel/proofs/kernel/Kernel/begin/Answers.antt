@@ -1,6 +1,4 @@
-use Rattle.std.proofs.Common.{subst}
-use Rattle.vm_kernel.specs.Turns.{Restarted}
-use Rattle.vm_kernel.specs.declared.parts.Parts.{Parts}
+use Rattle.vm_kernel.proofs.Common.{Parts, Restarted, subst}
 use Rattle.vm_kernel.proofs.Playing.{called_plays}
 use Rattle.vm_kernel.proofs.kernel.Kernel.begin.Goals as goal
 

@@ -1,8 +1,4 @@
-use Rattle.std.proofs.Common.{◌++◌, List, ap, ◌∙◌, sym, subst}
-use Rattle.vm_model.specs.declared.event.Event.{Event}
-use Rattle.vm_kernel.specs.Begun.{Passed}
-use Rattle.vm_kernel.specs.Plays.{paging}
-use Rattle.vm_kernel.specs.declared.parts.Parts.{Parts}
+use Rattle.vm_kernel.proofs.Common.{Event, List, Parts, Passed, ap, paging, subst, sym, ◌++◌, ◌∙◌}
 use Rattle.vm_kernel.proofs.Growing.{goes_none}
 use Rattle.vm_kernel.proofs.kernel.Kernel.laundered.Goals as goal
 

@@ -1,6 +1,4 @@
-use Rattle.std.proofs.Common.{sym, subst, ◌∙◌}
-use Rattle.vm_kernel.specs.Matches.{Rests}
-use Rattle.vm_kernel.specs.declared.parts.Parts.{Parts}
+use Rattle.vm_kernel.proofs.Common.{Parts, Rests, subst, sym, ◌∙◌}
 use Rattle.vm_kernel.proofs.Refusals.{for_here, maps_sized, refusal_is}
 use Rattle.vm_kernel.proofs.kernel.Kernel.refusal.Goals as goal
 

@@ -1,7 +1,4 @@
-use Rattle.std.proofs.Common.{subst}
-use Rattle.vm_kernel.specs.Plays.{Plays, paging}
-use Rattle.vm_kernel.specs.Turns.{KeepsOthers, LeavesInTurn}
-use Rattle.vm_kernel.specs.declared.parts.Parts.{Parts}
+use Rattle.vm_kernel.proofs.Common.{KeepsOthers, LeavesInTurn, Parts, Plays, paging, subst}
 use Rattle.vm_kernel.proofs.Growing.{on_ok}
 use Rattle.vm_kernel.proofs.Served.{served_ok}
 use Rattle.vm_kernel.proofs.kernel.Kernel.serve.Goals as goal

@@ -1,7 +1,4 @@
-use Rattle.std.proofs.Common.{◌++◌, subst}
-use Rattle.vm_kernel.specs.Taking.{EndsEach}
-use Rattle.vm_kernel.specs.Turns.{Restarted}
-use Rattle.vm_kernel.specs.declared.parts.Parts.{Parts}
+use Rattle.vm_kernel.proofs.Common.{EndsEach, Parts, Restarted, subst, ◌++◌}
 use Rattle.vm_kernel.proofs.Stopping.{ends_waiters}
 use Rattle.vm_kernel.proofs.Supplying.{taken_plays}
 use Rattle.vm_kernel.proofs.kernel.Kernel.take.Goals as goal

@@ -1,7 +1,5 @@
+use Rattle.vm_kernel.proofs.Common.{ap, entering, got, refl, whole_entry, ◌/◌, ◌∙◌, ◌∷◌}
 use Rattle.vm_kernel.proofs.Playing.{lists_same, plays_both, plays_told}
-use Rattle.std.proofs.Common.{refl, ◌∷◌, ◌/◌, ap, ◌∙◌}
-use Rattle.vm_kernel.specs.Changes.{entering, whole_entry}
-use Rattle.vm_kernel.specs.Forking.{got}
 use Rattle.vm_kernel.proofs.Growing.{on_ok}
 use Rattle.vm_kernel.proofs.Ranges.{ran_range, changes_entered}
 use Rattle.vm_kernel.proofs.parts.Parts.allocate.Goals as goal

@@ -1,9 +1,5 @@
+use Rattle.vm_kernel.proofs.Common.{On, PageKey, PutsEntry, Some, ap, arith, count_again, false, is_frame, one_again, one_frame, rules, subst, with_on, ◌++◌, ◌+◌, ◌≡◌, ◌⊎◌}
 use Rattle.vm_kernel.proofs.Playing.{fault_plays}
-use Rattle.std.proofs.Common.{◌≡◌, ◌+◌, ◌++◌, Some, rules, arith, false, ap, subst}
-use Rattle.std.specs.Prelude.{◌⊎◌}
-use Rattle.vm_base.specs.declared.ids.PageKey.{PageKey}
-use Rattle.vm_waits.specs.Waits.{PutsEntry, again, one_again, one_frame, with_on, is_frame}
-use Rattle.vm_waits.specs.declared.waiting.On.{On}
 use Rattle.vm_waits.specs.declared.waiting.On.TheVariants as on
 use Rattle.vm_kernel.specs.declared.steps.FaultStep.TheVariants as step
 use Rattle.vm_kernel.proofs.Claiming.{once_done, once_joins, once_page, once_queued, once_ready}
@@ -39,7 +35,7 @@ returns-then-ne-clause-attempts g c =
     let w = c.args.waiting in
     let other : is_frame w.on ≡ false = search rules in
     queues_of _ g.given.host _ _ _ _ w c.args.may_claim _ _ c.join_queue.new.self c.requires.0 c.requires.1 (rw c.in-NeedFrame.is at c.in_ok-fault.ensures.faulted)
-    (its_row w c.args.may_claim c.in_ok-fault.field-0 _ _ _ _ (λ was. again c.join_queue.new.self.rows + one_again was.on ≡ again c.fault.new.self.waits.rows) c.requires.1 c.in_ok-fault.ensures.faulted c.join_queue.ensures.again)
+    (its_row w c.args.may_claim c.in_ok-fault.field-0 _ _ _ _ (λ was. count_again c.join_queue.new.self.rows + one_again was.on ≡ count_again c.fault.new.self.waits.rows) c.requires.1 c.in_ok-fault.ensures.faulted c.join_queue.ensures.again)
     (rw other c.join_queue.ensures.queued)
 
 pub returns-else-ne-clause-attempts : goal.returns-else-ne-clause-attempts

@@ -1,19 +1,7 @@
+use Rattle.vm_kernel.proofs.Common.{Command, Entry, Event, IsDone, List, Lowered, Parts, Starts, Sweeps, [], ap, arith, by_address, count_on, length-reverse, refl, region_entries, rows_in, subst, sym, ◌∙◌, ◌∷◌, ◌≤◌}
 use Rattle.vm_kernel.proofs.Playing.{plays_both, plays_told}
-use Rattle.std.proofs.Common.{refl, ◌≤◌, ap, sym, ◌∙◌, subst, arith, List, [], ◌∷◌}
-use Rattle.std.proofs.lemmas.List.{length-reverse}
-use Rattle.vm_base.specs.declared.entry.Entry.{Entry}
-use Rattle.vm_base.specs.Entries.{by_address}
-use Rattle.vm_model.specs.declared.command.Command.{Command}
 use Rattle.vm_model.specs.declared.command.Command.TheVariants as command
-use Rattle.vm_model.specs.declared.event.Event.{Event}
 use Rattle.vm_model.specs.declared.event.Event.TheVariants as event
-use Rattle.vm_legal.specs.Follows.{IsDone}
-use Rattle.vm_maps.specs.Maps.{rows_in}
-use Rattle.vm_kernel.specs.Begun.{Starts}
-use Rattle.vm_kernel.specs.Counts.{count_on}
-use Rattle.vm_kernel.specs.Places.{region_entries}
-use Rattle.vm_kernel.specs.Sweeping.{Lowered, Sweeps}
-use Rattle.vm_kernel.specs.declared.parts.Parts.{Parts}
 use Rattle.vm_kernel.proofs.Changing.{counted, entries_few, lives_as, lowered_few, raise_there}
 use Rattle.vm_kernel.proofs.Cutting.{gone_few, removed_cuts}
 use Rattle.vm_kernel.proofs.Endings.{ran_swept, gone_there, raised_few, sweeps_removed}

@@ -1,8 +1,4 @@
-use Rattle.std.proofs.Common.{◌≡◌, true}
-use Rattle.vm_parts.specs.Changes.{Discards}
-use Rattle.vm_parts.proofs.Rows.{of_found, row_of}
-use Rattle.vm_resident.specs.Resident.{row_at}
-use Rattle.vm_resident.specs.declared.page_row.PageRow.{PageRow}
+use Rattle.vm_kernel.proofs.Common.{Discards, PageRow, of_found, row_at, row_of, true, ◌≡◌}
 use Rattle.vm_kernel.proofs.Brings.{lost}
 use Rattle.vm_kernel.proofs.Growing.{on_ok}
 use Rattle.vm_kernel.proofs.parts.Parts.drop_page.Goals as goal

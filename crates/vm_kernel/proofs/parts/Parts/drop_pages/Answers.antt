@@ -1,6 +1,4 @@
-use Rattle.std.proofs.Common.{arith, ap, refl}
-use Rattle.vm_base.specs.declared.ids.PageKey.{PageKey}
-use Rattle.vm_kernel.specs.Plays.{Still}
+use Rattle.vm_kernel.proofs.Common.{PageKey, Still, ap, arith, refl}
 use Rattle.vm_kernel.proofs.Departing.{lost_plays}
 use Rattle.vm_kernel.proofs.Ends.{ends_lost}
 use Rattle.vm_kernel.proofs.Playing.{plays_both}

@@ -1,8 +1,5 @@
-use Rattle.vm_kernel.specs.Plays.{Still}
+use Rattle.vm_kernel.proofs.Common.{Some, Still, not-false, object_at, refl, sym, ◌∙◌, ◌≡◌}
 use Rattle.vm_kernel.proofs.Playing.{plays_told}
-use Rattle.std.proofs.Common.{refl, ◌≡◌, ◌∙◌, sym, Some}
-use Rattle.std.proofs.lemmas.Bool.{not-false}
-use Rattle.vm_objects.specs.Objects.{object_at}
 use Rattle.vm_kernel.proofs.Growing.{on_ok}
 use Rattle.vm_kernel.proofs.Terminating.{sweeps_told}
 use Rattle.vm_kernel.proofs.parts.Parts.end_object.Goals as goal

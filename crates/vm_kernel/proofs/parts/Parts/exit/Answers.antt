@@ -1,14 +1,7 @@
+use Rattle.vm_kernel.proofs.Common.{Command, Event, IsDone, List, Parts, Starts, Sweeps, ap, by_address, refl, subst, sym, ◌∙◌, ◌∷◌}
 use Rattle.vm_kernel.proofs.Playing.{plays_both, plays_told}
-use Rattle.std.proofs.Common.{refl, ap, sym, ◌∙◌, subst, List, ◌∷◌}
-use Rattle.vm_base.specs.Entries.{by_address}
-use Rattle.vm_model.specs.declared.command.Command.{Command}
 use Rattle.vm_model.specs.declared.command.Command.TheVariants as command
-use Rattle.vm_model.specs.declared.event.Event.{Event}
 use Rattle.vm_model.specs.declared.event.Event.TheVariants as event
-use Rattle.vm_legal.specs.Follows.{IsDone}
-use Rattle.vm_kernel.specs.Begun.{Starts}
-use Rattle.vm_kernel.specs.Sweeping.{Sweeps}
-use Rattle.vm_kernel.specs.declared.parts.Parts.{Parts}
 use Rattle.vm_kernel.proofs.Endings.{ran_swept, sweeps_exit}
 use Rattle.vm_kernel.proofs.Growing.{on_ok}
 use Rattle.vm_kernel.proofs.parts.Parts.exit.Goals as goal

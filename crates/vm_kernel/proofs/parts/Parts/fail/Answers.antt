@@ -1,13 +1,9 @@
-use Rattle.std.proofs.Common.{refl, rules, ◌≡◌, ◌++◌, true, List, inl, sym, subst}
-use Rattle.vm_model.specs.declared.event.Event.{Event}
-use Rattle.vm_legal.specs.Steps.{fails_access, since}
+use Rattle.vm_kernel.proofs.Common.{Event, List, Still, fails_access, inl, page_frame, paging, refl, rules, since, subst, sym, true, ◌++◌, ◌≡◌}
 use Rattle.vm_model.specs.declared.event.Event.TheVariants as event
-use Rattle.vm_kernel.specs.Plays.{Still, paging}
 use Rattle.vm_kernel.proofs.Playing.{plays_both, plays_one}
 use Rattle.vm_kernel.proofs.Failing.{EndsOr, Failing, before_none, ends_all, ends_or, failed_one, since_now}
 use Rattle.vm_kernel.proofs.Ordering.{without_keeps}
 use Rattle.vm_kernel.proofs.Turning.{quiet_both, quiet_none, quiet_unlisted}
-use Rattle.vm_waits.proofs.Tables.{page_frame}
 use Rattle.vm_kernel.proofs.parts.Parts.fail.Goals as goal
 
 pub all-init : goal.all-init

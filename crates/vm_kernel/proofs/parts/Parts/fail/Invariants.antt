@@ -1,13 +1,7 @@
-use Rattle.std.proofs.Common.{◌≡◌, ◌++◌, ◌⊎◌, true, length}
-use Rattle.vm_legal.specs.Steps.{fails_access, since}
+use Rattle.vm_kernel.proofs.Common.{Asker, FailsNow, IsAnswered, LegalEvents, Plays, QueueIsStill, Works, fails_access, length, paging, since, true, ◌++◌, ◌≡◌}
+use Rattle.std.proofs.Common.{◌⊎◌}
 use Rattle.vm_supply.specs.declared.woken.Woken.TheVariants as woken
-use Rattle.vm_kernel.specs.Begun.{LegalEvents}
-use Rattle.vm_kernel.specs.Plays.{Plays, paging}
-use Rattle.vm_kernel.specs.Matches.{Works}
-use Rattle.vm_kernel.specs.Taking.{FailsNow, IsAnswered}
-use Rattle.vm_kernel.specs.Waiters.{Asker}
 use Rattle.vm_kernel.proofs.Failing.{EndsBefore, EndsOr}
-use Rattle.vm_kernel.specs.Turns.{Quiet}
 use Rattle.vm_kernel.proofs.parts.Parts.fail.Given as goal
 
 abbrev pub invariant-all : goal.invariant-all
@@ -20,7 +14,7 @@ invariant-all g l = record {
   plays : Plays g.given.header g.given.past l.fn.log.items (paging l.fn.self) l.log.items (paging l.self);
   each : EndsOr l.key l.fn.self.waits.rows l.self.waits.rows (l.log.items ++ g.given.past);
   some : (since (fails_access l.key.object.0 l.key.page.0) (l.log.items ++ g.given.past) ≡ true) ⊎ Asker l.self.waits.rows l.key.object.0 l.key.page.0;
-  quiet : Quiet l.fn.self.waits.queue l.self.waits.queue l.fn.log.items l.log.items;
+  quiet : QueueIsStill l.fn.self.waits.queue l.self.waits.queue l.fn.log.items l.log.items;
 }
 
 abbrev pub decreases-all : goal.decreases-all

@@ -1,4 +1,4 @@
-use Rattle.std.proofs.Common.{◌%◌, ◌∙◌, ap, sym}
+use Rattle.vm_kernel.proofs.Common.{ap, sym, ◌%◌, ◌∙◌}
 use Rattle.vm_kernel.proofs.Hitting.{done_at_once, leads}
 use Rattle.vm_kernel.proofs.parts.Parts.fault.Goals as goal
 

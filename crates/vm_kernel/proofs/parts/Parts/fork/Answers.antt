@@ -1,8 +1,5 @@
-use Rattle.std.proofs.Common.{◌≡◌, List, Some, length, ap, refl, sym, ◌∙◌, slice_get, subst, arith}
-use Rattle.std.proofs.lemmas.List.{length-reverse}
-use Rattle.vm_base.specs.declared.entry.Entry.{Entry}
-use Rattle.vm_base.specs.Entries.{AreEntries}
-use Rattle.vm_maps.specs.Maps.{rows_in}
+use Rattle.vm_kernel.proofs.Common.{AreEntries, Entry, List, Some, ap, arith, length, length-reverse, refl, rows_in, subst, sym, ◌∙◌, ◌≡◌}
+use Rattle.std.proofs.Common.{slice_get}
 use Rattle.vm_kernel.proofs.Shares.{ran_fork, can_share, fork_other, fork_shared, fork_start, lives_some, may_fork, same_rows}
 use Rattle.vm_kernel.proofs.Playing.{lists_same, plays_both, plays_told}
 use Rattle.vm_kernel.proofs.Turning.{quiet_both, quiet_more}

@@ -1,12 +1,9 @@
-use Rattle.vm_maps.specs.Maps.{rows_in}
-use Rattle.vm_kernel.specs.Forking.{HasForked}
-use Rattle.vm_kernel.specs.Plays.{Plays, paging}
-use Rattle.vm_kernel.specs.Turns.{Quiet}
+use Rattle.vm_kernel.proofs.Common.{HasForked, Plays, QueueIsStill, paging, rows_in}
 use Rattle.vm_kernel.proofs.parts.Parts.fork.Given as goal
 
 abbrev pub invariant-all : goal.invariant-all
 invariant-all g l = record {
   forked : HasForked g.given.header g.given.host g.given.outside l.task l.child (rows_in l.task.0 l.fn.self.maps) l.i g.given.past l.self l.ids l.log.items;
   plays : Plays g.given.header g.given.past l.fn.log.items (paging l.fn.self) l.log.items (paging l.self);
-  quiet : Quiet l.fn.self.waits.queue l.self.waits.queue l.fn.log.items l.log.items;
+  quiet : QueueIsStill l.fn.self.waits.queue l.self.waits.queue l.fn.log.items l.log.items;
 }

@@ -1,4 +1,4 @@
-use Rattle.std.proofs.Common.{◌++◌}
+use Rattle.vm_kernel.proofs.Common.{◌++◌}
 use Rattle.vm_kernel.proofs.Growing.{on_ok}
 use Rattle.vm_kernel.proofs.Prompting.{prompt_of, queue_of}
 use Rattle.vm_kernel.proofs.Served.{both_ok}

@@ -1,5 +1,4 @@
-use Rattle.std.proofs.Common.{◌≡◌, ℕ, ◌++◌, sym, ◌∙◌, subst}
-use Rattle.vm_supply.specs.Answers.{IsAnswer}
+use Rattle.vm_kernel.proofs.Common.{IsAnswer, subst, sym, ℕ, ◌++◌, ◌∙◌, ◌≡◌}
 use Rattle.vm_kernel.proofs.Supplying.{answer_brings}
 use Rattle.vm_kernel.proofs.Hearing.{Hears, heard, hears_done, plain_answer}
 use Rattle.vm_kernel.proofs.parts.Parts.hear.Given as given

@@ -1,5 +1,4 @@
-use Rattle.std.proofs.Common.{rules}
-use Rattle.std.proofs.Common.{◌∙◌}
+use Rattle.vm_kernel.proofs.Common.{rules, ◌∙◌}
 use Rattle.vm_waits.specs.declared.waiting.Want.TheVariants as want
 use Rattle.vm_kernel.proofs.Hitting.{hits_load, hits_store, inside_buffer, inside_page, is_here, wrote_number}
 use Rattle.vm_kernel.proofs.Growing.{on_ok}

@@ -1,6 +1,4 @@
-use Rattle.std.proofs.Common.{◌++◌, subst, sym}
-use Rattle.vm_parts.specs.declared.parts.HostParts.{HostParts}
-use Rattle.vm_kernel.specs.Matches.{Rests}
+use Rattle.vm_kernel.proofs.Common.{HostParts, Rests, subst, sym, ◌++◌}
 use Rattle.vm_kernel.proofs.Laundering.{rests_laundered}
 use Rattle.vm_kernel.proofs.parts.Parts.launder.Goals as goal
 

@@ -1,4 +1,4 @@
-use Rattle.std.proofs.Common.{refl}
+use Rattle.vm_kernel.proofs.Common.{refl}
 use Rattle.vm_kernel.proofs.Playing.{plays_told}
 use Rattle.vm_kernel.proofs.Growing.{on_ok}
 use Rattle.vm_kernel.proofs.Making.{ran_task}

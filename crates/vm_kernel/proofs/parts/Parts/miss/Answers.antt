@@ -1,12 +1,8 @@
-use Rattle.std.proofs.Common.{◌≡◌, ◌∙◌, sym, true, false, inl, inr, ap, subst}
-use Rattle.std.specs.Prelude.{◌⊎◌}
-use Rattle.vm_objects.specs.Objects.{absent_at}
+use Rattle.vm_kernel.proofs.Common.{BringsZeros, HostParts, absent_at, ap, false, inl, inr, subst, sym, true, ◌∙◌, ◌≡◌, ◌⊎◌}
 use Rattle.vm_objects.specs.declared.row.PagerState.TheVariants as state
 use Rattle.vm_kernel.proofs.Missing.{ended_zeroed, unavailable, wants_one}
 use Rattle.vm_kernel.proofs.parts.Parts.miss.Goals as goal
 use Rattle.vm_kernel.proofs.parts.Parts.miss.Goals.{then-not-may_claim-via-then-not-may_claim, then-not-may_claim-via-else-not-may_claim+then-free-eq0, else-eq-2-via-then-eq-2+else-not-known_absent, else-eq-2-via-else-eq-2}
-use Rattle.vm_parts.specs.declared.parts.HostParts.{HostParts}
-use Rattle.vm_kernel.specs.Changes.{Brought}
 
 pub returns-then-not-may_claim-clause-faults : goal.returns-then-not-may_claim-clause-faults
 returns-then-not-may_claim-clause-faults c =
@@ -27,4 +23,4 @@ returns-clause-faults c =
     ] in
     ended_zeroed c.args.task c.args.want key c.args.at c.in_ok-frame.frame k c.bring.new.self c.hit.new.self c.reserve.new.self.resident c.args.log.now.items c.bring.new.log.items c.hit.new.log.items
     (unavailable k key c.in-Some.known (sym c.find.ensures ∙ c.in-Some.is) (λ e. (let bad : false ≡ true = rw e at c.if-eq.ensures in cc)) lacks)
-    c.in_ok-reserve.ensures.rows c.requires.at (subst (λ (z : HostParts). Brought key c.in_ok-frame.frame (record k { memory = z }) c.bring.new.self) c.in_ok-reserve.ensures.is c.in_ok-frame.ensures.brought) c.in_ok-frame.ensures.told c.in_ok-hit.ensures
+    c.in_ok-reserve.ensures.rows c.requires.at (subst (λ (z : HostParts). BringsZeros key c.in_ok-frame.frame (record k { memory = z }) c.bring.new.self) c.in_ok-reserve.ensures.is c.in_ok-frame.ensures.brought) c.in_ok-frame.ensures.told c.in_ok-hit.ensures

@@ -1,5 +1,4 @@
-use Rattle.std.proofs.Common.{◌≡◌, ℕ, subst, arith}
-use Rattle.vm_kernel.specs.Plays.{Still}
+use Rattle.vm_kernel.proofs.Common.{Still, arith, subst, ℕ, ◌≡◌}
 use Rattle.vm_kernel.proofs.Pageout.{Reclaiming, paged_out, ran_out, reclaiming_more, reclaiming_start}
 use Rattle.vm_kernel.proofs.Playing.{plays_both}
 use Rattle.vm_kernel.proofs.Turning.{quiet_both, quiet_gone, quiet_none}

@@ -1,5 +1,4 @@
-use Rattle.vm_kernel.specs.Plays.{Plays, paging}
-use Rattle.vm_kernel.specs.Turns.{Quiet}
+use Rattle.vm_kernel.proofs.Common.{Plays, QueueIsStill, paging}
 use Rattle.vm_kernel.proofs.Pageout.{Reclaiming}
 use Rattle.vm_kernel.proofs.parts.Parts.pageout.Given as goal
 
@@ -10,5 +9,5 @@ abbrev pub invariant-pages : goal.invariant-pages
 invariant-pages g l = record {
   reclaiming : Reclaiming g.given.header g.given.host g.given.outside g.given.command l.count l.counter g.given.past l.self l.ids l.log.items;
   plays : Plays g.given.header g.given.past l.fn.log.items (paging l.fn.self) l.log.items (paging l.self);
-  quiet : Quiet l.fn.self.waits.queue l.self.waits.queue l.fn.log.items l.log.items;
+  quiet : QueueIsStill l.fn.self.waits.queue l.self.waits.queue l.fn.log.items l.log.items;
 }

@@ -1,15 +1,7 @@
+use Rattle.vm_kernel.proofs.Common.{Entry, Event, List, Lowered, Ran, [], ap, arith, count_on, length-reverse, refl, region_entries, rows_in, subst, sym, ◌∙◌, ◌∷◌, ◌≤◌}
 use Rattle.vm_kernel.proofs.Playing.{plays_told}
-use Rattle.std.proofs.Common.{refl, ◌≤◌, ap, sym, ◌∙◌, subst, arith, List, [], ◌∷◌}
-use Rattle.std.proofs.lemmas.List.{length-reverse}
-use Rattle.vm_base.specs.declared.entry.Entry.{Entry}
-use Rattle.vm_model.specs.declared.event.Event.{Event}
 use Rattle.vm_model.specs.declared.event.Event.TheVariants as event
 use Rattle.vm_model.specs.declared.command.Command.TheVariants as command
-use Rattle.vm_maps.specs.Maps.{rows_in}
-use Rattle.vm_kernel.specs.Begun.{Ran}
-use Rattle.vm_kernel.specs.Counts.{count_on}
-use Rattle.vm_kernel.specs.Places.{region_entries}
-use Rattle.vm_kernel.specs.Sweeping.{Lowered}
 use Rattle.vm_kernel.proofs.Changing.{counted, entries_few, lives_as, lowered_few, raise_there, ran_protect}
 use Rattle.vm_kernel.proofs.Cutting.{protect_cuts}
 use Rattle.vm_kernel.proofs.Growing.{on_ok}

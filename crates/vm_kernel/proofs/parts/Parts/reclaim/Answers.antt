@@ -1,11 +1,6 @@
+use Rattle.vm_kernel.proofs.Common.{KeepsPages, Parts, Queues, ReclaimEffects, [], ap, paging, queued_victim, refl, subst, ◌∙◌}
 use Rattle.std.specs.Prelude.{◌++◌}
-use Rattle.std.proofs.Common.{[], ap, refl, subst, ◌∙◌}
-use Rattle.vm_pageout.specs.Reclaims.{ReclaimEffects}
-use Rattle.vm_queues.specs.Queues.{KeepsPages, Queues}
-use Rattle.vm_queues.proofs.Queued.{queued_victim}
-use Rattle.vm_kernel.specs.Plays.{paging}
 use Rattle.vm_kernel.proofs.Playing.{plays_none, reclaim_plays, searched_none}
-use Rattle.vm_kernel.specs.declared.parts.Parts.{Parts}
 use Rattle.vm_kernel.proofs.Reclaims.{Took, none_queued, reclaimed_touched, rests_touched, room_for, took}
 use Rattle.vm_kernel.proofs.parts.Parts.reclaim.Given.{Over}
 use Rattle.vm_kernel.proofs.parts.Parts.reclaim.Goals as goal

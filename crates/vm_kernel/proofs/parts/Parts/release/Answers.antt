@@ -1,7 +1,4 @@
-use Rattle.vm_kernel.specs.Plays.{Still}
-use Rattle.std.proofs.Common.{◌-◌, ℕ, arith, sym, ◌∙◌, subst}
-use Rattle.vm_base.specs.Entries.{by_address}
-use Rattle.vm_kernel.specs.Sweeping.{PutsEntries}
+use Rattle.vm_kernel.proofs.Common.{PutsEntries, Still, arith, by_address, subst, sym, ℕ, ◌-◌, ◌∙◌}
 use Rattle.vm_kernel.proofs.Ends.{ends_less, some_left, sweeps_less, sweeps_next}
 use Rattle.vm_kernel.proofs.parts.Parts.release.Goals as goal
 

@@ -1,8 +1,6 @@
-use Rattle.std.proofs.Common.{◌++◌, ap, inr, refl, sym}
-use Rattle.std.specs.Prelude.{not}
+use Rattle.vm_kernel.proofs.Common.{Still, ap, inr, not, refl, sym, ◌++◌}
 use Rattle.vm_kernel.proofs.Finding.{first_done, first_more}
 use Rattle.vm_kernel.proofs.Growing.{goes_both, goes_none}
-use Rattle.vm_kernel.specs.Plays.{Still}
 use Rattle.vm_kernel.proofs.Playing.{plays_both}
 use Rattle.vm_kernel.proofs.Turning.{restarts_more, restarts_none, wanting_of}
 use Rattle.vm_kernel.proofs.parts.Parts.restart.Goals as goal

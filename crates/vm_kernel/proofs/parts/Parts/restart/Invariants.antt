@@ -1,15 +1,7 @@
-use Rattle.vm_kernel.specs.Begun.{LegalEvents}
-use Rattle.vm_kernel.specs.Plays.{Plays, paging}
-use Rattle.vm_legal.specs.Accesses.{FindsPage}
-use Rattle.vm_kernel.specs.Matches.{Works}
-use Rattle.vm_kernel.specs.Serving.{IsNext}
-use Rattle.vm_kernel.specs.Turns.{RunsNone}
+use Rattle.vm_kernel.proofs.Common.{EachOf, FindsPage, IsNextAccess, LegalEvents, Plays, RunsNone, Works, count_again, paging, ℕ, ◌++◌}
 use Rattle.vm_kernel.proofs.Finding.{FirstOf}
 use Rattle.vm_kernel.proofs.Turning.{Restarting}
-use Rattle.vm_legal.specs.Stretches.{EachOf}
-use Rattle.std.proofs.Common.{◌++◌, ℕ}
 use Rattle.vm_supply.specs.declared.woken.Woken.TheVariants as woken
-use Rattle.vm_waits.specs.Waits.{again}
 use Rattle.vm_kernel.proofs.parts.Parts.restart.Given as goal
 
 abbrev pub ghost-attempt : goal.ghost-attempt
@@ -20,9 +12,9 @@ invariant-again g l = record {
   works : Works g.given.header g.given.host l.self l.ids woken.Nobody (l.log.items ++ g.given.past);
   goes : LegalEvents g.given.header g.given.host g.given.outside g.given.command g.given.past l.fn.log.items l.log.items;
   plays : Plays g.given.header g.given.past l.fn.log.items (paging l.fn.self) l.log.items (paging l.self);
-  first : (task : ℕ) → IsNext task l.fn.self.waits.rows → FindsPage g.given.header task (l.fn.log.items ++ g.given.past) → FirstOf task l.fn.self.waits.rows l.self.waits.rows l.fn.log.items l.log.items;
+  first : (task : ℕ) → IsNextAccess task l.fn.self.waits.rows → FindsPage g.given.header task (l.fn.log.items ++ g.given.past) → FirstOf task l.fn.self.waits.rows l.self.waits.rows l.fn.log.items l.log.items;
   restarts : EachOf RunsNone l.fn.log.items → Restarting g.given.header g.given.host g.given.past l.fn.self.waits.queue l.self.waits l.log.items;
 }
 
 abbrev pub decreases-again : goal.decreases-again
-decreases-again g l = again l.self.waits.rows
+decreases-again g l = count_again l.self.waits.rows

@@ -1,6 +1,4 @@
-use Rattle.std.proofs.Common.{sym, subst}
-use Rattle.vm_model.specs.declared.command.Command.{Command}
-use Rattle.vm_kernel.specs.Begun.{Ran}
+use Rattle.vm_kernel.proofs.Common.{Command, Ran, subst, sym}
 use Rattle.vm_kernel.proofs.Built.{none_unknown, pageout_of}
 use Rattle.vm_kernel.proofs.Growing.{on_ok}
 use Rattle.vm_kernel.proofs.Turning.{restarts_quiet}

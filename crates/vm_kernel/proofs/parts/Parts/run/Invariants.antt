@@ -1,4 +1,4 @@
-use Rattle.vm_kernel.specs.Matches.{host_id}
+use Rattle.vm_kernel.proofs.Common.{host_id}
 use Rattle.vm_model.specs.declared.command.Command.TheVariants as command
 use Rattle.vm_kernel.proofs.parts.Parts.run.Given as goal
 

@@ -1,6 +1,6 @@
+use Rattle.vm_kernel.proofs.Common.{inr, true}
 use Rattle.vm_kernel.proofs.Playing.{plays_both}
 use Rattle.vm_kernel.proofs.Growing.{goes_both}
-use Rattle.std.proofs.Common.{true, inr}
 use Rattle.vm_kernel.proofs.Served.{attempts_idle, rests_of}
 use Rattle.vm_kernel.proofs.Turning.{leaves_gone, leaves_of, leaves_ran, others_gone, others_ran}
 use Rattle.vm_kernel.proofs.parts.Parts.serve.Goals as goal

@@ -1,10 +1,4 @@
-use Rattle.vm_kernel.specs.Plays.{Plays, paging}
-use Rattle.std.proofs.Common.{◌+◌, ◌*◌, ◌++◌}
-use Rattle.vm_frames.specs.Frames.{claimed, frame_count}
-use Rattle.vm_kernel.specs.Begun.{LegalEvents}
-use Rattle.vm_kernel.specs.Matches.{Rests}
-use Rattle.vm_kernel.specs.Turns.{KeepsOthers}
-use Rattle.vm_waits.specs.Waits.{queued}
+use Rattle.vm_kernel.proofs.Common.{KeepsOthers, LegalEvents, Plays, Rests, claimed, frame_count, paging, queued, ◌*◌, ◌++◌, ◌+◌}
 use Rattle.vm_kernel.proofs.Turning.{Serving}
 use Rattle.vm_kernel.proofs.parts.Parts.serve.Given as goal
 

@@ -1,6 +1,5 @@
-use Rattle.vm_kernel.specs.Plays.{Still}
+use Rattle.vm_kernel.proofs.Common.{Still, false, true, ◌≡◌}
 use Rattle.std.specs.Prelude.{◌++◌}
-use Rattle.std.proofs.Common.{◌≡◌, true, false}
 use Rattle.vm_kernel.proofs.Reclaims.{full_after}
 use Rattle.vm_kernel.proofs.parts.Parts.stops.Goals as goal
 

@@ -1,7 +1,6 @@
+use Rattle.vm_kernel.proofs.Common.{ap, count_again, refl, ◌∙◌}
 use Rattle.vm_kernel.proofs.Growing.{on_ok}
 use Rattle.vm_kernel.proofs.Playing.{plays_both, plays_told}
-use Rattle.std.proofs.Common.{refl, ap, ◌∙◌}
-use Rattle.vm_waits.specs.Waits.{again}
 use Rattle.vm_waits.specs.declared.waiting.Want.TheVariants as want
 use Rattle.vm_kernel.proofs.Beginning.{begun_next, begun_ran, begun_works}
 use Rattle.vm_kernel.proofs.Served.{three_ok}
@@ -17,7 +16,7 @@ restart-requires g c =
 pub returns-clause-ran : goal.returns-clause-ran
 returns-clause-ran g c =
     let next =
-    begun_next c.args.task (want.Store c.args.address c.args.size c.args.value) c.reserve.new.self.rows c.begin.new.self.rows (ap again c.reserve.ensures.rows ∙ c.requires.1.rests.idle) c.begin.ensures.again c.begin.ensures.entry in
+    begun_next c.args.task (want.Store c.args.address c.args.size c.args.value) c.reserve.new.self.rows c.begin.new.self.rows (ap count_again c.reserve.ensures.rows ∙ c.requires.1.rests.idle) c.begin.ensures.again c.begin.ensures.entry in
     three_ok c.restart.result _ _ _ _
     (begun_ran g.given.header g.given.host g.given.outside g.given.command c.args.task (want.Store c.args.address c.args.size c.args.value) g.given.past c.args.self.now c.restart.new.self c.args.ids.now c.args.log.now.items c.push.new.self.items c.restart.new.log.items
     c.begin.new.self.rows c.requires.0 c.requires.1 c.in_ok-push.ensures.ok next)

@@ -1,4 +1,4 @@
-use Rattle.vm_kernel.specs.Plays.{Still}
+use Rattle.vm_kernel.proofs.Common.{Still}
 use Rattle.vm_kernel.proofs.Playing.{plays_both}
 use Rattle.vm_kernel.proofs.Turning.{quiet_both, quiet_none}
 use Rattle.vm_kernel.proofs.parts.Parts.sweep.Goals as goal

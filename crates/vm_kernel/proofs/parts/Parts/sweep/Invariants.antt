@@ -1,8 +1,4 @@
-use Rattle.vm_kernel.specs.Plays.{Plays, paging}
-use Rattle.std.proofs.Common.{◌+◌, drop}
-use Rattle.vm_base.specs.Entries.{by_address}
-use Rattle.vm_kernel.specs.Sweeping.{Sweeps}
-use Rattle.vm_kernel.specs.Turns.{Quiet}
+use Rattle.vm_kernel.proofs.Common.{Plays, QueueIsStill, Sweeps, by_address, drop, paging, ◌+◌}
 use Rattle.vm_kernel.proofs.parts.Parts.sweep.Given as goal
 
 abbrev pub ghost-release : goal.ghost-release
@@ -12,5 +8,5 @@ abbrev pub invariant-all : goal.invariant-all
 invariant-all g l = record {
   sweeps : Sweeps g.given.header g.given.host g.given.outside g.given.command g.given.past l.self l.ids (drop l.i (by_address l.gone)) l.log.items;
   plays : Plays g.given.header g.given.past l.fn.log.items (paging l.fn.self) l.log.items (paging l.self);
-  quiet : Quiet l.fn.self.waits.queue l.self.waits.queue l.fn.log.items l.log.items;
+  quiet : QueueIsStill l.fn.self.waits.queue l.self.waits.queue l.fn.log.items l.log.items;
 }

@@ -1,9 +1,4 @@
-use Rattle.std.proofs.Common.{◌++◌, List, [], ap, subst}
-use Rattle.vm_model.specs.declared.event.Event.{Event}
-use Rattle.vm_kernel.specs.Begun.{LegalEvents}
-use Rattle.vm_waits.specs.Waits.{WaitTable}
-use Rattle.vm_kernel.specs.Taking.{HasEnded}
-use Rattle.vm_kernel.specs.Plays.{Plays, paging}
+use Rattle.vm_kernel.proofs.Common.{Event, HasEnded, LegalEvents, List, Plays, WaitTable, [], ap, paging, subst, ◌++◌}
 use Rattle.vm_kernel.proofs.Playing.{plays_both}
 use Rattle.vm_kernel.proofs.Failing.{each_failed, each_goes, paid_failed, paid_goes}
 use Rattle.vm_kernel.proofs.Growing.{goes_both, on_ok}

@@ -1,4 +1,4 @@
-use Rattle.std.proofs.Common.{◌++◌}
+use Rattle.vm_kernel.proofs.Common.{◌++◌}
 use Rattle.vm_kernel.proofs.parts.Parts.take.Given as goal
 
 abbrev pub ghost-hear : goal.ghost-hear

@@ -1,7 +1,5 @@
-use Rattle.std.proofs.Common.{rules}
-use Rattle.vm_waits.specs.Waits.{woken_page, woken_ready}
+use Rattle.vm_kernel.proofs.Common.{Still, rules, woken_page, woken_ready}
 use Rattle.vm_kernel.proofs.Ordering.{woken_keeps}
-use Rattle.vm_kernel.specs.Plays.{Still}
 use Rattle.vm_kernel.proofs.parts.Parts.wake.Goals as goal
 
 pub returns-in-ReadyOf-clause-works : goal.returns-in-ReadyOf-clause-works

@@ -1,5 +1,4 @@
-use Rattle.std.proofs.Common.{ℕ, ◌≡◌, ◌+◌, length, subst, arith}
-use Rattle.vm_system.specs.Posts.{HasRoom}
+use Rattle.vm_system.proofs.Common.{HasRoom, arith, length, subst, ℕ, ◌+◌, ◌≡◌}
 use Rattle.vm_system.proofs.state.State.append.Goals as goal
 
 pub commit-requires-clause-room : goal.commit-requires-clause-room

@@ -1,10 +1,4 @@
-use Rattle.std.proofs.Common.{◌≡◌, None, ap, false, refl, sym, subst, ◌∙◌}
-use Rattle.vm_kernel.specs.Begun.{IsLined}
-use Rattle.vm_kernel.specs.Built.{copies_entries}
-use Rattle.vm_legal.specs.Refusal.{refusal}
-use Rattle.vm_hosts.specs.Hosts.{AllRest}
-use Rattle.vm_hosts.specs.Steps.{Began, Step}
-use Rattle.vm_hosts.proofs.Nobodys.{all_lined}
+use Rattle.vm_system.proofs.Common.{AllRest, Began, IsLined, None, Step, all_lined, ap, copies_entries, false, refl, refusal, subst, sym, ◌∙◌, ◌≡◌}
 use Rattle.vm_system.proofs.Beginning.{can_tell, makes_told, on_both, on_either, spares_same, spares_told}
 use Rattle.vm_system.proofs.Following.{same_pagers}
 use Rattle.vm_system.proofs.Legal.{enough_line, legal_began, refusal_line}

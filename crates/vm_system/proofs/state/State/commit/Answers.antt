@@ -1,7 +1,5 @@
-use Rattle.std.proofs.Common.{ℕ, ◌≡◌, ◌+◌, ◌∷◌, ◌++◌, [], List, length, ap, sym, subst, ◌∙◌, append_assoc, length-append}
-use Rattle.vm_model.specs.declared.event.Event.{Event}
+use Rattle.vm_system.proofs.Common.{CanTellAll, Event, HasRoom, List, [], ap, append_assoc, length, length-append, subst, sym, ℕ, ◌++◌, ◌+◌, ◌∙◌, ◌∷◌, ◌≡◌}
 use Rattle.vm_system.proofs.Posting.{oldest_told}
-use Rattle.vm_system.specs.Posts.{CanTellAll, HasRoom}
 use Rattle.vm_system.proofs.state.State.commit.Goals as goal
 
 pub tell-requires-clause-can : goal.tell-requires-clause-can

@@ -1,5 +1,4 @@
-use Rattle.std.proofs.Common.{◌≡◌, ◌++◌, length}
-use Rattle.vm_system.specs.Posts.{CanTellAll, HasRoom, Posts, SameHosts}
+use Rattle.vm_system.proofs.Common.{CanTellAll, HasRoom, Posts, SameHosts, length, ◌++◌, ◌≡◌}
 use Rattle.vm_system.proofs.state.State.commit.Given as goal
 
 abbrev pub invariant-all : goal.invariant-all

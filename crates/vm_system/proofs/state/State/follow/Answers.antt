@@ -1,6 +1,4 @@
-use Rattle.std.proofs.Common.{◌∙◌, ap, ◌++◌, List}
-use Rattle.vm_model.specs.declared.event.Event.{Event}
-use Rattle.vm_hosts.specs.Steps.{HostsPart}
+use Rattle.vm_system.proofs.Common.{Event, HostsPart, List, ap, ◌++◌, ◌∙◌}
 use Rattle.vm_system.proofs.Beginning.{same_hosts, spares_same}
 use Rattle.vm_system.proofs.Following.{can_follow, followed, kept_followed, same_pagers}
 use Rattle.vm_system.proofs.state.State.follow.Goals as goal

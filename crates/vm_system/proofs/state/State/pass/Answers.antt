@@ -1,7 +1,4 @@
-use Rattle.std.proofs.Common.{sym, subst}
-use Rattle.vm_hosts.specs.Hosts.{AllRest}
-use Rattle.vm_hosts.specs.Steps.{HostsPart, Step}
-use Rattle.vm_hosts.proofs.Nobodys.{all_lined}
+use Rattle.vm_system.proofs.Common.{AllRest, HostsPart, Step, all_lined, subst, sym}
 use Rattle.vm_system.proofs.Beginning.{can_tell, makes_told, on_both, on_either, spares_same, spares_told}
 use Rattle.vm_system.proofs.Following.{same_pagers}
 use Rattle.vm_system.proofs.Legal.{legal_passed}

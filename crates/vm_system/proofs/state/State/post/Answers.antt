@@ -1,8 +1,6 @@
-use Rattle.std.proofs.Common.{◌∷◌, sym, subst, ◌∙◌}
-use Rattle.vm_model.specs.declared.event.Event.{Event}
+use Rattle.vm_system.proofs.Common.{Event, Posts, subst, sym, ◌∙◌, ◌∷◌}
 use Rattle.vm_system.proofs.Made.{fresh_made, made_sent, numbers_made}
 use Rattle.vm_system.proofs.Posting.{posts_sent}
-use Rattle.vm_system.specs.Posts.{Posts}
 use Rattle.vm_system.proofs.state.State.post.Goals as goal
 
 pub deliver-requires-clause-fresh : goal.deliver-requires-clause-fresh

@@ -1,4 +1,4 @@
-use Rattle.std.proofs.Common.{sym, ◌∙◌}
+use Rattle.vm_system.proofs.Common.{sym, ◌∙◌}
 use Rattle.vm_system.proofs.Empty.{take_code}
 use Rattle.vm_system.proofs.state.State.refusal.Goals as goal
 

@@ -1,4 +1,4 @@
-use Rattle.std.proofs.Common.{sym, arith}
+use Rattle.vm_system.proofs.Common.{arith, sym}
 use Rattle.vm_system.proofs.Numbers.{number_within}
 use Rattle.vm_system.proofs.state.State.send.Goals as goal
 

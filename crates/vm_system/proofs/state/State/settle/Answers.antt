@@ -1,7 +1,6 @@
-use Rattle.std.proofs.Common.{[], ◌∷◌}
+use Rattle.vm_system.proofs.Common.{[], stretch_none, ◌∷◌}
 use Rattle.vm_model.specs.declared.command.Command.TheVariants as command
 use Rattle.vm_model.specs.declared.event.Event.TheVariants as event
-use Rattle.vm_hosts.proofs.Stretches.{stretch_none}
 use Rattle.vm_system.proofs.Beginning.{makes_lined, one_more, same_hosts, spares_same, spares_told}
 use Rattle.vm_system.proofs.Following.{same_pagers}
 use Rattle.vm_system.proofs.state.State.settle.Goals as goal

@@ -1,8 +1,4 @@
-use Rattle.std.proofs.Common.{inl, refl, subst, sym}
-use Rattle.vm_model.specs.declared.command.Command.{Command}
-use Rattle.vm_system.specs.Steps.{MayCut}
-use Rattle.std.proofs.lemmas.Result.{on_err_weaker, on_ok_weaker}
-use Rattle.vm_outside.specs.Arming.{armed_later_same}
+use Rattle.vm_system.proofs.Common.{Command, MayCut, armed_later_same, inl, on_err_weaker, on_ok_weaker, refl, subst, sym}
 use Rattle.vm_system.proofs.Beginning.{causes_same, files_same, on_either, paging_same, paging_taken}
 use Rattle.vm_system.proofs.Growth.{grew_none}
 use Rattle.vm_system.proofs.state.State.step.Goals as goal

@@ -1,6 +1,4 @@
-use Rattle.std.proofs.Common.{◌∙◌, ap, Some}
-use Rattle.vm_model.specs.declared.message.Channel.{Channel}
-use Rattle.vm_model.specs.declared.message.Channel.TheVariants.{Up, Down}
+use Rattle.vm_system.proofs.Common.{Channel, Down, Some, Up, ap, ◌∙◌}
 use Rattle.vm_system.proofs.Taken.{may_found, may_there}
 use Rattle.vm_system.proofs.state.State.take.Goals as goal
 

@@ -1,12 +1,5 @@
-use Rattle.std.proofs.Common.{◌≡◌, ℕ, subst, ◌∙◌, List, ◌∷◌, ◌++◌, length, ap, sym, arith}
-use Rattle.std.specs.Prelude.{slice_get}
-use Rattle.vm_model.specs.declared.event.Event.{Event}
+use Rattle.vm_system.proofs.Common.{Channel, Down, Event, HasRoom, HostsPart, List, ap, arith, length, queue, slice_get, subst, sym, ℕ, ◌++◌, ◌∙◌, ◌∷◌, ◌≡◌}
 use Rattle.vm_model.specs.declared.event.Event.TheVariants as event
-use Rattle.vm_model.specs.declared.message.Channel.{Channel}
-use Rattle.vm_model.specs.declared.message.Channel.TheVariants.{Down}
-use Rattle.vm_model.specs.Channels.{queue}
-use Rattle.vm_hosts.specs.Steps.{HostsPart}
-use Rattle.vm_system.specs.Posts.{HasRoom}
 use Rattle.vm_system.proofs.Beginning.{same_hosts, spares_same}
 use Rattle.vm_system.proofs.Following.{same_pagers}
 use Rattle.vm_system.proofs.Taken.{first_told, front_of, may_head, may_only, may_port, may_some, may_there}

@@ -1,14 +1,7 @@
-use Rattle.std.proofs.Common.{◌≡◌, ◌∷◌, Some, ap, sym, subst, ◌∙◌}
-use Rattle.std.proofs.lemmas.Option.{same_Some}
-use Rattle.vm_model.specs.Channels.{queue}
-use Rattle.vm_model.specs.Server.{first}
+use Rattle.vm_system.proofs.Common.{Channel, Message, PortTable, Some, ap, first, lined, queue, same_Some, subst, sym, ◌∙◌, ◌∷◌, ◌≡◌}
 use Rattle.vm_model.specs.declared.event.Event.TheVariants as event
-use Rattle.vm_model.specs.declared.message.Channel.{Channel}
-use Rattle.vm_model.specs.declared.message.Message.{Message}
 use Rattle.vm_system.proofs.Posting.{first_taken, none_taken, posts_taken}
-use Rattle.vm_system.specs.Steps.{lined}
 use Rattle.vm_ports.specs.Ports as ports
-use Rattle.vm_ports.specs.Ports.{PortTable}
 use Rattle.vm_system.proofs.state.State.take_first.Goals as goal
 
 pub unreachable-requires : goal.unreachable-requires

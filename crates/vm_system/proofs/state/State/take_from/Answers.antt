@@ -1,7 +1,4 @@
-use Rattle.std.proofs.Common.{refl, sym, subst, Some}
-use Rattle.std.proofs.lemmas.Result.{on_err_weaker, on_ok_weaker}
-use Rattle.vm_hosts.specs.Steps.{Step}
-use Rattle.vm_system.specs.Takings.{MayBeCut, Took}
+use Rattle.vm_system.proofs.Common.{MayBeCut, Some, Step, Took, on_err_weaker, on_ok_weaker, refl, subst, sym}
 use Rattle.vm_system.proofs.Beginning.{on_either, on_errs}
 use Rattle.vm_system.proofs.Growth.{grew_cut, grew_taken, line_taken}
 use Rattle.vm_system.proofs.Numbers.{number_read}

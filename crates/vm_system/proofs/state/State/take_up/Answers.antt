@@ -1,15 +1,5 @@
-use Rattle.std.proofs.Common.{◌≡◌, ℕ, ◌+◌, List, [], ◌∷◌, ◌++◌, length, take, refl, subst, sym, ◌∙◌, ap, arith, inr}
-use Rattle.std.proofs.Math.ListN.{set}
-use Rattle.std.proofs.lemmas.Result.{on_err_weaker, on_ok_weaker}
-use Rattle.vm_model.specs.declared.event.Event.{Event}
+use Rattle.vm_system.proofs.Common.{Channel, Event, Followed, Going, List, PagerHasAnswered, SlotTable, Up, [], ap, arith, devices, inr, length, on_err_weaker, on_ok_weaker, queue, refl, set, subst, sym, take, ℕ, ◌++◌, ◌+◌, ◌∙◌, ◌∷◌, ◌≡◌}
 use Rattle.vm_model.specs.declared.event.Event.TheVariants as event
-use Rattle.vm_model.specs.declared.message.Channel.{Channel}
-use Rattle.vm_model.specs.declared.message.Channel.TheVariants.{Up}
-use Rattle.vm_model.specs.Channels.{queue}
-use Rattle.pg_slots.specs.Slots.{SlotTable}
-use Rattle.vm_hosts.specs.Steps.{Going}
-use Rattle.vm_system.specs.Steps.{devices}
-use Rattle.vm_system.specs.Takings.{Followed, PagerHasAnswered}
 use Rattle.vm_system.proofs.Beginning.{same_hosts}
 use Rattle.vm_system.proofs.Following.{kept_same, same_pagers}
 use Rattle.vm_system.proofs.Growth.{not_same}

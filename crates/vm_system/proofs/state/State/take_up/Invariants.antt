@@ -1,4 +1,4 @@
-use Rattle.std.proofs.Common.{take}
+use Rattle.vm_system.proofs.Common.{take}
 use Rattle.vm_system.proofs.state.State.take_up.Given as goal
 
 abbrev pub ghost-follow : goal.ghost-follow

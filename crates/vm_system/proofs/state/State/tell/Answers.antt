@@ -1,6 +1,4 @@
-use Rattle.std.proofs.Common.{ap, arith}
-use Rattle.vm_base.specs.Listing.{Listed}
-use Rattle.vm_model.specs.declared.event.Event.{Event}
+use Rattle.vm_system.proofs.Common.{Event, Listed, ap, arith}
 use Rattle.vm_system.proofs.state.State.tell.Goals as goal
 
 pub returns-clause-room : goal.returns-clause-room

@@ -1,4 +1,4 @@
-use Rattle.std.proofs.Common.{refl}
+use Rattle.vm_system.proofs.Common.{refl}
 use Rattle.vm_system.proofs.Starting.{new_kept, new_stands}
 use Rattle.vm_system.proofs.system.System.new.Goals as goal
 

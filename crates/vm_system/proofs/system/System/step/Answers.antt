@@ -1,6 +1,4 @@
-use Rattle.std.proofs.Common.{subst}
-use Rattle.vm_system.specs.Steps.{MayCut}
-use Rattle.vm_system.specs.declared.state.State.{State}
+use Rattle.vm_system.proofs.Common.{MayCut, State, subst}
 use Rattle.vm_system.proofs.system.System.step.Goals as goal
 
 pub returns-in_err-step-clause-memory : goal.returns-in_err-step-clause-memory

@@ -1,8 +1,4 @@
-use Rattle.std.proofs.Common.{◌+◌, None, ◌≡◌, ◌∙◌, sym, ap, subst}
-use Rattle.vm_legal.specs.Steps.{before_step, takings}
-use Rattle.vm_system.specs.Stands.{SystemStands}
-use Rattle.vm_system.specs.Steps.{GrowsWithinLimit, HasMore, IsMemoryStop, MayCutOpen}
-use Rattle.vm_system.specs.declared.state.State.{State}
+use Rattle.vm_system.proofs.Common.{GrowsWithinLimit, HasMore, IsMemoryStop, MayCutOpen, None, State, SystemStands, ap, before_step, subst, sym, takings, ◌+◌, ◌∙◌, ◌≡◌}
 use Rattle.vm_system.proofs.Following.{kept_same}
 use Rattle.vm_system.proofs.Growth.{grew_cut, grew_taken, step_taken, takings_taken}
 use Rattle.vm_system.proofs.Numbers.{number_read}

@@ -1,4 +1,4 @@
-use Rattle.vm_model.specs.Summary.{is_line, is_refused, is_begun, is_loaded, is_stored, is_copy_ended, is_failed, is_sent, is_taken, is_dropped}
+use Rattle.vm_model.specs.Summary.{is_line, is_refused, is_begun, is_loaded, is_stored, is_copy_ended, is_failed, is_sent, is_taken_event, is_dropped}
 use Rattle.vm_top.proofs.Sums.{below, one_more, sum_more}
 use Rattle.vm_top.proofs.summary.Summary.add.Goals as goal
 
@@ -27,7 +27,7 @@ pub counted-self-requires-8 : goal.counted-self-requires-8
 counted-self-requires-8 c = below is_sent c.requires.few.0 _ c.requires.few.1.sent c.requires.few.2
 
 pub counted-self-requires-9 : goal.counted-self-requires-9
-counted-self-requires-9 c = below is_taken c.requires.few.0 _ c.requires.few.1.taken c.requires.few.2
+counted-self-requires-9 c = below is_taken_event c.requires.few.0 _ c.requires.few.1.taken c.requires.few.2
 
 pub counted-self-requires-10 : goal.counted-self-requires-10
 counted-self-requires-10 c = below is_dropped c.requires.few.0 _ c.requires.few.1.dropped c.requires.few.2
@@ -42,7 +42,7 @@ returns c = λ past is. record {
   copies = one_more is_copy_ended c.args.event.now past _ _ _ is.copies c.is_copy_ended.ensures c.counted-self-6.ensures;
   failed = one_more is_failed c.args.event.now past _ _ _ is.failed c.is_failed.ensures c.counted-self-7.ensures;
   sent = one_more is_sent c.args.event.now past _ _ _ is.sent c.is_sent.ensures c.counted-self-8.ensures;
-  taken = one_more is_taken c.args.event.now past _ _ _ is.taken c.is_taken.ensures c.counted-self-9.ensures;
+  taken = one_more is_taken_event c.args.event.now past _ _ _ is.taken c.is_taken.ensures c.counted-self-9.ensures;
   dropped = one_more is_dropped c.args.event.now past _ _ _ is.dropped c.is_dropped.ensures c.counted-self-10.ensures;
   sum = sum_more c.args.event.now past _ _ is.sum c.value_of.ensures;
 }

@@ -1,0 +1,57 @@
+-- All that the proofs of this crate name from below.
+pub use Rattle.std.proofs.Common.{Bool, List, None, Option, Some, [], ap, append-nil, append_assoc, arith, false, get_or, inl, inr, length, length-append, refl, subst, suc, sym, true, zero, ℕ, ◌&&◌, ◌++◌, ◌+◌, ◌<◌, ◌==◌, ◌∙◌, ◌∷◌, ◌≡◌, ◌≢◌, ◌≤◌}
+pub use Rattle.std.proofs.Math.ListN.{length-set, set}
+pub use Rattle.std.proofs.lemmas.Bool.Decides.{eqb_tells, nat_tests}
+pub use Rattle.std.proofs.lemmas.List.{length-reverse}
+pub use Rattle.std.proofs.lemmas.Option.{same_Some, slice_get_read, slice_get_within}
+pub use Rattle.std.specs.Prelude.{IfSome, MatchOption, if◌then◌else◌, is_some, nat_lt, not, reverse, slice_get, ◌⊎◌}
+pub use Rattle.vm_abroad.proofs.Sounds.{sound_start}
+pub use Rattle.vm_abroad.proofs.Whose.{abroad_of_own, own_of_home}
+pub use Rattle.vm_abroad.specs.Home.{home_of}
+pub use Rattle.vm_abroad.specs.Sound.{IsAbroad}
+pub use Rattle.vm_abroad.specs.Whose.{IsNewTask, IsOfHost}
+pub use Rattle.vm_base.specs.declared.code.Code.{Code}
+pub use Rattle.vm_base.specs.declared.ids.HostId.{HostId}
+pub use Rattle.vm_base.specs.declared.ids.ObjectId.{ObjectId}
+pub use Rattle.vm_base.specs.declared.ids.ObjectKind.{ObjectKind}
+pub use Rattle.vm_base.specs.declared.ids.ObjectKind.TheVariants.{Temp}
+pub use Rattle.vm_kernel.proofs.Abroad.{common_of, frames_abroad, nobodys_abroad, nobodys_shut, of_host, prompt_abroad, queue_abroad, rests_abroad, sound_caused, sound_more}
+pub use Rattle.vm_kernel.proofs.Done.{done_more}
+pub use Rattle.vm_kernel.proofs.Failing.{paid_more}
+pub use Rattle.vm_kernel.proofs.Growing.{paid_of, suffices}
+pub use Rattle.vm_kernel.specs.Abroad.{IsCommon, IsNobodys}
+pub use Rattle.vm_kernel.specs.Begun.{CreatesHere, IsLaundered, IsLined, IsMine, KernelSays, LegalEvents, Passed, Ran, Served, SomeKernelSays, Starts, acts_on}
+pub use Rattle.vm_kernel.specs.Built.{copies_entries, kernel_runs}
+pub use Rattle.vm_kernel.specs.Matches.{IsOverOwn, IsPlain, Rests, first_ids, host_id}
+pub use Rattle.vm_kernel.specs.Serving.{HasQueue}
+pub use Rattle.vm_kernel.specs.Taking.{EndsAll, IsErrorPaid}
+pub use Rattle.vm_kernel.specs.declared.parts.Parts.{Parts}
+pub use Rattle.vm_legal.proofs.Inside.{before_more, error_more, since_more}
+pub use Rattle.vm_legal.proofs.Stretched.{each_both, inner_both, licensed_both, moments_both, of_both}
+pub use Rattle.vm_legal.specs.Bytes.{OwnBytes}
+pub use Rattle.vm_legal.specs.Debts.{WaitsAt}
+pub use Rattle.vm_legal.specs.Follows.{IsConsequence, IsDone}
+pub use Rattle.vm_legal.specs.Frames.{FramesSuffice, Suffice, frames_free, frames_used}
+pub use Rattle.vm_legal.specs.Homes.{EntersNext, gives_frame, is_home}
+pub use Rattle.vm_legal.specs.Licences.{AllLicensed, HasCause, IsBehind, Licensed, MaySendDown, PagerSends, ReturnsOn, created}
+pub use Rattle.vm_legal.specs.Outside.{Outside, kind_of}
+pub use Rattle.vm_legal.specs.Prompt.{PromptAt}
+pub use Rattle.vm_legal.specs.Refusal.{refusal}
+pub use Rattle.vm_legal.specs.Steps.{before_step, fails_access, fails_task}
+pub use Rattle.vm_legal.specs.Stretches.{AllInner, EachIn, EachOf, MomentsIn}
+pub use Rattle.vm_maps.specs.Maps.{entries_in}
+pub use Rattle.vm_model.specs.Local.{is_on}
+pub use Rattle.vm_model.specs.Named.{named}
+pub use Rattle.vm_model.specs.Ranges.{InRange}
+pub use Rattle.vm_model.specs.Regions.{backing_of, next_object, next_region, region_of}
+pub use Rattle.vm_model.specs.Tasks.{host_of}
+pub use Rattle.vm_model.specs.declared.command.Command.{Command}
+pub use Rattle.vm_model.specs.declared.event.Event.{Event}
+pub use Rattle.vm_model.specs.declared.message.Channel.{Channel}
+pub use Rattle.vm_model.specs.declared.message.Channel.TheVariants.{Down, Up}
+pub use Rattle.vm_model.specs.declared.message.Message.{Message}
+pub use Rattle.vm_model.specs.declared.script.Header.{Header}
+pub use Rattle.vm_shadow.specs.declared.ids.Ids.{Ids}
+pub use native.Mathlib.Decide.{ℕ_discrete}
+pub use Rattle.vm_hosts.specs.Hosts.{AllQueued, AllRest, AreNew, HostTable}
+pub use Rattle.vm_hosts.specs.Steps.{Began, EventsFollow, Heads, PagerStep, Stretch, Went}
