@@ -1,6 +1,5 @@
 mod Descents
 mod Ends
-pub mod Keeping
 mod Places
 mod Runs
 mod Shadows
