@@ -1,11 +1,13 @@
 -- Behind each region that the commands make stands its entry.
 use Rattle.std.proofs.Common.{◌≡◌, ℕ, ◌+◌, ◌-◌, ◌/◌, ◌==◌, Bool, true, false, not, List, [], ◌∷◌, ◌++◌, reverse, Option, Some, None, MatchOption, append_assoc, refl, ap, sym, ◌∙◌, subst}
 use mathlib.Core.List.{reverse_aux}
-use Rattle.std.specs.Prelude.{if◌then◌else◌}
+use Rattle.std.specs.Prelude.{if◌then◌else◌, nat_lt}
 use Rattle.vm_base.specs.declared.code.Code.{Code}
 use Rattle.vm_base.specs.declared.entry.Entry.{Entry}
 use Rattle.vm_base.specs.declared.ids.HostId.{HostId}
-use Rattle.vm_base.specs.declared.ids.Inherit.TheVariants.{Copy}
+use Rattle.vm_base.specs.declared.ids.Inherit.{Inherit}
+use Rattle.vm_base.specs.declared.ids.Inherit.TheVariants.{Copy, Never, Share}
+use Rattle.vm_base.specs.Entries.{entry_at, page_at}
 use Rattle.vm_base.specs.declared.ids.ObjectId.{ObjectId}
 use Rattle.vm_base.specs.declared.ids.TaskId.{TaskId}
 use Rattle.vm_model.specs.declared.command.Command.{Command}
@@ -22,8 +24,9 @@ use Rattle.vm_model.specs.Controls.{live_control}
 use Rattle.vm_model.specs.Moments.{EachEvent}
 use Rattle.vm_model.specs.Regions.{next_object, next_region}
 use Rattle.vm_model.specs.Server.{first as oldest}
-use Rattle.vm_model.specs.Tasks.{copies, entries_of, host_of, shared}
-use Rattle.vm_legal.specs.Follows.{Follows, FollowsSoFar, IsConsequence, IsGroup, IsRun, fork_head, gets, head, say_head, take_head}
+use Rattle.vm_model.specs.Named.{named}
+use Rattle.vm_model.specs.Tasks.{entries_of, host_of}
+use Rattle.vm_legal.specs.Follows.{Follows, FollowsSoFar, IsConsequence, IsGroup, IsRun, copy_head, fork_head, head, inherits, inherits_all, next_behind, say_head, take_head}
 use Rattle.vm_legal.specs.Frames.{frames_wired}
 use Rattle.vm_legal.specs.Homes.{EntersNext, enters, is_open, starts_copy}
 use Rattle.vm_legal.specs.Outside.{Outside}
@@ -71,17 +74,37 @@ plain events first past none is was =
 no_head : (first past : List Event) → None ≡ Some first → Paired (reverse first ++ past)
 no_head first past is = absurd (cc)
 
-gets_none : (task : TaskId) (rows : List Entry) → EachOf MakesNone (gets task rows)
-gets_none task [] = tt
-gets_none task (row ∷ rows) = ((λ r past. refl), gets_none task rows)
+-- behind a region that is copied stands its entry too: none of the events makes a region
+both_none : (events more : List Event) → EachOf MakesNone events → EachOf MakesNone more → EachOf MakesNone (events ++ more)
+both_none [] more one two = two
+both_none (e ∷ events) more one two = (one.0, both_none events more one.1 two)
 
-forked : (child : TaskId) (x : Option ℕ) (rows : List Entry) (first past : List Event) → fork_head child x rows ≡ Some first → Paired past → Paired (reverse first ++ past)
-forked child None rows first past is was = no_head first past is
-forked child (Some host) rows first past is was = by_test (copies rows == 0) is
+inherits_none : (kind : Inherit) (size : ℕ) (child : TaskId) (next : ℕ) (row : Entry) → EachOf MakesNone (inherits kind size child next row)
+inherits_none Share size child next row = ((λ r past. refl), tt)
+inherits_none Copy size child next row = ((λ r past. refl), ((λ r past. refl), tt))
+inherits_none Never size child next row = tt
+
+all_none : (size : ℕ) (child : TaskId) (next : ℕ) (rows : List Entry) → EachOf MakesNone (inherits_all size child next rows)
+all_none size child next [] = tt
+all_none size child next (row ∷ rows) = both_none (inherits row.inherit size child next row) (inherits_all size child (next_behind row.inherit next) rows) (inherits_none row.inherit size child next row) (all_none size child (next_behind row.inherit next) rows)
+
+forked : (size next : ℕ) (child : TaskId) (x : Option ℕ) (rows : List Entry) (first past : List Event) → fork_head size next child x rows ≡ Some first → Paired past → Paired (reverse first ++ past)
+forked size next child None rows first past is was = no_head first past is
+forked size next child (Some host) rows first past is was =
+    plain (event.TaskMade child (record { 0 = host }) ∷ inherits_all size child next rows) first past ((λ r h. refl), all_none size child next rows) is was
+
+copied : (declared size next address bytes : ℕ) (target : TaskId) (to : ℕ) (x : Option Entry) (first past : List Event) → copy_head declared size next address bytes target to x ≡ Some first → Paired past → Paired (reverse first ++ past)
+copied declared size next address bytes target to None first past is was = no_head first past is
+copied declared size next address bytes target to (Some row) first past is was = by (nat_lt row.region.0 declared) is
   where
-    by_test : (b : Bool) → (if b then Some (event.TaskMade child (record { 0 = host }) ∷ gets child (shared rows)) else None) ≡ Some first → Paired (reverse first ++ past)
-    by_test true is = plain (event.TaskMade child (record { 0 = host }) ∷ gets child (shared rows)) first past ((λ r h. refl), gets_none child (shared rows)) is was
-    by_test false is = no_head first past is
+    events : List Event
+    events =
+        event.RegionCopied (record { 0 = next }) row.region (page_at size address row) (bytes / size)
+        ∷ event.Entered target to bytes (record { 0 = next }) 0 (record { read = true; write = true }) Copy ∷ []
+
+    by : (b : Bool) → (if b then None else Some events) ≡ Some first → Paired (reverse first ++ past)
+    by true is = no_head first past is
+    by false is = plain events first past ((λ r h. refl), ((λ r h. refl), tt)) is was
 
 taken : (channel : Channel) (x : Option Message) (first past : List Event) → take_head channel x ≡ Some first → Paired past → Paired (reverse first ++ past)
 taken channel None first past is was = no_head first past is
@@ -106,7 +129,9 @@ head_paired header before past (command.Allocate task address bytes) first is wa
 head_paired header before past (command.Task task host) first is was = plain (event.TaskMade task host ∷ []) first past ((λ r h. refl), tt) is was
 head_paired header before past (command.Load task address size) first is was = plain (event.BegunLoad task address size ∷ []) first past ((λ r h. refl), tt) is was
 head_paired header before past (command.Store task address size value) first is was = plain (event.BegunStore task address size value ∷ []) first past ((λ r h. refl), tt) is was
-head_paired header before past (command.Fork task child) first is was = forked child (host_of task.0 before) (entries_of header.size task.0 before) first past is was
+head_paired header before past (command.Fork task child) first is was = forked header.size (next_region header before) child (host_of task.0 before) (entries_of header.size task.0 before) first past is was
+head_paired header before past (command.Copy task address bytes target to) first is was =
+    copied (named header) header.size (next_region header before) address bytes target to (entry_at address (entries_of header.size task.0 before)) first past is was
 head_paired header before past (command.Exit task) first is was = plain (event.TaskEnded task ∷ []) first past ((λ r h. refl), tt) is was
 head_paired header before past (command.Deallocate task address bytes) first is was = plain (event.Removed task address bytes ∷ []) first past ((λ r h. refl), tt) is was
 head_paired header before past (command.Protect task address bytes prot) first is was = plain (event.Protected task address bytes prot ∷ []) first past ((λ r h. refl), tt) is was

@@ -1,18 +1,24 @@
--- The home of a region stays what it is, and a region that wasn't made has none.
-use Rattle.std.proofs.Common.{◌≡◌, ℕ, ◌==◌, Bool, true, false, List, [], ◌∷◌, ◌++◌, Option, Some, None, ap, ◌∙◌, arith}
+-- The home of a region stays what it is, and so does that of an object; what wasn't made has none; and a region is in use on its home alone.
+use Rattle.std.proofs.Common.{◌≡◌, ◌≤◌, ◌&&◌, ◌||◌, not, ℕ, ◌==◌, Bool, true, false, List, [], ◌∷◌, ◌++◌, Option, Some, None, ap, refl, sym, ◌∙◌, arith}
 use Rattle.std.proofs.lemmas.Bool.Decides.{nat_tests}
 use Rattle.std.specs.Prelude.{if◌then◌else◌}
 use Rattle.vm_base.specs.declared.ids.Inherit.{Inherit}
+use Rattle.vm_base.specs.declared.ids.ObjectId.{ObjectId}
 use Rattle.vm_base.specs.declared.ids.Prot.{Prot}
 use Rattle.vm_base.specs.declared.ids.RegionId.{RegionId}
 use Rattle.vm_base.specs.declared.ids.TaskId.{TaskId}
 use Rattle.vm_model.specs.declared.event.Event.{Event}
 use Rattle.vm_model.specs.declared.event.Event.TheVariants as event
 use Rattle.vm_model.specs.declared.script.Header.{Header}
+use Rattle.vm_model.specs.Local.{is_on}
+use Rattle.vm_model.specs.Named.{named}
+use Rattle.vm_model.specs.Regions.{next_object, next_region}
 use Rattle.vm_model.specs.Tasks.{host_of}
 use Rattle.vm_legal.specs.Licences.{HasCause}
+use Rattle.vm_legal.specs.Living.{lives_on}
 use Rattle.vm_legal.specs.Outside.{Outside}
-use Rattle.vm_abroad.specs.Home.{AreHomeless, first_of, home_of}
+use Rattle.vm_legal.specs.Used.{in_use, is_kept, made_here}
+use Rattle.vm_abroad.specs.Home.{HaveHomes, first_of, home_at, home_of, object_home, region_for}
 use Rattle.vm_abroad.proofs.Sounds.{unlike}
 
 -- the first host stays
@@ -36,12 +42,122 @@ home_entered h task address bytes region offset prot inherit past none lives =
     ap (λ b. if b then first_of (home_of region.0 past) (host_of task.0 past) else home_of region.0 past) same
     ∙ (ap (λ z. first_of z (host_of task.0 past)) none ∙ lives)
 
--- an entry is on a region that was made
-pub homeless_next : (header : Header) (outside : Outside) (e : Event) (past : List Event) → HasCause header outside e past → AreHomeless header past → AreHomeless header (e ∷ past)
-homeless_next header outside (event.Entered task address bytes region offset prot inherit) past cause homeless r high =
+-- an object keeps the region that it was made for, and its home
+
+region_stays : (o r : ℕ) (e : Event) (past : List Event) → region_for o past ≡ Some r → region_for o (e ∷ past) ≡ Some r
+region_stays o r (event.RegionMade region object pages) past is = first_stays (object.0 == o) r (region_for o past) (Some region.0) is
+region_stays o r (event.Shadowed region new old) past is = first_stays (new.0 == o) r (region_for o past) (Some region.0) is
+region_stays o r other past is = is
+
+pub object_stays : (o h : ℕ) (e : Event) (past : List Event) → object_home o past ≡ Some h → object_home o (e ∷ past) ≡ Some h
+object_stays o h e past is = by (region_for o past) refl is
+  where
+    by : (x : Option ℕ) → region_for o past ≡ x → home_at x past ≡ Some h → object_home o (e ∷ past) ≡ Some h
+    by None none is = absurd (let bad : None ≡ Some h = is in cc)
+    by (Some r) made is = ap (λ z. home_at z (e ∷ past)) (region_stays o r e past made) ∙ home_stays r h e past is
+
+pub objects_stay : (o h : ℕ) (events past : List Event) → object_home o past ≡ Some h → object_home o (events ++ past) ≡ Some h
+objects_stay o h [] past is = is
+objects_stay o h (e ∷ events) past is = object_stays o h e (events ++ past) (objects_stay o h events past is)
+
+itself : (n : ℕ) → (n == n) ≡ true
+itself n = grind (arith, nat_tests)
+
+-- a new object is made for its region
+pub region_made : (region : RegionId) (object : ObjectId) (pages : ℕ) (past : List Event) → region_for object.0 past ≡ None → region_for object.0 (event.RegionMade region object pages ∷ past) ≡ Some region.0
+region_made region object pages past none =
+    ap (λ b. if b then first_of (region_for object.0 past) (Some region.0) else region_for object.0 past) (itself object.0) ∙ ap (λ z. first_of z (Some region.0)) none
+
+pub region_shadowed : (region : RegionId) (new old : ObjectId) (past : List Event) → region_for new.0 past ≡ None → region_for new.0 (event.Shadowed region new old ∷ past) ≡ Some region.0
+region_shadowed region new old past none =
+    ap (λ b. if b then first_of (region_for new.0 past) (Some region.0) else region_for new.0 past) (itself new.0) ∙ ap (λ z. first_of z (Some region.0)) none
+
+-- a shadow is on the host of its region
+pub home_shadowed : (h : ℕ) (region : RegionId) (new old : ObjectId) (past : List Event) → region_for new.0 past ≡ None → home_of region.0 past ≡ Some h → object_home new.0 (event.Shadowed region new old ∷ past) ≡ Some h
+home_shadowed h region new old past none home = ap (λ z. home_at z (event.Shadowed region new old ∷ past)) (region_shadowed region new old past none) ∙ home
+
+-- what has no home yet
+
+region_later : (header : Header) (e : Event) (past : List Event) (r : ℕ) → next_region header (e ∷ past) ≤ r → next_region header past ≤ r
+region_later header (event.RegionMade region object pages) past r high = omega (arith, high)
+region_later header (event.RegionCopied region source offset pages) past r high = omega (arith, high)
+region_later header other past r high = high
+
+object_later : (header : Header) (e : Event) (past : List Event) (o : ℕ) → next_object header (e ∷ past) ≤ o → next_object header past ≤ o
+object_later header (event.RegionMade region object pages) past o high = omega (arith, high)
+object_later header (event.Shadowed region new old) past o high = omega (arith, high)
+object_later header other past o high = high
+
+regions_next : (header : Header) (outside : Outside) (e : Event) (past : List Event) (r : ℕ) → HasCause header outside e past → next_region header past ≤ r → home_of r past ≡ None → home_of r (e ∷ past) ≡ None
+regions_next header outside (event.Entered task address bytes region offset prot inherit) past r cause high none =
     let made = cause.1.made in
     let apart : (region.0 == r) ≡ false = unlike region.0 r (λ same. omega (arith, same, made, high)) in
-    ap (λ b. if b then first_of (home_of r past) (host_of task.0 past) else home_of r past) apart ∙ homeless r high
-homeless_next header outside (event.RegionMade region object pages) past cause homeless r high = homeless r (omega (arith, high))
-homeless_next header outside (event.RegionCopied region source offset pages) past cause homeless r high = homeless r (omega (arith, high))
-homeless_next header outside other past cause homeless r high = homeless r high
+    ap (λ b. if b then first_of (home_of r past) (host_of task.0 past) else home_of r past) apart ∙ none
+regions_next header outside other past r cause high none = none
+
+objects_next : (header : Header) (outside : Outside) (e : Event) (past : List Event) (o : ℕ) → HasCause header outside e past → next_object header (e ∷ past) ≤ o → region_for o past ≡ None → region_for o (e ∷ past) ≡ None
+objects_next header outside (event.RegionMade region object pages) past o cause high none =
+    let number = cause.1.1 in
+    let apart : (object.0 == o) ≡ false = unlike object.0 o (λ same. omega (arith, same, number, high)) in
+    ap (λ b. if b then first_of (region_for o past) (Some region.0) else region_for o past) apart ∙ none
+objects_next header outside (event.Shadowed region new old) past o cause high none =
+    let number = cause.1.next in
+    let apart : (new.0 == o) ≡ false = unlike new.0 o (λ same. omega (arith, same, number, high)) in
+    ap (λ b. if b then first_of (region_for o past) (Some region.0) else region_for o past) apart ∙ none
+objects_next header outside other past o cause high none = none
+
+-- a region that has a home is in use nowhere else
+
+both : (a b : Bool) → (a && b) ≡ true → (a ≡ true) × (b ≡ true)
+both true b is = (refl, is)
+both false b is = absurd (let bad : false ≡ true = is in cc)
+
+same_some : (g h : ℕ) → Some g ≡ Some h → g ≡ h
+same_some g h is = cc
+
+-- the first entry says where, and the others can't say otherwise
+home_first : (header : Header) (g h r region : ℕ) (here : Bool) (b : Bool) (was x : Option ℕ) (past : List Event) → (region == r) ≡ b → ((not (r == region) || here) && in_use header g r past) ≡ true → (here ≡ true → x ≡ Some g)
+    → (if b then first_of was x else was) ≡ Some h → (was ≡ Some h → in_use header g r past ≡ true → g ≡ h) → g ≡ h
+home_first header g h r region here true (Some f) x past test used lives home stays = stays home (both (not (r == region) || here) (in_use header g r past) used).1
+home_first header g h r region here true None x past test used lives home stays =
+    let other : (r == region) ≡ true = grind (arith, nat_tests) in
+    let first : (not (r == region) || here) ≡ true = (both (not (r == region) || here) (in_use header g r past) used).0 in
+    let lives_here : here ≡ true = sym (ap (λ b. not b || here) other) ∙ first in
+    same_some g h (sym (lives lives_here) ∙ home)
+home_first header g h r region here false was x past test used lives home stays = stays home (both (not (r == region) || here) (in_use header g r past) used).1
+
+on_host : (g : ℕ) (x : Option ℕ) → is_on g x ≡ true → x ≡ Some g
+on_host g None is = absurd (let bad : false ≡ true = is in cc)
+on_host g (Some own) is = let same : own ≡ g = grind (arith, nat_tests) in ap Some same
+
+-- a region that is made now has no home
+new_homeless : (header : Header) (g h r n : ℕ) (b here : Bool) (past : List Event) → (r == n) ≡ b → n ≡ next_region header past → HaveHomes header past → (if b then here else in_use header g r past) ≡ true → home_of r past ≡ Some h
+    → (in_use header g r past ≡ true → g ≡ h) → g ≡ h
+new_homeless header g h r n true here past test number homes used home stays =
+    let same : r ≡ n = grind (arith, nat_tests) in
+    absurd (let bad : None ≡ Some h = sym (homes.regions r (omega (arith, same, number))) ∙ home in cc)
+new_homeless header g h r n false here past test number homes used home stays = stays used
+
+stay_next : (header : Header) (outside : Outside) (e : Event) (past : List Event) → HasCause header outside e past → HaveHomes header past → (g h r : ℕ) → named header ≤ r → in_use header g r (e ∷ past) ≡ true → home_of r (e ∷ past) ≡ Some h → g ≡ h
+stay_next header outside (event.RegionMade new object pages) past cause homes g h r temporary used home =
+    new_homeless header g h r new.0 (r == new.0) (made_here g past) past refl cause.1.0 homes used home (λ now. homes.stay g h r temporary now home)
+stay_next header outside (event.RegionCopied new source offset pages) past cause homes g h r temporary used home =
+    new_homeless header g h r new.0 (r == new.0) (in_use header g source.0 past) past refl cause.1.next homes used home (λ now. homes.stay g h r temporary now home)
+stay_next header outside (event.Entered task address bytes region offset prot inherit) past cause homes g h r temporary used home =
+    home_first header g h r region.0 (lives_on g task.0 past) (region.0 == r) (home_of r past) (host_of task.0 past) past refl used (on_host g (host_of task.0 past)) home (λ was now. homes.stay g h r temporary now was)
+stay_next header outside (event.Removed task address bytes) past cause homes g h r temporary used home =
+    homes.stay g h r temporary (both (is_kept header r (event.Removed task address bytes ∷ past)) (in_use header g r past) used).1 home
+stay_next header outside (event.TaskEnded task) past cause homes g h r temporary used home =
+    homes.stay g h r temporary (both (is_kept header r (event.TaskEnded task ∷ past)) (in_use header g r past) used).1 home
+stay_next header outside (event.Failed task object page) past cause homes g h r temporary used home =
+    homes.stay g h r temporary (both (is_kept header r (event.Failed task object page ∷ past)) (in_use header g r past) used).1 home
+stay_next header outside other past cause homes g h r temporary used home = homes.stay g h r temporary used home
+
+-- what has a home was made, whatever is added with its cause
+pub homes_next : (header : Header) (outside : Outside) (e : Event) (past : List Event) → HasCause header outside e past → HaveHomes header past → HaveHomes header (e ∷ past)
+homes_next header outside e past cause homes =
+    record {
+      regions = λ r high. let old = region_later header e past r high in regions_next header outside e past r cause old (homes.regions r old);
+      objects = λ o high. objects_next header outside e past o cause high (homes.objects o (object_later header e past o high));
+      stay = stay_next header outside e past cause homes;
+    }

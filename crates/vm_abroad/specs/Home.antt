@@ -1,10 +1,12 @@
--- On which host a region is: that of the task that first got an entry on it.
-use Rattle.std.specs.Prelude.{ℕ, ◌≡◌, ◌≤◌, ◌==◌, List, [], ◌∷◌, Option, Some, None, if◌then◌else◌}
+-- On which host a region is, and an object: a region on that of the task that first got an entry on it, an object on that of the region that it was made for.
+use Rattle.std.specs.Prelude.{ℕ, ◌≡◌, ◌≤◌, ◌==◌, true, List, [], ◌∷◌, Option, Some, None, if◌then◌else◌}
 use Rattle.vm_model.specs.declared.event.Event.{Event}
 use Rattle.vm_model.specs.declared.event.Event.TheVariants as event
 use Rattle.vm_model.specs.declared.script.Header.{Header}
-use Rattle.vm_model.specs.Regions.{next_region}
+use Rattle.vm_model.specs.Named.{named}
+use Rattle.vm_model.specs.Regions.{next_object, next_region}
 use Rattle.vm_model.specs.Tasks.{host_of}
+use Rattle.vm_legal.specs.Used.{in_use}
 
 abbrev pub first_of : Option ℕ → Option ℕ → Option ℕ
 first_of None later = later
@@ -16,6 +18,23 @@ home_of r [] = None
 home_of r (event.Entered task address bytes region offset prot inherit ∷ past) = if region.0 == r then first_of (home_of r past) (host_of task.0 past) else home_of r past
 home_of r (e ∷ past) = home_of r past
 
--- no region has a home that wasn't made
-abbrev pub AreHomeless : Header → List Event → Type 0
-AreHomeless header past = (r : ℕ) → next_region header past ≤ r → home_of r past ≡ None
+-- the region that an object was made for; None where it wasn't made
+abbrev pub region_for : ℕ → List Event → Option ℕ
+region_for o [] = None
+region_for o (event.RegionMade region object pages ∷ past) = if object.0 == o then first_of (region_for o past) (Some region.0) else region_for o past
+region_for o (event.Shadowed region new old ∷ past) = if new.0 == o then first_of (region_for o past) (Some region.0) else region_for o past
+region_for o (e ∷ past) = region_for o past
+
+abbrev pub home_at : Option ℕ → List Event → Option ℕ
+home_at None past = None
+home_at (Some r) past = home_of r past
+
+-- that of the region that an object was made for
+abbrev pub object_home : ℕ → List Event → Option ℕ
+object_home o past = home_at (region_for o past) past
+
+-- no region has a home that wasn't made, and no object has a region; and a region that has a home is in use nowhere else
+pub record HaveHomes (header : Header) (past : List Event) : Type 0 where
+  pub regions : (r : ℕ) → next_region header past ≤ r → home_of r past ≡ None
+  pub objects : (o : ℕ) → next_object header past ≤ o → region_for o past ≡ None
+  pub stay : (g h r : ℕ) → named header ≤ r → in_use header g r past ≡ true → home_of r past ≡ Some h → g ≡ h

@@ -5,21 +5,24 @@ use Rattle.vm_model.specs.declared.message.Message.TheVariants as message
 use Rattle.vm_model.specs.declared.script.Header.{Header}
 use Rattle.vm_model.specs.Local.{Local}
 use Rattle.vm_model.specs.Named.{named}
-use Rattle.vm_model.specs.Waiting.{Access}
-use Rattle.vm_legal.specs.Accesses.{Comes, Waits, page_of}
+use Rattle.vm_model.specs.Waiting.{Access, is_store}
+use Rattle.vm_legal.specs.Accesses.{Comes, HasPlace, Waits, page_of}
 use Rattle.vm_legal.specs.Frames.{frames_free}
 use Rattle.vm_legal.specs.Licences.{LockRequest, created, gives_back, is_paged, lock_taken, up, zeroes}
 use Rattle.vm_legal.specs.Outside.{is_wild}
 use Rattle.vm_legal.specs.Pagers.{LacksSlot}
+use Rattle.vm_legal.specs.Prompt.{Awaits}
 use Rattle.vm_legal.specs.Steps.{answers, absence_taken, before_step, completes, drops_page, error_taken, fails_access, fails_task, lacks_slot, readies, returns_page, since, taken_letter}
 use Rattle.vm_legal.specs.Walks.{page_on}
 
--- a task of the host waits with an access whose walk stops at the place
+-- a task of the host waits with an access whose walk stops at the place, and which awaits nothing at another place of its page
 pub record WaitsAt (header : Header) (host task object page : ℕ) (past : List Event) : Type 0 where
   pub access : Access
   pub waits : Waits header task access past
   pub on_host : waits.at.host ≡ host
   pub comes : Comes header host waits.at.entry.region.0 (page_of header task access past waits.at.entry) object page past
+  pub only : (other other_page : ℕ) → HasPlace header waits.at.entry.region.0 (page_of header task access past waits.at.entry) other other_page past
+      → Awaits header host (is_store access) other other_page past → (other ≡ object) × (other_page ≡ page)
 
 -- what the host had of a page when the step took a lock_request
 abbrev pub was_on : Header → LockRequest → ℕ → List Event → Local

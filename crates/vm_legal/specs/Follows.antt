@@ -1,7 +1,9 @@
 -- What the commands make of a history: a group of events for each. Commands too have the newest first.
-use Rattle.std.specs.Prelude.{ℕ, ◌+◌, ◌-◌, ◌/◌, ◌≡◌, ◌⊎◌, ◌==◌, true, List, [], ◌∷◌, ◌++◌, reverse, if◌then◌else◌, Option, Some, None, MatchOption, IfNone}
+use Rattle.std.specs.Prelude.{ℕ, ◌+◌, ◌-◌, ◌/◌, ◌≡◌, ◌⊎◌, true, List, [], ◌∷◌, ◌++◌, reverse, if◌then◌else◌, nat_lt, Option, Some, None, MatchOption, IfNone}
 use Rattle.vm_base.specs.declared.entry.Entry.{Entry}
-use Rattle.vm_base.specs.declared.ids.Inherit.TheVariants.{Copy}
+use Rattle.vm_base.specs.declared.ids.Inherit.{Inherit}
+use Rattle.vm_base.specs.declared.ids.Inherit.TheVariants.{Share, Copy, Never}
+use Rattle.vm_base.specs.Entries.{entry_at, page_at}
 use Rattle.vm_base.specs.declared.ids.HostId.{HostId}
 use Rattle.vm_base.specs.declared.ids.ObjectId.{ObjectId}
 use Rattle.vm_base.specs.declared.ids.TaskId.{TaskId}
@@ -18,7 +20,8 @@ use Rattle.vm_model.specs.Channels.{queue}
 use Rattle.vm_model.specs.Controls.{live_control}
 use Rattle.vm_model.specs.Regions.{next_region, next_object}
 use Rattle.vm_model.specs.Server.{first}
-use Rattle.vm_model.specs.Tasks.{host_of, entries_of, copies, shared}
+use Rattle.vm_model.specs.Named.{named}
+use Rattle.vm_model.specs.Tasks.{host_of, entries_of}
 use Rattle.vm_legal.specs.Accesses.{FindsPage}
 use Rattle.vm_legal.specs.Frames.{frames_wired}
 use Rattle.vm_legal.specs.Licences.{AllLicensed}
@@ -30,15 +33,40 @@ use Rattle.vm_legal.specs.Steps.{departures, takings}
 use Rattle.vm_legal.specs.Stretches.{EachOf}
 use Rattle.vm_legal.specs.Undelivered.{undelivered}
 
--- a task gets these entries
-abbrev pub gets : TaskId → List Entry → List Event
-gets task [] = []
-gets task (row ∷ rows) = event.Entered task row.address row.bytes row.region row.offset row.prot row.inherit ∷ gets task rows
+-- what a child gets of an entry of the forked task, where the next region has this number: the same entry, where it is shared; one on a copy of its
+-- pages, where it is copied
+abbrev pub inherits : Inherit → ℕ → TaskId → ℕ → Entry → List Event
+inherits Share size child next row = event.Entered child row.address row.bytes row.region row.offset row.prot row.inherit ∷ []
+inherits Copy size child next row =
+    event.RegionCopied (record { 0 = next }) row.region row.offset (row.bytes / size)
+    ∷ event.Entered child row.address row.bytes (record { 0 = next }) 0 row.prot row.inherit ∷ []
+inherits Never size child next row = []
 
--- a forked task is made on the host of the other, whose entries are these; where some of them are to be copied the fork is never run
-abbrev pub fork_head : TaskId → Option ℕ → List Entry → Option (List Event)
-fork_head child None rows = None
-fork_head child (Some host) rows = if copies rows == 0 then Some (event.TaskMade child (record { 0 = host }) ∷ gets child (shared rows)) else None
+-- the number of the next region behind that
+abbrev pub next_behind : Inherit → ℕ → ℕ
+next_behind Share next = next
+next_behind Copy next = next + 1
+next_behind Never next = next
+
+-- what it gets of all of them, by rising address
+abbrev pub inherits_all : ℕ → TaskId → ℕ → List Entry → List Event
+inherits_all size child next [] = []
+inherits_all size child next (row ∷ rows) = inherits row.inherit size child next row ++ inherits_all size child (next_behind row.inherit next) rows
+
+-- a forked task is made on the host of the other, whose entries are these
+abbrev pub fork_head : ℕ → ℕ → TaskId → Option ℕ → List Entry → Option (List Event)
+fork_head size next child None rows = None
+fork_head size next child (Some host) rows = Some (event.TaskMade child (record { 0 = host }) ∷ inherits_all size child next rows)
+
+-- a task gets a range on a copy of pages of a temporary region, those at an address of an entry; of a declared object's region no copy is run
+abbrev pub copy_head : ℕ → ℕ → ℕ → ℕ → ℕ → TaskId → ℕ → Option Entry → Option (List Event)
+copy_head declared size next address bytes target to None = None
+copy_head declared size next address bytes target to (Some row) =
+    if nat_lt row.region.0 declared then None
+    else
+    Some
+    (event.RegionCopied (record { 0 = next }) row.region (page_at size address row) (bytes / size)
+    ∷ event.Entered target to bytes (record { 0 = next }) 0 (record { read = true; write = true }) Copy ∷ [])
 
 -- the oldest message of a channel is taken, where there is one
 abbrev pub take_head : Channel → Option Message → Option (List Event)
@@ -59,7 +87,7 @@ head header past (command.Allocate task address bytes) =
     ∷ event.Entered task address bytes (record { 0 = next_region header past }) 0 (record { read = true; write = true }) Copy ∷ [])
 head header past (command.Load task address size) = Some (event.BegunLoad task address size ∷ [])
 head header past (command.Store task address size value) = Some (event.BegunStore task address size value ∷ [])
-head header past (command.Fork task child) = fork_head child (host_of task.0 past) (entries_of header.size task.0 past)
+head header past (command.Fork task child) = fork_head header.size (next_region header past) child (host_of task.0 past) (entries_of header.size task.0 past)
 head header past (command.Exit task) = Some (event.TaskEnded task ∷ [])
 head header past (command.Deallocate task address bytes) = Some (event.Removed task address bytes ∷ [])
 head header past (command.Protect task address bytes prot) = Some (event.Protected task address bytes prot ∷ [])
@@ -73,7 +101,8 @@ head header past (command.FailFiles count) = Some []
 head header past (command.FailPaging count) = Some []
 head header past (command.Say host object m) = say_head host object m (live_control host.0 object.0 past)
 head header past (command.Map task address bytes object offset) = None
-head header past (command.Copy task address bytes target to) = None
+head header past (command.Copy task address bytes target to) =
+    copy_head (named header) header.size (next_region header past) address bytes target to (entry_at address (entries_of header.size task.0 past))
 head header past (command.Clean object page count flush) = None
 
 -- the event is no part of a head, nor a line
