@@ -1,6 +1,5 @@
 -- The places of chains are pages of their objects.
 use Rattle.std.proofs.Common.{◌≡◌, ℕ, ◌+◌, ◌<◌, Option, Some, None, ap, ◌∙◌, subst, arith}
-use Rattle.std.specs.Prelude.{IfSome}
 use Rattle.vm_base.specs.declared.ids.PageKey.{PageKey}
 use Rattle.vm_fault.specs.Stops.{Stands}
 use Rattle.vm_fault.specs.Walks.{ChainsFit}

@@ -1,4 +1,5 @@
 pub mod Faults
 pub mod Rooms
+pub mod Sources
 pub mod Stops
 pub mod Walks

@@ -63,7 +63,7 @@ pub fn fault(
 }
 
 // Where an access leads that its entry allows.
-fn find(maps: &Maps, task: TaskId, address: u64, need: Access) -> Place
+pub fn find(maps: &Maps, task: TaskId, address: u64, need: Access) -> Place
     requires { IsAllowed maps.now task.0 address need }
     ensures { (entry : Row) → entry_at address (rows_in task.0 maps.now) ≡ Some entry → result ≡ place_at maps.now.size address entry }
 {

@@ -7,9 +7,11 @@ mod faults;
 mod going;
 mod running;
 mod shadowing;
+mod sources;
 mod step;
 mod walking;
 
 pub use faults::fault;
+pub use sources::source;
 pub use step::FaultStep;
 pub use vm_waits::Want;

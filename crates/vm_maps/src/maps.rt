@@ -1,7 +1,7 @@
 // The maps of all tasks.
 ghost use Rattle.std.specs.Prelude.{◌≡◌, ◌≤◌, [], Some, None, IfOk, IfSome, IsOk, IsSome, IsSomeAnd, IsTrue, OnErr, OnOk, is_some, length, reverse};
 ghost use Rattle.std.specs.Option.{option_map};
-ghost use Rattle.vm_base.specs.Entries.{AreEntries, by_address, entered, inherited, is_range, mapping, most_entries, parts_in, protected, removed, rewritten};
+ghost use Rattle.vm_base.specs.Entries.{AreEntries, by_address, entered, entry_at, inherited, is_range, mapping, most_entries, parts_in, protected, removed, rewritten};
 ghost use Rattle.vm_maps.specs.Judge.{judged, looked_up};
 ghost use Rattle.vm_maps.specs.Maps.{ChangesOnly, IsNewEntry, Remaps, entries_in, parts_for, rows_in, with_inherit, with_prot};
 ghost use Rattle.vm_maps.specs.Rows.{becomes, changed_by};
@@ -9,12 +9,13 @@ ghost use Rattle.vm_maps.specs.declared.change.MapKind.TheVariants as kind;
 
 use crate::judge::{judge_change, look_up};
 use crate::rewrite::{put_entry, rewrite};
+use crate::search::entry_at;
 use crate::task_map::{TaskMap, find};
 use crate::{MapChange, Place};
 use std::alloc::Global;
 use std::marker::Model;
 use vm_base::limits::MOST_ENTRIES;
-use vm_base::{Access, Code, Entries, NoMemory, PageSize, TaskId};
+use vm_base::{Access, Code, Entries, Entry, NoMemory, PageSize, TaskId};
 
 /// The address maps of tasks: what `vm_allocate`, `vm_map`, `vm_deallocate`, `vm_protect` and
 /// `vm_inherit` of the Mach 3 kernel interfaces do to a task's entries.
@@ -209,6 +210,14 @@ impl Maps {
         ensures { result ≡ looked_up self.now.size address need (rows_in task.0 self.now) }
     {
         look_up(self.size, self.entries(task), address, need)
+    }
+
+    /// The entry of a task that holds an address; None where none does.
+    pub fn entry(&self, task: TaskId, address: u64) -> Option<Entry>
+        requires { IsSome (entries_in task.0 self.now) }
+        ensures { result ≡ entry_at address (rows_in task.0 self.now) }
+    {
+        entry_at(self.entries(task), address)
     }
 
     // Cuts a task's entries at the ends of the range, and changes what lies in it.

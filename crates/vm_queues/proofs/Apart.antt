@@ -1,10 +1,10 @@
 -- Frames that stand on a list once each, and the pages in them.
-use Rattle.std.proofs.Common.{ℕ, zero, suc, ◌≡◌, ◌≢◌, ◌<◌, ◌≤◌, ◌==◌, ◌||◌, Bool, true, false, List, [], ◌∷◌, ◌++◌, length, get_or, set, map, refl, ap, arith}
+use Rattle.std.proofs.Common.{ℕ, zero, suc, ◌≡◌, ◌≢◌, ◌<◌, ◌≤◌, ◌==◌, ◌||◌, Bool, true, false, List, [], ◌∷◌, ◌++◌, length, get_or, set, map, refl, ap, arith, ◌∙◌}
 use Rattle.std.proofs.lemmas.Bool.Decides.{nat_tests}
 use Rattle.std.proofs.lemmas.List.{get_or-set_other}
 use Rattle.std.specs.Prelude.{filter, not}
 use Rattle.vm_base.specs.declared.ids.FrameNo.{FrameNo}
-use Rattle.vm_queues.specs.Queues.{has_page, is_skipped, marked, pages_except}
+use Rattle.vm_queues.specs.Queues.{EachOnce, has_page, is_skipped, marked, pages_except}
 use Rattle.vm_queues.specs.Kept.{FramesAreApart, pages, without_frame}
 
 pub skipped_append : (xs ys : List FrameNo) (f : ℕ) → is_skipped (xs ++ ys) f ≡ (is_skipped xs f || is_skipped ys f)
@@ -136,3 +136,8 @@ filter_cons false f g fs is rest = rw (is, rest) refl
 pub filtered : (f : ℕ) (fs : List FrameNo) → filter (λ (g : FrameNo). not (g.0 == f)) fs ≡ without_frame f fs
 filtered f [] = refl
 filtered f (g ∷ fs) = filter_cons (g.0 == f) f g fs refl (filtered f fs)
+
+-- so each page stands there once
+pub pages_once : (n : ℕ) (marks : List Bool) (fs : List FrameNo) → FramesAreApart n fs → EachOnce (pages marks fs)
+pages_once n marks [] apart = tt
+pages_once n marks (f ∷ fs) apart = (has_pages marks f.0 fs ∙ apart.1, pages_once n marks fs apart.2)

@@ -110,3 +110,8 @@ GainsPage f old new = (other : ℕ) → is_queued new other ≡ (if f == other t
 -- this page alone has left the lists
 abbrev pub LosesPage : ℕ → Queues → Queues → Type 0
 LosesPage f old new = (other : ℕ) → is_queued new other ≡ (if f == other then false else is_queued old other)
+
+-- each page stands there once
+abbrev pub EachOnce : List Page → Type 0
+EachOnce [] = Unit {0}
+EachOnce (page ∷ pages) = (has_page pages page.frame ≡ false) × EachOnce pages

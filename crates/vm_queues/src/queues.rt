@@ -1,6 +1,6 @@
 // The queues of the pages that are here.
-ghost use Rattle.std.specs.Prelude.{◌≡◌, ◌<◌, ℕ, [], true, false, IfOk, MatchOption, if◌then◌else◌};
-ghost use Rattle.vm_queues.specs.Queues.{AllSkipped, GainsPage, IsEmpty, KeepsPages, LosesPage, Queues, added, balanced, is_queued, is_skipped, queues_except, spared, victim_frame, with_reference};
+ghost use Rattle.std.specs.Prelude.{◌≡◌, ◌<◌, ◌++◌, ℕ, [], true, false, IfOk, MatchOption, if◌then◌else◌};
+ghost use Rattle.vm_queues.specs.Queues.{AllSkipped, EachOnce, GainsPage, IsEmpty, KeepsPages, LosesPage, Queues, added, balanced, is_queued, is_skipped, queues_except, spared, victim_frame, with_reference};
 
 use crate::lists::{Lists, balance, choose, drop_frame, empty, spare};
 use std::alloc::Global;
@@ -89,5 +89,12 @@ impl PageQueues {
         balance(&mut self.lists);
         spare(&mut self.lists);
         choose(&self.lists, skip)
+    }
+
+    /// A law of the lists, which does nothing: each page stands there once.
+    pub fn stand_once(&self)
+        ensures { EachOnce (self.now.inactive ++ self.now.active) }
+    {
+        let _ = &self.lists;
     }
 }
