@@ -1,0 +1,92 @@
+-- How the regions and objects of a host go on, where regions count other entries, or an object has another control.
+use Rattle.std.proofs.Common.{◌≡◌, ℕ, ◌+◌, ◌<◌, ◌≤◌, refl, ap, sym, ◌∙◌, subst, Some, None, Option}
+use Rattle.std.specs.Prelude.{IsSome}
+use Rattle.vm_model.specs.Regions.{Backing, Region}
+use Rattle.vm_objects.specs.Objects.{ObjectTable, PutsObject, object_at}
+use Rattle.vm_objects.specs.declared.row.ObjectRow.{ObjectRow}
+use Rattle.vm_parts.proofs.Fitting.{same_pages}
+use Rattle.vm_parts.proofs.Rows.{some_is}
+use Rattle.vm_parts.specs.Fits.{object_pages}
+use Rattle.vm_shadow.specs.Chains.{ChainTable, region_at, shadow_at}
+use Rattle.vm_shadow.specs.declared.ids.Ids.{Ids}
+use Rattle.vm_shadow.specs.declared.region_row.RegionRow.{RegionRow}
+use Rattle.vm_state.proofs.Knowing.{counts_still, fits_still, known_apart, known_still, referred_before, temporary_still, unknown_still}
+use Rattle.vm_state.proofs.Counting.{references_same}
+use Rattle.vm_state.specs.Places.{with_entries}
+use Rattle.vm_state.specs.References.{is_backing, is_over, references_to}
+use Rattle.vm_state.specs.Stands.{HasRegions, IsTemporary}
+use Rattle.vm_terminate.specs.Finishes.{IsReferred}
+
+-- regions count other entries, and are as they were else; and so is what stands under objects
+pub record SameButEntries (old new : ChainTable) : Type 0 where
+  pub count : ℕ → ℕ
+  pub at : (r : ℕ) → region_at new r ≡ with_entries (count r) (region_at old r)
+  pub shadows : (o : ℕ) → shadow_at new o ≡ shadow_at old o
+
+-- the row of a region that counted other entries
+record IsRecounted (row : RegionRow) (before : Option RegionRow) : Type 0 where
+  was : RegionRow
+  found : before ≡ Some was
+  count : ℕ
+  is : row ≡ record was { entries = count }
+
+recounted : (n : ℕ) (row : RegionRow) (before : Option RegionRow) → with_entries n before ≡ Some row → IsRecounted row before
+recounted n row None is = absurd (let bad : None ≡ Some row = is in cc)
+recounted n row (Some was) is = record { was = was; found = refl; count = n; is = some_is row (record was { entries = n }) (sym is) }
+
+over_recounted : (x n : ℕ) (row : Option RegionRow) → is_over x (with_entries n row) ≡ is_over x row
+over_recounted x n None = refl
+over_recounted x n (Some row) = refl
+
+pub regions_recounted : (old new : ChainTable) (os : ObjectTable) (ids : Ids) (region_from : ℕ → Region) (backing_from : ℕ → Backing) (rm om marked : ℕ) → SameButEntries old new
+    → HasRegions old os ids region_from backing_from rm om marked → HasRegions new os ids region_from backing_from rm om marked
+regions_recounted old new os ids region_from backing_from rm om marked same has =
+    record {
+      region = has.region;
+      object = has.object;
+      marks = has.marks;
+      few = has.few;
+      rows = λ r row found. let b = before r row found in subst (λ (z : RegionRow). region_from r ≡ record { mark = z.marked; top = z.top.0; shift = z.shift; pages = z.pages }) (sym b.is) (has.rows r b.was b.found);
+      shadows = λ o row found. has.shadows o row (sym (same.shadows o) ∙ found);
+      older = λ o row found. has.older o row (sym (same.shadows o) ∙ found);
+      bottoms = λ o referred none. has.bottoms o referred (sym (same.shadows o) ∙ none);
+      unmade = λ r le. same.at r ∙ ap (with_entries (same.count r)) (has.unmade r le);
+      unknown = has.unknown;
+      tops = λ r row found. let b = before r row found in subst (λ (z : RegionRow). IsSome (object_at os z.top.0)) (sym b.is) (has.tops r b.was b.found);
+      unders = λ o row found. has.unders o row (sym (same.shadows o) ∙ found);
+      fits = record {
+        tops = λ r row found. let b = before r row found in subst (λ (z : RegionRow). z.shift + z.pages ≤ object_pages os z.top.0) (sym b.is) (has.fits.tops r b.was b.found);
+        unders = λ o row found. has.fits.unders o row (sym (same.shadows o) ∙ found);
+      };
+      temporary = has.temporary;
+      counts = λ o known found. has.counts o known found ∙ sym (references_same old new rm om o (λ r. ap (is_over o) (same.at r) ∙ over_recounted o (same.count r) (region_at old r)) (λ s. ap (is_backing o) (same.shadows s)));
+    }
+  where
+    before : (r : ℕ) (row : RegionRow) → region_at new r ≡ Some row → IsRecounted row (region_at old r)
+    before r row found = recounted (same.count r) row (region_at old r) (sym (same.at r) ∙ found)
+
+-- one object is known otherwise, but for its pages and how often it is referred to
+pub regions_controlled : (o : ℕ) (row row2 : ObjectRow) (cs : ChainTable) (os os2 : ObjectTable) (ids : Ids) (region_from : ℕ → Region) (backing_from : ℕ → Backing) (rm om marked : ℕ)
+    → object_at os o ≡ Some row → PutsObject o (Some row2) os os2 → row2.references ≡ row.references → row2.pages ≡ row.pages → IsTemporary row2
+    → HasRegions cs os ids region_from backing_from rm om marked → HasRegions cs os2 ids region_from backing_from rm om marked
+regions_controlled o row row2 cs os os2 ids region_from backing_from rm om marked found put references pages temporary has =
+    record {
+      region = has.region;
+      object = has.object;
+      marks = has.marks;
+      few = has.few;
+      rows = has.rows;
+      shadows = has.shadows;
+      older = has.older;
+      bottoms = λ x referred none. has.bottoms x (referred_before o row2 os os2 put was x referred) none;
+      unmade = has.unmade;
+      unknown = λ x le. unknown_still o row2 os os2 put x (known_apart o x row os found (has.unknown x le)) (has.unknown x le);
+      tops = λ r region there. known_still o row2 os os2 put region.top.0 (has.tops r region there);
+      unders = λ x shadow there. let both = has.unders x shadow there in (known_still o row2 os os2 put x both.0, known_still o row2 os os2 put shadow.under.0 both.1);
+      fits = fits_still cs os os2 (same_pages os os2 o row row2 found pages put) has.fits;
+      temporary = temporary_still o row2 os os2 put temporary has.temporary;
+      counts = counts_still o row2 os os2 (references_to cs rm om) (references_to cs rm om) put (references ∙ has.counts o row found) (λ x apart. refl) has.counts;
+    }
+  where
+    was : 0 < row2.references → IsReferred os o
+    was some = record { row = row; known = found; some = subst (λ (z : ℕ). 0 < z) references some }

@@ -1,0 +1,224 @@
+-- The accesses that wait, once one of them waits for something else or is over, or a page has come or was asked for.
+use Rattle.std.proofs.Common.{List, None, Option, Some, ap, false, inl, inr, refl, subst, sym, true, ℕ, ◌==◌, ◌∙◌, ◌≡◌}
+use Rattle.std.proofs.lemmas.Bool.Decides.{eqb_tells}
+use Rattle.std.specs.Prelude.{if◌then◌else◌}
+use Rattle.vm_base.specs.declared.ids.PageKey.{PageKey}
+use Rattle.vm_maps.specs.Judge.{IsAllowed}
+use Rattle.vm_maps.specs.Maps.{Mapped}
+use Rattle.vm_model.specs.Waiting.{Access}
+use Rattle.vm_objects.specs.Objects.{ObjectTable, object_at}
+use Rattle.vm_parts.proofs.Rows.{row_cases, some_is}
+use Rattle.vm_resident.specs.Resident.{PutsRow, ResidentTable, page_key, row_at}
+use Rattle.vm_resident.specs.declared.page_row.PageRow.{PageRow}
+use Rattle.vm_shadow.specs.Chains.{ChainTable}
+use Rattle.vm_state.specs.Pagers.{ready_in}
+use Rattle.vm_state.specs.Waiters.{Asker, HasWaiters, IsAsked, IsPlaceOf, Reason, waiting_in}
+use Rattle.vm_supply.specs.declared.woken.Woken.{Woken}
+use Rattle.vm_supply.specs.declared.woken.Woken.TheVariants as woken
+use Rattle.vm_waits.proofs.Entries.{puts_cases, puts_elsewhere, puts_here}
+use Rattle.vm_waits.specs.Waits.{PutsEntry, entry, is_again, is_frame, with_on}
+use Rattle.vm_waits.specs.Wants.{IsSizedWant, address_in, need_in}
+use Rattle.vm_waits.specs.declared.waiting.On.{On}
+use Rattle.vm_waits.specs.declared.waiting.On.TheVariants as on
+use Rattle.vm_waits.specs.declared.waiting.Waiting.{Waiting}
+use Rattle.vm_waits.specs.declared.waiting.Want.{Want}
+use Rattle.vm_state.proofs.Waited.{AreTold}
+
+-- the access waits for no page that is asked
+pub record AsksNone (resident : ResidentTable) (reason : On) : Type 0 where
+  pub at : (o p : ℕ) (row : PageRow) → row_at resident o p ≡ Some row → row.here ≡ false → reason ≡ on.Page (page_key o p) → ⊥
+
+-- who is to be run again waits for no page
+pub asks_none_again : (rs : ResidentTable) (reason : On) → is_again reason ≡ true → AsksNone rs reason
+asks_none_again rs reason is = record { at = λ o p row found away same. absurd (let bad : false ≡ true = ap is_again (sym same) ∙ is in cc) }
+
+-- nor does who waits for a frame
+pub asks_none_frame : (rs : ResidentTable) (reason : On) → is_frame reason ≡ true → AsksNone rs reason
+asks_none_frame rs reason is = record { at = λ o p row found away same. absurd (let bad : false ≡ true = ap is_frame (sym same) ∙ is in cc) }
+
+-- the page, if it has a row, is here
+pub record IsNotAsked (found : Option PageRow) : Type 0 where
+  pub here : (row : PageRow) → found ≡ Some row → row.here ≡ true
+
+pub none_not_asked : (found : Option PageRow) → found ≡ None → IsNotAsked found
+none_not_asked found none = record { here = λ row is. absurd (let bad : None ≡ Some row = sym none ∙ is in cc) }
+
+pub here_not_asked : (found : Option PageRow) (row : PageRow) → found ≡ Some row → row.here ≡ true → IsNotAsked found
+here_not_asked found row some here = record { here = λ other is. ap (λ z. z.here) (some_is other row (sym is ∙ some)) ∙ here }
+
+-- a page that is asked is not one that isn't
+pub asked_apart : {B : Type 0} (found : Option PageRow) (row : PageRow) → IsNotAsked found → found ≡ Some row → row.here ≡ false → B
+asked_apart found row not is away = absurd (let bad : true ≡ false = sym (not.here row is) ∙ away in cc)
+
+pub row_moved : (rs : ResidentTable) (o p o2 p2 : ℕ) → o ≡ o2 → p ≡ p2 → row_at rs o p ≡ row_at rs o2 p2
+row_moved rs o p o2 p2 same also = ap (λ z. row_at rs z p) same ∙ ap (λ z. row_at rs o2 z) also
+
+-- an asked page stays so while another changes
+pub asked_kept : (o p : ℕ) (x : Option PageRow) (rs rs2 : ResidentTable) (o2 p2 : ℕ) → PutsRow o p x rs rs2 → IsNotAsked (row_at rs o p) → IsAsked rs o2 p2 → IsAsked rs2 o2 p2
+asked_kept o p x rs rs2 o2 p2 put not asked = elim (row_cases o p x rs rs2 put o2 p2) [
+  | inl now ↦ asked_apart (row_at rs o p) asked.row not (row_moved rs o p o2 p2 now.object now.page ∙ asked.found) asked.away
+  | inr other ↦ record { row = asked.row; found = other.is ∙ asked.found; away = asked.away }
+]
+
+-- what an access waits for is so still
+pub reason_kept : (maps : Mapped) (chains : ChainTable) (rs rs2 : ResidentTable) (os : ObjectTable) (t : ℕ) (what : Want) (reason : On) → ((o p : ℕ) → IsAsked rs o p → IsAsked rs2 o p)
+    → Reason maps chains rs os t what reason → Reason maps chains rs2 os t what reason
+reason_kept maps chains rs rs2 os t what on.Again kept is = tt
+reason_kept maps chains rs rs2 os t what (on.Ready object) kept is = is
+reason_kept maps chains rs rs2 os t what (on.Page key) kept is = (is.0, kept key.object.0 key.page.0 is.1)
+reason_kept maps chains rs rs2 os t what on.Frame kept is = tt
+
+-- a page has another row, or none, and was not asked before, nor is it now
+pub waiters_page : (maps : Mapped) (chains : ChainTable) (rs rs2 : ResidentTable) (os : ObjectTable) (rows : List Waiting) (who : Woken) (at : ℕ → Option Access) (o p : ℕ) (x : Option PageRow)
+    → HasWaiters maps chains rs os rows who at → PutsRow o p x rs rs2 → IsNotAsked (row_at rs o p) → IsNotAsked x → HasWaiters maps chains rs2 os rows who at
+waiters_page maps chains rs rs2 os rows who at o p x has put before now =
+    record {
+      is = has.is;
+      allowed = has.allowed;
+      sized = has.sized;
+      reasons = λ t w is asleep. reason_kept maps chains rs rs2 os t w.want w.on (λ o2 p2 asked. asked_kept o p x rs rs2 o2 p2 put before asked) (has.reasons t w is asleep);
+      aims = has.aims;
+      askers = λ o2 p2 row found away. elim (row_cases o p x rs rs2 put o2 p2) [
+        | inl here ↦ asked_apart x row now (sym here.is ∙ found) away
+        | inr other ↦ has.askers o2 p2 row (sym other.is ∙ found) away
+      ];
+      ready = λ o2 p2 row found away. elim (row_cases o p x rs rs2 put o2 p2) [
+        | inl here ↦ asked_apart x row now (sym here.is ∙ found) away
+        | inr other ↦ has.ready o2 p2 row (sym other.is ∙ found) away
+      ];
+    }
+
+-- what the row of an access has to be, but for its reason
+pub record Suits (maps : Mapped) (task : ℕ) (w : Waiting) : Type 0 where
+  pub allowed : IsAllowed maps task (address_in w.want) (need_in w.want)
+  pub sized : IsSizedWant w.want
+
+-- whom the others ask for is asked for still
+pub asker_kept : (rows rows2 : List Waiting) (t : ℕ) (was : Waiting) (x : Option Waiting) (o p : ℕ) → PutsEntry t x rows rows2 → entry rows t ≡ Some was → (was.on ≡ on.Page (page_key o p) → ⊥) → Asker rows o p → Asker rows2 o p
+asker_kept rows rows2 t was x o p put is not asker = elim (eqb_tells t asker.task) [
+  | inl same ↦
+      let it : was ≡ asker.row = some_is was asker.row (sym is ∙ (ap (λ z. entry rows z) same.1 ∙ asker.is)) in
+      absurd (not (ap (λ (z : Waiting). z.on) it ∙ asker.waits))
+  | inr apart ↦ record { task = asker.task; row = asker.row; is = puts_elsewhere t asker.task x rows rows2 put apart.1 ∙ asker.is; waits = asker.waits }
+]
+
+-- one access is over, or waits for something else, and pages that were asked are so still
+pub waiters_put : (maps : Mapped) (chains : ChainTable) (rs rs2 : ResidentTable) (os : ObjectTable) (rows rows2 : List Waiting) (at at2 : ℕ → Option Access) (t : ℕ) (x : Option Waiting)
+    → HasWaiters maps chains rs os rows woken.Nobody at → PutsEntry t x rows rows2
+    → AreTold maps rows2 at2
+    → ((w : Waiting) → x ≡ Some w → Suits maps t w) → ((w : Waiting) → x ≡ Some w → Reason maps chains rs2 os t w.want w.on)
+    → ((o p : ℕ) → IsAsked rs o p → IsAsked rs2 o p) → ((o p : ℕ) (row : PageRow) → row_at rs2 o p ≡ Some row → row.here ≡ false → Asker rows2 o p)
+    → ((o p : ℕ) (row : PageRow) → row_at rs2 o p ≡ Some row → row.here ≡ false → ready_in (object_at os o) ≡ true) → HasWaiters maps chains rs2 os rows2 woken.Nobody at2
+waiters_put maps chains rs rs2 os rows rows2 at at2 t x has put told suits reason kept askers ready =
+    record {
+      is = told;
+      allowed = λ u w is. puts_cases {P = IsAllowed maps u (address_in w.want) (need_in w.want)} t u x rows rows2 w put is
+          (λ same it. subst (λ (z : ℕ). IsAllowed maps z (address_in w.want) (need_in w.want)) same (suits w it).allowed)
+          (λ apart was. has.allowed u w was);
+      sized = λ u w is. puts_cases {P = IsSizedWant w.want} t u x rows rows2 w put is (λ same it. (suits w it).sized) (λ apart was. has.sized u w was);
+      reasons = λ u w is asleep. puts_cases {P = Reason maps chains rs2 os u w.want w.on} t u x rows rows2 w put is
+          (λ same it. subst (λ (z : ℕ). Reason maps chains rs2 os z w.want w.on) same (reason w it))
+          (λ apart was. reason_kept maps chains rs rs2 os u w.want w.on kept (has.reasons u w was refl));
+      aims = λ u w key is waits. puts_cases {P = IsPlaceOf maps chains u w.want key} t u x rows rows2 w put is
+          (λ same it. subst (λ (z : ℕ). IsPlaceOf maps chains z w.want key) same (aimed t w.want w.on key waits (reason w it)))
+          (λ apart was. has.aims u w key was waits);
+      askers = askers;
+      ready = ready;
+    }
+  where
+    aimed : (u : ℕ) (what : Want) (why : On) (key : PageKey) → why ≡ on.Page key → Reason maps chains rs2 os u what why → IsPlaceOf maps chains u what key
+    aimed u what why key same is = let so : Reason maps chains rs2 os u what (on.Page key) = subst (λ (z : On). Reason maps chains rs2 os u what z) same is in so.0
+
+pub over_is : (maps : Mapped) (rows rows2 : List Waiting) (t : ℕ) (at at2 : ℕ → Option Access) → AreTold maps rows at → PutsEntry t None rows rows2 → ((u : ℕ) → at2 u ≡ (if t == u then None else at u)) → AreTold maps rows2 at2
+over_is maps rows rows2 t at at2 is put ends u here = elim (eqb_tells t u) [
+  | inl same ↦ ends u ∙ (ap (λ b. if b then None else at u) same.0 ∙ sym (ap waiting_in (put.at u ∙ ap (λ b. if b then None else entry rows u) same.0)))
+  | inr apart ↦ ends u ∙ (ap (λ b. if b then None else at u) apart.0 ∙ (is u here ∙ sym (ap waiting_in (put.at u ∙ ap (λ b. if b then None else entry rows u) apart.0))))
+]
+
+-- an access is over that waits for no page that is asked
+pub waiters_over : (maps : Mapped) (chains : ChainTable) (rs : ResidentTable) (os : ObjectTable) (rows rows2 : List Waiting) (at at2 : ℕ → Option Access) (t : ℕ) (was : Waiting)
+    → HasWaiters maps chains rs os rows woken.Nobody at → entry rows t ≡ Some was → AsksNone rs was.on → PutsEntry t None rows rows2 → ((u : ℕ) → at2 u ≡ (if t == u then None else at u))
+    → HasWaiters maps chains rs os rows2 woken.Nobody at2
+waiters_over maps chains rs os rows rows2 at at2 t was has is none put ends =
+    waiters_put maps chains rs rs os rows rows2 at at2 t None has put (over_is maps rows rows2 t at at2 has.is put ends)
+    (λ w it. absurd (let bad : None ≡ Some w = it in cc))
+    (λ w it. absurd (let bad : None ≡ Some w = it in cc))
+    (λ o p asked. asked)
+    (λ o p row found away. asker_kept rows rows2 t was None o p put is (λ reason. none.at o p row found away reason) (has.askers o p row found away))
+    has.ready
+
+pub turned_is : (maps : Mapped) (rows rows2 : List Waiting) (t : ℕ) (was : Waiting) (reason : On) (at : ℕ → Option Access) → AreTold maps rows at → entry rows t ≡ Some was → PutsEntry t (Some (with_on was reason)) rows rows2 → AreTold maps rows2 at
+turned_is maps rows rows2 t was reason at is there put u here = elim (eqb_tells t u) [
+  | inl same ↦
+      let it : entry rows u ≡ Some was = ap (λ z. entry rows z) (sym same.1) ∙ there in
+      is u here ∙ (ap waiting_in it ∙ sym (ap waiting_in (put.at u ∙ ap (λ b. if b then Some (with_on was reason) else entry rows u) same.0)))
+  | inr apart ↦ is u here ∙ sym (ap waiting_in (put.at u ∙ ap (λ b. if b then Some (with_on was reason) else entry rows u) apart.0))
+]
+
+turned_suits : (maps : Mapped) (chains : ChainTable) (rs : ResidentTable) (os : ObjectTable) (rows : List Waiting) (who : Woken) (at : ℕ → Option Access) (t : ℕ) (was w : Waiting) (reason : On)
+    → HasWaiters maps chains rs os rows who at → entry rows t ≡ Some was → Some (with_on was reason) ≡ Some w → Suits maps t w
+turned_suits maps chains rs os rows who at t was w reason has there same =
+    subst (λ (z : Waiting). Suits maps t z) (some_is (with_on was reason) w same) (record { allowed = has.allowed t was there; sized = has.sized t was there })
+
+turned_reason : (maps : Mapped) (chains : ChainTable) (rs : ResidentTable) (os : ObjectTable) (t : ℕ) (was w : Waiting) (reason : On) → Reason maps chains rs os t was.want reason → Some (with_on was reason) ≡ Some w
+    → Reason maps chains rs os t w.want w.on
+turned_reason maps chains rs os t was w reason holds same =
+    subst (λ (z : Waiting). Reason maps chains rs os t z.want z.on) (some_is (with_on was reason) w same) holds
+
+-- an access waits for something else; before, for no page that is asked
+pub waiters_turned : (maps : Mapped) (chains : ChainTable) (rs : ResidentTable) (os : ObjectTable) (rows rows2 : List Waiting) (at : ℕ → Option Access) (t : ℕ) (was : Waiting) (reason : On)
+    → HasWaiters maps chains rs os rows woken.Nobody at → entry rows t ≡ Some was → AsksNone rs was.on → PutsEntry t (Some (with_on was reason)) rows rows2 → Reason maps chains rs os t was.want reason
+    → HasWaiters maps chains rs os rows2 woken.Nobody at
+waiters_turned maps chains rs os rows rows2 at t was reason has is none put holds =
+    waiters_put maps chains rs rs os rows rows2 at at t (Some (with_on was reason)) has put (turned_is maps rows rows2 t was reason at has.is is put)
+    (λ w it. turned_suits maps chains rs os rows woken.Nobody at t was w reason has is it)
+    (λ w it. turned_reason maps chains rs os t was w reason holds it)
+    (λ o p asked. asked)
+    (λ o p row found away. asker_kept rows rows2 t was (Some (with_on was reason)) o p put is (λ why. none.at o p row found away why) (has.askers o p row found away))
+    has.ready
+
+-- an access waits for a page that is asked
+pub its_asker : (rows rows2 : List Waiting) (t : ℕ) (was : Waiting) (key : PageKey) (o p : ℕ) → PutsEntry t (Some (with_on was (on.Page key))) rows rows2 → key.object.0 ≡ o → key.page.0 ≡ p → Asker rows2 o p
+its_asker rows rows2 t was key o p put same also =
+    record {
+      task = t;
+      row = with_on was (on.Page key);
+      is = puts_here t (Some (with_on was (on.Page key))) rows rows2 put;
+      waits = ap (λ z. on.Page (page_key z key.page.0)) same ∙ ap (λ z. on.Page (page_key o z)) also;
+    }
+
+-- an access waits for a page that was asked for before
+pub waiters_joined : (maps : Mapped) (chains : ChainTable) (rs : ResidentTable) (os : ObjectTable) (rows rows2 : List Waiting) (at : ℕ → Option Access) (t : ℕ) (was : Waiting) (key : PageKey)
+    → HasWaiters maps chains rs os rows woken.Nobody at → entry rows t ≡ Some was → AsksNone rs was.on → IsPlaceOf maps chains t was.want key → IsAsked rs key.object.0 key.page.0 → PutsEntry t (Some (with_on was (on.Page key))) rows rows2
+    → HasWaiters maps chains rs os rows2 woken.Nobody at
+waiters_joined maps chains rs os rows rows2 at t was key has is none aims asked put = waiters_turned maps chains rs os rows rows2 at t was (on.Page key) has is none put (aims, asked)
+
+-- a page is asked for that had no row, for an access that waits for it now
+pub waiters_asked : (maps : Mapped) (chains : ChainTable) (rs rs2 : ResidentTable) (os : ObjectTable) (rows rows2 : List Waiting) (at : ℕ → Option Access) (t : ℕ) (was : Waiting) (key : PageKey) (row : PageRow)
+    → HasWaiters maps chains rs os rows woken.Nobody at → entry rows t ≡ Some was → AsksNone rs was.on → IsPlaceOf maps chains t was.want key → row_at rs key.object.0 key.page.0 ≡ None
+    → PutsRow key.object.0 key.page.0 (Some row) rs rs2 → row.here ≡ false → PutsEntry t (Some (with_on was (on.Page key))) rows rows2 → ready_in (object_at os key.object.0) ≡ true
+    → HasWaiters maps chains rs2 os rows2 woken.Nobody at
+waiters_asked maps chains rs rs2 os rows rows2 at t was key row has is none aims absent put away turns ready =
+    waiters_put maps chains rs rs2 os rows rows2 at at t (Some (with_on was (on.Page key))) has turns (turned_is maps rows rows2 t was (on.Page key) at has.is is turns)
+    (λ w it. turned_suits maps chains rs os rows woken.Nobody at t was w (on.Page key) has is it)
+    (λ w it. turned_reason maps chains rs2 os t was w (on.Page key) (aims, asked) it)
+    (λ o p other. asked_kept key.object.0 key.page.0 (Some row) rs rs2 o p put fresh other)
+    (λ o p r found gone. elim (row_cases key.object.0 key.page.0 (Some row) rs rs2 put o p) [
+      | inl now ↦ its_asker rows rows2 t was key o p turns now.object now.page
+      | inr other ↦
+          let was_found = sym other.is ∙ found in
+          asker_kept rows rows2 t was (Some (with_on was (on.Page key))) o p turns is (λ reason. none.at o p r was_found gone reason) (has.askers o p r was_found gone)
+    ])
+    (λ o p r found gone. elim (row_cases key.object.0 key.page.0 (Some row) rs rs2 put o p) [
+      | inl now ↦ subst (λ (z : ℕ). ready_in (object_at os z) ≡ true) now.object ready
+      | inr other ↦ has.ready o p r (sym other.is ∙ found) gone
+    ])
+  where
+    fresh : IsNotAsked (row_at rs key.object.0 key.page.0)
+    fresh = none_not_asked (row_at rs key.object.0 key.page.0) absent
+
+    asked : IsAsked rs2 key.object.0 key.page.0
+    asked = elim (row_cases key.object.0 key.page.0 (Some row) rs rs2 put key.object.0 key.page.0) [
+      | inl now ↦ record { row = row; found = now.is; away = away }
+      | inr other ↦ absurd (other.apart refl refl)
+    ]

@@ -1,0 +1,136 @@
+-- What a kernel's tables say of a history: each table by itself, of the facts that it stands for.
+use Rattle.std.specs.Prelude.{ℕ, All, if◌then◌else◌, ◌≢◌, ◌≡◌, ◌+◌, ◌<◌, ◌≤◌, ◌^◌, ◌==◌, ◌||◌, nat_lt, is_some, ◌⊎◌, Bool, true, false, List, [], ◌∷◌, length, Option, Some, None, IsSome}
+use Rattle.vm_base.specs.declared.entry.Entry.{Entry}
+use Rattle.vm_base.specs.declared.ids.FrameNo.{FrameNo}
+use Rattle.vm_base.specs.declared.ids.ObjectKind.TheVariants.{Temp}
+use Rattle.vm_base.specs.Entries.{most_entries}
+use Rattle.vm_base.specs.Limits.{most_objects}
+use Rattle.vm_fault.specs.Walks.{ChainsFit}
+use Rattle.vm_frames.specs.Frames.{FrameTable, claimed, frame_count, is_claimed}
+use Rattle.vm_maps.specs.Maps.{Mapped, entries_in, rows_in}
+use Rattle.vm_model.specs.Local.{Local, is_on}
+use Rattle.vm_model.specs.Regions.{Backing, Region}
+use Rattle.vm_model.specs.Rows.{AllRows, Inside}
+use Rattle.vm_objects.specs.Objects.{ObjectTable, absent_at, object_at}
+use Rattle.vm_objects.specs.declared.row.ObjectRow.{ObjectRow}
+use Rattle.vm_objects.specs.declared.row.PagerState.TheVariants.{Without}
+use Rattle.vm_pageout.specs.Laundry.{LaundryList}
+use Rattle.vm_parts.specs.Controls.{AllLive, HasNumbers}
+use Rattle.vm_queues.specs.Queues.{is_skipped}
+use Rattle.vm_resident.specs.Resident.{ResidentTable, owner_of, row_at}
+use Rattle.vm_shadow.specs.Chains.{ChainTable, IsOlderUnder, region_at, shadow_at}
+use Rattle.vm_shadow.specs.declared.ids.Ids.{Ids}
+use Rattle.vm_shadow.specs.declared.region_row.RegionRow.{RegionRow}
+use Rattle.vm_shadow.specs.declared.shadow_row.ShadowRow.{ShadowRow}
+use Rattle.vm_terminate.specs.Finishes.{IsReferred}
+use Rattle.vm_state.specs.Counts.{all_tasks, count_by, count_on}
+use Rattle.vm_state.specs.Pagers.{has_pager, last_in, live_in, ready_in}
+use Rattle.vm_state.specs.Places.{has_region, local_of_row, region_pages}
+use Rattle.vm_state.specs.References.{references_to}
+
+-- the tasks that live here, and their entries
+pub record HasTasks (h size : ℕ) (maps : Mapped) (host_at : ℕ → Option ℕ) (rows_at : ℕ → List Entry) : Type 0 where
+  pub sized : maps.size ≡ size
+  pub hosts : (task : ℕ) → is_on h (host_at task) ≡ is_some (entries_in task maps)
+  pub rows : (task : ℕ) → is_some (entries_in task maps) ≡ true → rows_at task ≡ rows_in task maps
+
+-- an object of temporary memory; its first control is made when it first gets a pager
+pub record IsTemporary (known : ObjectRow) : Type 0 where
+  pub kind : known.kind ≡ Temp
+  pub live : known.live ≡ has_pager known.state
+  pub number : 0 < known.references → known.control ≡ (if has_pager known.state then 1 else 0)
+
+-- The regions, the objects and what stands under them, and the next numbers. What a region or a shadow is over is known, and a shadow has the greater number of
+-- the two. Of an object to which something refers and that is no shadow the history says so too. An object has as many references as regions and shadows are over it.
+pub record HasRegions (chains : ChainTable) (objects : ObjectTable) (ids : Ids) (region_from : ℕ → Region) (backing_from : ℕ → Backing) (regions_made objects_made marked : ℕ) : Type 0 where
+  pub region : ids.next_region ≡ regions_made
+  pub object : ids.next_object ≡ objects_made
+  pub marks : ids.marks ≡ marked
+  pub few : objects_made + marked ≤ most_objects
+  pub rows : (r : ℕ) (row : RegionRow) → region_at chains r ≡ Some row → region_from r ≡ record { mark = row.marked; top = row.top.0; shift = row.shift; pages = row.pages }
+  pub shadows : (o : ℕ) (row : ShadowRow) → shadow_at chains o ≡ Some row → backing_from o ≡ record { backed = true; under = row.under.0; shift = row.shift }
+  pub bottoms : (o : ℕ) → IsReferred objects o → shadow_at chains o ≡ None → (backing_from o).backed ≡ false
+  pub unmade : (r : ℕ) → regions_made ≤ r → region_at chains r ≡ None
+  pub unknown : (o : ℕ) → objects_made ≤ o → object_at objects o ≡ None
+  pub tops : (r : ℕ) (row : RegionRow) → region_at chains r ≡ Some row → IsSome (object_at objects row.top.0)
+  pub unders : (o : ℕ) (row : ShadowRow) → shadow_at chains o ≡ Some row → IsSome (object_at objects o) × IsSome (object_at objects row.under.0)
+  pub older : IsOlderUnder chains
+  pub fits : ChainsFit chains objects
+  pub temporary : (o : ℕ) (known : ObjectRow) → object_at objects o ≡ Some known → IsTemporary known
+  pub counts : (o : ℕ) (known : ObjectRow) → object_at objects o ≡ Some known → known.references ≡ references_to chains regions_made objects_made o
+
+-- the regions of a host are those of its tasks
+abbrev pub HasHomes : ℕ → ChainTable → (ℕ → Option ℕ) → Type 0
+HasHomes h chains home_from = (r : ℕ) (row : RegionRow) → region_at chains r ≡ Some row → home_from r ≡ Some h
+
+-- an entry lies within its region
+pub record IsInside (size : ℕ) (chains : ChainTable) (row : Entry) : Type 0 where
+  pub region : has_region chains row.region.0 ≡ true
+  pub some : 0 < row.bytes
+  pub below : row.address + row.bytes ≤ 2 ^ 32
+  pub inside : Inside size (region_pages chains row.region.0) row
+
+abbrev pub AllEntriesInside : ℕ → ChainTable → List Entry → Type 0
+AllEntriesInside size chains rows = AllRows (IsInside size chains) rows
+
+-- the entries lie within their regions, and each region counts its own, and some that have just gone
+pub record HasEntries (size : ℕ) (maps : Mapped) (chains : ChainTable) (lost : List Entry) : Type 0 where
+  pub inside : (task : ℕ) → AllEntriesInside size chains (rows_in task maps)
+  pub known : AllRows (λ row. has_region chains row.region.0 ≡ true) lost
+  pub most : (task : ℕ) → all_tasks ≤ task → entries_in task maps ≡ None
+  pub few : (task : ℕ) → length (rows_in task maps) ≤ most_entries
+  pub counts : (r : ℕ) (row : RegionRow) → region_at chains r ≡ Some row → row.entries ≡ count_by all_tasks r maps + count_on r lost
+
+-- the pages that are here
+pub record HasPages (frames : FrameTable) (resident : ResidentTable) (objects : ObjectTable) (local_at : ℕ → ℕ → Local) : Type 0 where
+  pub shown : (o p : ℕ) → local_at o p ≡ local_of_row frames (row_at resident o p) (absent_at objects o p)
+
+-- the number is one of these
+abbrev pub is_among : ℕ → List ℕ → Bool
+is_among n [] = false
+is_among n (m ∷ more) = m == n || is_among n more
+
+-- The regions in use are those on which some task here has an entry; all tasks that live here were made. Tasks elsewhere hold none of these regions,
+-- and none that isn't made yet.
+pub record HasUse (maps : Mapped) (used_at : ℕ → Bool) (made : List ℕ) (held_at : ℕ → ℕ → Bool) (regions_made : ℕ) : Type 0 where
+  pub used : (r : ℕ) → used_at r ≡ nat_lt 0 (count_by all_tasks r maps)
+  pub among : (task : ℕ) (rows : List Entry) → entries_in task maps ≡ Some rows → is_among task made ≡ true
+  pub apart : (task r : ℕ) → entries_in task maps ≡ None → (used_at r ≡ true) ⊎ (regions_made ≤ r) → held_at task r ≡ false
+
+-- the controls of objects: the last one, the one that lives, and whether that is ready; the objects were made for regions of this host
+pub record HasControls (h : ℕ) (objects : ObjectTable) (last_at : ℕ → ℕ) (live_at : ℕ → Option ℕ) (ready_at : ℕ → Bool) (home_at : ℕ → Option ℕ) : Type 0 where
+  pub last : (o : ℕ) → last_at o ≡ last_in (object_at objects o)
+  pub live : (o : ℕ) → live_at o ≡ live_in (object_at objects o)
+  pub ready : (o control : ℕ) → live_at o ≡ Some control → ready_at o ≡ ready_in (object_at objects o)
+  pub all_live : AllLive objects
+  pub numbers : HasNumbers objects
+  pub ended : (o : ℕ) (row : ObjectRow) → object_at objects o ≡ Some row → row.live ≡ true → row.state ≢ Without
+  pub home : (o : ℕ) (row : ObjectRow) → object_at objects o ≡ Some row → home_at o ≡ Some h
+
+-- a frame that a return holds is claimed, and is no page's
+pub record IsWashed (frames : FrameTable) (resident : ResidentTable) (f : FrameNo) : Type 0 where
+  pub claimed : is_claimed frames f.0 ≡ true
+  pub unowned : owner_of resident f.0 ≡ None
+
+-- each stands there once
+abbrev pub EachApart : List FrameNo → Type 0
+EachApart [] = Unit {0}
+EachApart (f ∷ fs) = (is_skipped fs f.0 ≡ false) × EachApart fs
+
+-- the frames of returns that their pagers did not take yet
+pub record HasLaundry (frames : FrameTable) (resident : ResidentTable) (laundry : LaundryList) (out : ℕ) : Type 0 where
+  pub count : out ≡ length laundry.held
+  pub room : length laundry.held + laundry.room ≡ frame_count frames
+  pub washed : All (IsWashed frames resident) laundry.held
+  pub apart : EachApart laundry.held
+
+-- the frames in use, and those wired
+pub record HasFrames (most : Option ℕ) (frames : FrameTable) (held_now wired_now : ℕ) : Type 0 where
+  pub total : most ≡ Some (frame_count frames)
+  pub held : held_now ≡ claimed frames
+  pub wired : wired_now ≡ frames.wired
+  pub fits : claimed frames + frames.wired ≤ frame_count frames
+
+-- each region has an entry
+abbrev pub AllUsed : ChainTable → Type 0
+AllUsed chains = (r : ℕ) (row : RegionRow) → region_at chains r ≡ Some row → 0 < row.entries

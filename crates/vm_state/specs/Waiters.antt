@@ -1,0 +1,93 @@
+-- The accesses that wait on a host, as its kernel keeps them, and what each waits for.
+use Rattle.std.specs.Prelude.{ℕ, zero, suc, ◌≤◌, ◌≡◌, Bool, true, false, List, [], ◌∷◌, Option, Some, None, is_some}
+use Rattle.vm_base.specs.declared.ids.PageKey.{PageKey}
+use Rattle.vm_maps.specs.Maps.{Mapped, entries_in}
+use Rattle.vm_model.specs.Waiting.{Access, Loading, Storing}
+use Rattle.vm_objects.specs.Objects.{ObjectTable, object_at}
+use Rattle.vm_objects.specs.declared.row.ObjectRow.{ObjectRow}
+use Rattle.vm_objects.specs.declared.row.PagerState.TheVariants as state
+use Rattle.vm_resident.specs.Resident.{ResidentTable, page_key, row_at}
+use Rattle.vm_resident.specs.declared.page_row.PageRow.{PageRow}
+use Rattle.vm_fault.specs.Walks.{IsAt, IsUnder}
+use Rattle.vm_shadow.specs.Chains.{ChainTable}
+use Rattle.vm_supply.specs.declared.woken.Woken.{Woken}
+use Rattle.vm_supply.specs.declared.woken.Woken.TheVariants as woken
+use Rattle.vm_waits.specs.Waits.{entry, woken_page, woken_ready}
+use Rattle.vm_waits.specs.Wants.{IsSizedWant, address_in, need_in}
+use Rattle.vm_waits.specs.declared.waiting.On.{On}
+use Rattle.vm_waits.specs.declared.waiting.On.TheVariants as on
+use Rattle.vm_waits.specs.declared.waiting.Waiting.{Waiting}
+use Rattle.vm_waits.specs.declared.waiting.Want.{Want}
+use Rattle.vm_waits.specs.declared.waiting.Want.TheVariants as want
+use Rattle.vm_maps.specs.Judge.{IsAllowed}
+use Rattle.vm_state.specs.Pagers.{ready_in}
+
+-- the access as the history has it
+abbrev pub access_in : Want → Access
+access_in (want.Load address size) = Loading address size
+access_in (want.Store address size value) = Storing address size value
+
+abbrev pub waiting_in : Option Waiting → Option Access
+waiting_in None = None
+waiting_in (Some w) = Some (access_in w.want)
+
+-- so many places further down a chain stands another
+abbrev pub LeadsTo : ChainTable → ℕ → PageKey → PageKey → Type 0
+LeadsTo chains zero from to = from ≡ to
+LeadsTo chains (suc n) from to = (next : PageKey) × IsUnder chains from next × LeadsTo chains n next to
+
+-- one of the places of the page that an access of a task is about: its place in the region's top object, or one further down the chain
+pub record IsPlaceOf (maps : Mapped) (chains : ChainTable) (task : ℕ) (what : Want) (key : PageKey) : Type 0 where
+  pub top : PageKey
+  pub at : IsAt maps chains task what top
+  pub steps : ℕ
+  pub leads : LeadsTo chains steps top key
+
+-- the page is asked: it has a row and isn't here
+pub record IsAsked (resident : ResidentTable) (o p : ℕ) : Type 0 where
+  pub row : PageRow
+  pub found : row_at resident o p ≡ Some row
+  pub away : row.here ≡ false
+
+-- the object's pager was told of it, and isn't ready
+pub record IsPagerTold (objects : ObjectTable) (o : ℕ) : Type 0 where
+  pub row : ObjectRow
+  pub found : object_at objects o ≡ Some row
+  pub sent : row.state ≡ state.Sent
+
+-- what holds while an access waits for this
+abbrev pub Reason : Mapped → ChainTable → ResidentTable → ObjectTable → ℕ → Want → On → Type 0
+Reason maps chains resident objects task what on.Again = Unit {0}
+Reason maps chains resident objects task what (on.Ready object) = (key : PageKey) × IsPlaceOf maps chains task what key × (key.object ≡ object) × IsPagerTold objects object.0
+Reason maps chains resident objects task what (on.Page key) = IsPlaceOf maps chains task what key × IsAsked resident key.object.0 key.page.0
+Reason maps chains resident objects task what on.Frame = Unit {0}
+
+-- the accesses of the rows began one behind the other, from an event on
+abbrev pub BeganInOrder : (ℕ → ℕ) → ℕ → List Waiting → Type 0
+BeganInOrder begun from [] = Unit {0}
+BeganInOrder begun from (w ∷ ws) = (from ≤ begun w.task.0) × BeganInOrder begun (suc (begun w.task.0)) ws
+
+-- a row of the table of waiting accesses waits for the page
+pub record Asker (rows : List Waiting) (o p : ℕ) : Type 0 where
+  pub task : ℕ
+  pub row : Waiting
+  pub is : entry rows task ≡ Some row
+  pub waits : row.on ≡ on.Page (page_key o p)
+
+-- whom an answer wakes
+abbrev pub is_woken : Woken → On → Bool
+is_woken woken.Nobody reason = false
+is_woken (woken.ReadyOf object) reason = woken_ready object.0 reason
+is_woken (woken.Page key) reason = woken_page key reason
+is_woken (woken.Fails key) reason = woken_page key reason
+
+-- The accesses of tasks here that wait in the history wait here, each with an entry that allows it, within a page; each has a reason, but those whom an answer
+-- wakes may have lost theirs; and somebody waits for each page that is asked, whose pager is ready.
+pub record HasWaiters (maps : Mapped) (chains : ChainTable) (resident : ResidentTable) (objects : ObjectTable) (rows : List Waiting) (who : Woken) (waiting_at : ℕ → Option Access) : Type 0 where
+  pub is : (t : ℕ) → is_some (entries_in t maps) ≡ true → waiting_at t ≡ waiting_in (entry rows t)
+  pub allowed : (t : ℕ) (w : Waiting) → entry rows t ≡ Some w → IsAllowed maps t (address_in w.want) (need_in w.want)
+  pub sized : (t : ℕ) (w : Waiting) → entry rows t ≡ Some w → IsSizedWant w.want
+  pub reasons : (t : ℕ) (w : Waiting) → entry rows t ≡ Some w → is_woken who w.on ≡ false → Reason maps chains resident objects t w.want w.on
+  pub aims : (t : ℕ) (w : Waiting) (key : PageKey) → entry rows t ≡ Some w → w.on ≡ on.Page key → IsPlaceOf maps chains t w.want key
+  pub askers : (o p : ℕ) (row : PageRow) → row_at resident o p ≡ Some row → row.here ≡ false → Asker rows o p
+  pub ready : (o p : ℕ) (row : PageRow) → row_at resident o p ≡ Some row → row.here ≡ false → ready_in (object_at objects o) ≡ true
