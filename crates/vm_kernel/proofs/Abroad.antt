@@ -1,8 +1,21 @@
 -- What is no event of a host leaves what its kernel stands for.
 use Rattle.vm_kernel.proofs.Common.{AllLicensed, AllRows, ApartElsewhere, BeganInOrder, Below, Bool, Command, Down, EachIn, EachOf, EntersNext, Entry, Event, HasCause, HasControls, HasFrames, HasLaundry, HasOrder, HasPages, HasQueue, HasRegions, HasTasks, HasUse, HasWaits, Header, Ids, IfSome, IsAbroad, IsAmong, IsCommon, IsHeldOn, IsInside, IsMine, IsNobodys, IsOfHost, IsRegionOf, IsShut, Knows, List, Matches, MomentsIn, None, Option, Outside, Parts, PromptAt, RegionRow, Rests, SameFacts, SameForHost, Some, Sound, Suffice, Up, Waiting, [], all_tasks, ap, apart_abroad, arith, backing_of, begun_at, count_by, entries_in, entries_of, entry, eqb_tells, false, frames_free, frames_held, frames_used, frames_wired, has_entry, has_region, holds, home_of, homes_stay, host_of, in_use, inl, inr, is_among, is_home, is_ready, is_some, is_used, last_control, length, live_control, lives_on, local, named, nat_lt, nat_tests, next_object, next_region, pages_abroad, place_of, refl, region_at, region_of, returns_out, reverse, rows_in, rows_map, slice_get, sound_next, stays, subst, suc, swept_now, sym, tasks, true, unwrap_or, use_of, use_same, used_of, vain_now, zero, ℕ, ◌&&◌, ◌++◌, ◌<◌, ◌==◌, ◌||◌, ◌∙◌, ◌∷◌, ◌≡◌, ◌≤◌}
 use Rattle.vm_model.specs.declared.event.Event.TheVariants as event
+use Rattle.std.specs.Prelude.{◌+◌}
+use Rattle.vm_model.specs.Local.{is_on}
+use Rattle.vm_model.specs.Waiting.{waiting}
+use Rattle.vm_state.specs.Waiters.{waiting_in}
+use Rattle.vm_abroad.proofs.Home.{objects_stay}
+use Rattle.vm_abroad.specs.Home.{object_home}
+use Rattle.vm_model.specs.Regions.{marked_regions}
+use Rattle.vm_parts.specs.Changes.{one}
+use Rattle.vm_shadow.specs.Chains.{ChainTable, shadow_at}
+use Rattle.vm_shadow.specs.declared.shadow_row.ShadowRow.{ShadowRow}
+use Rattle.vm_state.proofs.Reaching.{chain_known}
+use Rattle.vm_state.proofs.Referring.{row_of, small_object, small_region, small_shadow}
+use Rattle.vm_state.specs.References.{is_backing, is_over, references_to, tally}
 use Rattle.vm_kernel.proofs.Counts.{by_some}
-use Rattle.vm_kernel.proofs.Own.{lives_in}
+use Rattle.vm_kernel.proofs.Own.{lives_in, own_host}
 use Rattle.vm_supply.specs.declared.woken.Woken.TheVariants as woken
 
 -- what a kernel says of all hosts
@@ -10,7 +23,7 @@ use Rattle.vm_supply.specs.declared.woken.Woken.TheVariants as woken
 pub common_of : (header : Header) (h : ℕ) (k : Parts) (ids : Ids) (gone : List Entry) (past : List Event) → Matches header h k ids gone past → IsCommon header ids past
 common_of header h k ids gone past matches =
     let has = matches.regions in
-    record { region = has.region; object = has.object; equal = has.equal; marks = has.marks; tops = has.tops; unbacked = has.unbacked; settled = matches.settled; homeless = matches.homeless }
+    record { region = has.region; object = has.object; marks = has.marks; few = has.few; settled = matches.settled; homeless = matches.homeless }
 
 -- what its tables say of its host
 
@@ -30,6 +43,14 @@ among_more n (m ∷ more) ns is = second (m == n) (is_among n (more ++ ns)) (amo
 with_entry : (r : ℕ) (x : Option (List Entry)) → has_entry r (unwrap_or x []) ≡ true → is_some x ≡ true
 with_entry r None has = has
 with_entry r (Some rows) has = refl
+
+-- the region of an entry that lies within its region is in the tables
+has_inside : (size : ℕ) (chains : ChainTable) (r : ℕ) (rows : List Entry) → AllRows (IsInside size chains) rows → has_entry r rows ≡ true → has_region chains r ≡ true
+has_inside size chains r [] inside has = absurd (let bad : false ≡ true = has in cc)
+has_inside size chains r (row ∷ rows) inside has = elim (eqb_tells row.region.0 r) [
+  | inl same ↦ subst (λ (z : ℕ). has_region chains z ≡ true) same.1 inside.0.region
+  | inr apart ↦ has_inside size chains r rows inside.1 (rw apart.0 at has)
+]
 
 -- a region of its tables is the host's
 own_region : (header : Header) (h : ℕ) (k : Parts) (ids : Ids) (past : List Event) → Rests header h k ids past → (r : ℕ) → has_region k.chains r ≡ true → IsRegionOf header h r past
@@ -58,15 +79,16 @@ held_on header h k ids past rests r used =
       holds = inl (ap (has_entry r) (has.rows some.0 here) ∙ some.1);
     }
 
--- an object of a region has none under it
-chain_made : (header : Header) (h : ℕ) (k : Parts) (ids : Ids) (past : List Event) → Rests header h k ids past → (r n u : ℕ) → r < next_region header past → Below (λ o. backing_of header o past) n (region_of header r past).top u → u < next_object header past
-chain_made header h k ids past rests r zero u small below =
-    let has = rests.matches.regions in
-    let top = (has.tops r).top in
-    let equal = has.equal in
-    let it : (region_of header r past).top ≡ u = below in
-    omega (arith, top, equal, it, small)
-chain_made header h k ids past rests r (suc n) u small below = let bad : true ≡ false = sym below.0 ∙ rests.matches.regions.unbacked (region_of header r past).top in absurd (cc)
+-- the chain of a region of the host is of objects that its tables know, and these were made
+chain_made : (header : Header) (h : ℕ) (k : Parts) (ids : Ids) (past : List Event) → Rests header h k ids past → (r n u : ℕ) → IsRegionOf header h r past → Below (λ o. backing_of header o past) n (region_of header r past).top u → u < next_object header past
+chain_made header h k ids past rests r n u own below =
+    let none : named header ≡ 0 = ap length rests.matches.plain.objects in
+    let test : nat_lt 0 (count_by all_tasks r k.maps) ≡ true = sym (rests.matches.uses.used r) ∙ use_of header h r past (own (omega (arith, none))) in
+    let some = by_some all_tasks r k.maps (grind (arith, nat_tests)) in
+    let inside : has_region k.chains r ≡ true = has_inside header.size k.chains r (rows_in some.0 k.maps) (rests.matches.entries.inside some.0) some.1 in
+    let row = row_of (region_at k.chains r) inside in
+    let known = chain_known rests.matches.regions r row.0 row.1 n u below in
+    small_object rests.matches.regions u known.row known.known
 
 pub knows_of : (header : Header) (h : ℕ) (k : Parts) (ids : Ids) (past : List Event) → Rests header h k ids past → Knows header h past
 knows_of header h k ids past rests = record {
@@ -74,8 +96,30 @@ knows_of header h k ids past rests = record {
   entries = λ task lives.
       subst (AllRows (λ row. IsRegionOf header h row.region.0 past)) (sym (rests.matches.tasks.rows task (sym (rests.matches.tasks.hosts task) ∙ lives)))
       (rows_map (IsInside header.size k.chains) (λ row. IsRegionOf header h row.region.0 past) (λ row is. own_region header h k ids past rests row.region.0 is.region) (rows_in task k.maps) (rests.matches.entries.inside task));
-  chains = λ r small own n u below. chain_made header h k ids past rests r n u small below;
+  chains = λ r small own n u below. chain_made header h k ids past rests r n u own below;
 }
+
+-- numbers above all that pass a test add nothing to how many do
+tally_more : (test : ℕ → Bool) (n m : ℕ) → n ≤ m → ((i : ℕ) → n ≤ i → test i ≡ false) → tally test m ≡ tally test n
+tally_more test n zero least none = let same : 0 ≡ n = omega (arith, least) in ap (tally test) same
+tally_more test n (suc m) least none = by_test (λ at_least. tally_more test n m at_least none) (nat_lt n (suc m)) refl
+  where
+    by_test : (n ≤ m → tally test m ≡ tally test n) → (b : Bool) → nat_lt n (suc m) ≡ b → tally test (suc m) ≡ tally test n
+    by_test before true less =
+        let at_least : n ≤ m = grind (arith, nat_tests) in
+        let nothing : one (test m) ≡ 0 = ap one (none m at_least) in
+        let was = before at_least in
+        let all : one (test m) + tally test m ≡ tally test n = omega (arith, nothing, was) in
+        all
+    by_test before false less = let same : suc m ≡ n = grind (arith, nat_tests) in ap (tally test) same
+
+-- nor do they to the references to an object
+references_more : (chains : ChainTable) (regions objects more_regions more_objects o : ℕ) → regions ≤ more_regions → objects ≤ more_objects → ((r : ℕ) → regions ≤ r → region_at chains r ≡ None) → ((s : ℕ) → objects ≤ s → shadow_at chains s ≡ None)
+    → references_to chains more_regions more_objects o ≡ references_to chains regions objects o
+references_more chains regions objects more_regions more_objects o few less unmade bare =
+    let one_more = tally_more (λ r. is_over o (region_at chains r)) regions more_regions few (λ r high. ap (is_over o) (unmade r high)) in
+    let others_more = tally_more (λ s. is_backing o (shadow_at chains s)) objects more_objects less (λ s high. ap (is_backing o) (bare s high)) in
+    omega (arith, one_more, others_more)
 
 -- a kernel whose host's facts read the same stands for them still
 
@@ -88,31 +132,35 @@ module _ (header : Header) (h : ℕ) (k : Parts) (ids next : Ids) (past new : Li
       let has = rests.matches.tasks in
       record { sized = has.sized; hosts = λ task. same.lives task ∙ has.hosts task; rows = λ task here. (same.task task (living task here)).entries ∙ has.rows task here }
 
-  small_row : (r : ℕ) (row : RegionRow) → region_at k.chains r ≡ Some row → r < next_region header past
-  small_row r row found = by_test (nat_lt r (next_region header past)) refl
-    where
-      by_test : (b : Bool) → nat_lt r (next_region header past) ≡ b → r < next_region header past
-      by_test true less = grind (arith, nat_tests)
-      by_test false less = let none : region_at k.chains r ≡ None = rests.matches.regions.unmade r (grind (arith, nat_tests)) in absurd (let bad : None ≡ Some row = sym none ∙ found in cc)
-
-  regions_same : HasRegions k.chains k.memory.objects next (λ r. region_of header r new) (λ o. backing_of header o new) (next_region header new) (next_object header new)
+  regions_same : HasRegions k.chains k.memory.objects next (λ r. region_of header r new) (λ o. backing_of header o new) (next_region header new) (next_object header new) (marked_regions header new)
   regions_same =
       let has = rests.matches.regions in
       record {
         region = common.region;
         object = common.object;
-        equal = common.equal;
         marks = common.marks;
-        rows = λ r row found. same.region r (small_row r row found) (own_region header h k ids past rests r (ap is_some found)) ∙ has.rows r row found;
-        tops = common.tops;
-        unbacked = common.unbacked;
+        few = common.few;
+        rows = λ r row found. same.region r (small_region has r row found) (own_region header h k ids past rests r (ap is_some found)) ∙ has.rows r row found;
+        shadows = λ o row found. same.backing o (small_shadow has o row found) ∙ has.shadows o row found;
+        bottoms = λ o referred bare. ap (λ z. z.backed) (same.backing o (small_object has o referred.row referred.known)) ∙ has.bottoms o referred bare;
         unmade = λ r high. has.unmade r (let rise = same.regions in omega (arith, rise, high));
         unknown = λ o high. has.unknown o (let rise = same.objects in omega (arith, rise, high));
-        under = has.under;
+        tops = has.tops;
+        unders = has.unders;
+        older = has.older;
+        fits = has.fits;
+        temporary = has.temporary;
+        counts = λ o known found.
+            has.counts o known found ∙
+            sym (references_more k.chains (next_region header past) (next_object header past) (next_region header new) (next_object header new) o same.regions same.objects has.unmade (λ s high. none_from s high (shadow_at k.chains s) refl));
       }
+    where
+      none_from : (s : ℕ) → next_object header past ≤ s → (x : Option ShadowRow) → shadow_at k.chains s ≡ x → x ≡ None
+      none_from s high None is = refl
+      none_from s high (Some row) is = let small = small_shadow rests.matches.regions s row is in absurd (omega (arith, small, high))
 
-  pages_same : HasPages k.memory.frames k.memory.resident k.memory.objects k.chains (λ o p. local header.size h (place_of o p) new)
-  pages_same = record { shown = λ o p. same.pages.local (place_of o p) ∙ rests.matches.pages.shown o p; live = rests.matches.pages.live }
+  pages_same : HasPages k.memory.frames k.memory.resident k.memory.objects (λ o p. local header.size h (place_of o p) new)
+  pages_same = record { shown = λ o p. same.pages.local (place_of o p) ∙ rests.matches.pages.shown o p }
 
   uses_same : ApartElsewhere header h new → HasUse k.maps (λ r. in_use header h r new) (tasks new) (λ task r. holds header.size task r new) (next_region header new)
   uses_same apart =
@@ -124,7 +172,7 @@ module _ (header : Header) (h : ℕ) (k : Parts) (ids next : Ids) (past new : Li
         apart = λ task r away ours. apart task r (same.lives task ∙ (rests.matches.tasks.hosts task ∙ ap is_some away)) ours;
       }
 
-  controls_same : ((o : ℕ) → home_of o past ≡ Some h → home_of o new ≡ Some h) → HasControls h k.memory.objects (λ o. last_control h o new) (λ o. live_control h o new) (λ o. is_ready h o new) (λ o. home_of o new)
+  controls_same : ((o : ℕ) → object_home o past ≡ Some h → object_home o new ≡ Some h) → HasControls h k.memory.objects (λ o. last_control h o new) (λ o. live_control h o new) (λ o. is_ready h o new) (λ o. object_home o new)
   controls_same home =
       let has = rests.matches.controls in
       record {
@@ -169,9 +217,9 @@ module _ (header : Header) (h : ℕ) (k : Parts) (ids next : Ids) (past new : Li
   frames_same =
       let has = rests.matches.frames in record { total = has.total; held = same.pages.held ∙ has.held; wired = same.pages.wired ∙ has.wired; fits = has.fits }
 
-  -- tasks elsewhere hold none of its regions, and its regions stay on their host
-  pub rests_same : ApartElsewhere header h new → ((o : ℕ) → home_of o past ≡ Some h → home_of o new ≡ Some h) → Rests header h k next new
-  rests_same apart home = record {
+  -- tasks elsewhere hold none of its regions, and its regions and objects stay on their host
+  pub rests_same : ApartElsewhere header h new → ((r : ℕ) → home_of r past ≡ Some h → home_of r new ≡ Some h) → ((o : ℕ) → object_home o past ≡ Some h → object_home o new ≡ Some h) → Rests header h k next new
+  rests_same apart home objects = record {
     matches =
         record {
           plain = rests.matches.plain;
@@ -181,17 +229,18 @@ module _ (header : Header) (h : ℕ) (k : Parts) (ids next : Ids) (past new : Li
           fits = rests.matches.fits;
           tasks = tasks_same;
           regions = regions_same;
+          homes = λ r row found. home r (rests.matches.homes r row found);
           entries = rests.matches.entries;
           pages = pages_same;
           uses = uses_same apart;
-          controls = controls_same home;
+          controls = controls_same objects;
           settled = common.settled;
           homeless = common.homeless;
           laundry = laundry_same;
           frames = frames_same;
         };
     used = rests.used;
-    reached = rests.reached;
+    referred = rests.referred;
     waits = waits_same;
     order = order_same;
     idle = rests.idle;
@@ -204,6 +253,16 @@ apart_of header h k ids past rests task r away ours = rests.matches.uses.apart t
     none_in None is = refl
     none_in (Some rows) is = absurd (let bad : true ≡ false = is in cc)
 
+-- a task of the host waits as its kernel says
+pub waits_here : (header : Header) (h : ℕ) (k : Parts) (ids : Ids) (past : List Event) → Rests header h k ids past → (task : ℕ) → host_of task past ≡ Some h → is_some (entry k.waits.rows task) ≡ is_some (waiting task past)
+waits_here header h k ids past rests task lives =
+    let here = sym (rests.matches.tasks.hosts task) ∙ (ap (is_on h) lives ∙ own_host h) in
+    sym (ap is_some (rests.waits.is task here) ∙ as_some (entry k.waits.rows task))
+  where
+    as_some : (x : Option Waiting) → is_some (waiting_in x) ≡ is_some x
+    as_some None = refl
+    as_some (Some w) = refl
+
 -- behind events that are nothing to its host
 
 module _ (header : Header) (outside : Outside) (h : ℕ) (k : Parts) (ids : Ids) (events past : List Event) (sound : Sound header past) (rests : Rests header h k ids past) (abroad : EachIn (IsAbroad header outside h) events past) where
@@ -214,7 +273,8 @@ module _ (header : Header) (outside : Outside) (h : ℕ) (k : Parts) (ids : Ids)
   rests_abroad next common =
       rests_same header h k ids next past (events ++ past) rests stay.same common
       (apart_abroad header outside h events past abroad (apart_of header h k ids past rests))
-      (λ o is. homes_stay o h events past is)
+      (λ r is. homes_stay r h events past is)
+      (λ o is. objects_stay o h events past is)
 
   pub queue_abroad : HasQueue header h k past → HasQueue header h k (events ++ past)
   queue_abroad (inl empty) = inl empty

@@ -1,228 +1,243 @@
--- A waiting access gets a page of zeros, or ends with its page: what the history says, and what the kernel has then.
-use Rattle.vm_kernel.proofs.Common.{BringsZeros, Command, Entry, Event, FrameNo, HasPages, Header, HostId, Ids, IsHere, IsPlain, List, MarksReferenced, Matches, None, ObjectId, Outside, PageKey, PageNo, PageRow, Parts, Passes, Some, Stores, Suffice, TaskId, WaitTable, Want, WritesNumber, Zeroes, absent_at, ap, arith, clean_row, false, fit_touched, frames_held, frames_wired, host_id, host_of, inl, inr, is_on, little_endian, little_endian_bytes, local, local_after, number_at, page_at, page_in, place_of, refl, replicate, returns_out, reverse, row_put, rows_in, sight, slice_get, slice_range, some_is, subst, sym, true, unlocked, with_bytes, ℕ, ◌%◌, ◌+◌, ◌∙◌, ◌∷◌, ◌≡◌}
+-- What a page leaves of the kernel that comes for a waiting access, or by which one ends.
+use Rattle.vm_kernel.proofs.Common.{Access, AllReferred, Bool, Brings, Changes, Event, FrameNo, HasPages, HasWaiters, Header, HostParts, Ids, List, Local, Matches, None, ObjectTable, On, Option, PageKey, PageRow, Parts, Queues, Raises, Some, Stores, WaitTable, Waiting, Woken, Works, Zeroes, [], absent_at, ap, arith, begun_at, clean_row, entry, false, fit_touched, frames_held, frames_wired, host_id, host_of, is_again, is_frame, little_endian_bytes, local, local_after, local_of_row, next_region, page_in, place_of, refl, replicate, returns_out, reverse, row_at, rows_in, slice_get, some_is, subst, sym, true, unlocked, waiting, with_bytes, ℕ, ◌+◌, ◌||◌, ◌∙◌, ◌∷◌, ◌≡◌}
+use Rattle.vm_abroad.proofs.Home.{object_stays}
+use Rattle.vm_fault.specs.Faults.{KeepsPlan, References, WritesPage}
 use Rattle.vm_model.specs.declared.event.Event.TheVariants as event
-use Rattle.vm_waits.specs.declared.waiting.Want.TheVariants as want
-use Rattle.vm_kernel.proofs.Growing.{Follows}
-use Rattle.vm_kernel.proofs.Leading.{Leads, Lies, it_waits, lies_there, none_named, top_at}
+use Rattle.vm_parts.specs.Changes.{RaisesPage}
+use Rattle.vm_state.proofs.Referred.{referred_row}
+use Rattle.vm_state.proofs.Waiting.{AsksNone, IsNotAsked, asks_none_again, asks_none_frame, here_not_asked, none_not_asked, waiters_over, waiters_page}
+use Rattle.vm_supply.specs.declared.woken.Woken.TheVariants as woken
+use Rattle.vm_terminate.specs.Finishes.{IsReferred}
+use Rattle.vm_kernel.specs.Serving.{runs_now}
+use Rattle.vm_kernel.proofs.Brings.{fits_changed}
+use Rattle.vm_kernel.proofs.Behind.{controls_kept, marks_still, regions_marked}
+use Rattle.vm_kernel.proofs.Ordering.{PutsInOrder}
+use Rattle.vm_kernel.proofs.Own.{lives_here, own_host}
 use Rattle.vm_kernel.proofs.Pages.{bytes_now, frames_changed, laundry_changed, pages_moved, shown_as, shown_here}
-use Rattle.vm_kernel.proofs.Standing.{Shows}
-use Rattle.vm_kernel.proofs.Walking.{comes_top}
-use Rattle.vm_kernel.proofs.Own.{lives_in, own_host}
 use Rattle.vm_kernel.proofs.Uses.{holds_waits, uses_still}
-use Rattle.vm_kernel.proofs.Mine.{own_lives, own_named}
+
+-- who is run waits for no page that is asked
+pub asks_none_now : (k : Parts) (reason : On) → runs_now reason ≡ true → AsksNone k.memory.resident reason
+asks_none_now k reason now = by (is_again reason) refl now
+  where
+    by : (b : Bool) → is_again reason ≡ b → (b || is_frame reason) ≡ true → AsksNone k.memory.resident reason
+    by true again now = asks_none_again k.memory.resident reason again
+    by false again now = asks_none_frame k.memory.resident reason now
+
+-- something refers to each object in use still, once a page of one that is referred to has changed
+pub page_referred : (key : PageKey) (frame : FrameNo) (was now : Option PageRow) (held : Bool) (bytes : List ℕ) (lists : Queues) (k : Parts) (memory : HostParts) → Changes key frame was now held bytes lists k.memory memory → KeepsPlan k.memory memory
+    → IsReferred k.memory.objects key.object.0 → AllReferred k.chains k.memory.objects k.memory.resident → AllReferred k.chains memory.objects memory.resident
+page_referred key frame was now held bytes lists k memory c plan is all =
+    subst (λ (z : ObjectTable). AllReferred k.chains z memory.resident) (sym plan.objects)
+    (referred_row key.object.0 key.page.0 now k.chains k.memory.objects k.memory.resident memory.resident c.row (λ row found. is) all)
+
+-- who waits does so still, once a page has changed that wasn't asked, and isn't
+pub page_waits : (key : PageKey) (frame : FrameNo) (was now : Option PageRow) (held : Bool) (bytes : List ℕ) (lists : Queues) (k : Parts) (memory : HostParts) (who : Woken) (at : ℕ → Option Access) → Changes key frame was now held bytes lists k.memory memory
+    → KeepsPlan k.memory memory → IsNotAsked was → IsNotAsked now → HasWaiters k.maps k.chains k.memory.resident k.memory.objects k.waits.rows who at → HasWaiters k.maps k.chains memory.resident memory.objects k.waits.rows who at
+page_waits key frame was now held bytes lists k memory who at c plan before after has =
+    subst (λ (z : ObjectTable). HasWaiters k.maps k.chains memory.resident z k.waits.rows who at) (sym plan.objects)
+    (waiters_page k.maps k.chains k.memory.resident memory.resident k.memory.objects k.waits.rows who at key.object.0 key.page.0 now has c.row (subst (λ (z : Option PageRow). IsNotAsked z) (sym c.found) before) after)
 
 -- a page of zeros comes
 
-pub zeroed_follows : (header : Header) (h : ℕ) (outside : Outside) (doing : Command) (past : List Event) (task : ℕ) (what : Want) (key : PageKey) → IsPlain header → Leads header h past task what key → Passes (sight header h key.object.0 key.page.0 past)
-    → Suffice header h (event.Zeroed (host_id h) key.object key.page ∷ past) → Follows header h outside doing (event.Zeroed (host_id h) key.object key.page) past
-zeroed_follows header h outside doing past task what key plain to passes frames =
-    record {
-      consequence = tt;
-      cause = inr (record {
-        task = task;
-        access = _;
-        waits = it_waits header h past task what key to;
-        on_host = refl;
-        temporary = let none = none_named header plain in omega arith;
-        unmarked = λ store. to.unmarked;
-        is_top = top_at header h past task what key to;
-        steps = 0;
-        sinks = (passes, to.bare);
-      });
-      own_bytes = tt;
-      frames = frames;
-      inner = tt;
-      said = tt;
-      own = own_named h;
-      creates = tt;
-    }
-
-pub matches_zeroed : (header : Header) (h : ℕ) (k mid : Parts) (ids : Ids) (lost : List Entry) (past : List Event) (key : PageKey) (frame : FrameNo) → Matches header h k ids lost past → BringsZeros key frame k mid → Lies k key
-    → Matches header h mid ids lost (event.Zeroed (host_id h) key.object key.page ∷ past)
-matches_zeroed header h k mid ids lost past key frame m b lies =
-    let fit = m.fits.parts in
+pub matches_zeroed : (header : Header) (h : ℕ) (k : Parts) (ids : Ids) (past : List Event) (key : PageKey) (frame : FrameNo) (memory : HostParts) → Matches header h k ids [] past → Brings key frame k.memory memory → KeepsPlan k.memory memory
+    → Matches header h (record k { memory = memory }) ids [] (event.Zeroed (host_id h) key.object key.page ∷ past)
+matches_zeroed header h k ids past key frame memory m c plan =
     let sized : k.memory.buffers.size ≡ header.size = m.fits.buffers ∙ m.size in
-    let zeros = bytes_now key frame _ _ _ _ _ k.memory mid.memory b.page ∙ ap (λ z. replicate z 0) sized in
-    let pages2 = pages_moved header.size Zeroes key frame _ _ _ _ _ k.memory mid.memory k.memory.objects k.chains (λ o p. local header.size h (place_of o p) past) fit m.pages b.page (λ some. lies_there k key lies)
+    let zeros = bytes_now key frame _ _ _ _ _ k.memory memory c ∙ ap (λ z. replicate z 0) sized in
+    let pages2 = pages_moved header.size Zeroes key frame _ _ _ _ _ k.memory memory k.memory.objects (λ o p. local header.size h (place_of o p) past) m.fits.parts m.pages c
     (ap (λ z. shown_as (clean_row frame unlocked false) true true z (absent_at k.memory.objects key.object.0 key.page.0)) (sym zeros)) (λ o p apart. refl) in
     record {
       plain = m.plain;
       known = m.known;
-      size = b.plan.size ∙ m.size;
-      host = rw b.plan.host m.host;
-      fits = b.fits;
-      tasks = rw b.plan.maps m.tasks;
-      regions = rw (b.plan.chains, b.plan.objects) m.regions;
-      entries = rw (b.plan.chains, b.plan.maps) m.entries;
-      pages = rw (b.plan.chains, b.plan.objects, own_host h) pages2;
-      uses = rw b.plan.maps m.uses;
-      controls = rw b.plan.objects m.controls;
-      homeless = m.homeless;
+      size = m.size;
+      host = m.host;
+      fits = fits_changed key frame _ _ _ _ _ k memory m.fits plan.fit plan.buffers c (record { lock = refl; precious = refl; unlock_sent = refl });
+      tasks = m.tasks;
+      regions = regions_marked k.chains k.memory.objects memory.objects ids _ _ _ _ _ _ plan.objects (marks_still header (next_region header past) past (event.Zeroed (host_id h) key.object key.page ∷ past) (λ r. refl)) m.regions;
+      homes = m.homes;
+      entries = m.entries;
+      pages = rw (plan.objects, own_host h) pages2;
+      uses = m.uses;
+      controls = controls_kept k.memory.objects memory.objects _ _ _ plan.objects m.controls (λ o home. object_stays o h (event.Zeroed (host_id h) key.object key.page) past home);
+      homeless = record { regions = m.homeless.regions; objects = m.homeless.objects; stay = m.homeless.stay };
       settled = record { returned = refl; shut = λ region. refl };
-      laundry = rw b.plan.laundry (laundry_changed key frame _ _ _ _ _ k.memory mid.memory k.laundry (returns_out h past) m.laundry b.page);
-      frames = rw (own_host h) (frames_changed (slice_get (reverse header.frames.items) h) key frame _ _ _ _ _ k.memory mid.memory (frames_held header.size h past) (frames_held header.size h past + 1) (frames_wired h past) m.frames b.page (λ held. let more = b.page.claims in omega arith));
+      laundry = laundry_changed key frame _ _ _ _ _ k.memory memory k.laundry (returns_out h past) m.laundry c;
+      frames = rw (own_host h) (frames_changed (slice_get (reverse header.frames.items) h) key frame _ _ _ _ _ k.memory memory (frames_held header.size h past) (frames_held header.size h past + 1) (frames_wired h past) m.frames c (λ held. let more = c.claims in omega arith));
     }
 
--- the page is here then
-pub brought_here : (key : PageKey) (frame : FrameNo) (k mid : Parts) → BringsZeros key frame k mid → IsHere key frame mid
-brought_here key frame k mid b = record { row = clean_row frame unlocked false; found = row_put k.memory.resident mid.memory.resident key.object.0 key.page.0 _ b.page.row; is = refl; here = refl }
-
--- the access leads to where it led
-pub leads_zeroed : (header : Header) (h : ℕ) (past : List Event) (task : ℕ) (what : Want) (key : PageKey) (host : HostId) (object : ObjectId) (page : PageNo) → Leads header h past task what key → Leads header h (event.Zeroed host object page ∷ past) task what key
-leads_zeroed header h past task what key host object page to =
-    record { entry = to.entry; lives = to.lives; found = to.found; waits = to.waits; unmarked = to.unmarked; top = to.top; bare = to.bare }
-
--- a load ends
-
-pub loaded_follows : (header : Header) (h : ℕ) (outside : Outside) (doing : Command) (past : List Event) (task : TaskId) (address n value : ℕ) (key : PageKey) (bytes : List ℕ) → Leads header h past task.0 (want.Load address n) key → Shows header h past key bytes
-    → value ≡ little_endian (slice_range bytes (address % header.size) (address % header.size + n)) → Suffice header h (event.Loaded task key.object key.page value ∷ past) → Follows header h outside doing (event.Loaded task key.object key.page value) past
-loaded_follows header h outside doing past task address n value key bytes to shows number frames =
+pub works_zeroed : (header : Header) (h : ℕ) (past : List Event) (k : Parts) (ids : Ids) (key : PageKey) (frame : FrameNo) (memory : HostParts) → Works header h k ids woken.Nobody past → IsReferred k.memory.objects key.object.0
+    → Brings key frame k.memory memory → KeepsPlan k.memory memory → Works header h (record k { memory = memory }) ids woken.Nobody (event.Zeroed (host_id h) key.object key.page ∷ past)
+works_zeroed header h past k ids key frame memory works is c plan =
     record {
-      consequence = tt;
-      cause = record {
-        address = address;
-        bytes = n;
-        waits = it_waits header h past task.0 (want.Load address n) key to;
-        comes = comes_top header h to.entry.region.0 (page_at header.size address to.entry) key.object.0 key.page.0 past to.top;
-        here = shows.here;
-      };
-      own_bytes = record {
-        address = address;
-        bytes = n;
-        waits = it_waits header h past task.0 (want.Load address n) key to;
-        readable = record { here = shows.here; unlocked = inl shows.unlocked };
-        number = number ∙ ap (λ z. number_at z header.size address n) (sym shows.bytes_are);
-      };
-      frames = frames;
-      inner = tt;
-      said = tt;
-      own = own_lives h task.0 past to.lives;
-      creates = tt;
+      matches = matches_zeroed header h k ids past key frame memory works.matches c plan;
+      used = works.used;
+      referred = page_referred key frame _ _ _ _ _ k memory c plan is works.referred;
+      waits = page_waits key frame _ _ _ _ _ k memory woken.Nobody (λ u. waiting u past) c plan (none_not_asked None refl) (here_not_asked _ _ refl refl) works.waits;
+      order = works.order;
     }
 
-pub matches_loaded : (header : Header) (h : ℕ) (k : Parts) (ids : Ids) (lost : List Entry) (past : List Event) (task : TaskId) (object : ObjectId) (page : PageNo) (value : ℕ) → Matches header h k ids lost past → host_of task.0 past ≡ Some h
-    → Matches header h k ids lost (event.Loaded task object page value ∷ past)
-matches_loaded header h k ids lost past task object page value m lives =
-    let there = lives_in task.0 m.tasks (ap (is_on h) lives ∙ own_host h) in
+-- a copy of a page that is here comes to the place above it
+
+pub matches_raised : (header : Header) (h : ℕ) (k : Parts) (ids : Ids) (past : List Event) (low top : PageKey) (row : PageRow) (frame : FrameNo) (memory : HostParts) → Matches header h k ids [] past
+    → row_at k.memory.resident low.object.0 low.page.0 ≡ Some row → row.here ≡ true → RaisesPage top frame (page_in k.memory.frames row.frame.0) k.memory memory → KeepsPlan k.memory memory
+    → Matches header h (record k { memory = memory }) ids [] (event.Raised (host_id h) low.object low.page top.object top.page ∷ past)
+matches_raised header h k ids past low top row frame memory m found here c plan =
+    let lower : Local = local header.size h (place_of low.object.0 low.page.0) past in
+    let lacked = absent_at k.memory.objects low.object.0 low.page.0 in
+    let now : PageRow = record (clean_row frame unlocked false) { dirty = true } in
+    let seen : lower ≡ shown_as row true true (page_in k.memory.frames row.frame.0) lacked =
+    m.pages.shown low.object.0 low.page.0 ∙ (ap (λ z. local_of_row k.memory.frames z lacked) found ∙ shown_here k.memory.frames row lacked here) in
+    let same : lower.bytes ≡ page_in memory.frames frame.0 = ap (λ (z : Local). z.bytes) seen ∙ sym (bytes_now top frame _ _ _ _ _ k.memory memory c) in
+    let pages2 = pages_moved header.size (Raises lower.bytes) top frame _ _ _ _ _ k.memory memory k.memory.objects (λ o p. local header.size h (place_of o p) past) m.fits.parts m.pages c
+    (ap (λ z. shown_as now true true z (absent_at k.memory.objects top.object.0 top.page.0)) same) (λ o p apart. refl) in
     record {
       plain = m.plain;
       known = m.known;
       size = m.size;
       host = m.host;
-      fits = m.fits;
+      fits = fits_changed top frame _ _ _ _ _ k memory m.fits plan.fit plan.buffers c (record { lock = refl; precious = refl; unlock_sent = refl });
       tasks = m.tasks;
-      regions = m.regions;
+      regions = regions_marked k.chains k.memory.objects memory.objects ids _ _ _ _ _ _ plan.objects (marks_still header (next_region header past) past (event.Raised (host_id h) low.object low.page top.object top.page ∷ past) (λ r. refl)) m.regions;
+      homes = m.homes;
       entries = m.entries;
-      pages = m.pages;
-      uses = uses_still k.maps _ _ _ _ _ m.uses (λ t r none. holds_waits header.size task.0 t r k.maps (rows_in task.0 k.maps) past None there none);
-      controls = m.controls;
-      homeless = m.homeless;
+      pages = rw (plan.objects, own_host h) pages2;
+      uses = m.uses;
+      controls = controls_kept k.memory.objects memory.objects _ _ _ plan.objects m.controls (λ o home. object_stays o h (event.Raised (host_id h) low.object low.page top.object top.page) past home);
+      homeless = record { regions = m.homeless.regions; objects = m.homeless.objects; stay = m.homeless.stay };
       settled = record { returned = refl; shut = λ region. refl };
-      laundry = m.laundry;
-      frames = m.frames;
+      laundry = laundry_changed top frame _ _ _ _ _ k.memory memory k.laundry (returns_out h past) m.laundry c;
+      frames = rw (own_host h) (frames_changed (slice_get (reverse header.frames.items) h) top frame _ _ _ _ _ k.memory memory (frames_held header.size h past) (frames_held header.size h past + 1) (frames_wired h past) m.frames c (λ held. let more = c.claims in omega arith));
     }
 
--- a store ends
-
-pub stored_follows : (header : Header) (h : ℕ) (outside : Outside) (doing : Command) (past : List Event) (task : TaskId) (address n value : ℕ) (key : PageKey) (bytes : List ℕ) → Leads header h past task.0 (want.Store address n value) key → Shows header h past key bytes
-    → Suffice header h (event.Stored task key.object key.page (address % header.size) n value ∷ past) → Follows header h outside doing (event.Stored task key.object key.page (address % header.size) n value) past
-stored_follows header h outside doing past task address n value key bytes to shows frames =
+pub works_raised : (header : Header) (h : ℕ) (past : List Event) (k : Parts) (ids : Ids) (low top : PageKey) (row : PageRow) (frame : FrameNo) (memory : HostParts) → Works header h k ids woken.Nobody past → IsReferred k.memory.objects top.object.0
+    → row_at k.memory.resident low.object.0 low.page.0 ≡ Some row → row.here ≡ true → RaisesPage top frame (page_in k.memory.frames row.frame.0) k.memory memory → KeepsPlan k.memory memory
+    → Works header h (record k { memory = memory }) ids woken.Nobody (event.Raised (host_id h) low.object low.page top.object top.page ∷ past)
+works_raised header h past k ids low top row frame memory works is found here c plan =
     record {
-      consequence = tt;
-      cause = record {
-        address = address;
-        waits = it_waits header h past task.0 (want.Store address n value) key to;
-        is_top = to.top;
-        unmarked = to.unmarked;
-        here = shows.here;
-        place = refl;
-      };
-      own_bytes = record {
-        address = address;
-        waits = it_waits header h past task.0 (want.Store address n value) key to;
-        writable = record { here = shows.here; unlocked = shows.unlocked };
-        place = refl;
-      };
-      frames = frames;
-      inner = tt;
-      said = tt;
-      own = own_lives h task.0 past to.lives;
-      creates = tt;
-    }
-
-pub matches_stored : (header : Header) (h : ℕ) (k mid : Parts) (ids : Ids) (lost : List Entry) (past : List Event) (task : TaskId) (at n value : ℕ) (key : PageKey) (frame : FrameNo) → Matches header h k ids lost past → host_of task.0 past ≡ Some h → IsHere key frame k
-    → WritesNumber key frame (with_bytes at (little_endian_bytes n value) (page_in k.memory.frames frame.0)) k mid → Matches header h mid ids lost (event.Stored task key.object key.page at n value ∷ past)
-matches_stored header h k mid ids lost past task at n value key frame m lives stands w =
-    let o = key.object.0 in
-    let p = key.page.0 in
-    let put = little_endian_bytes n value in
-    let row = w.row in
-    let row2 : PageRow = record row { dirty = true } in
-    let lacked = absent_at k.memory.objects o p in
-    let here : row.here ≡ true = ap (λ z. z.here) (some_is row stands.row (sym w.page.found ∙ stands.found)) ∙ stands.here in
-    let written = bytes_now key row.frame _ _ _ _ _ k.memory mid.memory w.page ∙ ap (λ (z : FrameNo). with_bytes at put (page_in k.memory.frames z.0)) (sym w.is) in
-    let pages2 = pages_moved header.size (Stores at put) key row.frame _ _ _ _ _ k.memory mid.memory k.memory.objects k.chains (λ o2 p2. local header.size h (place_of o2 p2) past) m.fits.parts m.pages w.page (λ some. m.pages.live o p row w.page.found)
-    (ap (local_after header.size (Stores at put)) (shown_here k.memory.frames row lacked here) ∙ (ap (λ z. shown_as row2 true true z lacked) (sym written) ∙ sym (shown_here mid.memory.frames row2 lacked here))) (λ o2 p2 apart. refl) in
-    let pages3 : HasPages mid.memory.frames mid.memory.resident k.memory.objects k.chains (λ o2 p2. local header.size h (place_of o2 p2) (event.Stored task key.object key.page at n value ∷ past)) = rw (lives, own_host h) pages2 in
-    record {
-      plain = m.plain;
-      known = m.known;
-      size = w.plan.size ∙ m.size;
-      host = rw w.plan.host m.host;
-      fits = w.fits;
-      tasks = rw w.plan.maps m.tasks;
-      regions = rw (w.plan.chains, w.plan.objects) m.regions;
-      entries = rw (w.plan.chains, w.plan.maps) m.entries;
-      pages = rw (w.plan.chains, w.plan.objects) pages3;
-      uses = rw w.plan.maps (uses_still k.maps _ _ _ _ _ m.uses (λ t r none. holds_waits header.size task.0 t r k.maps (rows_in task.0 k.maps) past None (lives_in task.0 m.tasks (ap (is_on h) lives ∙ own_host h)) none));
-      controls = rw w.plan.objects m.controls;
-      homeless = m.homeless;
-      settled = record { returned = refl; shut = λ region. refl };
-      laundry = rw w.plan.laundry (laundry_changed key row.frame _ _ _ _ _ k.memory mid.memory k.laundry (returns_out h past) m.laundry w.page);
-      frames = frames_changed (slice_get (reverse header.frames.items) h) key row.frame _ _ _ _ _ k.memory mid.memory (frames_held header.size h past) (frames_held header.size h past) (frames_wired h past) m.frames w.page (λ held. let same = w.page.claims in omega arith);
+      matches = matches_raised header h k ids past low top row frame memory works.matches found here c plan;
+      used = works.used;
+      referred = page_referred top frame _ _ _ _ _ k memory c plan is works.referred;
+      waits = page_waits top frame _ _ _ _ _ k memory woken.Nobody (λ u. waiting u past) c plan (none_not_asked None refl) (here_not_asked _ _ refl refl) works.waits;
+      order = works.order;
     }
 
 -- the lists of pages have another order
-pub matches_touched : (frame : FrameNo) (header : Header) (h : ℕ) (k new : Parts) (ids : Ids) (lost : List Entry) (past : List Event) → Matches header h k ids lost past → MarksReferenced frame k new → Matches header h new ids lost past
-matches_touched frame header h k new ids lost past m touched = subst (λ (z : Parts). Matches header h z ids lost past) (sym touched.is) with_queues
+pub works_touched : (header : Header) (h : ℕ) (past : List Event) (k : Parts) (ids : Ids) (who : Woken) (frame : FrameNo) (memory : HostParts) → References frame k.memory memory → Works header h k ids who past
+    → Works header h (record k { memory = memory }) ids who past
+works_touched header h past k ids who frame memory touched works = subst (λ (z : HostParts). Works header h (record k { memory = z }) ids who past) (sym touched.is) with_queues
   where
-    with_queues : Matches header h (record k { memory = record k.memory { queues = new.memory.queues } }) ids lost past
+    m : Matches header h k ids [] past
+    m = works.matches
+
+    with_queues : Works header h (record k { memory = record k.memory { queues = memory.queues } }) ids who past
     with_queues =
         record {
-          plain = m.plain;
-          known = m.known;
-          size = m.size;
-          host = m.host;
-          fits = record { parts = fit_touched k.memory new.memory.queues m.fits.parts touched.keeps touched.frames; plain = m.fits.plain; buffers = m.fits.buffers };
-          tasks = m.tasks;
-          regions = m.regions;
-          entries = m.entries;
-          pages = m.pages;
-          uses = m.uses;
-          controls = m.controls;
-          homeless = m.homeless;
-          settled = m.settled;
-          laundry = m.laundry;
-          frames = m.frames;
+          matches = record {
+            plain = m.plain;
+            known = m.known;
+            size = m.size;
+            host = m.host;
+            fits = record { parts = fit_touched k.memory memory.queues m.fits.parts touched.keeps touched.frames; plain = m.fits.plain; buffers = m.fits.buffers };
+            tasks = m.tasks;
+            regions = m.regions;
+            homes = m.homes;
+            entries = m.entries;
+            pages = m.pages;
+            uses = m.uses;
+            controls = m.controls;
+            homeless = m.homeless;
+            settled = m.settled;
+            laundry = m.laundry;
+            frames = m.frames;
+          };
+          used = works.used;
+          referred = works.referred;
+          waits = works.waits;
+          order = works.order;
         }
 
--- other accesses wait
-pub matches_waits : (header : Header) (h : ℕ) (k : Parts) (ids : Ids) (lost : List Entry) (past : List Event) (waits : WaitTable) → Matches header h k ids lost past → Matches header h (record k { waits = waits }) ids lost past
-matches_waits header h k ids lost past waits m =
+-- an access ends
+
+-- with a load
+pub works_loaded : (header : Header) (h : ℕ) (past : List Event) (k : Parts) (ids : Ids) (w : Waiting) (key : PageKey) (value : ℕ) (waits2 : WaitTable) → Works header h k ids woken.Nobody past → entry k.waits.rows w.task.0 ≡ Some w → runs_now w.on ≡ true
+    → PutsInOrder w.task.0 None k.waits.rows waits2.rows → Works header h (record k { waits = waits2 }) ids woken.Nobody (event.Loaded w.task key.object key.page value ∷ past)
+works_loaded header h past k ids w key value waits2 works is now put =
+    let m = works.matches in
+    let e : Event = event.Loaded w.task key.object key.page value in
+    let there = (works.waits.allowed w.task.0 w is).lives in
     record {
-      plain = m.plain;
-      known = m.known;
-      size = m.size;
-      host = m.host;
-      fits = record { parts = m.fits.parts; plain = m.fits.plain; buffers = m.fits.buffers };
-      tasks = m.tasks;
-      regions = m.regions;
-      entries = m.entries;
-      pages = m.pages;
-      uses = m.uses;
-      controls = m.controls;
-      homeless = m.homeless;
-      settled = m.settled;
-      laundry = m.laundry;
-      frames = m.frames;
+      matches = record {
+        plain = m.plain;
+        known = m.known;
+        size = m.size;
+        host = m.host;
+        fits = record { parts = m.fits.parts; plain = m.fits.plain; buffers = m.fits.buffers };
+        tasks = m.tasks;
+        regions = regions_marked k.chains k.memory.objects k.memory.objects ids _ _ _ _ _ _ refl (marks_still header (next_region header past) past (e ∷ past) (λ r. refl)) m.regions;
+        homes = m.homes;
+        entries = m.entries;
+        pages = m.pages;
+        uses = uses_still k.maps _ _ _ _ _ m.uses (λ t r none. holds_waits header.size w.task.0 t r k.maps (rows_in w.task.0 k.maps) past None there none);
+        controls = controls_kept k.memory.objects k.memory.objects _ _ _ refl m.controls (λ o home. object_stays o h e past home);
+        homeless = record { regions = m.homeless.regions; objects = m.homeless.objects; stay = m.homeless.stay };
+        settled = record { returned = refl; shut = λ region. refl };
+        laundry = m.laundry;
+        frames = m.frames;
+      };
+      used = works.used;
+      referred = works.referred;
+      waits = waiters_over k.maps k.chains k.memory.resident k.memory.objects k.waits.rows waits2.rows (λ u. waiting u past) (λ u. waiting u (e ∷ past)) w.task.0 w works.waits is (asks_none_now k w.on now) put.entry (λ u. refl);
+      order = put.order.keeps (λ u. begun_at u past) 0 works.order;
+    }
+
+-- with a store
+pub works_stored : (header : Header) (h : ℕ) (past : List Event) (k : Parts) (ids : Ids) (w : Waiting) (key : PageKey) (frame : FrameNo) (at size value : ℕ) (row : PageRow) (memory : HostParts) (waits2 : WaitTable) → Works header h k ids woken.Nobody past
+    → entry k.waits.rows w.task.0 ≡ Some w → runs_now w.on ≡ true → PutsInOrder w.task.0 None k.waits.rows waits2.rows → WritesPage key frame at size value k.memory memory
+    → row_at k.memory.resident key.object.0 key.page.0 ≡ Some row → row.here ≡ true → Works header h (record k { memory = memory; waits = waits2 }) ids woken.Nobody (event.Stored w.task key.object key.page at size value ∷ past)
+works_stored header h past k ids w key frame at size value row memory waits2 works is now put wrote found here =
+    let m = works.matches in
+    let c = wrote.page in
+    let plan = wrote.plan in
+    let o = key.object.0 in
+    let p = key.page.0 in
+    let e : Event = event.Stored w.task key.object key.page at size value in
+    let there = (works.waits.allowed w.task.0 w is).lives in
+    let lives : host_of w.task.0 past ≡ Some h = lives_here m.tasks there in
+    let bytes = little_endian_bytes size value in
+    let was = wrote.row in
+    let row2 : PageRow = record was { dirty = true } in
+    let lacked = absent_at k.memory.objects o p in
+    let its : was.here ≡ true = ap (λ (z : PageRow). z.here) (some_is was row (sym c.found ∙ found)) ∙ here in
+    let plain = m.fits.plain o p was c.found in
+    let written = bytes_now key was.frame _ _ _ _ _ k.memory memory c ∙ ap (λ (z : FrameNo). with_bytes at bytes (page_in k.memory.frames z.0)) (sym wrote.is) in
+    let pages2 = pages_moved header.size (Stores at bytes) key was.frame _ _ _ _ _ k.memory memory k.memory.objects (λ o2 p2. local header.size h (place_of o2 p2) past) m.fits.parts m.pages c
+    (ap (local_after header.size (Stores at bytes)) (shown_here k.memory.frames was lacked its) ∙ (ap (λ z. shown_as row2 true true z lacked) (sym written) ∙ sym (shown_here memory.frames row2 lacked its))) (λ o2 p2 apart. refl) in
+    let pages3 : HasPages memory.frames memory.resident k.memory.objects (λ o2 p2. local header.size h (place_of o2 p2) (e ∷ past)) = rw (lives, own_host h) pages2 in
+    let referred2 = page_referred key was.frame _ _ _ _ _ k memory c plan (works.referred.pages o p row found) works.referred in
+    let waits3 = page_waits key was.frame _ _ _ _ _ k memory woken.Nobody (λ u. waiting u past) c plan (here_not_asked _ was refl its) (here_not_asked _ row2 refl its) works.waits in
+    let fits2 = fits_changed key was.frame _ _ _ _ _ k memory m.fits plan.fit plan.buffers c (record { lock = plain.lock; precious = plain.precious; unlock_sent = plain.unlock_sent }) in
+    record {
+      matches = record {
+        plain = m.plain;
+        known = m.known;
+        size = m.size;
+        host = m.host;
+        fits = record { parts = fits2.parts; plain = fits2.plain; buffers = fits2.buffers };
+        tasks = m.tasks;
+        regions = regions_marked k.chains k.memory.objects memory.objects ids _ _ _ _ _ _ plan.objects (marks_still header (next_region header past) past (e ∷ past) (λ r. refl)) m.regions;
+        homes = m.homes;
+        entries = m.entries;
+        pages = rw plan.objects pages3;
+        uses = uses_still k.maps _ _ _ _ _ m.uses (λ t r none. holds_waits header.size w.task.0 t r k.maps (rows_in w.task.0 k.maps) past None there none);
+        controls = controls_kept k.memory.objects memory.objects _ _ _ plan.objects m.controls (λ o home. object_stays o h e past home);
+        homeless = record { regions = m.homeless.regions; objects = m.homeless.objects; stay = m.homeless.stay };
+        settled = record { returned = refl; shut = λ region. refl };
+        laundry = laundry_changed key was.frame _ _ _ _ _ k.memory memory k.laundry (returns_out h past) m.laundry c;
+        frames = frames_changed (slice_get (reverse header.frames.items) h) key was.frame _ _ _ _ _ k.memory memory (frames_held header.size h past) (frames_held header.size h past) (frames_wired h past) m.frames c (λ held. let same = c.claims in omega arith);
+      };
+      used = works.used;
+      referred = referred2;
+      waits = waiters_over k.maps k.chains memory.resident memory.objects k.waits.rows waits2.rows (λ u. waiting u past) (λ u. waiting u (e ∷ past)) w.task.0 w waits3 is (asks_none_now (record k { memory = memory }) w.on now) put.entry (λ u. refl);
+      order = put.order.keeps (λ u. begun_at u past) 0 works.order;
     }

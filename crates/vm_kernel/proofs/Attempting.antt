@@ -1,408 +1,452 @@
 -- An access is run: what holds after each thing that it may come to.
-use Rattle.vm_kernel.proofs.Common.{Access, AfterZeros, AllUsed, AtOnce, BeganInOrder, Bool, BringsZeros, Comes, Command, Ended, Event, FaultStep, Faulted, Faults, FrameNo, HasOrder, HasWaiters, HasWaits, Header, Hits, HostId, Ids, IfSome, IsAsked, IsAt, IsAvailable, IsHere, IsPagerTold, IsUnavailable, JoinsQueue, LegalEvents, List, MarksReferenced, Matches, None, NothingChanges, Nowhere, ObjectId, On, Option, Outside, PageKey, PageRow, Parts, Reason, RequestsPage, SamePlan, Some, TaskId, Up, WaitTable, Waiting, Want, Wants, WantsFrame, WantsOne, Woken, Works, WritesNumber, [], access_in, address_in, ap, begun_at, claimed, count_again, desired_access, entry, free, host_id, if◌then◌else◌, inl, inr, is_ready_state, little_endian, little_endian_bytes, one_again, one_frame, page_in, page_of, queued, ready_in, refl, row_at, row_put, slice_range, subst, sym, true, waiting, with_bytes, with_on, zeroed, ℕ, ◌%◌, ◌++◌, ◌+◌, ◌-◌, ◌==◌, ◌∙◌, ◌∷◌, ◌≡◌, ◌⊎◌}
+use Rattle.vm_kernel.proofs.Common.{Bool, Command, Event, Header, HostId, HostParts, Ids, IfSome, IsAt, JoinsQueue, LegalEvents, List, None, ObjectId, Option, Outside, PageKey, PageRow, Parts, RegionRow, Some, Up, WaitTable, Waiting, Want, Wants, WantsFrame, Works, [], access_in, address_in, ap, append_assoc, claimed, clean_row, count_again, entry, entry_at, false, free, host_id, if◌then◌else◌, inl, inr, one_again, one_frame, page_at, page_of, queued, refl, region_at, row_at, row_put, rows_in, some_is, subst, suc, sym, true, unlocked, with_on, ℕ, ◌%◌, ◌&&◌, ◌++◌, ◌+◌, ◌-◌, ◌∙◌, ◌∷◌, ◌≡◌, ◌⊎◌}
+use Rattle.vm_base.specs.declared.entry.Entry.{Entry}
+use Rattle.vm_base.specs.declared.ids.Lock.{Lock}
+use Rattle.vm_fault.specs.Faults.{AfterZeros, AtOnce, Ended, FaultState, Faulted, Hits, Needs, NothingChanges, Nowhere, Prepares, Raised, RequestsPage, ToAsk, ToRaise}
+use Rattle.vm_fault.specs.Walks.{Finds, StopsAsked, WalksTo, is_storing, keeps_out, top_place, wanted_number, writes_at}
+use Rattle.vm_fault.specs.declared.step.FaultStep.{FaultStep}
+use Rattle.vm_fault.specs.declared.step.FaultStep.TheVariants as step
+use Rattle.vm_kernel.proofs.Accessing.{works_loaded, works_raised, works_stored, works_touched, works_zeroed}
+use Rattle.vm_kernel.proofs.Asking.{works_asked, works_joined, works_turned}
+use Rattle.vm_kernel.proofs.Follows.{comes_at, loaded_follows, raised_follows, request_follows, shadowed_follows, stored_follows, zeroed_follows}
+use Rattle.vm_kernel.proofs.Growing.{goes_both, goes_none, goes_one, suffices}
+use Rattle.vm_kernel.proofs.Leading.{Leads, it_waits, leads_of, shown_of, storing_is, top_at}
+use Rattle.vm_kernel.proofs.Ordering.{PutsInOrder}
+use Rattle.vm_kernel.proofs.Own.{named_host, own_host}
+use Rattle.vm_kernel.proofs.Shadows.{works_shadowed}
+use Rattle.vm_kernel.specs.Serving.{IsToCopy, runs_now}
+use Rattle.vm_kernel.specs.Turns.{Bare, IsFront, Shadow}
+use Rattle.vm_legal.specs.Accesses as legal
 use Rattle.vm_model.specs.declared.event.Event.TheVariants as event
 use Rattle.vm_model.specs.declared.message.Message.TheVariants as message
-use Rattle.vm_legal.specs.Accesses.{Elsewhere}
+use Rattle.vm_shadow.specs.Chains.{ChainTable}
+use Rattle.vm_state.proofs.Shown.{may_ask, shows_row}
+use Rattle.vm_state.proofs.Walks.{referred_down, sinks_of, walks_lead, walks_of}
+use Rattle.vm_state.specs.Waiters.{IsPagerTold, IsPlaceOf}
 use Rattle.vm_supply.specs.declared.woken.Woken.TheVariants as woken
 use Rattle.vm_waits.specs.declared.waiting.On.TheVariants as on
 use Rattle.vm_waits.specs.declared.waiting.Want.TheVariants as want
-use Rattle.vm_kernel.specs.declared.steps.FaultStep.TheVariants as step
-use Rattle.vm_kernel.proofs.Accessing.{brought_here, leads_zeroed, loaded_follows, matches_loaded, matches_stored, matches_touched, matches_waits, matches_zeroed, stored_follows, zeroed_follows}
-use Rattle.vm_kernel.proofs.Growing.{Follows, goes_both, goes_none, goes_one, suffices}
-use Rattle.vm_kernel.proofs.Leading.{Leads, Lies, it_waits, leads_of, lies_of, top_at}
-use Rattle.vm_kernel.proofs.Ordering.{PutsInOrder}
-use Rattle.vm_kernel.proofs.Requesting.{matches_asked, request_follows, requesting}
-use Rattle.vm_kernel.proofs.Standing.{may_answer, misses_of, passes_of, shows_of}
-use Rattle.vm_kernel.proofs.Waiting.{AsksNone, IsNotAsked, asks_none, here_not_asked, none_not_asked, waiters_asked, waiters_joined, waiters_over, waiters_page, waiters_turned}
-use Rattle.vm_kernel.proofs.Own.{named_host}
 
--- an access has ended, but its row is still there: what the history says, and what the kernel has
-pub record Finishes (header : Header) (h : ℕ) (outside : Outside) (doing : Command) (past : List Event) (k new : Parts) (ids : Ids) (task : TaskId) (what : Want) (key : PageKey) (events after : List Event) : Type 0 where
-  pub matches : Matches header h new ids [] (after ++ past)
+-- what a fault may change of a kernel, and a kernel with that changed
+
+abbrev pub state_of : Parts → Ids → List Event → FaultState
+state_of k ids events = record { parts = k.memory; chains = k.chains; ids = ids; events = events }
+
+abbrev pub with_state : Parts → FaultState → Parts
+with_state k s = record k { memory = s.parts; chains = s.chains }
+
+-- the kernel behind some more events, which follow from what stood there
+pub record Reaches (header : Header) (h : ℕ) (outside : Outside) (doing : Command) (past events : List Event) (k : Parts) (ids : Ids) (after : List Event) : Type 0 where
+  pub works : Works header h k ids woken.Nobody (after ++ past)
   pub goes : LegalEvents header h outside doing past events after
-  pub ends : (u : ℕ) → waiting u (after ++ past) ≡ (if task.0 == u then None else waiting u (events ++ past))
-  pub waits : HasWaits new woken.Nobody (events ++ past)
-  pub order : HasOrder new (after ++ past)
-  pub at : IsAt new.maps new.chains task.0 what key
-  pub here : IsNotAsked (row_at new.memory.resident key.object.0 key.page.0)
-  pub chains : new.chains ≡ k.chains
-  pub objects : new.memory.objects ≡ k.memory.objects
-  pub laundry : new.laundry ≡ k.laundry
-  pub kept : new.waits ≡ k.waits
 
--- an access that waits, and the page that it is about
-pub record Tries (header : Header) (h : ℕ) (past : List Event) (k : Parts) (ids : Ids) (task : TaskId) (what : Want) (key : PageKey) : Type 0 where
-  pub matches : Matches header h k ids [] past
-  pub waits : HasWaits k woken.Nobody past
-  pub order : HasOrder k past
-  pub to : Leads header h past task.0 what key
-  pub at : IsAt k.maps k.chains task.0 what key
-  pub lies : Lies k key
+-- an access that is run, and the top place of its page; the region of a store has no mark
+pub record Tries (header : Header) (h : ℕ) (past : List Event) (k : Parts) (ids : Ids) (w : Waiting) (top : PageKey) : Type 0 where
+  pub works : Works header h k ids woken.Nobody past
+  pub is : entry k.waits.rows w.task.0 ≡ Some w
+  pub now : runs_now w.on ≡ true
+  pub at : IsAt k.maps k.chains w.task.0 w.want top
+  pub clear : is_storing w.want ≡ true → at.row.marked ≡ false
 
-pub tries_of : (header : Header) (h : ℕ) (past : List Event) (k : Parts) (ids : Ids) (w : Waiting) (key : PageKey) → Works header h k ids woken.Nobody past → entry k.waits.rows w.task.0 ≡ Some w → IsAt k.maps k.chains w.task.0 w.want key
-    → Tries header h past k ids w.task w.want key
-tries_of header h past k ids w key works is at =
-    record {
-      matches = works.matches;
-      waits = works.waits;
-      order = works.order;
-      to = leads_of header h k ids past woken.Nobody w.task.0 w key works.matches works.waits is at;
-      at = at;
-      lies = lies_of header h k ids past [] w.task.0 w.want key works.matches at;
-    }
+pub leads_there : (header : Header) (h : ℕ) (past : List Event) (k : Parts) (ids : Ids) (w : Waiting) (top : PageKey) → (t : Tries header h past k ids w top) → Leads header h past k w.task.0 w.want top t.at
+leads_there header h past k ids w top t = leads_of header h k ids past woken.Nobody w.task.0 w top t.works.matches t.works.waits t.is t.at
 
--- the plan is the same, so those who wait do so still
-pub waits_planned : (k new : Parts) (who : Woken) (at : ℕ → Option Access) → SamePlan k new → HasWaiters k.maps k.chains new.memory.resident k.memory.objects k.waits.rows who at → HasWaiters new.maps new.chains new.memory.resident new.memory.objects new.waits.rows who at
-waits_planned k new who at plan has = rw (plan.maps, plan.chains, plan.objects, plan.waits) has
+-- nothing prohibits a page
+open_row : (header : Header) (h : ℕ) (past : List Event) (k : Parts) (ids : Ids) (w : Waiting) (top key : PageKey) (row : PageRow) → Tries header h past k ids w top → row_at k.memory.resident key.object.0 key.page.0 ≡ Some row → row.lock ≡ unlocked
+open_row header h past k ids w top key row t found = (t.works.matches.fits.plain key.object.0 key.page.0 row found).lock
 
-order_planned : (k new : Parts) (past : List Event) → SamePlan k new → HasOrder k past → HasOrder new past
-order_planned k new past plan has = subst (λ (z : WaitTable). BeganInOrder (λ u. begun_at u past) 0 z.rows) (sym plan.waits) has
+pub never_kept_out : (lock : Lock) (writes : Bool) → lock ≡ unlocked → keeps_out lock writes ≡ false
+never_kept_out lock writes is = ap (λ (z : Lock). keeps_out z writes) is ∙ none writes
+  where
+    none : (b : Bool) → keeps_out unlocked b ≡ false
+    none true = refl
+    none false = refl
 
-at_planned : (k new : Parts) (task : ℕ) (what : Want) (key : PageKey) → SamePlan k new → IsAt k.maps k.chains task what key → IsAt new.maps new.chains task what key
-at_planned k new task what key plan at = rw (plan.maps, plan.chains) at
+-- a want that stores
+pub record IsStore (what : Want) : Type 0 where
+  pub address : ℕ
+  pub size : ℕ
+  pub value : ℕ
+  pub is : what ≡ want.Store address size value
 
-lies_planned : (k new : Parts) (key : PageKey) → SamePlan k new → Lies k key → Lies new key
-lies_planned k new key plan lies = record { row = lies.row; region = rw plan.chains lies.region; under = rw plan.objects lies.under; inside = lies.inside }
+pub store_of : (what : Want) → is_storing what ≡ true → IsStore what
+store_of (want.Load address size) stores = absurd (let bad : false ≡ true = stores in cc)
+store_of (want.Store address size value) stores = record { address = address; size = size; value = value; is = refl }
 
--- a load ends
-finish_load : (header : Header) (h : ℕ) (outside : Outside) (doing : Command) (past : List Event) (k new : Parts) (ids : Ids) (task : TaskId) (address n value : ℕ) (key : PageKey) (frame : FrameNo) (events : List Event)
-    → Tries header h (events ++ past) k ids task (want.Load address n) key → IsHere key frame k
-    → value ≡ little_endian (slice_range (page_in k.memory.frames frame.0) (address % header.size) (address % header.size + n)) → MarksReferenced frame k new
-    → Finishes header h outside doing past k new ids task (want.Load address n) key events (event.Loaded task key.object key.page value ∷ events)
-finish_load header h outside doing past k new ids task address n value key frame events t here number touched =
+-- it ends with a page that is here
+
+hit_load : (header : Header) (h : ℕ) (outside : Outside) (doing : Command) (past : List Event) (k : Parts) (ids : Ids) (w : Waiting) (top : PageKey) (events : List Event) (steps : ℕ) (key : PageKey) (row : PageRow) (address size value : ℕ) (e : Event) (m2 : HostParts) (waits2 : WaitTable)
+    → Tries header h (events ++ past) k ids w top → w.want ≡ want.Load address size → Finds k.memory k.chains steps top key row → Hits w.task (want.Load address size) key row.frame (address % header.size) value e k.memory m2
+    → PutsInOrder w.task.0 None k.waits.rows waits2.rows → Reaches header h outside doing past events (record k { memory = m2; waits = waits2 }) ids (e ∷ events)
+hit_load header h outside doing past k ids w top events steps key row address size value e m2 waits2 t is finds hits put =
     let moment = events ++ past in
-    let e : Event = event.Loaded task key.object key.page value in
-    let m = t.matches in
-    record {
-      matches = matches_touched frame header h k new ids [] (e ∷ moment) (matches_loaded header h k ids [] moment task key.object key.page value m t.to.lives) touched;
-      goes = goes_one header h outside doing past events e m.settled
-          (loaded_follows header h outside doing moment task address n value key (page_in k.memory.frames frame.0) t.to (shows_of header h k ids [] moment key frame m here) number (suffices header h k.memory.frames (e ∷ moment) m.frames));
-      ends = λ u. refl;
-      waits = subst (λ (z : Parts). HasWaits z woken.Nobody moment) (sym touched.is) t.waits;
-      order = subst (λ (z : Parts). HasOrder z moment) (sym touched.is) t.order;
-      at = subst (λ (z : Parts). IsAt z.maps z.chains task.0 (want.Load address n) key) (sym touched.is) t.at;
-      here = subst (λ (z : Parts). IsNotAsked (row_at z.memory.resident key.object.0 key.page.0)) (sym touched.is) (here_not_asked (row_at k.memory.resident key.object.0 key.page.0) here.row here.found here.here);
-      chains = ap (λ (z : Parts). z.chains) touched.is;
-      objects = ap (λ (z : Parts). z.memory.objects) touched.is;
-      laundry = ap (λ (z : Parts). z.laundry) touched.is;
-      kept = ap (λ (z : Parts). z.waits) touched.is;
-    }
-
--- a store ends
-finish_store : (header : Header) (h : ℕ) (outside : Outside) (doing : Command) (past : List Event) (k mid new : Parts) (ids : Ids) (task : TaskId) (address n value : ℕ) (key : PageKey) (frame : FrameNo) (events : List Event)
-    → Tries header h (events ++ past) k ids task (want.Store address n value) key → IsHere key frame k
-    → WritesNumber key frame (with_bytes (address % header.size) (little_endian_bytes n value) (page_in k.memory.frames frame.0)) k mid → MarksReferenced frame mid new
-    → Finishes header h outside doing past k new ids task (want.Store address n value) key events (event.Stored task key.object key.page (address % header.size) n value ∷ events)
-finish_store header h outside doing past k mid new ids task address n value key frame events t here wrote touched =
-    let moment = events ++ past in
-    let o = key.object.0 in
-    let p = key.page.0 in
-    let e : Event = event.Stored task key.object key.page (address % header.size) n value in
-    let row2 : PageRow = record wrote.row { dirty = true } in
-    let before = here_not_asked (row_at k.memory.resident o p) here.row here.found here.here in
-    let now = here_not_asked (Some row2) row2 refl (before.here wrote.row wrote.page.found) in
-    let m2 = matches_stored header h k mid ids [] moment task (address % header.size) n value key frame t.matches t.to.lives here wrote in
-    record {
-      matches = matches_touched frame header h mid new ids [] (e ∷ moment) m2 touched;
-      goes = goes_one header h outside doing past events e t.matches.settled
-          (stored_follows header h outside doing moment task address n value key (page_in k.memory.frames frame.0) t.to (shows_of header h k ids [] moment key frame t.matches here) (suffices header h mid.memory.frames (e ∷ moment) m2.frames));
-      ends = λ u. refl;
-      order = subst (λ (z : Parts). HasOrder z moment) (sym touched.is) (order_planned k mid moment wrote.plan t.order);
-      waits = subst (λ (z : Parts). HasWaits z woken.Nobody moment) (sym touched.is)
-          (waits_planned k mid woken.Nobody (λ u. waiting u moment) wrote.plan (waiters_page k.maps k.chains k.memory.resident mid.memory.resident k.memory.objects k.waits.rows woken.Nobody (λ u. waiting u moment) o p (Some row2) t.waits wrote.page.row before now));
-      at = subst (λ (z : Parts). IsAt z.maps z.chains task.0 (want.Store address n value) key) (sym touched.is) (at_planned k mid task.0 (want.Store address n value) key wrote.plan t.at);
-      here = subst (λ (z : Parts). IsNotAsked (row_at z.memory.resident o p)) (sym touched.is)
-          (here_not_asked (row_at mid.memory.resident o p) row2 (row_put k.memory.resident mid.memory.resident o p (Some row2) wrote.page.row) (before.here wrote.row wrote.page.found));
-      chains = ap (λ (z : Parts). z.chains) touched.is ∙ wrote.plan.chains;
-      objects = ap (λ (z : Parts). z.memory.objects) touched.is ∙ wrote.plan.objects;
-      laundry = ap (λ (z : Parts). z.laundry) touched.is ∙ wrote.plan.laundry;
-      kept = ap (λ (z : Parts). z.waits) touched.is ∙ wrote.plan.waits;
-    }
-
--- an access ends with a page that is here
-finish : (header : Header) (h : ℕ) (outside : Outside) (doing : Command) (past : List Event) (k new : Parts) (ids : Ids) (task : TaskId) (what : Want) (key : PageKey) (frame : FrameNo) (at : ℕ) (events after : List Event)
-    → Tries header h (events ++ past) k ids task what key → IsHere key frame k → at ≡ address_in what % header.size → Hits task what key frame at k new events after → Finishes header h outside doing past k new ids task what key events after
-finish header h outside doing past k new ids task (want.Load address n) key frame at events after t here is hits =
-    subst (λ (z : List Event). Finishes header h outside doing past k new ids task (want.Load address n) key events z) (sym hits.3)
-    (finish_load header h outside doing past k new ids task address n hits.0 key frame events t here (hits.1 ∙ ap (λ z. little_endian (slice_range (page_in k.memory.frames frame.0) z (z + n))) is) hits.2)
-finish header h outside doing past k new ids task (want.Store address n value) key frame at events after t here is hits =
-    subst (λ (z : List Event). Finishes header h outside doing past k new ids task (want.Store address n value) key events z) (sym (hits.3 ∙ ap (λ z. event.Stored task key.object key.page z n value ∷ events) is))
-    (finish_store header h outside doing past k hits.0 new ids task address n value key frame events t here (subst (λ (z : ℕ). WritesNumber key frame (with_bytes z (little_endian_bytes n value) (page_in k.memory.frames frame.0)) k hits.0) is hits.1) hits.2)
-
--- a page of zeros has come for it
-tries_zeroed : (header : Header) (h : ℕ) (past : List Event) (k mid : Parts) (ids : Ids) (task : TaskId) (what : Want) (key : PageKey) (frame : FrameNo) → Tries header h past k ids task what key → BringsZeros key frame k mid
-    → Tries header h (event.Zeroed (host_id h) key.object key.page ∷ past) mid ids task what key
-tries_zeroed header h past k mid ids task what key frame t b =
-    record {
-      matches = matches_zeroed header h k mid ids [] past key frame t.matches b t.lies;
-      order = order_planned k mid past b.plan t.order;
-      waits = waits_planned k mid woken.Nobody (λ u. waiting u past) b.plan
-          (waiters_page k.maps k.chains k.memory.resident mid.memory.resident k.memory.objects k.waits.rows woken.Nobody (λ u. waiting u past) key.object.0 key.page.0 _ t.waits b.page.row
-          (none_not_asked (row_at k.memory.resident key.object.0 key.page.0) b.page.found) (here_not_asked _ _ refl refl));
-      to = leads_zeroed header h past task.0 what key (host_id h) key.object key.page t.to;
-      at = at_planned k mid task.0 what key b.plan t.at;
-      lies = lies_planned k mid key b.plan t.lies;
-    }
-
--- an access ends, at once or after zeros
-pub finishes : (header : Header) (h : ℕ) (outside : Outside) (doing : Command) (past : List Event) (k new : Parts) (ids : Ids) (task : TaskId) (what : Want) (key : PageKey) (events after : List Event) → Tries header h (events ++ past) k ids task what key
-    → Ended task what key (address_in what % k.size) k new events after → Finishes header h outside doing past k new ids task what key events after
-finishes header h outside doing past k new ids task what key events after t (AtOnce frame here hits) =
-    finish header h outside doing past k new ids task what key frame (address_in what % k.size) events after t here (ap (λ z. address_in what % z) t.matches.size) hits
-finishes header h outside doing past k new ids task what key events after t (AfterZeros frame mid none b hits) =
-    let moment = events ++ past in
-    let e : Event = event.Zeroed (host_id h) key.object key.page in
-    let t2 = tries_zeroed header h moment k mid ids task what key frame t b in
-    let hits2 : Hits task what key frame (address_in what % k.size) mid new (e ∷ events) after =
-    subst (λ (z : HostId). Hits task what key frame (address_in what % k.size) mid new (event.Zeroed z key.object key.page ∷ events) after) (named_host k.host h t.matches.host) hits in
-    let f = finish header h outside doing past mid new ids task what key frame (address_in what % k.size) (e ∷ events) after t2 (brought_here key frame k mid b) (ap (λ z. address_in what % z) t.matches.size) hits2 in
-    let first = goes_one header h outside doing past events e t.matches.settled
-    (zeroed_follows header h outside doing moment task.0 what key t.matches.plain t.to (passes_of header h k ids [] moment key t.matches t.lies b.page.found none) (suffices header h mid.memory.frames (e ∷ moment) t2.matches.frames)) in
-    record {
-      matches = f.matches;
-      goes = goes_both header h outside doing past events (e ∷ events) after first f.goes;
-      ends = f.ends;
-      waits = f.waits;
-      order = f.order;
-      at = f.at;
-      here = f.here;
-      chains = f.chains ∙ b.plan.chains;
-      objects = f.objects ∙ b.plan.objects;
-      laundry = f.laundry ∙ b.plan.laundry;
-      kept = f.kept ∙ b.plan.waits;
-    }
-
--- the row of an access that has ended is taken away
-pub works_finished : (header : Header) (h : ℕ) (outside : Outside) (doing : Command) (past : List Event) (k new : Parts) (ids : Ids) (w : Waiting) (key : PageKey) (events after : List Event) (waits2 : WaitTable)
-    → Works header h k ids woken.Nobody (events ++ past) → entry k.waits.rows w.task.0 ≡ Some w → Finishes header h outside doing past k new ids w.task w.want key events after → PutsInOrder w.task.0 None new.waits.rows waits2.rows
-    → Works header h (record new { waits = waits2 }) ids woken.Nobody (after ++ past)
-works_finished header h outside doing past k new ids w key events after waits2 works is f put =
-    let there : entry new.waits.rows w.task.0 ≡ Some w = ap (λ (z : WaitTable). entry z.rows w.task.0) f.kept ∙ is in
-    record {
-      matches = matches_waits header h new ids [] (after ++ past) waits2 f.matches;
-      used = subst (λ z. AllUsed z) (sym f.chains) works.used;
-      reached = rw (f.chains, f.objects) works.reached;
-      order = put.order.keeps (λ u. begun_at u (after ++ past)) 0 f.order;
-      waits = waiters_over new.maps new.chains new.memory.resident new.memory.objects new.waits.rows waits2.rows (λ u. waiting u (events ++ past)) (λ u. waiting u (after ++ past)) w.task.0 w f.waits there
-          (asks_none new.maps new.chains new.memory.resident new.memory.objects new.waits.rows woken.Nobody (λ u. waiting u (events ++ past)) w.task.0 w key f.waits there f.at f.here) put.entry f.ends;
-    }
-
--- an access waits for something else, with nothing else changed
-works_turned : (header : Header) (h : ℕ) (past : List Event) (k : Parts) (ids : Ids) (w : Waiting) (reason : On) (waits2 : WaitTable) → Works header h k ids woken.Nobody past → entry k.waits.rows w.task.0 ≡ Some w → AsksNone k.memory.resident w.on
-    → Reason k.maps k.chains k.memory.resident k.memory.objects w.task.0 w.want reason → PutsInOrder w.task.0 (Some (with_on w reason)) k.waits.rows waits2.rows → Works header h (record k { waits = waits2 }) ids woken.Nobody past
-works_turned header h past k ids w reason waits2 works is none holds put =
-    record {
-      matches = matches_waits header h k ids [] past waits2 works.matches;
-      used = works.used;
-      reached = works.reached;
-      order = put.order.keeps (λ u. begun_at u past) 0 works.order;
-      waits = waiters_turned k.maps k.chains k.memory.resident k.memory.objects k.waits.rows waits2.rows (λ u. waiting u past) w.task.0 w reason works.waits is none put.entry holds;
-    }
-
-absent_asks : (header : Header) (h : ℕ) (past : List Event) (k : Parts) (ids : Ids) (w : Waiting) (key : PageKey) → Works header h k ids woken.Nobody past → entry k.waits.rows w.task.0 ≡ Some w → IsAt k.maps k.chains w.task.0 w.want key
-    → row_at k.memory.resident key.object.0 key.page.0 ≡ None → AsksNone k.memory.resident w.on
-absent_asks header h past k ids w key works is at absent =
-    asks_none k.maps k.chains k.memory.resident k.memory.objects k.waits.rows woken.Nobody (λ u. waiting u past) w.task.0 w key works.waits is at (none_not_asked (row_at k.memory.resident key.object.0 key.page.0) absent)
-
--- it waits for the object's pager to be ready
-works_ready : (header : Header) (h : ℕ) (past : List Event) (k : Parts) (ids : Ids) (w : Waiting) (key : PageKey) (waits2 : WaitTable) → Works header h k ids woken.Nobody past → entry k.waits.rows w.task.0 ≡ Some w → IsAt k.maps k.chains w.task.0 w.want key
-    → IsPagerTold k.memory.objects key.object.0 → row_at k.memory.resident key.object.0 key.page.0 ≡ None → PutsInOrder w.task.0 (Some (with_on w (on.Ready key.object))) k.waits.rows waits2.rows → Works header h (record k { waits = waits2 }) ids woken.Nobody past
-works_ready header h past k ids w key waits2 works is at told absent put =
-    works_turned header h past k ids w (on.Ready key.object) waits2 works is (absent_asks header h past k ids w key works is at absent) (key, at, refl, told) put
-
--- it joins the frame queue
-works_queued : (header : Header) (h : ℕ) (past : List Event) (k : Parts) (ids : Ids) (w : Waiting) (key : PageKey) (waits2 : WaitTable) → Works header h k ids woken.Nobody past → entry k.waits.rows w.task.0 ≡ Some w → IsAt k.maps k.chains w.task.0 w.want key
-    → row_at k.memory.resident key.object.0 key.page.0 ≡ None → PutsInOrder w.task.0 (Some (with_on w on.Frame)) k.waits.rows waits2.rows → Works header h (record k { waits = waits2 }) ids woken.Nobody past
-works_queued header h past k ids w key waits2 works is at absent put =
-    works_turned header h past k ids w on.Frame waits2 works is (absent_asks header h past k ids w key works is at absent) tt put
-
--- it waits for a page that was asked for before
-works_joined : (header : Header) (h : ℕ) (past : List Event) (k : Parts) (ids : Ids) (w : Waiting) (key : PageKey) (waits2 : WaitTable) → Works header h k ids woken.Nobody past → entry k.waits.rows w.task.0 ≡ Some w → IsAt k.maps k.chains w.task.0 w.want key
-    → IsAsked k.memory.resident key.object.0 key.page.0 → PutsInOrder w.task.0 (Some (with_on w (on.Page key))) k.waits.rows waits2.rows → Works header h (record k { waits = waits2 }) ids woken.Nobody past
-works_joined header h past k ids w key waits2 works is at asked put =
-    record {
-      matches = matches_waits header h k ids [] past waits2 works.matches;
-      used = works.used;
-      reached = works.reached;
-      order = put.order.keeps (λ u. begun_at u past) 0 works.order;
-      waits = waiters_joined k.maps k.chains k.memory.resident k.memory.objects k.waits.rows waits2.rows (λ u. waiting u past) w.task.0 w key works.waits is at asked put.entry;
-    }
-
--- its page is asked for
-
--- the request, as the history has it
-asked_is : (header : Header) (h : ℕ) (past : List Event) (k new : Parts) (ids : Ids) (key : PageKey) (access : ℕ) (events after : List Event) → Matches header h k ids [] (events ++ past) → (a : RequestsPage key access k new events after)
-    → after ≡ requesting h key a.control access ∷ events
-asked_is header h past k new ids key access events after m a = a.told ∙ ap (λ z. event.Sent (Up z key.object) (message.Request a.control key.page access) ∷ events) (named_host k.host h m.host)
-
--- what is known of it, and of the kernel behind it
-record Asking (header : Header) (h : ℕ) (outside : Outside) (doing : Command) (past : List Event) (new : Parts) (ids : Ids) (key : PageKey) (control access : ℕ) : Type 0 where
-  pub matches : Matches header h new ids [] (requesting h key control access ∷ past)
-  pub follows : Follows header h outside doing (requesting h key control access) past
-
-asking_of : (header : Header) (h : ℕ) (outside : Outside) (doing : Command) (past : List Event) (k new : Parts) (ids : Ids) (task : TaskId) (what : Want) (key : PageKey) (events after : List Event) → Tries header h (events ++ past) k ids task what key
-    → (a : RequestsPage key (desired_access (access_in what) 0) k new events after) → Asking header h outside doing (events ++ past) new ids key a.control (desired_access (access_in what) 0)
-asking_of header h outside doing past k new ids task what key events after t a =
-    let moment = events ++ past in
-    let number = desired_access (access_in what) 0 in
-    let may = may_answer header h k ids [] moment key a.control t.matches t.lies a.page.found a.available in
-    let m2 = matches_asked header h k new ids [] moment events after key number t.matches a t.lies may.live in
-    record {
-      matches = m2;
-      follows = request_follows header h outside doing moment task.0 what key a.control number _ t.to (misses_of header h k ids [] moment key t.matches a.page.found) may refl (suffices header h new.memory.frames (requesting h key a.control number ∷ moment) m2.frames);
-    }
-
-goes_asked : (header : Header) (h : ℕ) (outside : Outside) (doing : Command) (past : List Event) (k new : Parts) (ids : Ids) (task : TaskId) (what : Want) (key : PageKey) (events after : List Event) → Tries header h (events ++ past) k ids task what key
-    → RequestsPage key (desired_access (access_in what) 0) k new events after → LegalEvents header h outside doing past events after
-goes_asked header h outside doing past k new ids task what key events after t a =
-    subst (λ (z : List Event). LegalEvents header h outside doing past events z) (sym (asked_is header h past k new ids key (desired_access (access_in what) 0) events after t.matches a))
-    (goes_one header h outside doing past events (requesting h key a.control (desired_access (access_in what) 0)) t.matches.settled (asking_of header h outside doing past k new ids task what key events after t a).follows)
-
-works_asked : (header : Header) (h : ℕ) (outside : Outside) (doing : Command) (past : List Event) (k new : Parts) (ids : Ids) (w : Waiting) (key : PageKey) (waits2 : WaitTable) (events after : List Event)
-    → Works header h k ids woken.Nobody (events ++ past) → entry k.waits.rows w.task.0 ≡ Some w → IsAt k.maps k.chains w.task.0 w.want key → RequestsPage key (desired_access (access_in w.want) 0) k new events after
-    → PutsInOrder w.task.0 (Some (with_on w (on.Page key))) new.waits.rows waits2.rows → Works header h (record new { waits = waits2 }) ids woken.Nobody (after ++ past)
-works_asked header h outside doing past k new ids w key waits2 events after works is at a put =
-    let moment = events ++ past in
-    let e = requesting h key a.control (desired_access (access_in w.want) 0) in
-    let asking = asking_of header h outside doing past k new ids w.task w.want key events after (tries_of header h moment k ids w key works is at) a in
-    let put2 : PutsInOrder w.task.0 (Some (with_on w (on.Page key))) k.waits.rows waits2.rows = subst (λ (z : WaitTable). PutsInOrder w.task.0 (Some (with_on w (on.Page key))) z.rows waits2.rows) a.plan.waits put in
-    let waiters = waiters_asked k.maps k.chains k.memory.resident new.memory.resident k.memory.objects k.waits.rows waits2.rows (λ u. waiting u moment) w.task.0 w key _ works.waits is at a.page.found a.page.row refl put2.entry (ap ready_in a.available.found ∙ ap is_ready_state a.available.ready) in
-    subst (λ (z : List Event). Works header h (record new { waits = waits2 }) ids woken.Nobody (z ++ past)) (sym (asked_is header h past k new ids key (desired_access (access_in w.want) 0) events after works.matches a))
+    let loaded : Event = event.Loaded w.task key.object key.page value in
+    let works = works_loaded header h moment k ids w key value waits2 t.works t.is t.now put in
+    let to = leads_there header h moment k ids w top t in
+    let s = shown_of header h moment k ids woken.Nobody t.works in
+    let enough = suffices header h k.memory.frames (loaded ∷ moment) works.matches.frames in
+    subst (λ (z : Event). Reaches header h outside doing past events (record k { memory = m2; waits = waits2 }) ids (z ∷ events)) (sym hits.2)
     (record {
-      matches = matches_waits header h new ids [] (e ∷ moment) waits2 asking.matches;
-      used = rw a.plan.chains works.used;
-      reached = rw (a.plan.chains, a.plan.objects) works.reached;
-      waits = rw (a.plan.maps, a.plan.chains, a.plan.objects) waiters;
-      order = put2.order.keeps (λ u. begun_at u moment) 0 works.order;
+      works = works_touched header h (loaded ∷ moment) (record k { waits = waits2 }) ids woken.Nobody row.frame m2 hits.1 works;
+      goes = goes_one header h outside doing past events loaded t.works.matches.settled
+          (loaded_follows header h outside doing moment k w.task w.want top t.at address size value steps key row to s is finds (open_row header h moment k ids w top key row t finds.found) hits.0 enough);
     })
 
--- the access wants a frame
-pub wants_of : (header : Header) (h : ℕ) (past : List Event) (k : Parts) (ids : Ids) (task : TaskId) (what : Want) (key : PageKey) (may : Bool) → Tries header h past k ids task what key → WantsOne key may k → Wants header h past
-wants_of header h past k ids task what key may t wants =
-    record {
-      task = task.0;
-      access = access_in what;
-      waits = it_waits header h past task.0 what key t.to;
-      on_host = refl;
-      frame = why wants.why;
-    }
+hit_store : (header : Header) (h : ℕ) (outside : Outside) (doing : Command) (past : List Event) (k : Parts) (ids : Ids) (w : Waiting) (top : PageKey) (events : List Event) (row : PageRow) (address size number value : ℕ) (e : Event) (m2 : HostParts) (waits2 : WaitTable)
+    → Tries header h (events ++ past) k ids w top → w.want ≡ want.Store address size number → Finds k.memory k.chains 0 top top row → Hits w.task (want.Store address size number) top row.frame (address % header.size) value e k.memory m2
+    → PutsInOrder w.task.0 None k.waits.rows waits2.rows → Reaches header h outside doing past events (record k { memory = m2; waits = waits2 }) ids (e ∷ events)
+hit_store header h outside doing past k ids w top events row address size number value e m2 waits2 t is finds hits put =
+    let moment = events ++ past in
+    let mid : HostParts = hits.1.0 in
+    let stored : Event = event.Stored w.task top.object top.page (address % header.size) size number in
+    let works = works_stored header h moment k ids w top row.frame (address % header.size) size number row mid waits2 t.works t.is t.now put hits.1.1 finds.found finds.here in
+    let to = leads_there header h moment k ids w top t in
+    let s = shown_of header h moment k ids woken.Nobody t.works in
+    let enough = suffices header h mid.frames (stored ∷ moment) works.matches.frames in
+    subst (λ (z : Event). Reaches header h outside doing past events (record k { memory = m2; waits = waits2 }) ids (z ∷ events)) (sym hits.2)
+    (record {
+      works = works_touched header h (stored ∷ moment) (record k { memory = mid; waits = waits2 }) ids woken.Nobody row.frame m2 hits.1.2 works;
+      goes = goes_one header h outside doing past events stored t.works.matches.settled
+          (stored_follows header h outside doing moment k w.task w.want top t.at address size number row to s is (t.clear (ap is_storing is)) finds (open_row header h moment k ids w top top row t finds.found) enough);
+    })
+
+hit : (header : Header) (h : ℕ) (outside : Outside) (doing : Command) (past : List Event) (k : Parts) (ids : Ids) (w : Waiting) (top : PageKey) (events : List Event) (steps : ℕ) (key : PageKey) (row : PageRow) (value : ℕ) (e : Event) (m2 : HostParts) (waits2 : WaitTable)
+    → Tries header h (events ++ past) k ids w top → Finds k.memory k.chains steps top key row → (is_storing w.want ≡ true → steps ≡ 0) → Hits w.task w.want key row.frame (address_in w.want % header.size) value e k.memory m2
+    → PutsInOrder w.task.0 None k.waits.rows waits2.rows → Reaches header h outside doing past events (record k { memory = m2; waits = waits2 }) ids (e ∷ events)
+hit header h outside doing past k ids w top events steps key row value e m2 waits2 t finds none hits put =
+    by w.want refl hits
   where
-    region : ℕ
-    region = t.to.entry.region.0
+    by : (what : Want) → w.want ≡ what → Hits w.task what key row.frame (address_in what % header.size) value e k.memory m2 → Reaches header h outside doing past events (record k { memory = m2; waits = waits2 }) ids (e ∷ events)
+    by (want.Load address size) is hits2 = hit_load header h outside doing past k ids w top events steps key row address size value e m2 waits2 t is finds hits2 put
+    by (want.Store address size number) is hits2 =
+        let there : Finds k.memory k.chains 0 top key row = subst (λ (z : ℕ). Finds k.memory k.chains z top key row) (none (ap is_storing is)) finds in
+        let same : key ≡ top = sym there.walks in
+        hit_store header h outside doing past k ids w top events row address size number value e m2 waits2 t is (subst (λ (z : PageKey). Finds k.memory k.chains 0 top z row) same there)
+        (subst (λ (z : PageKey). Hits w.task (want.Store address size number) z row.frame (address % header.size) value e k.memory m2) same hits2) put
 
-    page : ℕ
-    page = page_of header task.0 (access_in what) past t.to.entry
+-- it goes on with other pages
+tries_on : (header : Header) (h : ℕ) (past past2 : List Event) (k : Parts) (ids : Ids) (w : Waiting) (top : PageKey) (m2 : HostParts) → Tries header h past k ids w top → Works header h (record k { memory = m2 }) ids woken.Nobody past2
+    → Tries header h past2 (record k { memory = m2 }) ids w top
+tries_on header h past past2 k ids w top m2 t works = record { works = works; is = t.is; now = t.now; at = t.at; clear = t.clear }
 
-    comes : Comes header h region page key.object.0 key.page.0 past
-    comes = record { top = key.object.0; top_page = key.page.0; steps = 0; is_top = top_at header h past task.0 what key t.to; walks = (refl, refl) }
+-- it ends with its page, after a copy or zeros came, or at once
+ended : (header : Header) (h : ℕ) (outside : Outside) (doing : Command) (past : List Event) (k : Parts) (ids : Ids) (w : Waiting) (top : PageKey) (events : List Event) (value : ℕ) (m2 : HostParts) (after : List Event) (waits2 : WaitTable)
+    → Tries header h (events ++ past) k ids w top → Ended (host_id h) w.task w.want top (address_in w.want % header.size) value k.memory m2 k.chains events after
+    → PutsInOrder w.task.0 None k.waits.rows waits2.rows → Reaches header h outside doing past events (record k { memory = m2; waits = waits2 }) ids after
+ended header h outside doing past k ids w top events value m2 after waits2 t (AtOnce steps key row finds none out e hits told) put =
+    subst (λ (z : List Event). Reaches header h outside doing past events (record k { memory = m2; waits = waits2 }) ids z) (sym told) (hit header h outside doing past k ids w top events steps key row value e m2 waits2 t finds none hits put)
+ended header h outside doing past k ids w top events value m2 after waits2 t (Raised steps key row finds stores out frame copied with_hit raises keeps e hits touched told) put =
+    let moment = events ++ past in
+    let raised : Event = event.Raised (host_id h) key.object key.page top.object top.page in
+    let to = leads_there header h moment k ids w top t in
+    let s = shown_of header h moment k ids woken.Nobody t.works in
+    let store = store_of w.want stores in
+    let works1 = works_raised header h moment k ids key top row frame copied t.works to.referred finds.found finds.here raises keeps in
+    let t1 = tries_on header h moment (raised ∷ moment) k ids w top copied t works1 in
+    let one = goes_one header h outside doing past events raised t.works.matches.settled
+    (raised_follows header h outside doing moment k w.task.0 w.want top t.at store.address store.size store.value steps key row to s store.is (t.clear stores) finds (open_row header h moment k ids w top key row t finds.found)
+    (suffices header h copied.frames (raised ∷ moment) works1.matches.frames)) in
+    let row2 : PageRow = record (clean_row frame unlocked false) { dirty = true } in
+    let there : Finds copied k.chains 0 top top row2 = record { walks = refl; found = row_put k.memory.resident copied.resident top.object.0 top.page.0 (Some row2) raises.row; here = refl } in
+    let two = hit header h outside doing past (record k { memory = copied }) ids w top (raised ∷ events) 0 top row2 value e with_hit waits2 t1 there (λ is. refl) hits put in
+    subst (λ (z : List Event). Reaches header h outside doing past events (record k { memory = m2; waits = waits2 }) ids z) (sym told)
+    (record {
+      works = works_touched header h (e ∷ raised ∷ moment) (record k { memory = with_hit; waits = waits2 }) ids woken.Nobody row.frame m2 touched two.works;
+      goes = goes_both header h outside doing past events (raised ∷ events) (e ∷ raised ∷ events) one two.goes;
+    })
+ended header h outside doing past k ids w top events value m2 after waits2 t (AfterZeros sinks frame brought brings keeps e hits told) put =
+    let moment = events ++ past in
+    let zeros : Event = event.Zeroed (host_id h) top.object top.page in
+    let to = leads_there header h moment k ids w top t in
+    let s = shown_of header h moment k ids woken.Nobody t.works in
+    let works1 = works_zeroed header h moment k ids top frame brought t.works to.referred brings keeps in
+    let t1 = tries_on header h moment (zeros ∷ moment) k ids w top brought t works1 in
+    let one = goes_one header h outside doing past events zeros t.works.matches.settled
+    (zeroed_follows header h outside doing moment k w.task.0 w.want top t.at t.works.matches.plain to s t.clear sinks (suffices header h brought.frames (zeros ∷ moment) works1.matches.frames)) in
+    let row2 : PageRow = clean_row frame unlocked false in
+    let there : Finds brought k.chains 0 top top row2 = record { walks = refl; found = row_put k.memory.resident brought.resident top.object.0 top.page.0 (Some row2) brings.row; here = refl } in
+    let two = hit header h outside doing past (record k { memory = brought }) ids w top (zeros ∷ events) 0 top row2 value e m2 waits2 t1 there (λ is. refl) hits put in
+    subst (λ (z : List Event). Reaches header h outside doing past events (record k { memory = m2; waits = waits2 }) ids z) (sym told)
+    (record { works = two.works; goes = goes_both header h outside doing past events (zeros ∷ events) (e ∷ zeros ∷ events) one two.goes })
 
-    why : (IsUnavailable key k ⊎ ((control : ℕ) × IsAvailable key control k)) → WantsFrame header h task.0 (access_in what) region page past
-    why (inl none) = Nowhere key.object.0 key.page.0 0 (top_at header h past task.0 what key t.to) (passes_of header h k ids [] past key t.matches t.lies wants.absent none, t.to.bare)
-    why (inr has) =
-        let misses = misses_of header h k ids [] past key t.matches wants.absent in
-        let may = may_answer header h k ids [] past key has.0 t.matches t.lies wants.absent has.1 in
-        Elsewhere key.object.0 key.page.0 comes misses.away misses.unasked may.may_have may.ready
+-- a place to which its walk leads is one of its places
+abbrev place_of_walk : (k : Parts) (w : Waiting) (top key : PageKey) (steps : ℕ) → IsAt k.maps k.chains w.task.0 w.want top → WalksTo k.memory k.chains steps top key → IsPlaceOf k.maps k.chains w.task.0 w.want key
+place_of_walk k w top key steps at walks = record { top = top; at = at; steps = steps; leads = walks_lead k.memory k.chains steps top key walks }
 
--- nothing has changed but what an access waits for
-stays_works : (header : Header) (h : ℕ) (past : List Event) (k new : Parts) (ids : Ids) (task : ℕ) (x : Option Waiting) (waits2 : WaitTable) (events after : List Event) → NothingChanges k new events after
-    → (PutsInOrder task x k.waits.rows waits2.rows → Works header h (record k { waits = waits2 }) ids woken.Nobody (events ++ past)) → PutsInOrder task x new.waits.rows waits2.rows
-    → Works header h (record new { waits = waits2 }) ids woken.Nobody (after ++ past)
-stays_works header h past k new ids task x waits2 events after stays works put =
-    subst (λ (z : List Event). Works header h (record new { waits = waits2 }) ids woken.Nobody (z ++ past)) (sym stays.told)
-    (subst (λ (z : Parts). Works header h (record z { waits = waits2 }) ids woken.Nobody (events ++ past)) (sym stays.same)
-    (works (subst (λ (z : Parts). PutsInOrder task x z.waits.rows waits2.rows) stays.same put)))
+-- its page is asked for
+asked : (header : Header) (h : ℕ) (outside : Outside) (doing : Command) (past : List Event) (k : Parts) (ids : Ids) (w : Waiting) (top key : PageKey) (events : List Event) (m2 : HostParts) (after : List Event) (waits2 : WaitTable)
+    → Tries header h (events ++ past) k ids w top → RequestsPage (host_id h) w.want top key k.memory m2 k.chains events after
+    → PutsInOrder w.task.0 (Some (with_on w (on.Page key))) k.waits.rows waits2.rows → Reaches header h outside doing past events (record k { memory = m2; waits = waits2 }) ids after
+asked header h outside doing past k ids w top key events m2 after waits2 t a put =
+    let moment = events ++ past in
+    let number = wanted_number w.want a.steps in
+    let request : Event = event.Sent (Up (host_id h) key.object) (message.Request a.object.control key.page number) in
+    let to = leads_there header h moment k ids w top t in
+    let s = shown_of header h moment k ids woken.Nobody t.works in
+    let place = place_of_walk k w top key a.steps t.at a.comes.walks in
+    let may = may_ask s a.steps top key a.object a.comes a.ready in
+    let works = works_asked header h moment k ids w key a.object number a.frame m2 waits2 t.works t.is t.now (referred_down s a.steps top key to.referred place.leads) place a.comes.known a.ready may.live a.page a.plan put in
+    subst (λ (z : List Event). Reaches header h outside doing past events (record k { memory = m2; waits = waits2 }) ids z) (sym a.told)
+    (record {
+      works = works;
+      goes = goes_one header h outside doing past events request t.works.matches.settled
+          (request_follows header h outside doing moment k w.task.0 w.want top t.at a.steps key a.object to s t.clear a.comes a.ready (suffices header h m2.frames (request ∷ moment) works.matches.frames));
+    })
 
-stays_goes : (header : Header) (h : ℕ) (outside : Outside) (doing : Command) (past : List Event) (k new : Parts) (events after : List Event) → NothingChanges k new events after → LegalEvents header h outside doing past events after
-stays_goes header h outside doing past k new events after stays = subst (λ (z : List Event). LegalEvents header h outside doing past events z) (sym stays.told) (goes_none header h outside doing past events)
+-- the region of a store has an object of its own first
+
+pub record Prepared (header : Header) (h : ℕ) (outside : Outside) (doing : Command) (past : List Event) (k : Parts) (ids : Ids) (w : Waiting) (events : List Event) (mid : FaultState) (top : PageKey) : Type 0 where
+  pub tries : Tries header h (mid.events ++ past) (with_state k mid) mid.ids w top
+  pub goes : LegalEvents header h outside doing past events mid.events
+  pub front : List Event
+  pub is_front : IsFront front
+  pub told : mid.events ≡ front ++ events
+  pub frames : mid.parts.frames ≡ k.memory.frames
+
+both_true : (a b : Bool) → (a && b) ≡ true → (a ≡ true) × (b ≡ true)
+both_true true b is = (refl, is)
+both_true false b is = absurd (let bad : false ≡ true = is in cc)
+
+not_both : (a b : Bool) → (a && b) ≡ false → a ≡ true → b ≡ false
+not_both true b is one = is
+not_both false b is one = absurd (let bad : false ≡ true = one in cc)
+
+-- the row of the region of an access
+its_mark : (k : Parts) (chains : ChainTable) (w : Waiting) (top : PageKey) (row2 : RegionRow) (found_entry : Entry) (at : IsAt k.maps chains w.task.0 w.want top) → entry_at (address_in w.want) (rows_in w.task.0 k.maps) ≡ Some found_entry
+    → region_at chains found_entry.region.0 ≡ Some row2 → row2.marked ≡ false → at.row.marked ≡ false
+its_mark k chains w top row2 found_entry at found region clear =
+    let same : at.entry ≡ found_entry = some_is at.entry found_entry (sym at.found ∙ found) in
+    let rows : at.row ≡ row2 = some_is at.row row2 (sym at.region ∙ ap (λ (z : Entry). region_at chains z.region.0) same ∙ region) in
+    ap (λ (z : RegionRow). z.marked) rows ∙ clear
+
+pub prepared : (header : Header) (h : ℕ) (outside : Outside) (doing : Command) (past : List Event) (k : Parts) (ids : Ids) (w : Waiting) (may : Bool) (answer : FaultStep) (events : List Event) (new : FaultState)
+    → Works header h k ids woken.Nobody (events ++ past) → entry k.waits.rows w.task.0 ≡ Some w → runs_now w.on ≡ true → (f : Faulted k.maps k.host w.task w.want may answer (state_of k ids events) new)
+    → Prepared header h outside doing past k ids w events f.mid f.top
+prepared header h outside doing past k ids w may answer events new works is now f =
+    by (is_storing w.want && f.row.marked) refl f.prepares
+  where
+    moment : List Event
+    moment = events ++ past
+
+    bare : (mid : FaultState) → state_of k ids events ≡ mid → (at : IsAt k.maps mid.chains w.task.0 w.want f.top) → (is_storing w.want ≡ true → at.row.marked ≡ false) → Prepared header h outside doing past k ids w events mid f.top
+    bare mid same at clear =
+        subst (λ (z : FaultState). (at2 : IsAt k.maps z.chains w.task.0 w.want f.top) → (is_storing w.want ≡ true → at2.row.marked ≡ false) → Prepared header h outside doing past k ids w events z f.top) same
+        (λ at2 clear2. record { tries = record { works = works; is = is; now = now; at = at2; clear = clear2 }; goes = goes_none header h outside doing past events; front = []; is_front = Bare; told = refl; frames = refl }) at clear
+
+    by : (b : Bool) → (is_storing w.want && f.row.marked) ≡ b → Prepares b f.entry.region f.row (state_of k ids events) f.mid → Prepared header h outside doing past k ids w events f.mid f.top
+    by false test same =
+        bare f.mid (sym same) f.at
+        (λ stores. its_mark k f.mid.chains w f.top f.row f.entry f.at f.found (ap (λ (z : FaultState). region_at z.chains f.entry.region.0) same ∙ f.region) (not_both (is_storing w.want) f.row.marked test stores))
+    by true test made =
+        let both = both_true (is_storing w.want) f.row.marked test in
+        let store = store_of w.want both.0 in
+        let before : PageKey = top_place f.row (page_at k.maps.size (address_in w.want) f.entry) in
+        let at : IsAt k.maps k.chains w.task.0 w.want before = record { entry = f.entry; found = f.found; row = f.row; region = f.region; is = refl } in
+        let shadow : Event = event.Shadowed f.entry.region made.object f.row.top in
+        let works1 = works_shadowed header h moment k ids f.entry.region f.row (state_of k ids events) f.mid works refl refl refl f.region both.1 made in
+        let to = leads_of header h k ids moment woken.Nobody w.task.0 w before works.matches works.waits is at in
+        let follows = shadowed_follows header h outside doing moment k ids w.task w.want before at made.object store.address store.size store.value works.matches to store.is both.1 made.next
+        (suffices header h f.mid.parts.frames (shadow ∷ moment) works1.matches.frames) in
+        let row2 : RegionRow = record f.row { top = made.object; shift = 0; marked = false } in
+        let region : region_at f.mid.chains f.entry.region.0 ≡ Some row2 =
+        made.chains.at f.entry.region.0 ∙ ap (λ b. if b then Some row2 else region_at k.chains f.entry.region.0) (own_host f.entry.region.0) in
+        record {
+          tries = record {
+            works = subst (λ (z : List Event). Works header h (with_state k f.mid) f.mid.ids woken.Nobody (z ++ past)) (sym made.told) works1;
+            is = is;
+            now = now;
+            at = f.at;
+            clear = λ stores. its_mark k f.mid.chains w f.top row2 f.entry f.at f.found region refl;
+          };
+          goes = subst (λ (z : List Event). LegalEvents header h outside doing past events z) (sym made.told) (goes_one header h outside doing past events shadow works.matches.settled follows);
+          front = shadow ∷ [];
+          is_front = Shadow f.entry.region made.object f.row.top;
+          told = made.told;
+          frames = ap (λ (z : HostParts). z.frames) made.parts;
+        }
+
+-- the chains and the next numbers are those behind the shadow
+settle : (header : Header) (h : ℕ) (outside : Outside) (doing : Command) (past : List Event) (k : Parts) (events : List Event) (mid new : FaultState) (waits2 : WaitTable) → LegalEvents header h outside doing past events mid.events
+    → Reaches header h outside doing past mid.events (record (with_state k mid) { memory = new.parts; waits = waits2 }) mid.ids new.events → new.chains ≡ mid.chains → new.ids ≡ mid.ids
+    → Reaches header h outside doing past events (record (with_state k new) { waits = waits2 }) new.ids new.events
+settle header h outside doing past k events mid new waits2 first r chains ids =
+    record {
+      works = subst (λ (z : Ids). Works header h (record (with_state k new) { waits = waits2 }) z woken.Nobody (new.events ++ past)) (sym ids)
+          (subst (λ (z : ChainTable). Works header h (record k { memory = new.parts; chains = z; waits = waits2 }) mid.ids woken.Nobody (new.events ++ past)) (sym chains) r.works);
+      goes = goes_both header h outside doing past events mid.events new.events first r.goes;
+    }
+
+-- nothing changes but what it waits for
+stays : (header : Header) (h : ℕ) (outside : Outside) (doing : Command) (past : List Event) (k : Parts) (mid new : FaultState) (waits2 : WaitTable) → NothingChanges mid new
+    → Works header h (record (with_state k mid) { waits = waits2 }) mid.ids woken.Nobody (mid.events ++ past) → Reaches header h outside doing past mid.events (record (with_state k mid) { memory = new.parts; waits = waits2 }) mid.ids new.events
+stays header h outside doing past k mid new waits2 same works =
+    record {
+      works = subst (λ (z : List Event). Works header h (record (with_state k mid) { memory = new.parts; waits = waits2 }) mid.ids woken.Nobody (z ++ past)) (sym same.told)
+          (subst (λ (z : HostParts). Works header h (record (with_state k mid) { memory = z; waits = waits2 }) mid.ids woken.Nobody (mid.events ++ past)) (sym same.parts) works);
+      goes = subst (λ (z : List Event). LegalEvents header h outside doing past mid.events z) (sym same.told) (goes_none header h outside doing past mid.events);
+    }
 
 -- what a fault's answer says
 
--- what it told follows from what stood there
-pub fault_goes : (header : Header) (h : ℕ) (outside : Outside) (doing : Command) (past : List Event) (k new : Parts) (ids : Ids) (w : Waiting) (may : Bool) (answer : FaultStep) (events after : List Event) → Works header h k ids woken.Nobody (events ++ past)
-    → entry k.waits.rows w.task.0 ≡ Some w → Faulted w.task w.want may answer k new events after → LegalEvents header h outside doing past events after
-fault_goes header h outside doing past k new ids w may step.Done events after works is f = (finishes header h outside doing past k new ids w.task w.want f.key events after (tries_of header h (events ++ past) k ids w f.key works is f.at) f.faults).goes
-fault_goes header h outside doing past k new ids w may (step.Ask key) events after works is f = goes_asked header h outside doing past k new ids w.task w.want f.key events after (tries_of header h (events ++ past) k ids w f.key works is f.at) f.faults.1
-fault_goes header h outside doing past k new ids w may (step.WaitReady object) events after works is f = stays_goes header h outside doing past k new events after f.faults.2
-fault_goes header h outside doing past k new ids w may (step.WaitAnswer key) events after works is f = stays_goes header h outside doing past k new events after f.faults.2
-fault_goes header h outside doing past k new ids w may step.NeedFrame events after works is f = stays_goes header h outside doing past k new events after f.faults.1
+-- it has ended
+pub done_reaches : (header : Header) (h : ℕ) (outside : Outside) (doing : Command) (past : List Event) (k : Parts) (ids : Ids) (w : Waiting) (may : Bool) (value : ℕ) (events : List Event) (new : FaultState) (waits2 : WaitTable)
+    → Works header h k ids woken.Nobody (events ++ past) → entry k.waits.rows w.task.0 ≡ Some w → runs_now w.on ≡ true → Faulted k.maps k.host w.task w.want may (step.Done value) (state_of k ids events) new
+    → PutsInOrder w.task.0 None k.waits.rows waits2.rows → Reaches header h outside doing past events (record (with_state k new) { waits = waits2 }) new.ids new.events
+done_reaches header h outside doing past k ids w may value events new waits2 works is now f put =
+    let p = prepared header h outside doing past k ids w may (step.Done value) events new works is now f in
+    let address = address_in w.want in
+    let named = subst (λ (z : HostId). Ended z w.task w.want f.top (address % k.memory.buffers.size) value f.mid.parts new.parts f.mid.chains f.mid.events new.events) (named_host k.host h works.matches.host) f.comes in
+    let sized = subst (λ (z : ℕ). Ended (host_id h) w.task w.want f.top (address % z) value f.mid.parts new.parts f.mid.chains f.mid.events new.events) (works.matches.fits.buffers ∙ works.matches.size) named in
+    settle header h outside doing past k events f.mid new waits2 p.goes (ended header h outside doing past (with_state k f.mid) f.mid.ids w f.top f.mid.events value new.parts new.events waits2 p.tries sized put) f.chains f.ids
 
-pub done_works : (header : Header) (h : ℕ) (outside : Outside) (doing : Command) (past : List Event) (k new : Parts) (ids : Ids) (w : Waiting) (may : Bool) (events after : List Event) (waits2 : WaitTable) → Works header h k ids woken.Nobody (events ++ past)
-    → entry k.waits.rows w.task.0 ≡ Some w → Faulted w.task w.want may step.Done k new events after → PutsInOrder w.task.0 None new.waits.rows waits2.rows → Works header h (record new { waits = waits2 }) ids woken.Nobody (after ++ past)
-done_works header h outside doing past k new ids w may events after waits2 works is f put =
-    works_finished header h outside doing past k new ids w f.key events after waits2 works is (finishes header h outside doing past k new ids w.task w.want f.key events after (tries_of header h (events ++ past) k ids w f.key works is f.at) f.faults) put
+-- it waits for its object's pager
+pub ready_reaches : (header : Header) (h : ℕ) (outside : Outside) (doing : Command) (past : List Event) (k : Parts) (ids : Ids) (w : Waiting) (may : Bool) (object : ObjectId) (events : List Event) (new : FaultState) (waits2 : WaitTable)
+    → Works header h k ids woken.Nobody (events ++ past) → entry k.waits.rows w.task.0 ≡ Some w → runs_now w.on ≡ true → Faulted k.maps k.host w.task w.want may (step.WaitReady object) (state_of k ids events) new
+    → PutsInOrder w.task.0 (Some (with_on w (on.Ready object))) k.waits.rows waits2.rows → Reaches header h outside doing past events (record (with_state k new) { waits = waits2 }) new.ids new.events
+ready_reaches header h outside doing past k ids w may object events new waits2 works is now f put =
+    let p = prepared header h outside doing past k ids w may (step.WaitReady object) events new works is now f in
+    let why = f.comes.0 in
+    let steps = why.0 in
+    let key = why.1 in
+    let comes = why.3 in
+    let same : key.object ≡ object = why.5 in
+    let place = place_of_walk (with_state k f.mid) w f.top key steps p.tries.at comes.walks in
+    let told = subst (λ (z : ObjectId). IsPagerTold f.mid.parts.objects z.0) same (record { row = why.2; found = comes.known; sent = why.4 }) in
+    settle header h outside doing past k events f.mid new waits2 p.goes
+    (stays header h outside doing past k f.mid new waits2 f.comes.1
+    (works_turned header h (f.mid.events ++ past) (with_state k f.mid) f.mid.ids w (on.Ready object) waits2 p.tries.works is now (key, place, same, told) put)) f.chains f.ids
 
-pub ready_works : (header : Header) (h : ℕ) (past : List Event) (k new : Parts) (ids : Ids) (w : Waiting) (may : Bool) (object : ObjectId) (events after : List Event) (waits2 : WaitTable)
-    → Works header h k ids woken.Nobody (events ++ past) → entry k.waits.rows w.task.0 ≡ Some w → Faulted w.task w.want may (step.WaitReady object) k new events after → PutsInOrder w.task.0 (Some (with_on w (on.Ready object))) new.waits.rows waits2.rows
-    → Works header h (record new { waits = waits2 }) ids woken.Nobody (after ++ past)
-ready_works header h past k new ids w may object events after waits2 works is f put =
-    stays_works header h past k new ids w.task.0 (Some (with_on w (on.Ready f.key.object))) waits2 events after f.faults.2
-    (λ put2. works_ready header h (events ++ past) k ids w f.key waits2 works is f.at f.faults.1 f.faults.3 put2)
-    (subst (λ (z : ObjectId). PutsInOrder w.task.0 (Some (with_on w (on.Ready z))) new.waits.rows waits2.rows) f.faults.0 put)
+-- its page is asked, and was asked for now or before
+pub page_reaches : (header : Header) (h : ℕ) (outside : Outside) (doing : Command) (past : List Event) (k : Parts) (ids : Ids) (w : Waiting) (may : Bool) (answer : FaultStep) (key : PageKey) (events : List Event) (new : FaultState) (waits2 : WaitTable)
+    → Works header h k ids woken.Nobody (events ++ past) → entry k.waits.rows w.task.0 ≡ Some w → runs_now w.on ≡ true → Faulted k.maps k.host w.task w.want may answer (state_of k ids events) new
+    → (answer ≡ step.Ask key) ⊎ ((answer ≡ step.Unlock key) ⊎ (answer ≡ step.WaitAnswer key)) → PutsInOrder w.task.0 (Some (with_on w (on.Page key))) k.waits.rows waits2.rows
+    → Reaches header h outside doing past events (record (with_state k new) { waits = waits2 }) new.ids new.events
+page_reaches header h outside doing past k ids w may answer key events new waits2 works is now faulted (inl asks) put =
+    let f : Faulted k.maps k.host w.task w.want may (step.Ask key) (state_of k ids events) new = subst (λ (z : FaultStep). Faulted k.maps k.host w.task w.want may z (state_of k ids events) new) asks faulted in
+    let p = prepared header h outside doing past k ids w may (step.Ask key) events new works is now f in
+    let named = subst (λ (z : HostId). RequestsPage z w.want f.top key f.mid.parts new.parts f.mid.chains f.mid.events new.events) (named_host k.host h works.matches.host) f.comes in
+    settle header h outside doing past k events f.mid new waits2 p.goes (asked header h outside doing past (with_state k f.mid) f.mid.ids w f.top key f.mid.events new.parts new.events waits2 p.tries named put) f.chains f.ids
+page_reaches header h outside doing past k ids w may answer key events new waits2 works is now faulted (inr (inl unlocks)) put =
+    let f : Faulted k.maps k.host w.task w.want may (step.Unlock key) (state_of k ids events) new = subst (λ (z : FaultStep). Faulted k.maps k.host w.task w.want may z (state_of k ids events) new) unlocks faulted in
+    let p = prepared header h outside doing past k ids w may (step.Unlock key) events new works is now f in
+    let a = f.comes in
+    let open_it = never_kept_out a.row.lock (writes_at w.want a.steps) (open_row header h (f.mid.events ++ past) (with_state k f.mid) f.mid.ids w f.top key a.row p.tries a.finds.found) in
+    absurd (let bad : false ≡ true = sym open_it ∙ a.locked in cc)
+page_reaches header h outside doing past k ids w may answer key events new waits2 works is now faulted (inr (inr joins)) put =
+    settle header h outside doing past k events f.mid new waits2 p.goes (stays header h outside doing past k f.mid new waits2 f.comes.1 (by f.comes.0.why)) f.chains f.ids
+  where
+    f : Faulted k.maps k.host w.task w.want may (step.WaitAnswer key) (state_of k ids events) new
+    f = subst (λ (z : FaultStep). Faulted k.maps k.host w.task w.want may z (state_of k ids events) new) joins faulted
 
--- it waits for a page that is asked now, or was asked before
-pub page_works : (header : Header) (h : ℕ) (outside : Outside) (doing : Command) (past : List Event) (k new : Parts) (ids : Ids) (w : Waiting) (may : Bool) (answer : FaultStep) (key : PageKey) (events after : List Event) (waits2 : WaitTable)
-    → Works header h k ids woken.Nobody (events ++ past) → entry k.waits.rows w.task.0 ≡ Some w → Faulted w.task w.want may answer k new events after → (answer ≡ step.Ask key) ⊎ (answer ≡ step.WaitAnswer key)
-    → PutsInOrder w.task.0 (Some (with_on w (on.Page key))) new.waits.rows waits2.rows → Works header h (record new { waits = waits2 }) ids woken.Nobody (after ++ past)
-page_works header h outside doing past k new ids w may answer key events after waits2 works is faulted (inl asks) put =
-    let f : Faulted w.task w.want may (step.Ask key) k new events after = subst (λ (z : FaultStep). Faulted w.task w.want may z k new events after) asks faulted in
-    works_asked header h outside doing past k new ids w f.key waits2 events after works is f.at f.faults.1
-    (subst (λ (z : PageKey). PutsInOrder w.task.0 (Some (with_on w (on.Page z))) new.waits.rows waits2.rows) f.faults.0 put)
-page_works header h outside doing past k new ids w may answer key events after waits2 works is faulted (inr joins) put =
-    let f : Faulted w.task w.want may (step.WaitAnswer key) k new events after = subst (λ (z : FaultStep). Faulted w.task w.want may z k new events after) joins faulted in
-    stays_works header h past k new ids w.task.0 (Some (with_on w (on.Page f.key))) waits2 events after f.faults.2
-    (λ put2. works_joined header h (events ++ past) k ids w f.key waits2 works is f.at f.faults.1 put2)
-    (subst (λ (z : PageKey). PutsInOrder w.task.0 (Some (with_on w (on.Page z))) new.waits.rows waits2.rows) f.faults.0 put)
+    p : Prepared header h outside doing past k ids w events f.mid f.top
+    p = prepared header h outside doing past k ids w may (step.WaitAnswer key) events new works is now f
 
-pub queued_works : (header : Header) (h : ℕ) (past : List Event) (k new : Parts) (ids : Ids) (w : Waiting) (may : Bool) (events after : List Event) (waits2 : WaitTable)
-    → Works header h k ids woken.Nobody (events ++ past) → entry k.waits.rows w.task.0 ≡ Some w → Faulted w.task w.want may step.NeedFrame k new events after → PutsInOrder w.task.0 (Some (with_on w on.Frame)) new.waits.rows waits2.rows
-    → Works header h (record new { waits = waits2 }) ids woken.Nobody (after ++ past)
-queued_works header h past k new ids w may events after waits2 works is f put =
-    stays_works header h past k new ids w.task.0 (Some (with_on w on.Frame)) waits2 events after f.faults.1
-    (λ put2. works_queued header h (events ++ past) k ids w f.key waits2 works is f.at f.faults.0.absent put2) put
+    steps : ℕ
+    steps = f.comes.0.steps
 
--- an access that wants a frame stands in the queue, and the counts say so
-pub queues_of : (header : Header) (h : ℕ) (past : List Event) (k new : Parts) (ids : Ids) (w : Waiting) (may : Bool) (events after : List Event) (waits2 : WaitTable)
-    → Works header h k ids woken.Nobody (events ++ past) → entry k.waits.rows w.task.0 ≡ Some w → Faulted w.task w.want may step.NeedFrame k new events after
-    → count_again waits2.rows + one_again w.on ≡ count_again new.waits.rows → queued waits2.rows ≡ queued new.waits.rows + (1 - one_frame w.on)
-    → JoinsQueue header h w may k (record new { waits = waits2 }) (events ++ past) (after ++ past)
-unfolding wants_of
-queues_of header h past k new ids w may events after waits2 works is f agains queues =
-    let stays = f.faults.1 in
-    let wants : (wants : Wants header h (events ++ past)) × (wants.task ≡ w.task.0) = (wants_of header h (events ++ past) k ids w.task w.want f.key may (tries_of header h (events ++ past) k ids w f.key works is f.at) f.faults.0, refl) in
-    let now = subst (λ (z : List Event). (wants : Wants header h (z ++ past)) × (wants.task ≡ w.task.0)) (sym stays.told) wants in
+    row : PageRow
+    row = f.comes.0.row
+
+    by : (Finds f.mid.parts f.mid.chains steps f.top key row × (keeps_out row.lock (writes_at w.want steps) ≡ true) × (row.unlock_sent ≡ true)) ⊎ StopsAsked f.mid.parts f.mid.chains steps f.top key row
+        → Works header h (record (with_state k f.mid) { waits = waits2 }) f.mid.ids woken.Nobody (f.mid.events ++ past)
+    by (inl locked) =
+        let open_it = never_kept_out row.lock (writes_at w.want steps) (open_row header h (f.mid.events ++ past) (with_state k f.mid) f.mid.ids w f.top key row p.tries locked.0.found) in
+        absurd (let bad : false ≡ true = sym open_it ∙ locked.1 in cc)
+    by (inr stops) =
+        works_joined header h (f.mid.events ++ past) (with_state k f.mid) f.mid.ids w key waits2 p.tries.works is now (place_of_walk (with_state k f.mid) w f.top key steps p.tries.at stops.walks)
+        (record { row = row; found = stops.found; away = stops.away }) put
+
+-- it wants a frame: it joins the queue
+pub queued_reaches : (header : Header) (h : ℕ) (outside : Outside) (doing : Command) (past : List Event) (k : Parts) (ids : Ids) (w : Waiting) (may : Bool) (source : Option PageKey) (events : List Event) (new : FaultState) (waits2 : WaitTable)
+    → Works header h k ids woken.Nobody (events ++ past) → entry k.waits.rows w.task.0 ≡ Some w → runs_now w.on ≡ true → Faulted k.maps k.host w.task w.want may (step.NeedFrame source) (state_of k ids events) new
+    → PutsInOrder w.task.0 (Some (with_on w on.Frame)) k.waits.rows waits2.rows → Reaches header h outside doing past events (record (with_state k new) { waits = waits2 }) new.ids new.events
+queued_reaches header h outside doing past k ids w may source events new waits2 works is now f put =
+    let p = prepared header h outside doing past k ids w may (step.NeedFrame source) events new works is now f in
+    settle header h outside doing past k events f.mid new waits2 p.goes
+    (stays header h outside doing past k f.mid new waits2 f.comes.2
+    (works_turned header h (f.mid.events ++ past) (with_state k f.mid) f.mid.ids w on.Frame waits2 p.tries.works is now tt put)) f.chains f.ids
+
+-- or stands in it, and stays there
+pub still_reaches : (header : Header) (h : ℕ) (outside : Outside) (doing : Command) (past : List Event) (k : Parts) (ids : Ids) (w : Waiting) (may : Bool) (source : Option PageKey) (events : List Event) (new : FaultState)
+    → Works header h k ids woken.Nobody (events ++ past) → entry k.waits.rows w.task.0 ≡ Some w → runs_now w.on ≡ true → Faulted k.maps k.host w.task w.want may (step.NeedFrame source) (state_of k ids events) new
+    → Reaches header h outside doing past events (with_state k new) new.ids new.events
+still_reaches header h outside doing past k ids w may source events new works is now f =
+    let p = prepared header h outside doing past k ids w may (step.NeedFrame source) events new works is now f in
+    settle header h outside doing past k events f.mid new k.waits p.goes (stays header h outside doing past k f.mid new k.waits f.comes.2 p.tries.works) f.chains f.ids
+
+-- the access wants a frame
+
+-- why
+frame_why : (header : Header) (h : ℕ) (past : List Event) (k : Parts) (ids : Ids) (w : Waiting) (top : PageKey) {source : Option PageKey} → (t : Tries header h past k ids w top) → Needs w.want top k.memory k.chains source
+    → WantsFrame header h w.task.0 (access_in w.want) t.at.entry.region.0 (page_of header w.task.0 (access_in w.want) past t.at.entry) past
+frame_why header h past k ids w top t (Nowhere sinks) =
+    let to = leads_there header h past k ids w top t in
+    legal.Nowhere top.object.0 top.page.0 sinks.steps (top_at header h past k w.task.0 w.want top t.at to) (sinks_of (shown_of header h past k ids woken.Nobody t.works) top to.referred sinks)
+frame_why header h past k ids w top t (ToAsk steps key object comes ready) =
+    let to = leads_there header h past k ids w top t in
+    let s = shown_of header h past k ids woken.Nobody t.works in
+    let may = may_ask s steps top key object comes ready in
+    legal.Elsewhere key.object.0 key.page.0 (comes_at header h past k w.task.0 w.want top t.at to s steps key comes.walks) may.away may.unasked may.may_have may.ready
+frame_why header h past k ids w top t (ToRaise steps key row finds stores out) =
+    let to = leads_there header h past k ids w top t in
+    let s = shown_of header h past k ids woken.Nobody t.works in
+    legal.Raises top.object.0 top.page.0 steps key.object.0 key.page.0 (top_at header h past k w.task.0 w.want top t.at to) (walks_of s (suc steps) top key finds.walks) (shows_row s key.object.0 key.page.0 row finds.found finds.here).here
+    (storing_is w.want ∙ stores)
+
+-- and what it is to copy
+frame_source : (header : Header) (h : ℕ) (past : List Event) (k : Parts) (ids : Ids) (w : Waiting) (top : PageKey) {source : Option PageKey} → Tries header h past k ids w top → Needs w.want top k.memory k.chains source → IsToCopy header h k source past
+frame_source header h past k ids w top t (Nowhere sinks) = tt
+frame_source header h past k ids w top t (ToAsk steps key object comes ready) = tt
+frame_source header h past k ids w top t (ToRaise steps key row finds stores out) =
+    let to = leads_there header h past k ids w top t in
+    let s = shown_of header h past k ids woken.Nobody t.works in (
+      record {
+        task = w.task.0;
+        access = access_in w.want;
+        waits = it_waits header h past k w.task.0 w.want top t.at to;
+        on_host = refl;
+        comes = comes_at header h past k w.task.0 w.want top t.at to s (suc steps) key finds.walks;
+        wants = frame_why header h past k ids w top t (ToRaise steps key row finds stores out);
+      },
+      (row, finds.found, finds.here),
+    )
+
+-- it stands in the queue, and the counts say so
+pub queues_of : (header : Header) (h : ℕ) (outside : Outside) (doing : Command) (past : List Event) (k : Parts) (ids : Ids) (w : Waiting) (may : Bool) (source : Option PageKey) (events : List Event) (new : FaultState) (waits2 : WaitTable)
+    → Works header h k ids woken.Nobody (events ++ past) → entry k.waits.rows w.task.0 ≡ Some w → runs_now w.on ≡ true → Faulted k.maps k.host w.task w.want may (step.NeedFrame source) (state_of k ids events) new
+    → count_again waits2.rows + one_again w.on ≡ count_again k.waits.rows → queued waits2.rows ≡ queued k.waits.rows + (1 - one_frame w.on)
+    → JoinsQueue header h w may source k (record (with_state k new) { waits = waits2 }) (events ++ past) (new.events ++ past)
+queues_of header h outside doing past k ids w may source events new waits2 works is now f agains queues =
+    let p = prepared header h outside doing past k ids w may (step.NeedFrame source) events new works is now f in
+    let moment = f.mid.events ++ past in
+    let mid = with_state k f.mid in
+    let t = p.tries in
+    let same = f.comes.2 in
+    let to = leads_there header h moment mid f.mid.ids w f.top t in
+    let wants : (wants : Wants header h moment) × (wants.task ≡ w.task.0) =
+    (record { task = w.task.0; access = access_in w.want; waits = it_waits header h moment mid w.task.0 w.want f.top t.at to; on_host = refl; frame = frame_why header h moment mid f.mid.ids w f.top t f.comes.0 }, refl) in
+    let later = subst (λ (z : List Event). (wants : Wants header h (z ++ past)) × (wants.task ≡ w.task.0)) (sym same.told) wants in
+    let copies = frame_source header h moment mid f.mid.ids w f.top t f.comes.0 in
+    let here = subst (λ (z : HostParts). IsToCopy header h (record mid { memory = z }) source moment) (sym same.parts) copies in
+    let frames : new.parts.frames ≡ k.memory.frames = ap (λ (z : HostParts). z.frames) same.parts ∙ p.frames in
     record {
-      same = ap (λ z. z ++ past) stays.told;
-      wants = now.0;
-      mine = now.1;
-      none = λ is_so. ap (λ (z : Parts). free z.memory.frames) stays.same ∙ f.faults.0.none is_so;
-      again = agains ∙ ap (λ (z : Parts). count_again z.waits.rows) stays.same;
-      queued = queues ∙ ap (λ (z : Parts). queued z.waits.rows + (1 - one_frame w.on)) stays.same;
-      claimed = ap (λ (z : Parts). claimed z.memory.frames) stays.same;
-      laundry = ap (λ (z : Parts). z.laundry) stays.same;
+      front = p.front;
+      prepared = p.is_front;
+      same = ap (λ z. z ++ past) (same.told ∙ p.told) ∙ append_assoc p.front events past;
+      wants = later.0;
+      mine = later.1;
+      to_copy = to_copy_same source (subst (λ (z : List Event). IsToCopy header h (record mid { memory = new.parts }) source (z ++ past)) (sym same.told) here);
+      none = λ so. ap (λ (z : HostParts). free z.frames) same.parts ∙ f.comes.1 so;
+      again = agains;
+      queued = queues;
+      claimed = ap claimed frames;
+      laundry = refl;
     }
-
--- those who wait do so still
-
-hits_kept : (task : TaskId) (what : Want) (key : PageKey) (frame : FrameNo) (at : ℕ) (k new : Parts) (before after : List Event) → Hits task what key frame at k new before after → new.waits ≡ k.waits
-hits_kept task (want.Load address n) key frame at k new before after hits = ap (λ (z : Parts). z.waits) hits.2.is
-hits_kept task (want.Store address n value) key frame at k new before after hits = ap (λ (z : Parts). z.waits) hits.2.is ∙ hits.1.plan.waits
-
-ended_kept : (task : TaskId) (what : Want) (key : PageKey) (at : ℕ) (k new : Parts) (before after : List Event) → Ended task what key at k new before after → new.waits ≡ k.waits
-ended_kept task what key at k new before after (AtOnce frame here hits) = hits_kept task what key frame at k new before after hits
-ended_kept task what key at k new before after (AfterZeros frame mid none brought hits) = hits_kept task what key frame at mid new (zeroed key k ∷ before) after hits ∙ brought.plan.waits
-
-faults_kept : (task : TaskId) (what : Want) (may : Bool) (key : PageKey) (answer : FaultStep) (k new : Parts) (before after : List Event) → Faults task what may key answer k new before after → new.waits ≡ k.waits
-faults_kept task what may key step.Done k new before after faults = ended_kept task what key (address_in what % k.size) k new before after faults
-faults_kept task what may key (step.Ask asked) k new before after faults = faults.1.plan.waits
-faults_kept task what may key (step.WaitReady object) k new before after faults = ap (λ (z : Parts). z.waits) faults.2.same
-faults_kept task what may key (step.WaitAnswer asked) k new before after faults = ap (λ (z : Parts). z.waits) faults.2.same
-faults_kept task what may key step.NeedFrame k new before after faults = ap (λ (z : Parts). z.waits) faults.1.same
-
-pub waits_kept : (w : Waiting) (may : Bool) (answer : FaultStep) (k new : Parts) (before after : List Event) → Faulted w.task w.want may answer k new before after → new.waits ≡ k.waits
-waits_kept w may answer k new before after f = faults_kept w.task w.want may f.key answer k new before after f.faults
+  where
+    to_copy_same : (source2 : Option PageKey) → IsToCopy header h (record (with_state k f.mid) { memory = new.parts }) source2 (new.events ++ past) → IsToCopy header h (record (with_state k new) { waits = waits2 }) source2 (new.events ++ past)
+    to_copy_same None copies = tt
+    to_copy_same (Some key) copies = copies
 
 -- what is said of the row of the access that was run
-pub its_row : (w : Waiting) (may : Bool) (answer : FaultStep) (k new : Parts) (before after : List Event) (P : Waiting → Type 0) → entry k.waits.rows w.task.0 ≡ Some w → Faulted w.task w.want may answer k new before after
-    → IfSome (entry new.waits.rows w.task.0) P → P w
-its_row w may answer k new before after P is f holds =
-    subst (λ z. IfSome z P) (ap (λ (z : WaitTable). entry z.rows w.task.0) (waits_kept w may answer k new before after f) ∙ is) holds
+pub its_row : (k : Parts) (w : Waiting) (P : Waiting → Type 0) → entry k.waits.rows w.task.0 ≡ Some w → IfSome (entry k.waits.rows w.task.0) P → P w
+its_row k w P is holds = subst (λ z. IfSome z P) is holds

@@ -7,6 +7,7 @@ use Rattle.vm_model.specs.declared.command.Command.TheVariants as command
 use Rattle.vm_supply.specs.declared.woken.Woken.TheVariants as woken
 use Rattle.vm_waits.specs.declared.waiting.On.TheVariants as on
 use Rattle.vm_waits.specs.declared.waiting.Want.TheVariants as want
+use Rattle.vm_kernel.proofs.After.{Leaves, controls_after, homeless_after, regions_after}
 use Rattle.vm_kernel.proofs.Changing.{acts}
 use Rattle.vm_kernel.proofs.Growing.{grows_goes, suffices}
 use Rattle.vm_kernel.proofs.Ordering.{begun_below, begun_order}
@@ -101,6 +102,7 @@ absent_row header h task what past k ids before s = idle_of (entry k.waits.rows 
 begun_matches : (header : Header) (h : ℕ) (k : Parts) (ids : Ids) (past : List Event) (waits : WaitTable) (task : TaskId) (what : Want) (rows : List Entry) → Matches header h k ids [] past → entries_in task.0 k.maps ≡ Some rows
     → Matches header h (record k { waits = waits }) ids [] (begun task what ∷ past)
 begun_matches header h k ids past waits task (want.Load address size) rows m lives =
+    let leaves : Leaves header past (begun task (want.Load address size) ∷ past) = record { regions_made = refl; objects_made = refl; region = λ r. refl; backing = λ o. refl; home = λ r. refl; made_for = λ o. refl; used = λ g r. refl } in
     record {
       plain = m.plain;
       known = m.known;
@@ -108,17 +110,19 @@ begun_matches header h k ids past waits task (want.Load address size) rows m liv
       host = m.host;
       fits = record { parts = m.fits.parts; plain = m.fits.plain; buffers = m.fits.buffers };
       tasks = m.tasks;
-      regions = m.regions;
+      regions = regions_after leaves m.regions;
       entries = m.entries;
       pages = m.pages;
       uses = uses_still k.maps _ _ _ _ _ m.uses (λ t r none. holds_waits header.size task.0 t r k.maps rows past _ lives none);
-      controls = m.controls;
-      homeless = m.homeless;
+      controls = controls_after leaves m.controls;
+      homeless = homeless_after leaves m.homeless;
+      homes = m.homes;
       settled = record { returned = refl; shut = λ region. refl };
       laundry = m.laundry;
       frames = m.frames;
     }
 begun_matches header h k ids past waits task (want.Store address size value) rows m lives =
+    let leaves : Leaves header past (begun task (want.Store address size value) ∷ past) = record { regions_made = refl; objects_made = refl; region = λ r. refl; backing = λ o. refl; home = λ r. refl; made_for = λ o. refl; used = λ g r. refl } in
     record {
       plain = m.plain;
       known = m.known;
@@ -126,12 +130,13 @@ begun_matches header h k ids past waits task (want.Store address size value) row
       host = m.host;
       fits = record { parts = m.fits.parts; plain = m.fits.plain; buffers = m.fits.buffers };
       tasks = m.tasks;
-      regions = m.regions;
+      regions = regions_after leaves m.regions;
       entries = m.entries;
       pages = m.pages;
       uses = uses_still k.maps _ _ _ _ _ m.uses (λ t r none. holds_waits header.size task.0 t r k.maps rows past _ lives none);
-      controls = m.controls;
-      homeless = m.homeless;
+      controls = controls_after leaves m.controls;
+      homeless = homeless_after leaves m.homeless;
+      homes = m.homes;
       settled = record { returned = refl; shut = λ region. refl };
       laundry = m.laundry;
       frames = m.frames;
@@ -212,7 +217,7 @@ begun_works header h doing task what past k ids before log reserved waits is sta
     (record {
       matches = begun_matches header h k ids past waits task what (rows_in task.0 k.maps) s.rests.matches can.allowed.lives;
       used = s.rests.used;
-      reached = s.rests.reached;
+      referred = s.rests.referred;
       order = order;
       waits = waits_begun k.maps k.chains k.memory.resident k.memory.objects k.waits.rows waits.rows task what (λ t. waiting t past) (λ t. waiting t (begun task what ∷ past)) s.rests.waits puts_here (absent_row header h task what past k ids before s) can.allowed can.sized (begun_waiting task what past);
     })
@@ -232,10 +237,10 @@ begun_done header task (want.Load address size) past events ends = ends
 begun_done header task (want.Store address size value) past events ends = ends
 
 -- the access was run, and all that were to be
-pub begun_ran : (header : Header) (h : ℕ) (outside : Outside) (doing : Command) (task : TaskId) (what : Want) (past : List Event) (k new : Parts) (ids : Ids) (before log after : List Event) (rows : List Waiting) → doing ≡ asks task what
-    → Starts header h doing past k ids before → log ≡ begun task what ∷ before → IsNextAccess task.0 rows → Rests header h new ids (after ++ past) → LegalEvents header h outside doing past log after → RunsFirst header rows past log after
-    → Ran header h outside doing past new ids after
-begun_ran header h outside doing task what past k new ids before log after rows is starts told next rests goes runs =
+pub begun_ran : (header : Header) (h : ℕ) (outside : Outside) (doing : Command) (task : TaskId) (what : Want) (past : List Event) (k new : Parts) (ids ids2 : Ids) (before log after : List Event) (rows : List Waiting) → doing ≡ asks task what
+    → Starts header h doing past k ids before → log ≡ begun task what ∷ before → IsNextAccess task.0 rows → Rests header h new ids2 (after ++ past) → LegalEvents header h outside doing past log after → RunsFirst header rows past log after
+    → Ran header h outside doing past new ids2 after
+begun_ran header h outside doing task what past k new ids ids2 before log after rows is starts told next rests goes runs =
     let first : Grows header h outside (asks task what) past (begun task what ∷ []) = begun_grows header h outside k ids past task what starts.rests.matches (subst (λ (z : Command). refusal header past z ≡ None) is starts.accepted) (subst (λ (z : Command). acts_on h z past ≡ true) is starts.acts) in
     let same = begun_log task what before log starts.nothing told in
     let grows : Grows header h outside doing past log =

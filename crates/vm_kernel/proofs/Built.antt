@@ -14,6 +14,7 @@ pub record IsUnknown (c : Command) : Type 0 where
   pub inherit : (task : TaskId) (address bytes : ℕ) (inherit : Inherit) → c ≢ command.Inherit task address bytes inherit
   pub load : (task : TaskId) (address size : ℕ) → c ≢ command.Load task address size
   pub store : (task : TaskId) (address size value : ℕ) → c ≢ command.Store task address size value
+  pub copy : (task : TaskId) (address bytes : ℕ) (target : TaskId) (to : ℕ) → c ≢ command.Copy task address bytes target to
   pub pageout : (host : HostId) (count : ℕ) → c ≢ command.Pageout host count
   pub wire : (host : HostId) (count : ℕ) → c ≢ command.Wire host count
   pub unwire : (host : HostId) (count : ℕ) → c ≢ command.Unwire host count
@@ -28,6 +29,7 @@ none_unknown (command.Protect task address bytes prot) built unknown = unknown.p
 none_unknown (command.Inherit task address bytes inherit) built unknown = unknown.inherit task address bytes inherit refl
 none_unknown (command.Load task address size) built unknown = unknown.load task address size refl
 none_unknown (command.Store task address size value) built unknown = unknown.store task address size value refl
+none_unknown (command.Copy task address bytes target to) built unknown = unknown.copy task address bytes target to refl
 none_unknown (command.Pageout host count) built unknown = unknown.pageout host count refl
 none_unknown (command.Wire host count) built unknown = unknown.wire host count refl
 none_unknown (command.Unwire host count) built unknown = unknown.unwire host count refl

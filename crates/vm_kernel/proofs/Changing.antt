@@ -1,18 +1,19 @@
 -- Commands that change a task's entries, from their beginning to their end.
-use Rattle.vm_kernel.proofs.Common.{Access, AllReached, AllRows, AllUsed, ChainTable, ChangesOnly, Code, Entry, Event, HasEntries, HasPages, HasRegions, HasUse, HasWaiters, Header, Ids, Inherit, IsInside, List, Lowered, MapChange, Mapped, None, Option, Outside, Parts, Prot, Raised, Ran, RegionRow, Rests, Some, Starts, TaskId, Waiting, [], acting, all_tasks, ap, arith, backing_of, code_where, copy_target, count_by, count_on, entries_in, entries_in_row, entries_of, entry, eqb_tells, false, fills, has_entry, has_region, holds, host_of, if◌then◌else◌, in_use, inheritance, inherited, inl, inr, is_none, is_some, length, local, most_entries, next_object, next_region, place_of, protected, protection, refl, region_at, region_entries, region_of, rows_in, rows_map, subst, suc, sym, tasks, true, unwrap_or, waiting, waiting_in, zero, ℕ, ◌*◌, ◌+◌, ◌-◌, ◌<◌, ◌==◌, ◌||◌, ◌∙◌, ◌∷◌, ◌≡◌, ◌≤◌}
+use Rattle.vm_kernel.proofs.Common.{Access, AllReferred, AllRows, AllUsed, ChainTable, ChangesOnly, Code, Entry, Event, HasEntries, HasHomes, HasPages, HasRegions, HasUse, HasWaiters, Header, Ids, Inherit, IsInside, List, Lowered, MapChange, Mapped, None, Option, Outside, Parts, Prot, Raised, Ran, RegionRow, Rests, Some, Starts, TaskId, Waiting, [], acting, all_tasks, ap, arith, backing_of, code_where, copy_target, count_by, count_on, entries_in, entries_in_row, entries_of, entry, eqb_tells, false, fills, has_entry, has_region, holds, home_of, host_of, if◌then◌else◌, in_use, inheritance, inherited, inl, inr, is_none, is_some, length, local, marked_regions, most_entries, next_object, next_region, place_of, protected, protection, refl, region_at, region_entries, region_of, rows_in, rows_map, subst, suc, sym, tasks, true, unwrap_or, waiting, waiting_in, zero, ℕ, ◌*◌, ◌+◌, ◌-◌, ◌<◌, ◌==◌, ◌||◌, ◌∙◌, ◌∷◌, ◌≡◌, ◌≤◌}
 use Rattle.vm_base.specs.declared.code.Code.TheVariants as code
 use Rattle.vm_model.specs.declared.event.Event.TheVariants as event
 use Rattle.vm_model.specs.declared.command.Command.TheVariants as command
 use Rattle.vm_supply.specs.declared.woken.Woken.TheVariants as woken
+use Rattle.vm_kernel.proofs.After.{Leaves, controls_after, homeless_after, regions_after}
 use Rattle.vm_kernel.proofs.Counts.{by_changed, by_few, most_is}
 use Rattle.vm_kernel.proofs.Cutting.{Cuts, inherit_cuts, protect_cuts}
 use Rattle.vm_kernel.proofs.Growing.{suffices}
 use Rattle.vm_kernel.proofs.Heads.{grows_one, passed}
-use Rattle.vm_kernel.proofs.Recounts.{Recounts, entries_are, entries_most, has_same, lowered_recounts, raised_recounts, recounts_as, recounts_twice}
+use Rattle.vm_kernel.proofs.Recounts.{Recounts, entries_are, entries_most, lowered_recounts, raised_recounts, recounts_as, recounts_twice}
 use Rattle.vm_kernel.proofs.Regions.{region_row, tops_recounted}
-use Rattle.vm_kernel.proofs.Rewrites.{entries_changed, lives_below, on_among, recount_known, recount_pages, recount_regions, recount_used, tasks_changed}
+use Rattle.vm_kernel.proofs.Rewrites.{entries_changed, lives_below, on_among, recount_homes, recount_known, recount_referred, recount_regions, recount_used, tasks_changed}
 use Rattle.vm_kernel.proofs.Uses.{uses_same, holds_rows}
-use Rattle.vm_kernel.proofs.Waited.{waits_changed, told_changed}
+use Rattle.vm_state.proofs.Waited.{waits_changed, told_changed}
 use Rattle.vm_kernel.proofs.Mine.{own_task}
 
 -- how many entries lead to a region
@@ -64,11 +65,12 @@ not_there header h past k ids task rows rests lives none = no_row (entry k.waits
 -- regions count what was made, and what was lost, in place of what there was
 
 pub record Changed (header : Header) (h : ℕ) (past : List Event) (k : Parts) (ids : Ids) (maps : Mapped) (chains : ChainTable) (lost : List Entry) : Type 0 where
-  pub regions : HasRegions chains k.memory.objects ids (λ r. region_of header r past) (λ o. backing_of header o past) (next_region header past) (next_object header past)
+  pub regions : HasRegions chains k.memory.objects ids (λ r. region_of header r past) (λ o. backing_of header o past) (next_region header past) (next_object header past) (marked_regions header past)
   pub entries : HasEntries header.size maps chains lost
-  pub pages : HasPages k.memory.frames k.memory.resident k.memory.objects chains (λ o p. local header.size h (place_of o p) past)
+  pub homes : HasHomes h chains (λ r. home_of r past)
+  pub pages : HasPages k.memory.frames k.memory.resident k.memory.objects (λ o p. local header.size h (place_of o p) past)
   pub used : AllUsed chains
-  pub reached : AllReached chains k.memory.objects
+  pub referred : AllReferred chains k.memory.objects k.memory.resident
   pub waits : HasWaiters maps chains k.memory.resident k.memory.objects k.waits.rows woken.Nobody (λ t. waiting t past)
 
 pub changed_by : (header : Header) (h : ℕ) (past : List Event) (k : Parts) (ids : Ids) (maps : Mapped) (chains : ChainTable) (task : ℕ) (rows : Option (List Entry)) (lost : List Entry) (count : ℕ → ℕ) → Rests header h k ids past → waiting task past ≡ None
@@ -79,11 +81,12 @@ changed_by header h past k ids maps chains task rows lost count rests idle chang
     let old = rows_in task k.maps in
     let made = unwrap_or rows [] in
     record {
-      regions = recount_regions count k.chains chains k.memory.objects ids (λ r. region_of header r past) (λ o. backing_of header o past) (next_region header past) (next_object header past) is m.regions;
+      regions = recount_regions count k.chains chains k.memory.objects ids (λ r. region_of header r past) (λ o. backing_of header o past) (next_region header past) (next_object header past) (marked_regions header past) is m.regions;
       entries = entries_changed header.size task k.maps maps k.chains chains count rows lost m.entries changes lives is sums cuts.inside cuts.known cuts.few;
-      pages = recount_pages count k.memory.frames k.memory.resident k.memory.objects k.chains chains (λ o p. local header.size h (place_of o p) past) is m.pages;
+      homes = recount_homes count h k.chains chains (λ r. home_of r past) is m.homes;
+      pages = m.pages;
       used = recount_used count k.chains chains is (λ r there some. let sum = sums r there in let kept = cuts.kept r in omega arith) rests.used;
-      reached = λ o row found live. has_same count k.chains chains is o ∙ rests.reached o row found live;
+      referred = recount_referred count k.chains chains k.memory.objects k.memory.resident is rests.referred;
       waits = waits_changed k.maps maps k.chains chains k.memory.resident k.memory.objects k.waits.rows woken.Nobody (λ t. waiting t past) task rows rests.waits changes (not_there header h past k ids task old rests lives idle) (tops_recounted count k.chains chains is)
           (told_changed k.maps maps k.waits.rows (λ t. waiting t past) task old rows rests.waits.is changes lives);
     }
@@ -158,6 +161,7 @@ ran_protect header h outside task address bytes prot past events k ids maps mid 
     let c = changed_counts header h past k ids maps mid chains task.0 one two s.rests idle (record { size = changes.size; changed = now; others = changes.others }) value cuts down up in
     let same : ChangesOnly k.maps maps task.0 (Some (protected header.size address bytes prot rows)) =
     record { size = changes.size; changed = changes.changed ∙ ap Some (ap (λ z. protected k.maps.size z.address z.bytes z.prot rows) is ∙ ap (λ z. protected z address bytes prot rows) m.tasks.sized); others = changes.others } in
+    let leaves : Leaves header past (event.Protected task address bytes prot ∷ past) = record { regions_made = refl; objects_made = refl; region = λ r. refl; backing = λ o. refl; home = λ r. refl; made_for = λ o. refl; used = λ g r. refl } in
     let rests : Rests header h (record k { maps = maps; chains = chains }) ids (event.Protected task address bytes prot ∷ past) =
     record {
       matches =
@@ -168,18 +172,19 @@ ran_protect header h outside task address bytes prot past events k ids maps mid 
             host = m.host;
             fits = record { parts = m.fits.parts; plain = m.fits.plain; buffers = m.fits.buffers };
             tasks = tasks_changed h header.size task.0 k.maps maps (λ t. host_of t past) (λ t. entries_of header.size t past) (protected header.size address bytes prot) m.tasks same live.1;
-            regions = c.regions;
+            regions = regions_after leaves c.regions;
             entries = c.entries;
             pages = c.pages;
             uses = uses_kept header h past k ids maps task.0 two s.rests (record { size = changes.size; changed = now; others = changes.others }) live.1 cuts (λ t. protected header.size address bytes prot (entries_of header.size t past));
-            controls = m.controls;
-            homeless = m.homeless;
+            controls = controls_after leaves m.controls;
+            homeless = homeless_after leaves m.homeless;
+            homes = c.homes;
             settled = record { returned = refl; shut = λ region. refl };
             laundry = m.laundry;
             frames = m.frames;
           };
       used = c.used;
-      reached = c.reached;
+      referred = c.referred;
       waits = c.waits;
       order = s.rests.order;
       idle = s.rests.idle;
@@ -204,6 +209,7 @@ ran_inherit header h outside task address bytes inherit past events k ids maps m
     let c = changed_counts header h past k ids maps mid chains task.0 one two s.rests idle (record { size = changes.size; changed = now; others = changes.others }) value cuts down up in
     let same : ChangesOnly k.maps maps task.0 (Some (inherited header.size address bytes inherit rows)) =
     record { size = changes.size; changed = changes.changed ∙ ap Some (ap (λ z. inherited k.maps.size z.address z.bytes z.inherit rows) is ∙ ap (λ z. inherited z address bytes inherit rows) m.tasks.sized); others = changes.others } in
+    let leaves : Leaves header past (event.Inherited task address bytes inherit ∷ past) = record { regions_made = refl; objects_made = refl; region = λ r. refl; backing = λ o. refl; home = λ r. refl; made_for = λ o. refl; used = λ g r. refl } in
     let rests : Rests header h (record k { maps = maps; chains = chains }) ids (event.Inherited task address bytes inherit ∷ past) =
     record {
       matches =
@@ -214,18 +220,19 @@ ran_inherit header h outside task address bytes inherit past events k ids maps m
             host = m.host;
             fits = record { parts = m.fits.parts; plain = m.fits.plain; buffers = m.fits.buffers };
             tasks = tasks_changed h header.size task.0 k.maps maps (λ t. host_of t past) (λ t. entries_of header.size t past) (inherited header.size address bytes inherit) m.tasks same live.1;
-            regions = c.regions;
+            regions = regions_after leaves c.regions;
             entries = c.entries;
             pages = c.pages;
             uses = uses_kept header h past k ids maps task.0 two s.rests (record { size = changes.size; changed = now; others = changes.others }) live.1 cuts (λ t. inherited header.size address bytes inherit (entries_of header.size t past));
-            controls = m.controls;
-            homeless = m.homeless;
+            controls = controls_after leaves m.controls;
+            homeless = homeless_after leaves m.homeless;
+            homes = c.homes;
             settled = record { returned = refl; shut = λ region. refl };
             laundry = m.laundry;
             frames = m.frames;
           };
       used = c.used;
-      reached = c.reached;
+      referred = c.referred;
       waits = c.waits;
       order = s.rests.order;
       idle = s.rests.idle;

@@ -1,146 +1,267 @@
 -- What running an access once claims.
-use Rattle.vm_kernel.proofs.Common.{AfterZeros, AtOnce, Bool, Did, Ended, Event, FaultStep, Faulted, ForAsked, ForZeros, Found, FrameNo, HasWaits, Hits, List, None, Nothing, ObjectId, On, Option, PageKey, Parts, PutsEntry, QueueAfter, Reason, RunsOnce, Some, TaskId, Up, WaitTable, Waiting, Want, [], access_in, ap, arith, desired_access, entry, eqb_tells, false, free, inl, inr, is_again, is_frame, puts_here, queue_without, refl, row_at, some_is, subst, sym, true, with_on, zeroed, ℕ, ◌++◌, ◌∙◌, ◌∷◌, ◌≡◌, ◌≢◌, ◌⊎◌}
+use Rattle.std.specs.Prelude.{◌≡◌, ◌≢◌, ◌⊎◌, ◌==◌, ◌&&◌, if◌then◌else◌, ℕ, zero, suc, Bool, true, false, List, [], ◌∷◌, ◌++◌, Option, Some, None}
+use Rattle.std.proofs.Common.{◌∙◌, ap, arith, inl, inr, refl, subst, sym}
+use Rattle.std.proofs.lemmas.Bool.Decides.{eqb_tells, nat_tests}
+use Rattle.vm_base.specs.declared.ids.FrameNo.{FrameNo}
+use Rattle.vm_base.specs.declared.ids.HostId.{HostId}
+use Rattle.vm_base.specs.declared.ids.Lock.{Lock}
+use Rattle.vm_base.specs.declared.ids.ObjectId.{ObjectId}
+use Rattle.vm_base.specs.declared.ids.PageKey.{PageKey}
+use Rattle.vm_base.specs.declared.ids.RegionId.{RegionId}
+use Rattle.vm_base.specs.declared.ids.TaskId.{TaskId}
+use Rattle.vm_fault.specs.Faults.{AfterZeros, AtOnce, Ended, Faulted, FaultState, Hits, Prepares, Raised, References}
+use Rattle.vm_fault.specs.Walks.{is_storing, keeps_out, wanted_number}
+use Rattle.vm_fault.specs.declared.step.FaultStep.{FaultStep}
+use Rattle.vm_fault.specs.declared.step.FaultStep.TheVariants as step
+use Rattle.vm_frames.specs.Frames.{free}
+use Rattle.vm_legal.specs.Follows.{IsEnd}
+use Rattle.vm_legal.specs.Licences.{desired_access}
+use Rattle.vm_maps.specs.Maps.{Mapped}
+use Rattle.vm_model.specs.Waiting.{Access}
+use Rattle.vm_model.specs.declared.event.Event.{Event}
 use Rattle.vm_model.specs.declared.event.Event.TheVariants as event
+use Rattle.vm_model.specs.declared.message.Channel.TheVariants.{Up}
 use Rattle.vm_model.specs.declared.message.Message.TheVariants as message
+use Rattle.vm_objects.specs.Objects.{ObjectTable}
+use Rattle.vm_parts.proofs.Rows.{some_is}
+use Rattle.vm_parts.specs.Changes.{unlocked}
+use Rattle.vm_parts.specs.declared.parts.HostParts.{HostParts}
+use Rattle.vm_resident.specs.Resident.{ResidentTable, row_at}
+use Rattle.vm_shadow.specs.Chains.{ChainTable}
+use Rattle.vm_shadow.specs.declared.region_row.RegionRow.{RegionRow}
+use Rattle.vm_state.specs.Waiters.{HasWaiters, Reason, access_in}
 use Rattle.vm_supply.specs.declared.woken.Woken.TheVariants as woken
+use Rattle.vm_waits.proofs.Entries.{puts_here}
+use Rattle.vm_waits.specs.Waits.{PutsEntry, WaitTable, entry, is_again, is_frame, queue_without, with_on}
+use Rattle.vm_waits.specs.declared.waiting.On.{On}
 use Rattle.vm_waits.specs.declared.waiting.On.TheVariants as on
+use Rattle.vm_waits.specs.declared.waiting.Waiting.{Waiting}
+use Rattle.vm_waits.specs.declared.waiting.Want.{Want}
 use Rattle.vm_waits.specs.declared.waiting.Want.TheVariants as want
-use Rattle.vm_kernel.specs.declared.steps.FaultStep.TheVariants as step
-use Rattle.vm_kernel.proofs.Attempting.{waits_kept}
+use Rattle.vm_kernel.specs.Fits.{ArePlain}
+use Rattle.vm_kernel.specs.Turns.{Bare, Did, ForAsked, ForCopy, ForZeros, Found, IsFront, Nothing, QueueAfter, RunsOnce, Shadow}
 
--- the rows of others are as they were
-puts_rest : (task : TaskId) (x : Option Waiting) (k new : Parts) (waits2 : WaitTable) → new.waits ≡ k.waits → PutsEntry task.0 x new.waits.rows waits2.rows → (t : ℕ) → t ≢ task.0 → entry waits2.rows t ≡ entry k.waits.rows t
-puts_rest task x k new waits2 kept put t apart = elim (eqb_tells task.0 t) [
-  | inl same ↦ absurd (apart (sym same.1))
-  | inr other ↦ put.at t ∙ (rw other.0 (ap (λ z. entry z.rows t) kept))
-]
+-- what stands first: the pages, their frames and their lists are as they were
+pub record Front (s mid : FaultState) : Type 0 where
+  pub front : List Event
+  pub is : IsFront front
+  pub told : mid.events ≡ front ++ s.events
+  pub rows : mid.parts.resident ≡ s.parts.resident
+  pub frames : mid.parts.frames ≡ s.parts.frames
+  pub queues : mid.parts.queues ≡ s.parts.queues
 
--- the events of one that ends: one end, or a page of zeros and an end
-record EndsBy (rows : List Waiting) (task : TaskId) (may : Bool) (before after : List Event) : Type 0 where
+pub front_of : (is : Bool) (region : RegionId) (row : RegionRow) (s mid : FaultState) → Prepares is region row s mid → Front s mid
+front_of true region row s mid makes = record {
+  front = event.Shadowed region makes.object row.top ∷ [];
+  is = Shadow region makes.object row.top;
+  told = makes.told;
+  rows = ap (λ (z : HostParts). z.resident) makes.parts;
+  frames = ap (λ (z : HostParts). z.frames) makes.parts;
+  queues = ap (λ (z : HostParts). z.queues) makes.parts;
+}
+front_of false region row s mid same = record {
+  front = [];
+  is = Bare;
+  told = ap (λ (z : FaultState). z.events) same;
+  rows = ap (λ (z : FaultState). z.parts.resident) same;
+  frames = ap (λ (z : FaultState). z.parts.frames) same;
+  queues = ap (λ (z : FaultState). z.parts.queues) same;
+}
+
+-- its events, and whether it claims a frame
+record RanBy (rows : List Waiting) (task : TaskId) (may : Bool) (before after : List Event) : Type 0 where
   more : List Event
   told : after ≡ more ++ before
   claims : Bool
   did : Did rows (λ t. t ≢ task.0) task claims more
   none : may ≡ false → claims ≡ false
 
-hits_free : (task : TaskId) (what : Want) (key : PageKey) (frame : FrameNo) (at : ℕ) (k new : Parts) (before after : List Event) → Hits task what key frame at k new before after → free new.memory.frames ≡ free k.memory.frames
-hits_free task (want.Load address n) key frame at k new before after hits = ap (λ (z : Parts). free z.memory.frames) hits.2.is
-hits_free task (want.Store address n value) key frame at k new before after hits =
-    let touched : free new.memory.frames ≡ free hits.0.memory.frames = ap (λ (z : Parts). free z.memory.frames) hits.2.is in
-    let left = hits.1.page.left in
-    let wrote : free hits.0.memory.frames ≡ free k.memory.frames = omega arith in
+end_of : (task : TaskId) (what : Want) (key : PageKey) (frame : FrameNo) (at value : ℕ) (e : Event) (old new : HostParts) → Hits task what key frame at value e old new → IsEnd task.0 e
+end_of task (want.Load address n) key frame at value e old new hits = subst (λ (z : Event). IsEnd task.0 z) (sym hits.2) refl
+end_of task (want.Store address n number) key frame at value e old new hits = subst (λ (z : Event). IsEnd task.0 z) (sym hits.2) refl
+
+refers_free : (frame : FrameNo) (old new : HostParts) → References frame old new → free new.frames ≡ free old.frames
+refers_free frame old new refers = ap (λ (z : HostParts). free z.frames) refers.is
+
+hits_free : (task : TaskId) (what : Want) (key : PageKey) (frame : FrameNo) (at value : ℕ) (e : Event) (old new : HostParts) → Hits task what key frame at value e old new → free new.frames ≡ free old.frames
+hits_free task (want.Load address n) key frame at value e old new hits = refers_free frame old new hits.1
+hits_free task (want.Store address n number) key frame at value e old new hits =
+    let touched : free new.frames ≡ free hits.1.0.frames = refers_free frame hits.1.0 new hits.1.2 in
+    let left = hits.1.1.page.left in
+    let wrote : free hits.1.0.frames ≡ free old.frames = omega (arith, left) in
     touched ∙ wrote
 
-at_once : (rows : List Waiting) (task : TaskId) (what : Want) (may : Bool) (key : PageKey) (frame : FrameNo) (at : ℕ) (k new : Parts) (before after : List Event) → Hits task what key frame at k new before after → EndsBy rows task may before after
-at_once rows task (want.Load address n) may key frame at k new before after hits =
-    record { more = event.Loaded task key.object key.page hits.0 ∷ []; told = hits.3; claims = false; did = Found (event.Loaded task key.object key.page hits.0) refl; none = λ bar. refl }
-at_once rows task (want.Store address n value) may key frame at k new before after hits =
-    record { more = event.Stored task key.object key.page at n value ∷ []; told = hits.3; claims = false; did = Found (event.Stored task key.object key.page at n value) refl; none = λ bar. refl }
+ended_by : (rows : List Waiting) (host : HostId) (task : TaskId) (what : Want) (may : Bool) (top : PageKey) (at value : ℕ) (s mid new : FaultState) → Front s mid → Ended host task what top at value mid.parts new.parts mid.chains mid.events new.events
+    → (may ≡ false → free new.parts.frames ≡ free s.parts.frames) → RanBy rows task may s.events new.events
+ended_by rows host task what may top at value s mid new f (AtOnce steps key row finds stores opens e hits told) kept =
+    record {
+      more = e ∷ f.front;
+      told = told ∙ ap (λ z. e ∷ z) f.told;
+      claims = false;
+      did = Found f.front f.is e (end_of task what key row.frame at value e mid.parts new.parts hits);
+      none = λ bar. refl;
+    }
+ended_by rows host task what may top at value s mid new f (Raised steps key row finds stores opens frame copied hit raises plan e hits refers told) kept =
+    let raised = event.Raised host key.object key.page top.object top.page in
+    record {
+      more = e ∷ raised ∷ f.front;
+      told = told ∙ ap (λ z. e ∷ raised ∷ z) f.told;
+      claims = true;
+      did = ForCopy f.front f.is e host key top (end_of task what top frame at value e copied hit hits);
+      none = λ bar.
+          let even = kept bar in
+          let less = raises.left in
+          let same = hits_free task what top frame at value e copied hit hits in
+          let last = refers_free row.frame hit new.parts refers in
+          let was : free mid.parts.frames ≡ free s.parts.frames = ap free f.frames in
+          absurd (omega (arith, even, less, same, last, was));
+    }
+ended_by rows host task what may top at value s mid new f (AfterZeros sinks frame brought brings plan e hits told) kept =
+    let zeroed = event.Zeroed host top.object top.page in
+    record {
+      more = e ∷ zeroed ∷ f.front;
+      told = told ∙ ap (λ z. e ∷ zeroed ∷ z) f.told;
+      claims = true;
+      did = ForZeros f.front f.is e host top (end_of task what top frame at value e brought new.parts hits);
+      none = λ bar.
+          let even = kept bar in
+          let less = brings.left in
+          let same = hits_free task what top frame at value e brought new.parts hits in
+          let was : free mid.parts.frames ≡ free s.parts.frames = ap free f.frames in
+          absurd (omega (arith, even, less, same, was));
+    }
 
-after_zeros : (rows : List Waiting) (task : TaskId) (what : Want) (may : Bool) (key : PageKey) (frame : FrameNo) (at : ℕ) (k mid new : Parts) (before after : List Event) → Hits task what key frame at mid new (zeroed key k ∷ before) after → (may ≡ false → ⊥)
-    → EndsBy rows task may before after
-after_zeros rows task (want.Load address n) may key frame at k mid new before after hits bar =
-    let end = event.Loaded task key.object key.page hits.0 in
-    record { more = end ∷ zeroed key k ∷ []; told = hits.3; claims = true; did = ForZeros end k.host key refl; none = λ bad. absurd (bar bad) }
-after_zeros rows task (want.Store address n value) may key frame at k mid new before after hits bar =
-    let end = event.Stored task key.object key.page at n value in
-    record { more = end ∷ zeroed key k ∷ []; told = hits.3; claims = true; did = ForZeros end k.host key refl; none = λ bad. absurd (bar bad) }
-
-ended_by : (rows : List Waiting) (task : TaskId) (what : Want) (may : Bool) (key : PageKey) (at : ℕ) (k new : Parts) (before after : List Event) → Ended task what key at k new before after → (may ≡ false → free new.memory.frames ≡ free k.memory.frames) → EndsBy rows task may before after
-ended_by rows task what may key at k new before after (AtOnce frame here hits) kept = at_once rows task what may key frame at k new before after hits
-ended_by rows task what may key at k new before after (AfterZeros frame mid none brought hits) kept =
-    let same = hits_free task what key frame at mid new (zeroed key k ∷ before) after hits in
-    let less = brought.page.left in
-    after_zeros rows task what may key frame at k mid new before after hits (λ bar. (let even = kept bar in omega arith))
+-- the rows of others are as they were
+puts_rest : (task : TaskId) (x : Option Waiting) (old new : List Waiting) → PutsEntry task.0 x old new → (t : ℕ) → t ≢ task.0 → entry new t ≡ entry old t
+puts_rest task x old new put t apart = elim (eqb_tells task.0 t) [
+  | inl same ↦ absurd (apart (sym same.1))
+  | inr other ↦ put.at t ∙ rw other.0 refl
+]
 
 -- it is not to be run again
-
 done_by : (t : ℕ) (x : Option Waiting) (old new : List Waiting) → PutsEntry t x old new → ((v : Waiting) → x ≡ Some v → is_again v.on ≡ false) → (v : Waiting) → entry new t ≡ Some v → is_again v.on ≡ false
 done_by t x old new put none v is = none v (sym (puts_here t x old new put) ∙ is)
 
 turned_done : (w v : Waiting) (reason : On) → is_again reason ≡ false → Some (with_on w reason) ≡ Some v → is_again v.on ≡ false
 turned_done w v reason none is = subst (λ (z : Waiting). is_again z.on ≡ false) (some_is (with_on w reason) v is) none
 
-pub once_done : (w : Waiting) (may : Bool) (k new : Parts) (before after : List Event) (waits2 : WaitTable) → Faulted w.task w.want may step.Done k new before after → (may ≡ false → free new.memory.frames ≡ free k.memory.frames)
-    → PutsEntry w.task.0 None new.waits.rows waits2.rows → waits2.queue ≡ queue_without w.task.0 new.waits.queue → RunsOnce w may false k.waits waits2 before after
-once_done w may k new before after waits2 f kept put queue =
-    let same = waits_kept w may step.Done k new before after f in
-    let e = ended_by waits2.rows w.task w.want may f.key _ k new before after f.faults kept in
+-- the front of a run, by whatever it came to
+pub front_in : {maps : Mapped} {host : HostId} {task : TaskId} {what : Want} {may : Bool} {answer : FaultStep} {s new : FaultState} → (f : Faulted maps host task what may answer s new) → Front s f.mid
+front_in {what = what} {s = s} f = front_of (is_storing what && f.row.marked) f.entry.region f.row s f.mid f.prepares
+
+-- an access has ended
+pub once_done : (w : Waiting) (may : Bool) (value : ℕ) (maps : Mapped) (host : HostId) (s new : FaultState) (waits waits2 : WaitTable) → Faulted maps host w.task w.want may (step.Done value) s new → (may ≡ false → free new.parts.frames ≡ free s.parts.frames)
+    → PutsEntry w.task.0 None waits.rows waits2.rows → waits2.queue ≡ queue_without w.task.0 waits.queue → RunsOnce w may false waits waits2 s.events new.events
+once_done w may value maps host s new waits waits2 f kept put queue =
+    let r = ended_by waits2.rows host w.task w.want may f.top _ value s f.mid new (front_in f) f.comes kept in
     record {
-      more = e.more;
-      told = e.told;
-      claims = e.claims;
-      did = e.did;
-      none = e.none;
+      more = r.more;
+      told = r.told;
+      claims = r.claims;
+      did = r.did;
+      none = r.none;
       nothing = λ bad. absurd (let clash : false ≡ true = bad in cc);
-      done = done_by w.task.0 None new.waits.rows waits2.rows put (λ v bad. absurd (let clash : None ≡ Some v = bad in cc));
-      rest = puts_rest w.task None k new waits2 same put;
-      queue = queue ∙ ap (λ z. queue_without w.task.0 z.queue) same;
+      done = done_by w.task.0 None waits.rows waits2.rows put (λ v bad. absurd (let clash : None ≡ Some v = bad in cc));
+      rest = puts_rest w.task None waits.rows waits2.rows put;
+      queue = queue;
     }
 
--- nothing has happened
-stayed : (w : Waiting) (may wants : Bool) (k new : Parts) (before after : List Event) (waits2 : WaitTable) → after ≡ before → ((t : ℕ) → t ≢ w.task.0 → entry waits2.rows t ≡ entry k.waits.rows t) → QueueAfter w wants k.waits.queue waits2.queue
-    → ((v : Waiting) → entry waits2.rows w.task.0 ≡ Some v → is_again v.on ≡ false) → RunsOnce w may wants k.waits waits2 before after
-stayed w may wants k new before after waits2 told rest queue done = record { more = []; told = told; claims = false; did = Nothing; none = λ bar. refl; nothing = λ want. refl; done = done; rest = rest; queue = queue }
+-- no more than a shadow was made
+stayed : (w : Waiting) (may wants : Bool) (s mid new : FaultState) (waits waits2 : WaitTable) → Front s mid → new.events ≡ mid.events → ((t : ℕ) → t ≢ w.task.0 → entry waits2.rows t ≡ entry waits.rows t) → QueueAfter w wants waits.queue waits2.queue
+    → ((v : Waiting) → entry waits2.rows w.task.0 ≡ Some v → is_again v.on ≡ false) → RunsOnce w may wants waits waits2 s.events new.events
+stayed w may wants s mid new waits waits2 f told rest queue done =
+    record { more = f.front; told = told ∙ f.told; claims = false; did = Nothing f.front f.is; none = λ bar. refl; nothing = λ want. f.is; done = done; rest = rest; queue = queue }
 
-pub once_joins : (w : Waiting) (may : Bool) (k new : Parts) (before after : List Event) (waits2 : WaitTable) → Faulted w.task w.want may step.NeedFrame k new before after → is_frame w.on ≡ false → PutsEntry w.task.0 (Some (with_on w on.Frame)) new.waits.rows waits2.rows
-    → waits2.queue ≡ new.waits.queue ++ w.task ∷ [] → RunsOnce w may true k.waits waits2 before after
-once_joins w may k new before after waits2 f other put queue =
-    let same = waits_kept w may step.NeedFrame k new before after f in
-    stayed w may true k new before after waits2 f.faults.1.told (puts_rest w.task (Some (with_on w on.Frame)) k new waits2 same put) (rw other (queue ∙ ap (λ z. z.queue ++ w.task ∷ []) same))
-    (done_by w.task.0 (Some (with_on w on.Frame)) new.waits.rows waits2.rows put (λ v. turned_done w v on.Frame refl))
+-- an access joins the queue
+pub once_joins : (w : Waiting) (may : Bool) (source : Option PageKey) (maps : Mapped) (host : HostId) (s new : FaultState) (waits waits2 : WaitTable) → Faulted maps host w.task w.want may (step.NeedFrame source) s new → is_frame w.on ≡ false
+    → PutsEntry w.task.0 (Some (with_on w on.Frame)) waits.rows waits2.rows → waits2.queue ≡ waits.queue ++ w.task ∷ [] → RunsOnce w may true waits waits2 s.events new.events
+once_joins w may source maps host s new waits waits2 f other put queue =
+    stayed w may true s f.mid new waits waits2 (front_in f) f.comes.2.told (puts_rest w.task (Some (with_on w on.Frame)) waits.rows waits2.rows put) (rw other queue)
+    (done_by w.task.0 (Some (with_on w on.Frame)) waits.rows waits2.rows put (λ v. turned_done w v on.Frame refl))
 
-pub once_queued : (w : Waiting) (may : Bool) (k new : Parts) (before after : List Event) → Faulted w.task w.want may step.NeedFrame k new before after → entry k.waits.rows w.task.0 ≡ Some w → w.on ≡ on.Frame → RunsOnce w may true k.waits new.waits before after
-once_queued w may k new before after f found frame =
-    let same = waits_kept w may step.NeedFrame k new before after f in
+-- or stands there already
+pub once_queued : (w : Waiting) (may : Bool) (source : Option PageKey) (maps : Mapped) (host : HostId) (s new : FaultState) (waits : WaitTable) → Faulted maps host w.task w.want may (step.NeedFrame source) s new → entry waits.rows w.task.0 ≡ Some w → w.on ≡ on.Frame
+    → RunsOnce w may true waits waits s.events new.events
+once_queued w may source maps host s new waits f found frame =
     let is : is_frame w.on ≡ true = ap is_frame frame in
-    stayed w may true k new before after new.waits f.faults.1.told (λ t apart. ap (λ z. entry z.rows t) same) (rw is (ap (λ z. z.queue) same))
-    (λ v there. subst (λ (z : Waiting). is_again z.on ≡ false) (some_is w v (sym found ∙ (sym (ap (λ z. entry z.rows w.task.0) same) ∙ there))) (ap is_again frame))
+    stayed w may true s f.mid new waits waits (front_in f) f.comes.2.told (λ t apart. refl) (rw is refl)
+    (λ v there. subst (λ (z : Waiting). is_again z.on ≡ false) (some_is w v (sym found ∙ there)) (ap is_again frame))
 
--- an access waits for something else, and nothing has happened
-waited : (w : Waiting) (may : Bool) (k new : Parts) (before after : List Event) (waits2 : WaitTable) (reason : On) (answer : FaultStep) → Faulted w.task w.want may answer k new before after → after ≡ before → is_again reason ≡ false
-    → PutsEntry w.task.0 (Some (with_on w reason)) new.waits.rows waits2.rows → waits2.queue ≡ queue_without w.task.0 new.waits.queue → RunsOnce w may false k.waits waits2 before after
-waited w may k new before after waits2 reason answer f told none put queue =
-    let same = waits_kept w may answer k new before after f in
-    stayed w may false k new before after waits2 told (puts_rest w.task (Some (with_on w reason)) k new waits2 same put) (queue ∙ ap (λ z. queue_without w.task.0 z.queue) same)
-    (done_by w.task.0 (Some (with_on w reason)) new.waits.rows waits2.rows put (λ v. turned_done w v reason none))
+-- what an access waits for that neither ended nor wants a frame
+abbrev pub WaitsOn : FaultStep → On → Type 0
+WaitsOn (step.Done value) reason = ⊥
+WaitsOn (step.Ask key) reason = reason ≡ on.Page key
+WaitsOn (step.Unlock key) reason = reason ≡ on.Page key
+WaitsOn (step.WaitReady object) reason = reason ≡ on.Ready object
+WaitsOn (step.WaitAnswer key) reason = reason ≡ on.Page key
+WaitsOn (step.NeedFrame source) reason = ⊥
 
-pub once_ready : (w : Waiting) (may : Bool) (object : ObjectId) (k new : Parts) (before after : List Event) (waits2 : WaitTable) → Faulted w.task w.want may (step.WaitReady object) k new before after
-    → PutsEntry w.task.0 (Some (with_on w (on.Ready object))) new.waits.rows waits2.rows → waits2.queue ≡ queue_without w.task.0 new.waits.queue → RunsOnce w may false k.waits waits2 before after
-once_ready w may object k new before after waits2 f put queue = waited w may k new before after waits2 (on.Ready object) (step.WaitReady object) f f.faults.2.told refl put queue
+pub waits_ready : (answer : FaultStep) (reason : On) (object : ObjectId) → answer ≡ step.WaitReady object → reason ≡ on.Ready object → WaitsOn answer reason
+waits_ready answer reason object is at = subst (λ (z : FaultStep). WaitsOn z reason) (sym is) at
 
-once_answer : (w : Waiting) (may : Bool) (key : PageKey) (k new : Parts) (before after : List Event) (waits2 : WaitTable) → Faulted w.task w.want may (step.WaitAnswer key) k new before after
-    → PutsEntry w.task.0 (Some (with_on w (on.Page key))) new.waits.rows waits2.rows → waits2.queue ≡ queue_without w.task.0 new.waits.queue → RunsOnce w may false k.waits waits2 before after
-once_answer w may key k new before after waits2 f put queue = waited w may k new before after waits2 (on.Page key) (step.WaitAnswer key) f f.faults.2.told refl put queue
+pub waits_page : (answer : FaultStep) (reason : On) (key : PageKey) → (answer ≡ step.Ask key) ⊎ ((answer ≡ step.Unlock key) ⊎ (answer ≡ step.WaitAnswer key)) → reason ≡ on.Page key → WaitsOn answer reason
+waits_page answer reason key (inl is) at = subst (λ (z : FaultStep). WaitsOn z reason) (sym is) at
+waits_page answer reason key (inr (inl is)) at = subst (λ (z : FaultStep). WaitsOn z reason) (sym is) at
+waits_page answer reason key (inr (inr is)) at = subst (λ (z : FaultStep). WaitsOn z reason) (sym is) at
 
--- nobody waits for a page that isn't asked
-unasked : (k : Parts) (past : List Event) (key : PageKey) (t : ℕ) (v : Waiting) → HasWaits k woken.Nobody past → row_at k.memory.resident key.object.0 key.page.0 ≡ None → entry k.waits.rows t ≡ Some v → v.on ≢ on.Page key
-unasked k past key t v has absent found waits =
-    let reason : Reason k.maps k.chains k.memory.resident k.memory.objects t v.want (on.Page key) = subst (λ (z : On). Reason k.maps k.chains k.memory.resident k.memory.objects t v.want z) waits (has.reasons t v found refl) in
+-- nobody waits for a page that has no row
+unasked : (maps : Mapped) (chains : ChainTable) (resident : ResidentTable) (objects : ObjectTable) (rows : List Waiting) (waiting_at : ℕ → Option Access) (key : PageKey) (t : ℕ) (v : Waiting) → HasWaiters maps chains resident objects rows woken.Nobody waiting_at
+    → row_at resident key.object.0 key.page.0 ≡ None → entry rows t ≡ Some v → v.on ≢ on.Page key
+unasked maps chains resident objects rows waiting_at key t v has absent found waits =
+    let reason : Reason maps chains resident objects t v.want (on.Page key) = subst (λ (z : On). Reason maps chains resident objects t v.want z) waits (has.reasons t v found refl) in
     let bad : None ≡ Some reason.1.row = sym absent ∙ reason.1.found in cc
 
--- it asks for its page
-once_asks : (w : Waiting) (may : Bool) (key : PageKey) (k new : Parts) (before after past : List Event) (waits2 : WaitTable) → HasWaits k woken.Nobody past → Faulted w.task w.want may (step.Ask key) k new before after → (may ≡ false → free new.memory.frames ≡ free k.memory.frames)
-    → PutsEntry w.task.0 (Some (with_on w (on.Page key))) new.waits.rows waits2.rows → waits2.queue ≡ queue_without w.task.0 new.waits.queue → RunsOnce w may false k.waits waits2 before after
-once_asks w may key k new before after past waits2 has f kept put queue =
-    let same = waits_kept w may (step.Ask key) k new before after f in
-    let asked = f.faults.1 in
-    let mine : on.Page key ≡ on.Page f.key = ap on.Page f.faults.0 in
-    let rest = puts_rest w.task (Some (with_on w (on.Page key))) k new waits2 same put in
-    let row : entry waits2.rows w.task.0 ≡ Some (with_on w (on.Page key)) = puts_here w.task.0 (Some (with_on w (on.Page key))) new.waits.rows waits2.rows put in
-    record {
-      more = event.Sent (Up k.host f.key.object) (message.Request asked.control f.key.page (desired_access (access_in w.want) 0)) ∷ [];
-      told = asked.told;
-      claims = true;
-      did = ForAsked k.host f.key asked.control (with_on w (on.Page key)) row mine (λ t v apart is. unasked k past f.key t v has asked.page.found (sym (rest t apart) ∙ is));
-      none = λ bar. (let even = kept bar in let less = asked.page.left in absurd (omega arith));
-      nothing = λ bad. absurd (let clash : false ≡ true = bad in cc);
-      done = done_by w.task.0 (Some (with_on w (on.Page key))) new.waits.rows waits2.rows put (λ v. turned_done w v (on.Page key) refl);
-      rest = rest;
-      queue = queue ∙ ap (λ z. queue_without w.task.0 z.queue) same;
-    }
+-- no plain lock keeps an access out
+plain_open : (lock : Lock) (writes : Bool) → lock ≡ unlocked → keeps_out lock writes ≡ false
+plain_open lock true is = ap (λ z. keeps_out z true) is
+plain_open lock false is = ap (λ z. keeps_out z false) is
 
-pub once_page : (w : Waiting) (may : Bool) (answer : FaultStep) (key : PageKey) (k new : Parts) (before after past : List Event) (waits2 : WaitTable) → HasWaits k woken.Nobody past → Faulted w.task w.want may answer k new before after → (may ≡ false → free new.memory.frames ≡ free k.memory.frames)
-    → (answer ≡ step.Ask key) ⊎ (answer ≡ step.WaitAnswer key) → PutsEntry w.task.0 (Some (with_on w (on.Page key))) new.waits.rows waits2.rows → waits2.queue ≡ queue_without w.task.0 new.waits.queue → RunsOnce w may false k.waits waits2 before after
-once_page w may answer key k new before after past waits2 has f kept (inl is) put queue = once_asks w may key k new before after past waits2 has (rw is at f) kept put queue
-once_page w may answer key k new before after past waits2 has f kept (inr is) put queue = once_answer w may key k new before after waits2 (rw is at f) put queue
+-- the access that a request names, as the history has it
+number_same : (what : Want) (steps : ℕ) → desired_access (access_in what) steps ≡ wanted_number what steps
+number_same (want.Load address n) zero = refl
+number_same (want.Load address n) (suc steps) = refl
+number_same (want.Store address n value) zero = refl
+number_same (want.Store address n value) (suc steps) = ap (λ (b : Bool). if b then 3 else 1) (sym (below steps))
+  where
+    below : (n : ℕ) → (suc n == 0) ≡ false
+    below n = grind (arith, nat_tests)
+
+-- an access waits for a word of a pager
+pub once_turned : (w : Waiting) (may : Bool) (answer : FaultStep) (reason : On) (maps : Mapped) (host : HostId) (s new : FaultState) (objects : ObjectTable) (waits waits2 : WaitTable) (waiting_at : ℕ → Option Access) → WaitsOn answer reason
+    → HasWaiters maps s.chains s.parts.resident objects waits.rows woken.Nobody waiting_at → ArePlain s.parts.resident → Faulted maps host w.task w.want may answer s new → (may ≡ false → free new.parts.frames ≡ free s.parts.frames)
+    → PutsEntry w.task.0 (Some (with_on w reason)) waits.rows waits2.rows → waits2.queue ≡ queue_without w.task.0 waits.queue → RunsOnce w may false waits waits2 s.events new.events
+once_turned w may (step.Done value) reason maps host s new objects waits waits2 waiting_at why has plain f kept put queue = absurd why
+once_turned w may (step.NeedFrame source) reason maps host s new objects waits waits2 waiting_at why has plain f kept put queue = absurd why
+once_turned w may (step.WaitReady object) reason maps host s new objects waits waits2 waiting_at why has plain f kept put queue =
+    stayed w may false s f.mid new waits waits2 (front_in f) f.comes.1.told (puts_rest w.task (Some (with_on w reason)) waits.rows waits2.rows put) queue
+    (done_by w.task.0 (Some (with_on w reason)) waits.rows waits2.rows put (λ v. turned_done w v reason (ap is_again why)))
+once_turned w may (step.WaitAnswer key) reason maps host s new objects waits waits2 waiting_at why has plain f kept put queue =
+    stayed w may false s f.mid new waits waits2 (front_in f) f.comes.1.told (puts_rest w.task (Some (with_on w reason)) waits.rows waits2.rows put) queue
+    (done_by w.task.0 (Some (with_on w reason)) waits.rows waits2.rows put (λ v. turned_done w v reason (ap is_again why)))
+once_turned w may (step.Unlock key) reason maps host s new objects waits waits2 waiting_at why has plain f kept put queue =
+    let asks = f.comes in
+    let there : row_at s.parts.resident key.object.0 key.page.0 ≡ Some asks.row = ap (λ z. row_at z key.object.0 key.page.0) (sym (front_in f).rows) ∙ asks.finds.found in
+    absurd (let bad : true ≡ false = sym asks.locked ∙ plain_open asks.row.lock _ (plain key.object.0 key.page.0 asks.row there).lock in cc)
+once_turned w may (step.Ask key) reason maps host s new objects waits waits2 waiting_at why has plain f kept put queue =
+    let first = front_in f in
+    let asked = f.comes in
+    let absent : row_at s.parts.resident key.object.0 key.page.0 ≡ None = ap (λ z. row_at z key.object.0 key.page.0) (sym first.rows) ∙ asked.comes.absent in
+    let rest = puts_rest w.task (Some (with_on w reason)) waits.rows waits2.rows put in
+    let row : entry waits2.rows w.task.0 ≡ Some (with_on w reason) = puts_here w.task.0 (Some (with_on w reason)) waits.rows waits2.rows put in
+    let e = λ (n : ℕ). event.Sent (Up host key.object) (message.Request asked.object.control key.page n) in
+    record {
+      more = e (desired_access (access_in w.want) asked.steps) ∷ first.front;
+      told = asked.told ∙ ap (λ (z : List Event). e (wanted_number w.want asked.steps) ∷ z) first.told ∙ ap (λ n. e n ∷ (first.front ++ s.events)) (sym (number_same w.want asked.steps));
+      claims = true;
+      did = ForAsked first.front first.is host key asked.object.control asked.steps (with_on w reason) row why
+          (λ t v apart is. unasked maps s.chains s.parts.resident objects waits.rows waiting_at key t v has absent (sym (rest t apart) ∙ is));
+      none = λ bar.
+          let even = kept bar in
+          let less = asked.page.left in
+          let was : free f.mid.parts.frames ≡ free s.parts.frames = ap free first.frames in
+          absurd (omega (arith, even, less, was));
+      nothing = λ bad. absurd (let clash : false ≡ true = bad in cc);
+      done = done_by w.task.0 (Some (with_on w reason)) waits.rows waits2.rows put (λ v. turned_done w v reason (ap is_again why));
+      rest = rest;
+      queue = queue;
+    }

@@ -10,11 +10,11 @@ pub use Rattle.std.specs.List.{flat_map}
 pub use Rattle.std.specs.Prelude.{All, Err, IfSome, IsSome, IsSomeAnd, MatchOption, Ok, OnOk, Result, if◌then◌else◌, is_none, is_some, map, max, min, nat_lt, not, reverse, slice_get, slice_range, unwrap_or, ◌≢◌, ◌⊎◌}
 pub use Rattle.vm_abroad.proofs.Elsewhere.{ApartElsewhere, apart_abroad}
 pub use Rattle.vm_abroad.proofs.Facts.{stays, use_same}
-pub use Rattle.vm_abroad.proofs.Home.{home_entered, home_stays, homeless_next, homes_stay}
+pub use Rattle.vm_abroad.proofs.Home.{home_entered, home_stays, homes_next, homes_stay}
 pub use Rattle.vm_abroad.proofs.Pages.{pages_abroad}
 pub use Rattle.vm_abroad.proofs.Sounds.{both_left, one_home, sound_next, use_of, used_of}
 pub use Rattle.vm_abroad.proofs.Waits.{swept_now, vain_now}
-pub use Rattle.vm_abroad.specs.Home.{AreHomeless, home_of}
+pub use Rattle.vm_abroad.specs.Home.{HaveHomes, home_of, object_home}
 pub use Rattle.vm_abroad.specs.Same.{SameFacts, SameForHost}
 pub use Rattle.vm_abroad.specs.Sound.{IsAbroad, IsAmong, IsHeldOn, IsRegionOf, Knows, Sound, holds}
 pub use Rattle.vm_abroad.specs.Whose.{IsOfHost, IsOnlyOfHost, IsShut}
@@ -32,9 +32,11 @@ pub use Rattle.vm_base.specs.declared.ids.ObjectKind.TheVariants.{Temp}
 pub use Rattle.vm_base.specs.declared.ids.PageKey.{PageKey}
 pub use Rattle.vm_base.specs.declared.ids.PageNo.{PageNo}
 pub use Rattle.vm_base.specs.declared.ids.Prot.{Prot}
+pub use Rattle.vm_base.specs.declared.ids.RegionId.{RegionId}
 pub use Rattle.vm_base.specs.declared.ids.TaskId.{TaskId}
 pub use Rattle.vm_frames.proofs.Spares.{count_released}
 pub use Rattle.vm_frames.specs.Frames.{FrameTable, Releases, claimed, count_claims, frame_count, free, is_claimed, page_in}
+pub use Rattle.vm_kernel.specs.declared.attempt.Attempt.{Attempt}
 pub use Rattle.vm_legal.proofs.Inside.{absence_more, before_more, error_more, or_true, since_more, taken_more}
 pub use Rattle.vm_legal.proofs.LockNames.{unnamed}
 pub use Rattle.vm_legal.proofs.Locks.{no_request, none_locked}
@@ -42,7 +44,7 @@ pub use Rattle.vm_legal.proofs.Stretched.{each_both, inner_both, licensed_both, 
 pub use Rattle.vm_legal.specs.Accesses.{Comes, FindsPage, HasPlace, Nowhere, ToRead, ToWrite, Waits, Wants, WantsFrame, begun_at, is_ready, page_of}
 pub use Rattle.vm_legal.specs.Bytes.{OwnBytes}
 pub use Rattle.vm_legal.specs.Debts.{IsPaid, WaitsAt}
-pub use Rattle.vm_legal.specs.Follows.{EndsNext, IsConsequence, IsDone, IsEnd, gets, head}
+pub use Rattle.vm_legal.specs.Follows.{EndsNext, IsConsequence, IsDone, IsEnd, head}
 pub use Rattle.vm_legal.specs.Frames.{Suffice, frames_free, frames_held, frames_used, frames_wired, returns_out}
 pub use Rattle.vm_legal.specs.Homes.{EntersNext, begins_here, is_home, is_used, starts_copy}
 pub use Rattle.vm_legal.specs.Licences.{AllLicensed, Caused, Created, Creates, Enters, Fails, GivesBack, HasCause, Licensed, ReturnCause, ReturnsOn, Unreached, created, desired_access}
@@ -97,11 +99,13 @@ pub use Rattle.vm_queues.specs.Kept.{front_referenced_of}
 pub use Rattle.vm_queues.specs.Queues.{AllSkipped, KeepsPages, Page, Queues, added, balanced, cleared, from_unreferenced, has_page, is_queued, is_skipped, needs_none, queues_except, referenced_front, shortage, spared, victim_frame, with_reference}
 pub use Rattle.vm_resident.specs.Resident.{PutsRow, ResidentTable, owner_of, page_key, row_at}
 pub use Rattle.vm_resident.specs.declared.page_row.PageRow.{PageRow}
-pub use Rattle.vm_shadow.specs.Chains.{ChainTable, PutsRegion, region_at}
+pub use Rattle.vm_shadow.specs.Chains.{ChainTable, PutsRegion, region_at, shadow_at}
 pub use Rattle.vm_shadow.specs.declared.ids.Ids.{Ids}
 pub use Rattle.vm_shadow.specs.declared.region_row.RegionRow.{RegionRow}
+pub use Rattle.vm_shadow.specs.declared.shadow_row.ShadowRow.{ShadowRow}
 pub use Rattle.vm_supply.specs.Answers.{AnswerEffects, AnswerOutcome, Discarded, Failed, FailsPage, IsAnswer, Lacked, Lacks, Readied, Readies, Supplied, Supplies, Zeroed, key_of, live_outcome, lock_numbered, outcome_of, ready_outcome, unavailable_outcome}
 pub use Rattle.vm_supply.specs.declared.woken.Woken.{Woken}
+pub use Rattle.vm_terminate.specs.Finishes.{IsReferred}
 pub use Rattle.vm_waits.proofs.Entries.{none_again, none_queued, puts_cases, puts_elsewhere, puts_here}
 pub use Rattle.vm_waits.proofs.Lines.{same_others}
 pub use Rattle.vm_waits.proofs.Tables.{page_frame}
@@ -114,21 +118,22 @@ pub use Rattle.vm_waits.specs.declared.waiting.Want.{Want}
 pub use Rattle.vm_kernel.specs.Abroad.{IsCommon, IsNobodys}
 pub use Rattle.vm_kernel.specs.Begun.{CreatesHere, Grows, IsInStep, IsLaundered, IsLined, IsMine, KernelSays, LegalEvents, Passed, Ran, Served, Starts, acts_on}
 pub use Rattle.vm_kernel.specs.Built.{changes_entries, kernel_runs}
-pub use Rattle.vm_kernel.specs.Changes.{BringsZeros, DropsPage, IsHere, MadeRange, SamePlan, WritesNumber, entering, inheritance, protection, removal, whole_entry, zeroed}
-pub use Rattle.vm_kernel.specs.Counts.{count_by, count_on}
-unfoldable pub use Rattle.vm_kernel.specs.Counts.{all_tasks}
-pub use Rattle.vm_kernel.specs.Faulting.{AfterZeros, AtOnce, CanFault, Ended, Faulted, Faults, Hits, IsAvailable, IsUnavailable, MarksReferenced, NothingChanges, RequestsPage, WantsOne}
+pub use Rattle.vm_kernel.specs.Changes.{MadeRange, entering, inheritance, protection, removal, whole_entry}
+pub use Rattle.vm_state.specs.Counts.{count_by, count_on}
+unfoldable pub use Rattle.vm_state.specs.Counts.{all_tasks}
 pub use Rattle.vm_kernel.specs.Fits.{ArePlain, IsPlainRow, PartsFit}
-pub use Rattle.vm_kernel.specs.Forking.{CanShare, HasForked, Shares, got, with_child}
-pub use Rattle.vm_kernel.specs.Matches.{AllEntriesInside, AllReached, AllUsed, EachApart, HasControls, HasEntries, HasFrames, HasLaundry, HasOrder, HasPages, HasRegions, HasTasks, HasUse, HasWaits, IsInside, IsOverOwn, IsPlain, IsSettled, IsUnder, IsWashed, Matches, Rests, Works, first_ids, host_id, is_among}
-pub use Rattle.vm_kernel.specs.Pagers.{has_pager, is_ready_state, last_in, live_in, ready_in}
-pub use Rattle.vm_kernel.specs.Places.{entries_in_row, has_region, local_of_row, lock_number, pages_in, place_of, region_entries, region_pages}
+pub use Rattle.vm_kernel.specs.Forking.{CanCopy, CanShare, EntersCopy, Shares, entry_on, got}
+pub use Rattle.vm_state.specs.Stands.{AllEntriesInside, AllUsed, EachApart, HasControls, HasEntries, HasFrames, HasHomes, HasLaundry, HasPages, HasRegions, HasTasks, HasUse, IsInside, IsTemporary, IsWashed, is_among}
+pub use Rattle.vm_state.specs.References.{AllReferred, AllReferredBut}
+pub use Rattle.vm_kernel.specs.Matches.{HasOrder, HasWaits, IsPlain, IsSettled, Matches, Rests, Works, first_ids, host_id}
+pub use Rattle.vm_state.specs.Pagers.{has_pager, is_ready_state, last_in, live_in, ready_in}
+pub use Rattle.vm_state.specs.Places.{entries_in_row, has_region, local_of_row, lock_number, pages_in, place_of, region_entries, region_pages, with_entries}
 pub use Rattle.vm_kernel.specs.Plays.{AnswerBrings, DepartsFrom, Does, IsVictim, Marks, Paging, Plays, PlaysAnswer, Still, Then, frame_here, paging, places_with_frame}
-pub use Rattle.vm_kernel.specs.Refusing.{IsForHere, acting_in, code_of, takes_name}
-pub use Rattle.vm_kernel.specs.Serving.{Attempts, FreesOrReturns, HasQueue, IsNextAccess, JoinsQueue, QueueIsServed, RunsFirst}
-pub use Rattle.vm_kernel.specs.Sweeping.{EndsRegion, Lowered, PutsEntries, Raised, Strands, Sweeps, with_entries}
+pub use Rattle.vm_kernel.specs.Refusing.{IsForHere, acting_in, code_of, is_marked, object_total, takes_name}
+pub use Rattle.vm_kernel.specs.Serving.{Attempts, FreesOrReturns, HasQueue, IsHere, IsNextAccess, JoinsQueue, QueueIsServed, RunsFirst}
+pub use Rattle.vm_kernel.specs.Sweeping.{EndsObject, EndsRegion, Lowered, PutsEntries, Raised, Sweeps}
 pub use Rattle.vm_kernel.specs.Taking.{EachGone, EndsAll, EndsEach, EndsNobody, FailsNow, HasAsker, HasEnded, HasFailed, IsAnswered, IsErrorPaid, IsTempAnswer}
 pub use Rattle.vm_kernel.specs.Turns.{ClaimsInTurn, Did, ForAsked, ForZeros, Found, Goes, Joins, KeepsOthers, LeavesInTurn, Nothing, QueueAfter, QueueIsStill, Restarted, Restarts, RunsNone, RunsOnce, Start}
-pub use Rattle.vm_kernel.specs.Waiters.{Asker, BeganInOrder, HasWaiters, IsAsked, IsAt, IsPagerTold, Reason, access_in, is_woken, waiting_in}
+pub use Rattle.vm_state.specs.Waiters.{Asker, BeganInOrder, HasWaiters, IsAsked, IsPagerTold, IsPlaceOf, LeadsTo, Reason, access_in, is_woken, waiting_in}
+pub use Rattle.vm_fault.specs.Walks.{IsAt, IsUnder}
 pub use Rattle.vm_kernel.specs.declared.parts.Parts.{Parts}
-pub use Rattle.vm_kernel.specs.declared.steps.FaultStep.{FaultStep}

@@ -1,6 +1,6 @@
--- How many entries a fork copies, and from how many regions, counted one after another.
-use Rattle.vm_kernel.proofs.Common.{Entry, List, Some, [], ap, arith, copies, copies_from, drop, false, is_copied, length, refl, sources, suc, true, zero, ℕ, ◌&&◌, ◌+◌, ◌==◌, ◌||◌, ◌∙◌, ◌∷◌, ◌≡◌, ◌≤◌}
-use Rattle.std.proofs.Common.{not, slice_get}
+-- How many entries a fork copies, and how many regions it marks, counted one after another.
+use Rattle.vm_kernel.proofs.Common.{Bool, Entry, List, Some, [], ap, arith, copies, copies_from, drop, false, is_copied, length, new_marks, refl, suc, true, zero, ℕ, ◌&&◌, ◌+◌, ◌==◌, ◌||◌, ◌∙◌, ◌∷◌, ◌≡◌, ◌≤◌}
+use Rattle.std.proofs.Common.{if◌then◌else◌, not, slice_get}
 use Rattle.vm_kernel.proofs.Recounts.{next_row}
 
 pub drop_past : (rows : List Entry) (i : ℕ) → length rows ≤ i → drop i rows ≡ []
@@ -27,8 +27,22 @@ from_one rows i region row found is = from_next rows i region row found ∙ rw i
 pub from_other : (rows : List Entry) (i region : ℕ) (row : Entry) → slice_get rows i ≡ Some row → (is_copied row.inherit && row.region.0 == region) ≡ false → copies_from region (drop i rows) ≡ copies_from region (drop (i + 1) rows)
 from_other rows i region row found is = from_next rows i region row found ∙ rw is refl
 
-pub sources_one : (rows : List Entry) (i : ℕ) (row : Entry) → slice_get rows i ≡ Some row → (is_copied row.inherit && not (copies_from row.region.0 (drop (i + 1) rows))) ≡ true → sources (drop i rows) ≡ sources (drop (i + 1) rows) + 1
-sources_one rows i row found is = ap sources (next_row rows i row found) ∙ rw is refl
+-- the entry makes a mark
+abbrev pub makes_mark : (ℕ → Bool) → Entry → List Entry → Bool
+makes_mark marked row later = is_copied row.inherit && (not (copies_from row.region.0 later) && not (marked row.region.0))
 
-pub sources_other : (rows : List Entry) (i : ℕ) (row : Entry) → slice_get rows i ≡ Some row → (is_copied row.inherit && not (copies_from row.region.0 (drop (i + 1) rows))) ≡ false → sources (drop i rows) ≡ sources (drop (i + 1) rows)
-sources_other rows i row found is = ap sources (next_row rows i row found) ∙ rw is refl
+pub marks_one : (marked : ℕ → Bool) (rows : List Entry) (i : ℕ) (row : Entry) → slice_get rows i ≡ Some row → makes_mark marked row (drop (i + 1) rows) ≡ true → new_marks marked (drop i rows) ≡ new_marks marked (drop (i + 1) rows) + 1
+marks_one marked rows i row found is = ap (new_marks marked) (next_row rows i row found) ∙ rw is refl
+
+pub marks_other : (marked : ℕ → Bool) (rows : List Entry) (i : ℕ) (row : Entry) → slice_get rows i ≡ Some row → makes_mark marked row (drop (i + 1) rows) ≡ false → new_marks marked (drop i rows) ≡ new_marks marked (drop (i + 1) rows)
+marks_other marked rows i row found is = ap (new_marks marked) (next_row rows i row found) ∙ rw is refl
+
+-- no more regions are marked than entries are copied
+pub marks_few : (marked : ℕ → Bool) (rows : List Entry) → new_marks marked rows ≤ copies rows
+marks_few marked [] = omega arith
+marks_few marked (row ∷ rows) = more (is_copied row.inherit) (not (copies_from row.region.0 rows) && not (marked row.region.0)) _ _ (marks_few marked rows)
+  where
+    more : (copied marks : Bool) (n m : ℕ) → n ≤ m → (if copied && marks then n + 1 else n) ≤ (if copied then m + 1 else m)
+    more true true n m le = omega (arith, le)
+    more true false n m le = omega (arith, le)
+    more false marks n m le = le

@@ -1,6 +1,8 @@
 -- Tasks end, and ranges are unmapped.
 use Rattle.vm_kernel.proofs.Common.{Access, AllRows, Bool, ChainTable, ChangesOnly, Command, Entry, Event, HasTasks, HasUse, HasWaiters, Header, Ids, IsDone, List, Lowered, MapChange, Mapped, None, ObjectTable, Option, Outside, Parts, Raised, Ran, ResidentTable, Rests, Some, Starts, Sweeps, TaskId, Waiting, Woken, [], ap, arith, count_on, entries_in, entries_of, eqb_tells, false, has_region, holds, host_of, if◌then◌else◌, in_use, inl, inr, is_on, length, most_entries, next_region, parts_for, refl, region_entries, removal, removed, rows_in, subst, sym, true, unwrap_or, waiting, ℕ, ◌++◌, ◌+◌, ◌-◌, ◌==◌, ◌∙◌, ◌∷◌, ◌≡◌, ◌≤◌}
 use Rattle.std.proofs.Common.{is_some}
+use Rattle.vm_abroad.proofs.Home.{homes_next, object_stays}
+use Rattle.vm_kernel.proofs.After.{controls_stay, regions_moved}
 use Rattle.vm_model.specs.declared.event.Event.TheVariants as event
 use Rattle.vm_model.specs.declared.command.Command.TheVariants as command
 use Rattle.vm_supply.specs.declared.woken.Woken.TheVariants as woken
@@ -80,14 +82,15 @@ sweeps_exit header h outside task past events k ids maps gone s value changes =
           host = m.host;
           fits = record { parts = m.fits.parts; plain = m.fits.plain; buffers = m.fits.buffers };
           tasks = shown_tasks;
-          regions = c.regions;
+          regions = regions_moved header past (event.TaskEnded task ∷ past) refl refl (λ r. refl) (λ o. refl) c.regions;
           entries = c.entries;
           pages = c.pages;
           uses = uses_cut header k.maps maps (λ r. in_use header h r past) _ (next_region header past) (event.TaskEnded task ∷ past) task.0 None m.plain m.uses changes live.1 (λ r some. uses_fewer header.size task.0 r k.maps maps k.chains None m.entries changes live.1 cuts.own some)
               (record { rows = shown_tasks.rows; waiting = k.waits.rows; waits = record { is = shown_waits.is } }) c.entries.most
               (apart_ended header.size k.maps maps (λ r. in_use header h r past) _ (next_region header past) task past m.uses changes);
-          controls = m.controls;
-          homeless = m.homeless;
+          controls = controls_stay (λ o is. object_stays o h (event.TaskEnded task) past is) m.controls;
+          homeless = homes_next header outside (event.TaskEnded task) past (command.Exit task, idle) m.homeless;
+          homes = c.homes;
           settled = record { returned = refl; shut = λ region. refl };
           laundry = m.laundry;
           frames = m.frames;
@@ -98,7 +101,7 @@ sweeps_exit header h outside task past events k ids maps gone s value changes =
         grows = grows_one header h outside (command.Exit task) past (event.TaskEnded task) refl (record { settled = m.settled; cause = idle; own_bytes = tt; frames = suffices header h k.memory.frames (event.TaskEnded task ∷ past) m.frames; inner = tt; said = tt; own = own_task h task.0 past s.acts; creates = tt });
       };
       used = c.used;
-      reached = c.reached;
+      referred = c.referred;
     }
 
 -- a range is unmapped
@@ -152,7 +155,7 @@ sweeps_removed header h outside task address bytes past events k ids maps mid hi
           host = m.host;
           fits = record { parts = m.fits.parts; plain = m.fits.plain; buffers = m.fits.buffers };
           tasks = shown_tasks;
-          regions = c.regions;
+          regions = regions_moved header past (event.Removed task address bytes ∷ past) refl refl (λ r. refl) (λ o. refl) c.regions;
           entries = c.entries;
           pages = c.pages;
           uses = uses_cut header k.maps maps (λ r. in_use header h r past) _ (next_region header past) (event.Removed task address bytes ∷ past) task.0 (Some two) m.plain m.uses cut_to live.1 (λ r some. uses_fewer header.size task.0 r k.maps maps k.chains (Some two) m.entries cut_to live.1 cuts.own some)
@@ -161,8 +164,9 @@ sweeps_removed header h outside task address bytes past events k ids maps mid hi
               let other = elsewhere maps task.0 t two now none in
               let was = sym (changes.others t (λ e. other (sym e))) ∙ none in
               holds_rows header.size task.0 t r k.maps rows _ past live.1 was ∙ m.uses.apart t r was why);
-          controls = m.controls;
-          homeless = m.homeless;
+          controls = controls_stay (λ o is. object_stays o h (event.Removed task address bytes) past is) m.controls;
+          homeless = homes_next header outside (event.Removed task address bytes) past (command.Deallocate task address bytes, idle) m.homeless;
+          homes = c.homes;
           settled = record { returned = refl; shut = λ region. refl };
           laundry = m.laundry;
           frames = m.frames;
@@ -173,11 +177,11 @@ sweeps_removed header h outside task address bytes past events k ids maps mid hi
         grows = grows_one header h outside (command.Deallocate task address bytes) past (event.Removed task address bytes) refl (record { settled = m.settled; cause = idle; own_bytes = tt; frames = suffices header h k.memory.frames (event.Removed task address bytes ∷ past) m.frames; inner = tt; said = tt; own = own_task h task.0 past s.acts; creates = tt });
       };
       used = c.used;
-      reached = c.reached;
+      referred = c.referred;
     }
 
 -- once all that has gone is swept
 pub ran_swept : (header : Header) (h : ℕ) (outside : Outside) (doing : Command) (past events : List Event) (k : Parts) (ids : Ids) → Sweeps header h outside doing past k ids [] events → IsDone header doing events past → Ran header h outside doing past k ids events
 ran_swept header h outside doing past events k ids s done =
-    let rests : Rests header h k ids (events ++ past) = record { matches = s.runs.matches; used = s.used; reached = s.reached; waits = s.runs.waits; order = s.runs.order; idle = s.runs.idle } in
+    let rests : Rests header h k ids (events ++ past) = record { matches = s.runs.matches; used = s.used; referred = s.referred; waits = s.runs.waits; order = s.runs.order; idle = s.runs.idle } in
     record { rests = rests; grows = s.runs.grows; done = done }

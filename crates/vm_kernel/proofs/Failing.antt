@@ -1,16 +1,18 @@
 -- Those who wait for a page that its pager can't give are ended.
-use Rattle.vm_kernel.proofs.Common.{AllInner, Asked, Asker, BeganInOrder, Command, EndsEach, EndsNobody, Event, Fails, FailsNow, HasEnded, HasFailed, HasUse, Header, Ids, IfSome, IsAnswered, IsErrorPaid, LegalEvents, List, Mapped, Matches, None, On, Outside, PageKey, Parts, PutsEntry, Some, TaskId, WaitTable, Waiting, Woken, Works, [], access_in, address_in, address_of, ap, append-nil, append_assoc, begun_at, entries_in, entries_of, entry, entry_at, eqb_tells, error_more, error_taken, fails_access, fails_task, false, holds, if◌then◌else◌, in_use, inl, inr, next_page, next_region, oldest_row, or_true, page_at, page_key, puts_cases, refl, rows_in, since, since_more, some_is, subst, sym, true, waiting, waiting_in, woken_page, ℕ, ◌++◌, ◌+◌, ◌<◌, ◌==◌, ◌||◌, ◌∙◌, ◌∷◌, ◌≡◌, ◌⊎◌}
+use Rattle.vm_kernel.proofs.Common.{AllInner, Asked, Asker, BeganInOrder, Command, EndsEach, EndsNobody, Event, Fails, FailsNow, HasEnded, HasFailed, HasUse, Header, Ids, IfSome, IsAnswered, IsErrorPaid, LegalEvents, List, Mapped, Matches, None, On, Outside, PageKey, Parts, PutsEntry, Some, TaskId, WaitTable, Waiting, Woken, Works, [], access_in, address_in, ap, append-nil, append_assoc, begun_at, entries_in, entries_of, entry, entry_at, eqb_tells, error_more, error_taken, fails_access, fails_task, false, holds, homes_next, if◌then◌else◌, in_use, inl, inr, next_page, next_region, oldest_row, or_true, page_key, puts_cases, refl, rows_in, since, since_more, some_is, subst, sym, true, waiting, waiting_in, woken_page, ℕ, ◌++◌, ◌<◌, ◌==◌, ◌||◌, ◌∙◌, ◌∷◌, ◌≡◌, ◌⊎◌}
 use Rattle.std.proofs.Common.{is_some}
+use Rattle.vm_abroad.proofs.Home.{object_stays}
 use Rattle.vm_model.specs.declared.event.Event.TheVariants as event
 use Rattle.vm_legal.specs.Living.{tasks as made_tasks}
 use Rattle.vm_supply.specs.declared.woken.Woken.TheVariants as who
 use Rattle.vm_waits.specs.declared.waiting.On.TheVariants as on
+use Rattle.vm_kernel.proofs.After.{controls_stay, regions_moved}
 use Rattle.vm_kernel.proofs.Growing.{goes_more, suffices}
-use Rattle.vm_kernel.proofs.Leading.{address_is}
 use Rattle.vm_kernel.proofs.Ordering.{PutsInOrder, oldest_first}
+use Rattle.vm_kernel.proofs.Shown.{place_at, want_address}
 use Rattle.vm_kernel.proofs.Uses.{holds_waits, uses_none}
 use Rattle.vm_kernel.proofs.Own.{lives_here, rows_here}
-use Rattle.vm_kernel.proofs.Waited.{AreTold}
+use Rattle.vm_state.proofs.Waited.{AreTold}
 use Rattle.vm_kernel.proofs.Mine.{own_lives}
 
 -- who waits for the page
@@ -43,10 +45,9 @@ fails_cause : (header : Header) (h : ℕ) (k : Parts) (ids : Ids) (past : List E
     → entry k.waits.rows w.task.0 ≡ Some w → w.on ≡ on.Page key → EndsBefore key k.waits.rows past → Fails header w.task.0 key.object.0 key.page.0 past
 fails_cause header h k ids past key w works fails found waits before =
     let was = works.matches in
-    let at = works.waits.aims w.task.0 w key found waits in
+    let place = works.waits.aims w.task.0 w key found waits in
+    let at = place.at in
     let allowed = works.waits.allowed w.task.0 w found in
-    let address = address_is header.size (next_page w.task.0 past) w.want in
-    let region = was.regions.rows at.entry.region.0 at.row at.region in
     record {
       access = access_in w.want;
       waits =
@@ -57,25 +58,11 @@ fails_cause header h k ids past key w works fails found waits before =
                   host = h;
                   entry = at.entry;
                   lives = lives_here was.tasks allowed.lives;
-                  found = ap (λ z. entry_at z (entries_of header.size w.task.0 past)) address ∙ (ap (entry_at (address_in w.want)) (rows_here was.tasks allowed.lives) ∙ at.found);
+                  found = ap (λ z. entry_at z (entries_of header.size w.task.0 past)) (want_address header.size (next_page w.task.0 past) w.want) ∙ (ap (entry_at (address_in w.want)) (rows_here was.tasks allowed.lives) ∙ at.found);
                 };
           };
       error = fails;
-      place =
-          record {
-            top = key.object.0;
-            top_page = key.page.0;
-            steps = 0;
-            is_top =
-                record {
-                  object = ap (λ z. z.top) region ∙ ap (λ z. z.object.0) (sym at.is);
-                  page =
-                      ap (λ z. z.shift + page_at header.size (address_of header.size (next_page w.task.0 past) (access_in w.want)) at.entry) region
-                      ∙ (ap (λ z. at.row.shift + page_at header.size z at.entry) address
-                      ∙ (ap (λ z. at.row.shift + page_at z (address_in w.want) at.entry) (sym was.tasks.sized) ∙ ap (λ z. z.page.0) (sym at.is)));
-                };
-            leads = (refl, refl);
-          };
+      place = place_at was place;
       order = λ other ended. before other w.task.0 w ended found (ap (woken_page key) waits ∙ itself key);
     }
 
@@ -158,18 +145,19 @@ failed_one header h outside doing past old events key k ids w waits f found pass
                   host = was.host;
                   fits = record { parts = was.fits.parts; plain = was.fits.plain; buffers = was.fits.buffers };
                   tasks = was.tasks;
-                  regions = was.regions;
+                  regions = regions_moved header moment (e ∷ moment) refl refl (λ r. refl) (λ o. refl) was.regions;
                   entries = was.entries;
                   pages = was.pages;
                   uses = uses_failed header h k ids moment key w.task waits.rows f.works is (has.allowed w.task.0 w found).lives;
-                  controls = was.controls;
-                  homeless = was.homeless;
+                  controls = controls_stay (λ o held. object_stays o h e moment held) was.controls;
+                  homeless = homes_next header outside e moment (doing, cause) was.homeless;
+                  homes = was.homes;
                   settled = record { returned = refl; shut = λ region. refl };
                   laundry = was.laundry;
                   frames = was.frames;
                 };
             used = f.works.used;
-            reached = f.works.reached;
+            referred = f.works.referred;
             waits =
                 record {
                   is = is;

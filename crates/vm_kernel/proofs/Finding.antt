@@ -1,96 +1,281 @@
 -- An access that finds its page ends at once.
-use Rattle.vm_kernel.proofs.Common.{AfterZeros, AtOnce, Backing, Bool, Comes, Command, Ended, EndsNext, Entry, Event, FaultStep, Faulted, Faults, FindsPage, FrameNo, FrameTable, Header, Hits, Ids, IsNextAccess, IsTop, LegalEvents, List, Loading, None, Option, Outside, PageKey, PageRow, Parts, Sight, Some, Storing, TaskId, ToRead, ToWrite, Waiting, Waits, Walks, Want, Works, [], absent_at, address_in, ap, append_assoc, backing_of, count_again, entries_of, entry, entry_at, false, inl, inr, is_again, local_of_row, page_at, page_on, refl, region_of, row_at, subst, suc, sym, true, zero, ℕ, ◌%◌, ◌++◌, ◌∙◌, ◌∷◌, ◌≡◌, ◌⊎◌}
+use Rattle.vm_kernel.proofs.Common.{ArePlain, Backing, Bool, Comes, Command, EndsNext, Event, FindsPage, FrameNo, Header, HostId, HostParts, Ids, IsAt, IsNextAccess, IsTop, LegalEvents, List, Loading, ObjectRow, Option, Outside, PageKey, PageRow, Parts, RegionRow, Sight, Some, Storing, TaskId, ToRead, ToWrite, Waiting, Waits, Walks, Want, Works, [], access_in, address_in, ap, append_assoc, backing_of, count_again, entries_of, entry, entry_at, false, has_pager, inl, inr, is_again, is_known_absent, is_some, not, page_at, page_on, refl, region_of, sight, some_is, subst, suc, sym, true, zero, ℕ, ◌%◌, ◌&&◌, ◌++◌, ◌+◌, ◌∙◌, ◌∷◌, ◌≡◌, ◌⊎◌}
+use Rattle.vm_base.specs.declared.entry.Entry.{Entry}
+use Rattle.vm_fault.specs.Faults.{AfterZeros, AtOnce, Ended, FaultState, Faulted, Hits, Needs, Nowhere, Prepares, Raised, ToAsk, ToRaise}
+use Rattle.vm_fault.specs.Faults as fault
+use Rattle.vm_fault.specs.Walks as walks
+use Rattle.vm_fault.specs.Walks.{Finds, MayCome, StopsAsked, WalksTo, is_storing, keeps_out, top_place, writes_at}
+use Rattle.vm_fault.specs.declared.step.FaultStep.{FaultStep}
+use Rattle.vm_fault.specs.declared.step.FaultStep.TheVariants as step
+use Rattle.vm_kernel.proofs.Attempting.{never_kept_out, state_of}
+use Rattle.vm_kernel.proofs.Leading.{Leads, leads_of, shown_of}
+use Rattle.vm_legal.specs.Walks as legal
+use Rattle.vm_legal.specs.Walks.{Passes}
 use Rattle.vm_model.specs.declared.event.Event.TheVariants as event
+use Rattle.vm_shadow.specs.Chains.{ChainTable}
+use Rattle.vm_state.proofs.Shown.{IsShown, asks_row, misses, shows_row, told_live}
+use Rattle.vm_state.proofs.Walks.{sinks_of, walks_of}
+use Rattle.vm_state.specs.Places.{place_of}
 use Rattle.vm_supply.specs.declared.woken.Woken.TheVariants as woken
+use Rattle.vm_terminate.specs.Finishes.{IsReferred}
 use Rattle.vm_waits.specs.declared.waiting.Want.TheVariants as want
-use Rattle.vm_kernel.specs.declared.steps.FaultStep.TheVariants as step
-use Rattle.vm_kernel.proofs.Leading.{Leads, leads_of}
-
--- where an access finds its page, that is the one that it is about
 
 pub some_same : {A : Type 0} (x y : A) → Some x ≡ Some y → x ≡ y
 some_same x y e = cc
 
+-- a chain with nothing under it has one place
 pub walk_ends : (sights : ℕ → ℕ → Sight) (backings : ℕ → Backing) (steps o p l lp : ℕ) → (backings o).backed ≡ false → Walks sights backings steps o p l lp → (o ≡ l) × (p ≡ lp)
 walk_ends sights backings zero o p l lp bare walks = walks
 walk_ends sights backings (suc n) o p l lp bare walks = absurd (let bad : true ≡ false = sym walks.1 ∙ bare in cc)
 
-moved : (header : Header) (past : List Event) (moment o p h2 o2 p2 : ℕ) → moment ≡ h2 → o ≡ o2 → p ≡ p2 → (page_on header h2 o2 p2 past).here ≡ true → (page_on header moment o p past).here ≡ true
-moved header past moment o p h2 o2 p2 one two three is =
-    ap (λ z. (page_on header z o p past).here) one ∙ (ap (λ z. (page_on header h2 z p past).here) two ∙ (ap (λ z. (page_on header h2 o2 z past).here) three ∙ is))
+-- two walks from one place that stop, each at a place that isn't passed over, stop at the same
 
--- the entry that holds the address, and so the top place
-same_top : (header : Header) (h : ℕ) (past : List Event) (task a : ℕ) (what : Want) (key : PageKey) (entry : Entry) → address_in what ≡ a → (to : Leads header h past task what key) → entry_at a (entries_of header.size task past) ≡ Some entry
-    → IsTop (region_of header entry.region.0 past) (page_at header.size a entry) key.object.0 key.page.0
-same_top header h past task a what key entry same to found =
-    let is : to.entry ≡ entry = some_same to.entry entry (sym to.found ∙ (ap (λ z. entry_at z (entries_of header.size task past)) same ∙ found)) in
-    subst (λ (z : ℕ). IsTop (region_of header entry.region.0 past) (page_at header.size z entry) key.object.0 key.page.0) same
-    (subst (λ (z : Entry). IsTop (region_of header z.region.0 past) (page_at header.size (address_in what) z) key.object.0 key.page.0) is to.top)
+moved_passes : (sights : ℕ → ℕ → Sight) (o p l lp : ℕ) → o ≡ l → p ≡ lp → Passes (sights o p) → Passes (sights l lp)
+moved_passes sights o p l lp object page passes = subst (λ (z : ℕ). Passes (sights z lp)) object (subst (λ (z : ℕ). Passes (sights o z)) page passes)
 
-read_here : (header : Header) (h : ℕ) (past : List Event) (task address bytes object page : ℕ) (what : Want) (key : PageKey) → Leads header h past task what key → (waits : Waits header task (Loading address bytes) past)
-    → Comes header waits.at.host waits.at.entry.region.0 (page_at header.size address waits.at.entry) object page past → (page_on header waits.at.host object page past).here ≡ true → (page_on header h key.object.0 key.page.0 past).here ≡ true
-read_here header h past task address bytes object page (want.Store a n v) key to waits comes here = absurd (let bad : Some (Storing a n v) ≡ Some (Loading address bytes) = sym to.waits ∙ waits.waits in cc)
-read_here header h past task address bytes object page (want.Load a n) key to waits comes here =
-    let access : Some (Loading a n) ≡ Some (Loading address bytes) = sym to.waits ∙ waits.waits in
-    let same : a ≡ address = cc in
-    let host : h ≡ waits.at.host = some_same h waits.at.host (sym to.lives ∙ waits.at.lives) in
-    let top = same_top header h past task address (want.Load a n) key waits.at.entry same to waits.at.found in
-    let object_is : key.object.0 ≡ comes.top = sym top.object ∙ comes.is_top.object in
-    let page_is : key.page.0 ≡ comes.top_page = sym top.page ∙ comes.is_top.page in
-    let ends = walk_ends _ (λ k. backing_of header k past) comes.steps comes.top comes.top_page object page (subst (λ (z : ℕ). (backing_of header z past).backed ≡ false) object_is to.bare) comes.walks in
-    moved header past h key.object.0 key.page.0 waits.at.host object page host (object_is ∙ ends.0) (page_is ∙ ends.1) here
+pub stop_same : (sights : ℕ → ℕ → Sight) (backings : ℕ → Backing) (n m o p l lp l2 lp2 : ℕ) → Walks sights backings n o p l lp → Walks sights backings m o p l2 lp2 → (Passes (sights l lp) → ⊥) → (Passes (sights l2 lp2) → ⊥)
+    → (n ≡ m) × (l ≡ l2) × (lp ≡ lp2)
+stop_same sights backings zero zero o p l lp l2 lp2 one two stops ends = (refl, sym one.0 ∙ two.0, sym one.1 ∙ two.1)
+stop_same sights backings zero (suc m) o p l lp l2 lp2 one two stops ends = absurd (stops (moved_passes sights o p l lp one.0 one.1 two.0))
+stop_same sights backings (suc n) zero o p l lp l2 lp2 one two stops ends = absurd (ends (moved_passes sights o p l2 lp2 two.0 two.1 one.0))
+stop_same sights backings (suc n) (suc m) o p l lp l2 lp2 one two stops ends =
+    let rest = stop_same sights backings n m (backings o).under ((backings o).shift + p) l lp l2 lp2 one.2 two.2 stops ends in
+    (ap suc rest.0, rest.1, rest.2)
 
-write_here : (header : Header) (h : ℕ) (past : List Event) (task address bytes value object page : ℕ) (what : Want) (key : PageKey) → Leads header h past task what key → (waits : Waits header task (Storing address bytes value) past)
-    → IsTop (region_of header waits.at.entry.region.0 past) (page_at header.size address waits.at.entry) object page → (page_on header waits.at.host object page past).here ≡ true → (page_on header h key.object.0 key.page.0 past).here ≡ true
-write_here header h past task address bytes value object page (want.Load a n) key to waits is_top here = absurd (let bad : Some (Loading a n) ≡ Some (Storing address bytes value) = sym to.waits ∙ waits.waits in cc)
-write_here header h past task address bytes value object page (want.Store a n v) key to waits is_top here =
-    let access : Some (Storing a n v) ≡ Some (Storing address bytes value) = sym to.waits ∙ waits.waits in
-    let same : a ≡ address = cc in
-    let host : h ≡ waits.at.host = some_same h waits.at.host (sym to.lives ∙ waits.at.lives) in
-    let top = same_top header h past task address (want.Store a n v) key waits.at.entry same to waits.at.found in
-    moved header past h key.object.0 key.page.0 waits.at.host object page host (sym top.object ∙ is_top.object) (sym top.page ∙ is_top.page) here
+-- and a walk that finds the page nowhere stops at none
+pub sinks_past : (sights : ℕ → ℕ → Sight) (backings : ℕ → Backing) (n m o p l lp : ℕ) → legal.Sinks sights backings n o p → Walks sights backings m o p l lp → (Passes (sights l lp) → ⊥) → ⊥
+sinks_past sights backings zero zero o p l lp sinks walks stops = stops (moved_passes sights o p l lp walks.0 walks.1 sinks.0)
+sinks_past sights backings zero (suc m) o p l lp sinks walks stops = let bad : true ≡ false = sym walks.1 ∙ sinks.1 in cc
+sinks_past sights backings (suc n) zero o p l lp sinks walks stops = stops (moved_passes sights o p l lp walks.0 walks.1 sinks.0)
+sinks_past sights backings (suc n) (suc m) o p l lp sinks walks stops = sinks_past sights backings n m (backings o).under ((backings o).shift + p) l lp sinks.2 walks.2 stops
 
-finds_here : (header : Header) (h : ℕ) (past : List Event) (task : ℕ) (what : Want) (key : PageKey) → Leads header h past task what key → FindsPage header task past → (page_on header h key.object.0 key.page.0 past).here ≡ true
-finds_here header h past task what key to (ToRead address bytes object page waits comes here open_it) = read_here header h past task address bytes object page what key to waits comes here
-finds_here header h past task what key to (ToWrite address bytes value object page waits is_top unmarked here open_it) = write_here header h past task address bytes value object page what key to waits is_top here
+-- where a waiting access finds its page: its walk ends there, that of a store at the top place
+record FindsAt (header : Header) (h : ℕ) (past : List Event) (what : Want) (top : PageKey) : Type 0 where
+  pub steps : ℕ
+  pub object : ℕ
+  pub page : ℕ
+  pub walks : Walks (λ k q. sight header h k q past) (λ k. backing_of header k past) steps top.object.0 top.page.0 object page
+  pub here : (page_on header h object page past).here ≡ true
+  pub first : is_storing what ≡ true → steps ≡ 0
 
--- the kernel has the page
+-- the access is the one that waits, on the host of its task, at the entry that holds its address
 
-here_row : (frames : FrameTable) (x : Option PageRow) (lacked : Bool) → (local_of_row frames x lacked).here ≡ true → (row : PageRow) × (x ≡ Some row) × (row.here ≡ true)
-here_row frames None lacked is = absurd (let bad : false ≡ true = is in cc)
-here_row frames (Some row) lacked is = (row, refl, is)
+-- a load
+read_at : (header : Header) (h : ℕ) (past : List Event) (k : Parts) (task address bytes object page : ℕ) (what : Want) (top : PageKey) (at : IsAt k.maps k.chains task what top) → Leads header h past k task what top at → (waits : Waits header task (Loading address bytes) past)
+    → Comes header waits.at.host waits.at.entry.region.0 (page_at header.size address waits.at.entry) object page past → (page_on header waits.at.host object page past).here ≡ true → FindsAt header h past what top
+read_at header h past k task address bytes object page what top at to waits comes here =
+    by what refl
+  where
+    load_address : (a n a2 n2 : ℕ) → Some (Loading a n) ≡ Some (Loading a2 n2) → a ≡ a2
+    load_address a n a2 n2 same = cc
+
+    by : (want2 : Want) → what ≡ want2 → FindsAt header h past what top
+    by (want.Store a n v) is = absurd (let bad : Some (Storing a n v) ≡ Some (Loading address bytes) = sym (to.waits ∙ ap (λ z. Some (access_in z)) is) ∙ waits.waits in cc)
+    by (want.Load a n) is =
+        let access : Some (Loading a n) ≡ Some (Loading address bytes) = sym (to.waits ∙ ap (λ z. Some (access_in z)) is) ∙ waits.waits in
+        let same : address_in what ≡ address = ap address_in is ∙ load_address a n address bytes access in
+        let host : waits.at.host ≡ h = some_is waits.at.host h (sym waits.at.lives ∙ to.lives) in
+        let entries : waits.at.entry ≡ at.entry = some_is waits.at.entry at.entry (sym waits.at.found ∙ (ap (λ z. entry_at z (entries_of header.size task past)) (sym same) ∙ to.found)) in
+        let comes2 : Comes header h at.entry.region.0 (page_at header.size (address_in what) at.entry) object page past =
+        subst (λ (z : ℕ). Comes header h at.entry.region.0 (page_at header.size z at.entry) object page past) (sym same)
+        (subst (λ (z : Entry). Comes header h z.region.0 (page_at header.size address z) object page past) entries
+        (subst (λ (z : ℕ). Comes header z waits.at.entry.region.0 (page_at header.size address waits.at.entry) object page past) host comes)) in
+        let top_object : comes2.top ≡ top.object.0 = sym comes2.is_top.object ∙ to.is_top.object in
+        let top_page : comes2.top_page ≡ top.page.0 = sym comes2.is_top.page ∙ to.is_top.page in
+        record {
+          steps = comes2.steps;
+          object = object;
+          page = page;
+          walks = subst (λ (z : ℕ). Walks (λ k q. sight header h k q past) (λ k. backing_of header k past) comes2.steps z top.page.0 object page) top_object
+              (subst (λ (z : ℕ). Walks (λ k q. sight header h k q past) (λ k. backing_of header k past) comes2.steps comes2.top z object page) top_page comes2.walks);
+          here = subst (λ (z : ℕ). (page_on header z object page past).here ≡ true) host here;
+          first = λ stores. absurd (let bad : false ≡ true = sym (ap is_storing is) ∙ stores in cc);
+        }
+
+-- a store, and that its region has no mark
+record WritesAt (header : Header) (h : ℕ) (past : List Event) (what : Want) (top : PageKey) (region : ℕ) : Type 0 where
+  pub finds : FindsAt header h past what top
+  pub unmarked : (region_of header region past).mark ≡ false
+
+write_at : (header : Header) (h : ℕ) (past : List Event) (k : Parts) (task address bytes value object page : ℕ) (what : Want) (top : PageKey) (at : IsAt k.maps k.chains task what top) → Leads header h past k task what top at
+    → (waits : Waits header task (Storing address bytes value) past) → IsTop (region_of header waits.at.entry.region.0 past) (page_at header.size address waits.at.entry) object page → (region_of header waits.at.entry.region.0 past).mark ≡ false
+    → (page_on header waits.at.host object page past).here ≡ true → WritesAt header h past what top at.entry.region.0
+write_at header h past k task address bytes value object page what top at to waits is_top unmarked here =
+    by what refl
+  where
+    store_address : (a n v a2 n2 v2 : ℕ) → Some (Storing a n v) ≡ Some (Storing a2 n2 v2) → a ≡ a2
+    store_address a n v a2 n2 v2 same = cc
+
+    by : (want2 : Want) → what ≡ want2 → WritesAt header h past what top at.entry.region.0
+    by (want.Load a n) is = absurd (let bad : Some (Loading a n) ≡ Some (Storing address bytes value) = sym (to.waits ∙ ap (λ z. Some (access_in z)) is) ∙ waits.waits in cc)
+    by (want.Store a n v) is =
+        let access : Some (Storing a n v) ≡ Some (Storing address bytes value) = sym (to.waits ∙ ap (λ z. Some (access_in z)) is) ∙ waits.waits in
+        let same : address_in what ≡ address = ap address_in is ∙ store_address a n v address bytes value access in
+        let host : waits.at.host ≡ h = some_is waits.at.host h (sym waits.at.lives ∙ to.lives) in
+        let entries : waits.at.entry ≡ at.entry = some_is waits.at.entry at.entry (sym waits.at.found ∙ (ap (λ z. entry_at z (entries_of header.size task past)) (sym same) ∙ to.found)) in
+        let top2 : IsTop (region_of header at.entry.region.0 past) (page_at header.size (address_in what) at.entry) object page =
+        subst (λ (z : ℕ). IsTop (region_of header at.entry.region.0 past) (page_at header.size z at.entry) object page) (sym same)
+        (subst (λ (z : Entry). IsTop (region_of header z.region.0 past) (page_at header.size address z) object page) entries is_top) in
+        record {
+          finds = record {
+            steps = 0;
+            object = object;
+            page = page;
+            walks = (sym to.is_top.object ∙ top2.object, sym to.is_top.page ∙ top2.page);
+            here = subst (λ (z : ℕ). (page_on header z object page past).here ≡ true) host here;
+            first = λ stores. refl;
+          };
+          unmarked = subst (λ (z : Entry). (region_of header z.region.0 past).mark ≡ false) entries unmarked;
+        }
+
+-- where it finds its page, the region of a store has no mark
+record FindsFirst (header : Header) (h : ℕ) (past : List Event) (what : Want) (top : PageKey) (row : RegionRow) : Type 0 where
+  pub finds : FindsAt header h past what top
+  pub bare : (is_storing what && row.marked) ≡ false
+
+no_store : (what : Want) (marked : Bool) → is_storing what ≡ false → (is_storing what && marked) ≡ false
+no_store what marked loads = ap (λ b. b && marked) loads
+
+no_mark : (b : Bool) (marked : Bool) → marked ≡ false → (b && marked) ≡ false
+no_mark true marked is = is
+no_mark false marked is = refl
+
+finds_first : (header : Header) (h : ℕ) (past : List Event) (k : Parts) (task : ℕ) (what : Want) (top : PageKey) (at : IsAt k.maps k.chains task what top) → Leads header h past k task what top at → FindsPage header task past
+    → FindsFirst header h past what top at.row
+finds_first header h past k task what top at to (ToRead address bytes object page waits comes here open_it) =
+    record { finds = read_at header h past k task address bytes object page what top at to waits comes here; bare = no_store what at.row.marked (loads what refl) }
+  where
+    loads : (want2 : Want) → what ≡ want2 → is_storing what ≡ false
+    loads (want.Load a n) is = ap is_storing is
+    loads (want.Store a n v) is = absurd (let bad : Some (Storing a n v) ≡ Some (Loading address bytes) = sym (to.waits ∙ ap (λ z. Some (access_in z)) is) ∙ waits.waits in cc)
+finds_first header h past k task what top at to (ToWrite address bytes value object page waits is_top unmarked here open_it) =
+    let writes = write_at header h past k task address bytes value object page what top at to waits is_top unmarked here in
+    record { finds = writes.finds; bare = no_mark (is_storing what) at.row.marked (sym to.marks ∙ writes.unmarked) }
+
+-- what the kernel's walk comes to is what the history's does
+
+record Found (header : Header) (h : ℕ) (past : List Event) (parts : HostParts) (chains : ChainTable) (what : Want) (top : PageKey) : Type 0 where
+  pub shown : IsShown header h parts chains past
+  pub referred : IsReferred parts.objects top.object.0
+  pub finds : FindsAt header h past what top
+
+not_passed : (header : Header) (h : ℕ) (past : List Event) (o p : ℕ) → (page_on header h o p past).here ≡ true → Passes (sight header h o p past) → ⊥
+not_passed header h past o p here passes = let bad : false ≡ true = sym passes.away ∙ here in cc
+
+-- it isn't nowhere
+never_sinks : {header : Header} {h : ℕ} {past : List Event} {parts : HostParts} {chains : ChainTable} {what : Want} {top : PageKey} → Found header h past parts chains what top → walks.Sinks parts chains top → ⊥
+never_sinks {header = header} {h = h} {past = past} {top = top} f sinks =
+    sinks_past (λ k q. sight header h k q past) (λ k. backing_of header k past) sinks.steps f.finds.steps top.object.0 top.page.0 f.finds.object f.finds.page (sinks_of f.shown top f.referred sinks) f.finds.walks
+    (not_passed header h past f.finds.object f.finds.page f.finds.here)
+
+-- it isn't at a place that is missing, and not passed over
+never_stops : {header : Header} {h : ℕ} {past : List Event} {parts : HostParts} {chains : ChainTable} {what : Want} {top : PageKey} → Found header h past parts chains what top → (n : ℕ) (key : PageKey) → WalksTo parts chains n top key
+    → (Passes (sight header h key.object.0 key.page.0 past) → ⊥) → (page_on header h key.object.0 key.page.0 past).here ≡ false → ⊥
+never_stops {header = header} {h = h} {past = past} {top = top} f n key walks stops missing =
+    let same = stop_same (λ k q. sight header h k q past) (λ k. backing_of header k past) n f.finds.steps top.object.0 top.page.0 key.object.0 key.page.0 f.finds.object f.finds.page (walks_of f.shown n top key walks) f.finds.walks stops
+    (not_passed header h past f.finds.object f.finds.page f.finds.here) in
+    let here : (page_on header h key.object.0 key.page.0 past).here ≡ true =
+    subst (λ (z : ℕ). (page_on header h z key.page.0 past).here ≡ true) (sym same.1) (subst (λ (z : ℕ). (page_on header h f.finds.object z past).here ≡ true) (sym same.2) f.finds.here) in
+    let bad : false ≡ true = sym missing ∙ here in
+    cc
+
+-- the page of an object with a pager may come
+never_comes : {header : Header} {h : ℕ} {past : List Event} {parts : HostParts} {chains : ChainTable} {what : Want} {top : PageKey} → Found header h past parts chains what top → (n : ℕ) (key : PageKey) (object : ObjectRow) → MayCome parts chains n top key object
+    → has_pager object.state ≡ true → ⊥
+never_comes {header = header} {h = h} {past = past} f n key object comes told =
+    let missing = misses f.shown key.object.0 key.page.0 comes.absent in
+    let may_have : (sight header h key.object.0 key.page.0 past).may_have ≡ true =
+    ap (λ z. is_some z && not (is_known_absent header (place_of key.object.0 key.page.0) (page_on header h key.object.0 key.page.0 past))) (told_live f.shown key.object.0 object comes.known told) ∙ ap not (missing.known ∙ comes.may_have) in
+    never_stops f n key comes.walks (λ passes. (let bad : false ≡ true = sym passes.without ∙ may_have in cc)) missing.away
+
+-- a page that is asked stops a walk
+never_asked : {header : Header} {h : ℕ} {past : List Event} {parts : HostParts} {chains : ChainTable} {what : Want} {top : PageKey} → Found header h past parts chains what top → (n : ℕ) (key : PageKey) (row : PageRow) → StopsAsked parts chains n top key row → ⊥
+never_asked f n key row stops =
+    let asks = asks_row f.shown key.object.0 key.page.0 row stops.found stops.away in
+    never_stops f n key stops.walks (λ passes. (let bad : false ≡ true = sym passes.unasked ∙ asks.asked in cc)) asks.away
+
+-- a store finds it in the top place
+never_below : {header : Header} {h : ℕ} {past : List Event} {parts : HostParts} {chains : ChainTable} {what : Want} {top : PageKey} → Found header h past parts chains what top → (n : ℕ) (key : PageKey) (row : PageRow) → Finds parts chains (suc n) top key row
+    → is_storing what ≡ true → ⊥
+never_below {header = header} {h = h} {past = past} {top = top} f n key row below stores =
+    let same = stop_same (λ k q. sight header h k q past) (λ k. backing_of header k past) (suc n) f.finds.steps top.object.0 top.page.0 key.object.0 key.page.0 f.finds.object f.finds.page (walks_of f.shown (suc n) top key below.walks) f.finds.walks
+    (not_passed header h past key.object.0 key.page.0 (shows_row f.shown key.object.0 key.page.0 row below.found below.here).here)
+    (not_passed header h past f.finds.object f.finds.page f.finds.here) in
+    let bad : suc n ≡ 0 = same.0 ∙ f.finds.first stores in
+    cc
 
 -- so it ends with that page
 
-hits_next : (task : TaskId) (what : Want) (key : PageKey) (frame : FrameNo) (at : ℕ) (k new : Parts) (before after : List Event) → Hits task what key frame at k new before after → EndsNext task.0 before after
-hits_next task (want.Load address n) key frame at k new before after hits = record { later = []; end = event.Loaded task key.object key.page hits.0; is = hits.3; ends = refl }
-hits_next task (want.Store address n value) key frame at k new before after hits = record { later = []; end = event.Stored task key.object key.page at n value; is = hits.3; ends = refl }
+hits_next : (task : TaskId) (what : Want) (key : PageKey) (frame : FrameNo) (at value : ℕ) (e : Event) (old new : HostParts) (before after : List Event) → Hits task what key frame at value e old new → after ≡ e ∷ before → EndsNext task.0 before after
+hits_next task (want.Load address n) key frame at value e old new before after hits told =
+    record { later = []; end = event.Loaded task key.object key.page value; is = told ∙ ap (λ z. z ∷ before) hits.2; ends = refl }
+hits_next task (want.Store address n number) key frame at value e old new before after hits told =
+    record { later = []; end = event.Stored task key.object key.page at n number; is = told ∙ ap (λ z. z ∷ before) hits.2; ends = refl }
 
-ended_next : (task : TaskId) (what : Want) (key : PageKey) (at : ℕ) (k new : Parts) (before after : List Event) (row : PageRow) → row_at k.memory.resident key.object.0 key.page.0 ≡ Some row → Ended task what key at k new before after → EndsNext task.0 before after
-ended_next task what key at k new before after row there (AtOnce frame here hits) = hits_next task what key frame at k new before after hits
-ended_next task what key at k new before after row there (AfterZeros frame mid none brought hits) = absurd (let bad : None ≡ Some row = sym brought.page.found ∙ there in cc)
+never : {A : Type 0} → ⊥ → A
+never bad = absurd bad
 
-faults_next : (task : TaskId) (what : Want) (may : Bool) (key : PageKey) (answer : FaultStep) (k new : Parts) (before after : List Event) (row : PageRow) → row_at k.memory.resident key.object.0 key.page.0 ≡ Some row → row.here ≡ true
-    → Faults task what may key answer k new before after → EndsNext task.0 before after
-faults_next task what may key step.Done k new before after row there here faults = ended_next task what key (address_in what % k.size) k new before after row there faults
-faults_next task what may key (step.Ask asked) k new before after row there here faults = absurd (let bad : None ≡ Some row = sym faults.1.page.found ∙ there in cc)
-faults_next task what may key (step.WaitReady object) k new before after row there here faults = absurd (let bad : None ≡ Some row = sym faults.3 ∙ there in cc)
-faults_next task what may key (step.WaitAnswer asked) k new before after row there here faults =
-    let same : faults.1.row ≡ row = some_same faults.1.row row (sym faults.1.found ∙ there) in
-    absurd (let bad : false ≡ true = sym faults.1.away ∙ (ap (λ (z : PageRow). z.here) same ∙ here) in cc)
-faults_next task what may key step.NeedFrame k new before after row there here faults = absurd (let bad : None ≡ Some row = sym faults.0.absent ∙ there in cc)
+ended_next : {header : Header} {h : ℕ} {past : List Event} {what : Want} {top : PageKey} (host : HostId) (task : TaskId) (at value : ℕ) (old new : HostParts) (chains : ChainTable) (before after : List Event) → Found header h past old chains what top
+    → Ended host task what top at value old new chains before after → EndsNext task.0 before after
+ended_next {what = what} host task at value old new chains before after f (AtOnce steps key row finds none out e hits told) = hits_next task what key row.frame at value e old new before after hits told
+ended_next host task at value old new chains before after f (Raised steps key row finds stores out frame copied hit raises keeps e hits touched told) = never (never_below f steps key row finds stores)
+ended_next host task at value old new chains before after f (AfterZeros sinks frame brought brings keeps e hits told) = never (never_sinks f sinks)
+
+never_needs : {header : Header} {h : ℕ} {past : List Event} {parts : HostParts} {chains : ChainTable} {what : Want} {top : PageKey} {source : Option PageKey} → Found header h past parts chains what top → Needs what top parts chains source → ⊥
+never_needs f (Nowhere sinks) = never_sinks f sinks
+never_needs f (ToAsk steps key object comes ready) = never_comes f steps key object comes (ap has_pager ready)
+never_needs f (ToRaise steps key row finds stores out) = never_below f steps key row finds stores
+
+comes_next : {header : Header} {h : ℕ} {past : List Event} {what : Want} {top : PageKey} (host : HostId) (task : TaskId) (may : Bool) (at : ℕ) (answer : FaultStep) (old new : FaultState) → ArePlain old.parts.resident → Found header h past old.parts old.chains what top
+    → fault.Comes host task what may top at answer old new → EndsNext task.0 old.events new.events
+comes_next host task may at (step.Done value) old new plain f comes = ended_next host task at value old.parts new.parts old.chains old.events new.events f comes
+comes_next host task may at (step.Ask key) old new plain f comes = never (never_comes f comes.steps key comes.object comes.comes (ap has_pager comes.ready))
+comes_next {what = what} host task may at (step.Unlock key) old new plain f comes =
+    let open_it = never_kept_out comes.row.lock (writes_at what comes.steps) (plain key.object.0 key.page.0 comes.row comes.finds.found).lock in
+    absurd (let bad : false ≡ true = sym open_it ∙ comes.locked in cc)
+comes_next host task may at (step.WaitReady object) old new plain f comes =
+    let why = comes.0 in
+    never (never_comes f why.0 why.1 why.2 why.3 (ap has_pager why.4))
+comes_next {what = what} {top = top} host task may at (step.WaitAnswer key) old new plain f comes = by comes.0.why
+  where
+    by : (Finds old.parts old.chains comes.0.steps top key comes.0.row × (keeps_out comes.0.row.lock (writes_at what comes.0.steps) ≡ true) × (comes.0.row.unlock_sent ≡ true)) ⊎ StopsAsked old.parts old.chains comes.0.steps top key comes.0.row → EndsNext task.0 old.events new.events
+    by (inl locked) =
+        let open_it = never_kept_out comes.0.row.lock (writes_at what comes.0.steps) (plain key.object.0 key.page.0 comes.0.row locked.0.found).lock in
+        absurd (let bad : false ≡ true = sym open_it ∙ locked.1 in cc)
+    by (inr stops) = never (never_asked f comes.0.steps key comes.0.row stops)
+comes_next host task may at (step.NeedFrame source) old new plain f comes = never (never_needs f comes.0)
 
 -- an access that is run and finds its page ends
-pub ends_next : (header : Header) (h : ℕ) (past : List Event) (k new : Parts) (ids : Ids) (w : Waiting) (may : Bool) (answer : FaultStep) (events after : List Event) → Works header h k ids woken.Nobody (events ++ past) → entry k.waits.rows w.task.0 ≡ Some w
-    → Faulted w.task w.want may answer k new events after → FindsPage header w.task.0 (events ++ past) → EndsNext w.task.0 events after
-ends_next header h past k new ids w may answer events after works is f finds =
-    let moment = events ++ past in
-    let o = f.key.object.0 in
-    let p = f.key.page.0 in
-    let to = leads_of header h k ids moment woken.Nobody w.task.0 w f.key works.matches works.waits is f.at in
-    let here = finds_here header h moment w.task.0 w.want f.key to finds in
-    let row = here_row k.memory.frames (row_at k.memory.resident o p) (absent_at k.memory.objects o p) (ap (λ z. z.here) (sym (works.matches.pages.shown o p)) ∙ here) in
-    faults_next w.task w.want may f.key answer k new events after row.0 row.1 row.2 f.faults
+pub ends_next : (header : Header) (h : ℕ) (past : List Event) (k : Parts) (ids : Ids) (w : Waiting) (may : Bool) (answer : FaultStep) (events : List Event) (new : FaultState) → Works header h k ids woken.Nobody (events ++ past) → entry k.waits.rows w.task.0 ≡ Some w
+    → Faulted k.maps k.host w.task w.want may answer (state_of k ids events) new → FindsPage header w.task.0 (events ++ past) → EndsNext w.task.0 events new.events
+ends_next header h past k ids w may answer events new works is f finds =
+    by (is_storing w.want && f.row.marked) refl f.prepares
+  where
+    moment : List Event
+    moment = events ++ past
+
+    before : PageKey
+    before = top_place f.row (page_at k.maps.size (address_in w.want) f.entry)
+
+    at : IsAt k.maps k.chains w.task.0 w.want before
+    at = record { entry = f.entry; found = f.found; row = f.row; region = f.region; is = refl }
+
+    to : Leads header h moment k w.task.0 w.want before at
+    to = leads_of header h k ids moment woken.Nobody w.task.0 w before works.matches works.waits is at
+
+    first : FindsFirst header h moment w.want before f.row
+    first = finds_first header h moment k w.task.0 w.want before at to finds
+
+    by : (b : Bool) → (is_storing w.want && f.row.marked) ≡ b → Prepares b f.entry.region f.row (state_of k ids events) f.mid → EndsNext w.task.0 events new.events
+    by true test made = absurd (let bad : false ≡ true = sym first.bare ∙ test in cc)
+    by false test same =
+        let at_mid : IsAt k.maps k.chains w.task.0 w.want f.top = subst (λ (z : FaultState). IsAt k.maps z.chains w.task.0 w.want f.top) same f.at in
+        let found2 = finds_first header h moment k w.task.0 w.want f.top at_mid (leads_of header h k ids moment woken.Nobody w.task.0 w f.top works.matches works.waits is at_mid) finds in
+        let referred = (leads_of header h k ids moment woken.Nobody w.task.0 w f.top works.matches works.waits is at_mid).referred in
+        let comes : fault.Comes k.host w.task w.want may f.top (address_in w.want % k.memory.buffers.size) answer (state_of k ids events) new =
+        subst (λ (z : FaultState). fault.Comes k.host w.task w.want may f.top (address_in w.want % k.memory.buffers.size) answer z new) same f.comes in
+        comes_next k.host w.task may (address_in w.want % k.memory.buffers.size) answer (state_of k ids events) new works.matches.fits.plain
+        (record { shown = shown_of header h moment k ids woken.Nobody works; referred = referred; finds = found2.finds }) comes
 
 -- what comes later doesn't change that
 pub next_more : (task : ℕ) (before events more : List Event) → EndsNext task before events → EndsNext task before (more ++ events)

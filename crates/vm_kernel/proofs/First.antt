@@ -1,7 +1,8 @@
 -- The kernel before anything has happened.
-use Rattle.vm_kernel.proofs.Common.{All, BeganInOrder, EachApart, Event, Header, Ids, IsPlain, IsStart, IsWashed, List, None, Parts, Rests, Some, Starts, TaskId, Waiting, [], absent_among, absent_at, all_tasks, ap, arith, begun_at, claimed, count_again, count_by, count_claims, entry, false, first_ids, frame_count, host_id, in_use, last_in, length, length-replicate, live_in, named, nat_lt, nat_tests, none_of, object_among, object_at, refl, region_at, replicate, reverse, row_at, slice_get, subst, suc, sym, waiting_in, zero, ℕ, ◌<◌, ◌∙◌, ◌∷◌, ◌≡◌}
+use Rattle.vm_kernel.proofs.Common.{All, BeganInOrder, EachApart, Event, Header, Ids, IsPlain, IsStart, IsWashed, List, None, Parts, Rests, Some, Starts, TaskId, Waiting, [], absent_among, absent_at, all_tasks, ap, arith, begun_at, claimed, count_again, count_by, count_claims, entry, false, first_ids, frame_count, host_id, in_use, last_in, length, length-replicate, live_in, marked_below, marked_regions, named, nat_lt, nat_tests, none_of, object_among, object_at, refl, region_at, replicate, reverse, row_at, shadow_at, slice_get, subst, suc, sym, waiting_in, zero, ℕ, ◌<◌, ◌∙◌, ◌∷◌, ◌≡◌}
 use Rattle.vm_model.specs.declared.command.Command.TheVariants as command
 use Rattle.vm_model.specs.declared.event.Event.TheVariants as event
+use Rattle.vm_kernel.proofs.After.{Leaves, controls_after, homeless_after, regions_after}
 use Rattle.vm_kernel.proofs.Counts.{by_none}
 use Rattle.vm_kernel.proofs.Own.{own_host}
 
@@ -18,15 +19,16 @@ unused header h r plain =
     rw (new, nothing) refl
 
 pub first_rests : (header : Header) (h : ℕ) (k : Parts) (count : ℕ) → IsPlain header → h < length header.frames.items → k.size ≡ header.size → k.host.0 ≡ h → slice_get (reverse header.frames.items) h ≡ Some count → IsStart count header.size k.memory
-    → k.maps ≡ record { size = header.size; tasks = [] } → ((r : ℕ) → region_at k.chains r ≡ None) → k.laundry.held ≡ [] → k.laundry.room ≡ count → k.waits.rows ≡ []
+    → k.maps ≡ record { size = header.size; tasks = [] } → ((r : ℕ) → region_at k.chains r ≡ None) → ((o : ℕ) → shadow_at k.chains o ≡ None) → k.laundry.held ≡ [] → k.laundry.room ≡ count → k.waits.rows ≡ []
     → Rests header h k first_ids []
-first_rests header h k count plain known size host hosts start maps regions held room waits =
+first_rests header h k count plain known size host hosts start maps regions shadows held room waits =
     let frames = start.frames_are in
     let rows = start.rows in
     let claims : k.memory.frames.claims ≡ replicate count false = ap (λ z. z.claims) frames in
     let counted : frame_count k.memory.frames ≡ count = ap length claims ∙ length-replicate count false in
     let nothing : claimed k.memory.frames ≡ 0 = ap count_claims claims ∙ no_claims count in
     let declared : length header.objects.items ≡ 0 = ap length plain.objects in
+    let no_marks : marked_regions header [] ≡ 0 = ap (λ n. marked_below header n []) declared in
     let objects : (o : ℕ) → object_at k.memory.objects o ≡ None = λ o. ap (object_among o) start.objects in
     let marks : (o p : ℕ) → absent_at k.memory.objects o p ≡ false = λ o p. ap (absent_among o p) start.objects in
     record {
@@ -47,17 +49,22 @@ first_rests header h k count plain known size host hosts start maps regions held
                 record {
                   region = sym declared;
                   object = sym declared;
-                  equal = refl;
-                  marks = refl;
+                  marks = sym no_marks;
+                  few = omega (arith, declared, no_marks);
                   rows = λ r row is. none_of (region_at k.chains r) row (regions r) is;
-                  tops = λ r. record { unmarked = refl; top = refl; shift = refl };
-                  unbacked = λ o. refl;
+                  shadows = λ o row is. none_of (shadow_at k.chains o) row (shadows o) is;
+                  bottoms = λ o referred none. refl;
                   unmade = λ r le. regions r;
                   unknown = λ o le. objects o;
-                  under = λ r row is. none_of (region_at k.chains r) row (regions r) is;
+                  tops = λ r row is. none_of (region_at k.chains r) row (regions r) is;
+                  unders = λ o row is. none_of (shadow_at k.chains o) row (shadows o) is;
+                  older = λ o row is. none_of (shadow_at k.chains o) row (shadows o) is;
+                  fits = record { tops = λ r row is. none_of (region_at k.chains r) row (regions r) is; unders = λ o row is. none_of (shadow_at k.chains o) row (shadows o) is };
+                  temporary = λ o row is. none_of (object_at k.memory.objects o) row (objects o) is;
+                  counts = λ o row is. none_of (object_at k.memory.objects o) row (objects o) is;
                 };
             entries = rw maps (record { inside = λ task. tt; known = tt; most = λ task le. refl; few = λ task. omega arith; counts = λ r row is. none_of (region_at k.chains r) row (regions r) is });
-            pages = record { shown = λ o p. rw (rows o p, marks o p) refl; live = λ o p row is. none_of (row_at k.memory.resident o p) row (rows o p) is };
+            pages = record { shown = λ o p. rw (rows o p, marks o p) refl };
             uses = rw maps (record { used = λ r. unused header h r plain; among = λ task rows is. none_of None rows refl is; apart = λ task r none why. refl });
             controls =
                 record {
@@ -69,7 +76,8 @@ first_rests header h k count plain known size host hosts start maps regions held
                   ended = λ o row is. none_of (object_at k.memory.objects o) row (objects o) is;
                   home = λ o row is. none_of (object_at k.memory.objects o) row (objects o) is;
                 };
-            homeless = λ r le. refl;
+            homeless = record { regions = λ r le. refl; objects = λ o le. refl; stay = λ g h r temporary used home. none_of None h refl home };
+            homes = λ r row is. none_of (region_at k.chains r) row (regions r) is;
             settled = record { returned = refl; shut = λ region. refl };
             laundry =
                 record {
@@ -81,7 +89,11 @@ first_rests header h k count plain known size host hosts start maps regions held
             frames = record { total = hosts ∙ ap Some (sym counted); held = sym nothing; wired = sym (ap (λ z. z.wired) frames); fits = let none = ap (λ z. z.wired) frames in omega (arith, nothing, none) };
           };
       used = λ r row is. none_of (region_at k.chains r) row (regions r) is;
-      reached = λ o row is. none_of (object_at k.memory.objects o) row (objects o) is;
+      referred = record {
+        live = λ o row is. none_of (object_at k.memory.objects o) row (objects o) is;
+        pages = λ o p row is. none_of (row_at k.memory.resident o p) row (rows o p) is;
+        shadows = λ o row is. none_of (shadow_at k.chains o) row (shadows o) is;
+      };
       waits =
           record {
             is = λ t here. sym (ap (λ z. waiting_in (entry z t)) waits);
@@ -100,6 +112,7 @@ first_rests header h k count plain known size host hosts start maps regions held
 pub rests_line : (header : Header) (h : ℕ) (k : Parts) (ids : Ids) (line : ℕ) (past : List Event) → Rests header h k ids past → Rests header h k ids (event.Line line ∷ past)
 rests_line header h k ids line past rests =
     let m = rests.matches in
+    let leaves : Leaves header past (event.Line line ∷ past) = record { regions_made = refl; objects_made = refl; region = λ r. refl; backing = λ o. refl; home = λ r. refl; made_for = λ o. refl; used = λ g r. refl } in
     record {
       matches =
           record {
@@ -109,18 +122,19 @@ rests_line header h k ids line past rests =
             host = m.host;
             fits = m.fits;
             tasks = m.tasks;
-            regions = m.regions;
+            regions = regions_after leaves m.regions;
             entries = m.entries;
             pages = m.pages;
             uses = m.uses;
-            controls = m.controls;
-            homeless = m.homeless;
+            controls = controls_after leaves m.controls;
+            homeless = homeless_after leaves m.homeless;
+            homes = m.homes;
             settled = record { returned = refl; shut = λ region. refl };
             laundry = m.laundry;
             frames = m.frames;
           };
       used = rests.used;
-      reached = rests.reached;
+      referred = rests.referred;
       waits = rests.waits;
       order = rests.order;
       idle = rests.idle;
@@ -130,5 +144,5 @@ rests_line header h k ids line past rests =
 pub may_make : (header : Header) (h : ℕ) (given : Header) (past : List Event) (task : TaskId) (line : ℕ) (k : Parts) (ids : Ids) → given ≡ header → past ≡ event.Line line ∷ [] → Rests header h k ids [] → task.0 < 1024 → Starts given h (command.Task task (host_id h)) past k ids []
 may_make header h given past task line k ids same is rests below =
     let starts : Starts header h (command.Task task (host_id h)) (event.Line line ∷ []) k ids [] =
-    record { rests = rests_line header h k ids line [] rests; acts = own_host h; range = (below, rests.matches.known); accepted = refl; enough = refl; begins = record { line = line; before = []; is = refl }; nothing = refl } in
+    record { rests = rests_line header h k ids line [] rests; acts = own_host h; range = (below, rests.matches.known); accepted = refl; begins = record { line = line; before = []; is = refl }; nothing = refl } in
     subst (λ (z : Header). Starts z h (command.Task task (host_id h)) past k ids []) (sym same) (subst (λ (z : List Event). Starts header h (command.Task task (host_id h)) z k ids []) (sym is) starts)

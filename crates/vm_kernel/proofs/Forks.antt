@@ -1,76 +1,12 @@
--- Which entries a fork shares.
-use Rattle.vm_kernel.proofs.Common.{AllRows, AllWholePages, Bool, Entry, HasWholePages, InOrder, List, Some, TaskId, [], ap, arith, drop, entered, false, gets, if◌then◌else◌, is_shared, length, meets_range, nat_lt, nat_tests, refl, shared, suc, sym, take, take-append-drop, true, zero, ℕ, ◌&&◌, ◌++◌, ◌+◌, ◌||◌, ◌∙◌, ◌∷◌, ◌≡◌, ◌≤◌}
-use Rattle.std.proofs.Common.{slice_get}
-use Rattle.vm_model.specs.declared.event.Event.TheVariants as event
-use Rattle.vm_kernel.proofs.Recounts.{next_row}
+-- The entries of a task that is forked, one after another, and what a child gets of them.
+use Rattle.vm_kernel.proofs.Common.{AllRows, AllWholePages, Bool, Entry, Event, HasWholePages, InOrder, List, Some, TaskId, [], ap, append_assoc, arith, entry_at, false, if◌then◌else◌, meets_range, nat_le, nat_lt, nat_tests, Option, refl, reverse, reverse-append, slice_get, slice_get_within, subst, suc, sym, true, zero, ℕ, ◌&&◌, ◌++◌, ◌+◌, ◌||◌, ◌∙◌, ◌∷◌, ◌≡◌, ◌≤◌}
+use Rattle.vm_legal.specs.Follows.{inherits, inherits_all, next_behind}
+use Rattle.vm_parts.proofs.Rows.{some_is}
 
--- the entries, one after another
-
-pub split_at : (rows : List Entry) (i : ℕ) (row : Entry) → slice_get rows i ≡ Some row → rows ≡ take i rows ++ row ∷ drop (i + 1) rows
-split_at rows i row found = sym (take-append-drop i rows) ∙ ap (λ z. take i rows ++ z) (next_row rows i row found)
-
-pub take_all : (rows : List Entry) (i : ℕ) → length rows ≤ i → take i rows ≡ rows
-take_all [] zero le = refl
-take_all [] (suc i) le = refl
-take_all (row ∷ rows) zero le = absurd (omega arith)
-take_all (row ∷ rows) (suc i) le = ap (λ z. row ∷ z) (take_all rows i (omega arith))
-
--- what is shared
-
-pub shared_more : (rows more : List Entry) → shared (rows ++ more) ≡ shared rows ++ shared more
-shared_more [] more = refl
-shared_more (row ∷ rows) more = by_test (is_shared row.inherit) (shared_more rows more)
-  where
-    by_test : (b : Bool) → shared (rows ++ more) ≡ shared rows ++ shared more → (if b then row ∷ shared (rows ++ more) else shared (rows ++ more)) ≡ (if b then row ∷ shared rows else shared rows) ++ shared more
-    by_test true later = ap (λ z. row ∷ z) later
-    by_test false later = later
-
-pub shared_one : (row : Entry) → is_shared row.inherit ≡ true → shared (row ∷ []) ≡ row ∷ []
-shared_one row is = rw is refl
-
-pub shared_other : (row : Entry) → is_shared row.inherit ≡ false → shared (row ∷ []) ≡ []
-shared_other row is = rw is refl
-
-pub rows_shared : (P : Entry → Type 0) (rows : List Entry) → AllRows P rows → AllRows P (shared rows)
-rows_shared P [] all = tt
-rows_shared P (row ∷ rows) all = by_test (is_shared row.inherit) (rows_shared P rows all.1)
-  where
-    by_test : (b : Bool) → AllRows P (shared rows) → AllRows P (if b then row ∷ shared rows else shared rows)
-    by_test true later = (all.0, later)
-    by_test false later = later
-
-pub few_shared : (rows : List Entry) → length (shared rows) ≤ length rows
-few_shared [] = omega arith
-few_shared (row ∷ rows) = by_test (is_shared row.inherit) (few_shared rows)
-  where
-    by_test : (b : Bool) → length (shared rows) ≤ length rows → length (if b then row ∷ shared rows else shared rows) ≤ suc (length rows)
-    by_test true later = omega arith
-    by_test false later = omega arith
-
--- what a child gets
-pub gets_more : (child : TaskId) (rows more : List Entry) → gets child (rows ++ more) ≡ gets child rows ++ gets child more
-gets_more child [] more = refl
-gets_more child (row ∷ rows) more = ap (λ z. event.Entered child row.address row.bytes row.region row.offset row.prot row.inherit ∷ z) (gets_more child rows more)
-
--- an entry behind others
+-- entries that end in front of another
 
 abbrev pub Behind : Entry → List Entry → Type 0
 Behind row rows = AllRows (λ other. other.address + other.bytes ≤ row.address) rows
-
-pub behind : (from to : ℕ) (rows : List Entry) (row : Entry) (left : List Entry) → InOrder from to (rows ++ row ∷ left) → (from ≤ row.address) × Behind row rows
-behind from to [] row left order = (order.0, tt)
-behind from to (first ∷ rows) row left order =
-    let later = behind (first.address + first.bytes) to rows row left order.1.1 in
-    let start : from ≤ first.address = order.0 in
-    let end : first.address + first.bytes ≤ row.address = later.0 in
-    (omega arith, (end, later.1))
-
-pub entered_behind : (row : Entry) (rows : List Entry) → Behind row rows → entered row rows ≡ rows ++ row ∷ []
-entered_behind row [] all = refl
-entered_behind row (first ∷ rows) all =
-    let end : first.address + first.bytes ≤ row.address = all.0 in
-    let no : nat_lt row.address first.address ≡ false = grind (arith, nat_tests) in
-    rw no (ap (λ z. first ∷ z) (entered_behind row rows all.1))
 
 pub free_behind : (row : Entry) (rows : List Entry) → Behind row rows → meets_range row.address row.bytes rows ≡ false
 free_behind row [] all = refl
@@ -83,10 +19,38 @@ free_behind row (first ∷ rows) all =
     neither true = refl
     neither false = refl
 
-pub row_among : (P : Entry → Type 0) (rows : List Entry) (row : Entry) (left : List Entry) → AllRows P (rows ++ row ∷ left) → P row
-row_among P [] row left all = all.0
-row_among P (first ∷ rows) row left all = row_among P rows row left all.1
+-- an entry holds its first address
+pub found_first : (from to : ℕ) (rows : List Entry) (i : ℕ) (row : Entry) → InOrder from to rows → slice_get rows i ≡ Some row → (from ≤ row.address) × (entry_at row.address rows ≡ Some row)
+found_first from to [] i row order found = absurd (let bad = slice_get_within [] i row found in omega (arith, bad))
+found_first from to (first ∷ rows) zero row order found =
+    let same : first ≡ row = some_is first row found in
+    let some = order.1.0 in
+    let yes : nat_lt first.address (first.address + first.bytes) ≡ true = grind (arith, nat_tests) in
+    let low : nat_le first.address first.address ≡ true = grind (arith, nat_tests) in
+    subst (λ (z : Entry). (from ≤ z.address) × (entry_at z.address (first ∷ rows) ≡ Some z)) same (order.0, rw (low, yes) refl)
+found_first from to (first ∷ rows) (suc i) row order found =
+    let later = found_first (first.address + first.bytes) to rows i row order.1.1 found in
+    let start : from ≤ first.address = order.0 in
+    let end : first.address + first.bytes ≤ row.address = later.0 in
+    let not_here : nat_lt row.address (first.address + first.bytes) ≡ false = grind (arith, nat_tests) in
+    (omega (arith, start, end), rw not_here (passes (nat_le first.address row.address) (entry_at row.address rows) later.1))
+  where
+    passes : (b : Bool) (rest : Option Entry) → rest ≡ Some row → (if b && false then Some first else rest) ≡ Some row
+    passes true rest is = is
+    passes false rest is = is
 
-pub whole_among : (size : ℕ) (rows : List Entry) (row : Entry) (left : List Entry) → AllWholePages size (rows ++ row ∷ left) → HasWholePages size row
-whole_among size [] row left all = all.0
-whole_among size (first ∷ rows) row left all = whole_among size rows row left all.1
+pub whole_at : (size i : ℕ) (rows : List Entry) (row : Entry) → AllWholePages size rows → slice_get rows i ≡ Some row → HasWholePages size row
+whole_at size i [] row all found = absurd (let bad = slice_get_within [] i row found in omega (arith, bad))
+whole_at size zero (first ∷ rows) row all found = subst (HasWholePages size) (some_is first row found) all.0
+whole_at size (suc i) (first ∷ rows) row all found = whole_at size i rows row all.1 found
+
+-- what is left to tell, where what is told of one entry was added
+pub told_next : (size : ℕ) (child : TaskId) (next next2 : ℕ) (row : Entry) (rest : List Entry) (first mine events after : List Event) → inherits row.inherit size child next row ≡ mine → next_behind row.inherit next ≡ next2
+    → reverse first ≡ reverse (inherits_all size child next (row ∷ rest)) ++ events → after ≡ reverse mine ++ events → reverse first ≡ reverse (inherits_all size child next2 rest) ++ after
+told_next size child next next2 row rest first mine events after own behind told more =
+    told
+    ∙ (ap (λ (z : List Event). reverse (z ++ inherits_all size child (next_behind row.inherit next) rest) ++ events) own
+    ∙ (ap (λ (z : ℕ). reverse (mine ++ inherits_all size child z rest) ++ events) behind
+    ∙ (ap (λ (z : List Event). z ++ events) (reverse-append mine (inherits_all size child next2 rest))
+    ∙ (append_assoc (reverse (inherits_all size child next2 rest)) (reverse mine) events
+    ∙ ap (λ (z : List Event). reverse (inherits_all size child next2 rest) ++ z) (sym more)))))

@@ -1,14 +1,17 @@
 -- A message of a pager is taken: what the kernel stands for behind it.
-use Rattle.vm_kernel.proofs.Common.{Access, AllReached, AnswerEffects, AnswerOutcome, ArePlain, Backing, Bool, Cancels, ChainTable, Changes, Discarded, Elsewhere, Event, Failed, FailsNow, FailsPage, FillsPage, Fit, FrameTable, HasAsker, HasControls, HasFrames, HasLaundry, HasPages, HasRegions, HasWaiters, Header, HostId, HostParts, Ids, IsAnswer, IsAnswered, IsAsked, IsPagerTold, IsTempAnswer, IsUnder, Lacked, Lacks, List, Local, LocalEffect, Mapped, Message, None, ObjectId, ObjectKind, ObjectRow, ObjectTable, On, Option, PageNo, PageRow, PagerState, Parts, PutsObject, PutsRow, Readied, Readies, Reason, Region, RegionRow, ResidentTable, Rests, SameMarks, SameObjects, Some, Supplied, Supplies, TakesError, TakesNothing, TakesPage, Temp, Waiting, Want, Woken, Works, [], absent_at, added, ap, arith, asked_is, asked_row, away, backing_of, clean_row, eqb_tells, false, frames_held, frames_wired, has_pager, has_region, home_of, if◌then◌else◌, inl, inr, is_control, is_ready, is_ready_state, is_some, is_woken, key_of, last_control, last_in, live_control, live_in, live_outcome, local, local_after, local_of_row, lock_numbered, next_object, next_region, not, object_at, one_case, outcome_of, page_key, place_of, ready_in, ready_outcome, refl, region_of, returns_out, reverse, row_at, row_cases, slice_get, some_is, subst, sym, true, unavailable_outcome, unlocked, waiting, ℕ, ◌&&◌, ◌++◌, ◌-◌, ◌<◌, ◌==◌, ◌^◌, ◌∙◌, ◌∷◌, ◌≡◌, ◌⊎◌}
+use Rattle.vm_kernel.proofs.Common.{Access, AllReferred, AnswerEffects, AnswerOutcome, ArePlain, Backing, Bool, Cancels, ChainTable, Changes, Discarded, Elsewhere, Event, Failed, FailsNow, FailsPage, FillsPage, Fit, FrameTable, HasAsker, HasControls, HasFrames, HasLaundry, HasPages, HasRegions, HasWaiters, Header, HostId, HostParts, Ids, IsAnswer, IsAnswered, IsAsked, IsPagerTold, IsReferred, IsTempAnswer, IsTemporary, Lacked, Lacks, List, Local, LocalEffect, Mapped, Message, None, ObjectId, ObjectKind, ObjectRow, ObjectTable, On, Option, PageNo, PageRow, PagerState, Parts, PutsObject, PutsRow, Readied, Readies, Reason, Region, ResidentTable, Rests, SameMarks, SameObjects, Some, Supplied, Supplies, TakesError, TakesNothing, TakesPage, Waiting, Want, Woken, Works, [], absent_at, added, ap, arith, asked_is, asked_row, away, backing_of, clean_row, eqb_tells, false, frames_held, frames_wired, if◌then◌else◌, inl, inr, is_control, is_ready, is_ready_state, is_some, is_woken, key_of, last_control, last_in, live_control, live_in, live_outcome, local, local_after, local_of_row, lock_numbered, marked_regions, next_object, next_region, not, object_at, object_home, one_case, outcome_of, page_key, place_of, ready_in, ready_outcome, refl, region_of, returns_out, reverse, row_at, row_cases, slice_get, some_is, subst, sym, true, unavailable_outcome, unlocked, waiting, ℕ, ◌&&◌, ◌+◌, ◌++◌, ◌-◌, ◌<◌, ◌==◌, ◌^◌, ◌∙◌, ◌∷◌, ◌≡◌, ◌≤◌, ◌⊎◌}
 use Rattle.vm_model.specs.declared.message.Message.TheVariants as message
 use Rattle.vm_objects.specs.declared.row.PagerState.TheVariants as state
 use Rattle.vm_supply.specs.declared.woken.Woken.TheVariants as woken
 use Rattle.vm_waits.specs.declared.waiting.On.TheVariants as on
+use Rattle.vm_kernel.proofs.After.{Leaves, controls_after, homeless_after, regions_after}
 use Rattle.vm_kernel.proofs.Answers.{IsLeft, IsNothing, asked_shows, hears, left_failed, left_lacked, lives, nothing_dead, on_page, ready_again, unfailed, unlacked, unsupplied, same_effect}
 use Rattle.vm_kernel.proofs.Brings.{plain_changed}
 use Rattle.vm_kernel.proofs.Pages.{bytes_now, effect_on, frames_changed, laundry_changed, pages_moved}
-use Rattle.vm_kernel.proofs.Regions.{region_row}
 use Rattle.vm_kernel.proofs.Own.{own_host}
+use Rattle.vm_parts.specs.Fits.{object_pages, pages_of_row}
+use Rattle.vm_state.proofs.Changing.{regions_controlled}
+use Rattle.vm_state.proofs.Referred.{referred_controlled, referred_gone, referred_row}
 
 -- who waits, where rows of pages and objects are others
 
@@ -42,12 +45,12 @@ heard k new = record k { memory = new }
 -- what holds of the parts that may have changed
 pub record Changed (header : Header) (h : ℕ) (k : Parts) (ids : Ids) (who : Woken) (new : HostParts) (past : List Event) (e : Event) : Type 0 where
   pub plain : ArePlain new.resident
-  pub regions : HasRegions k.chains new.objects ids (λ r. region_of header r past) (λ o. backing_of header o past) (next_region header past) (next_object header past)
-  pub pages : HasPages new.frames new.resident new.objects k.chains (λ o p. local header.size h (place_of o p) (e ∷ past))
-  pub controls : HasControls h new.objects (λ o. last_control h o past) (λ o. live_control h o past) (λ o. is_ready h o (e ∷ past)) (λ o. home_of o past)
+  pub regions : HasRegions k.chains new.objects ids (λ r. region_of header r past) (λ o. backing_of header o past) (next_region header past) (next_object header past) (marked_regions header past)
+  pub pages : HasPages new.frames new.resident new.objects (λ o p. local header.size h (place_of o p) (e ∷ past))
+  pub controls : HasControls h new.objects (λ o. last_control h o past) (λ o. live_control h o past) (λ o. is_ready h o (e ∷ past)) (λ o. object_home o past)
   pub laundry : HasLaundry new.frames new.resident k.laundry (returns_out h past)
   pub frames : HasFrames (slice_get (reverse header.frames.items) h) new.frames (frames_held header.size h (e ∷ past)) (frames_wired h past)
-  pub reached : AllReached k.chains new.objects
+  pub referred : AllReferred k.chains new.objects new.resident
   pub waits : HasWaiters k.maps k.chains new.resident new.objects k.waits.rows who (λ t. waiting t past)
   pub fails : FailsNow header h who (e ∷ past)
   pub asker : HasAsker who k.waits.rows
@@ -58,6 +61,7 @@ works_of : (header : Header) (h : ℕ) (k : Parts) (ids : Ids) (who : Woken) (ne
     → Works header h (heard k new) ids who (hears h object control m ∷ past)
 works_of header h k ids who new past object control m rests fit same c =
     let was = rests.matches in
+    let leaves : Leaves header past (hears h object control m ∷ past) = record { regions_made = refl; objects_made = refl; region = λ r. refl; backing = λ o. refl; home = λ r. refl; made_for = λ o. refl; used = λ g r. refl } in
     record {
       matches =
           record {
@@ -67,39 +71,54 @@ works_of header h k ids who new past object control m rests fit same c =
             host = was.host;
             fits = record { parts = fit; plain = c.plain; buffers = ap (λ z. z.size) same ∙ was.fits.buffers };
             tasks = was.tasks;
-            regions = c.regions;
+            regions = regions_after leaves c.regions;
             entries = was.entries;
             pages = c.pages;
             uses = was.uses;
-            controls = c.controls;
-            homeless = was.homeless;
+            controls = controls_after leaves c.controls;
+            homeless = homeless_after leaves was.homeless;
+            homes = was.homes;
             settled = record { returned = refl; shut = λ region. refl };
             laundry = c.laundry;
             frames = c.frames;
           };
       used = rests.used;
-      reached = c.reached;
+      referred = c.referred;
       order = rests.order;
       waits = c.waits;
     }
 
 -- the message changes nothing
 
-regions_of : (cs : ChainTable) (os os2 : ObjectTable) (ids : Ids) (region_from : ℕ → Region) (backing_from : ℕ → Backing) (regions_made objects_made : ℕ)
-    → HasRegions cs os ids region_from backing_from regions_made objects_made → SameObjects os os2 → HasRegions cs os2 ids region_from backing_from regions_made objects_made
-regions_of cs os os2 ids region_from backing_from regions_made objects_made has same =
+same_referred : (os os2 : ObjectTable) → SameObjects os os2 → (o : ℕ) → IsReferred os2 o → IsReferred os o
+same_referred os os2 same o is = record { row = is.row; known = sym (same.at o) ∙ is.known; some = is.some }
+
+regions_of : (cs : ChainTable) (os os2 : ObjectTable) (ids : Ids) (region_from : ℕ → Region) (backing_from : ℕ → Backing) (regions_made objects_made marked : ℕ)
+    → HasRegions cs os ids region_from backing_from regions_made objects_made marked → SameObjects os os2 → HasRegions cs os2 ids region_from backing_from regions_made objects_made marked
+regions_of cs os os2 ids region_from backing_from regions_made objects_made marked has same =
     record {
       region = has.region;
       object = has.object;
-      equal = has.equal;
       marks = has.marks;
+      few = has.few;
       rows = has.rows;
-      tops = has.tops;
-      unbacked = has.unbacked;
+      shadows = has.shadows;
+      bottoms = λ o referred none. has.bottoms o (same_referred os os2 same o referred) none;
       unmade = has.unmade;
       unknown = λ o above. same.at o ∙ has.unknown o above;
-      under = λ r row found. subst (IsUnder row) (sym (same.at r)) (has.under r row found);
+      tops = λ r row found. ap is_some (same.at row.top.0) ∙ has.tops r row found;
+      unders = λ o row found. let under = has.unders o row found in (ap is_some (same.at o) ∙ under.0, ap is_some (same.at row.under.0) ∙ under.1);
+      older = has.older;
+      fits = record {
+        tops = λ r row found. subst (λ (z : ℕ). row.shift + row.pages ≤ z) (sym (pages_are row.top.0)) (has.fits.tops r row found);
+        unders = λ o row found. subst (λ (z : ℕ). row.shift + z ≤ object_pages os2 row.under.0) (sym (pages_are o)) (subst (λ (z : ℕ). row.shift + object_pages os o ≤ z) (sym (pages_are row.under.0)) (has.fits.unders o row found));
+      };
+      temporary = λ o known found. has.temporary o known (sym (same.at o) ∙ found);
+      counts = λ o known found. has.counts o known (sym (same.at o) ∙ found);
     }
+  where
+    pages_are : (o : ℕ) → object_pages os2 o ≡ object_pages os o
+    pages_are o = ap pages_of_row (same.at o)
 
 controls_of : {h : ℕ} {home_at : ℕ → Option ℕ} (os os2 : ObjectTable) (last_at : ℕ → ℕ) (live_at : ℕ → Option ℕ) (ready_at ready_at2 : ℕ → Bool) → HasControls h os last_at live_at ready_at home_at → SameObjects os os2
     → ((o live : ℕ) → live_at o ≡ Some live → ready_at2 o ≡ ready_at o) → HasControls h os2 last_at live_at ready_at2 home_at
@@ -114,8 +133,16 @@ controls_of os os2 last_at live_at ready_at ready_at2 has same ready =
       home = λ o row found. has.home o row (sym (same.at o) ∙ found);
     }
 
-reached_of : (cs : ChainTable) (os os2 : ObjectTable) → AllReached cs os → SameObjects os os2 → AllReached cs os2
-reached_of cs os os2 reached same = λ o row found live. reached o row (sym (same.at o) ∙ found) live
+referred_of : (cs : ChainTable) (os os2 : ObjectTable) (rs : ResidentTable) → AllReferred cs os rs → SameObjects os os2 → AllReferred cs os2 rs
+referred_of cs os os2 rs referred same =
+    record {
+      live = λ o row found live. referred.live o row (sym (same.at o) ∙ found) live;
+      pages = λ o p row found. still o (referred.pages o p row found);
+      shadows = λ o row found. still o (referred.shadows o row found);
+    }
+  where
+    still : (o : ℕ) → IsReferred os o → IsReferred os2 o
+    still o is = record { row = is.row; known = same.at o ∙ is.known; some = is.some }
 
 told_of : (os os2 : ObjectTable) (o : ℕ) → SameObjects os os2 → IsPagerTold os o → IsPagerTold os2 o
 told_of os os2 o same told = record { row = told.row; found = same.at o ∙ told.found; sent = told.sent }
@@ -123,8 +150,8 @@ told_of os os2 o same told = record { row = told.row; found = same.at o ∙ told
 itself : (os : ObjectTable) → SameObjects os os
 itself os = record { at = λ o. refl }
 
-pub pages_eq : (fs : FrameTable) (rs : ResidentTable) (os : ObjectTable) (cs : ChainTable) (local_at local_at2 : ℕ → ℕ → Local) → HasPages fs rs os cs local_at → ((o p : ℕ) → local_at2 o p ≡ local_at o p) → HasPages fs rs os cs local_at2
-pages_eq fs rs os cs local_at local_at2 has same = record { shown = λ o p. same o p ∙ has.shown o p; live = has.live }
+pub pages_eq : (fs : FrameTable) (rs : ResidentTable) (os : ObjectTable) (local_at local_at2 : ℕ → ℕ → Local) → HasPages fs rs os local_at → ((o p : ℕ) → local_at2 o p ≡ local_at o p) → HasPages fs rs os local_at2
+pages_eq fs rs os local_at local_at2 has same = record { shown = λ o p. same o p ∙ has.shown o p }
 
 changed_none : (header : Header) (h : ℕ) (k : Parts) (ids : Ids) (past : List Event) (object : ObjectId) (control : ℕ) (m : Message) → Rests header h k ids past → IsNothing header h object control m past
     → Changed header h k ids woken.Nobody k.memory past (hears h object control m)
@@ -133,11 +160,11 @@ changed_none header h k ids past object control m rests nothing =
     record {
       plain = was.fits.plain;
       regions = was.regions;
-      pages = pages_eq k.memory.frames k.memory.resident k.memory.objects k.chains (λ o p. local header.size h (place_of o p) past) (λ o p. local header.size h (place_of o p) (hears h object control m ∷ past)) was.pages nothing.pages;
+      pages = pages_eq k.memory.frames k.memory.resident k.memory.objects (λ o p. local header.size h (place_of o p) past) (λ o p. local header.size h (place_of o p) (hears h object control m ∷ past)) was.pages nothing.pages;
       controls = controls_of k.memory.objects k.memory.objects (λ o. last_control h o past) (λ o. live_control h o past) (λ o. is_ready h o past) (λ o. is_ready h o (hears h object control m ∷ past)) was.controls (itself k.memory.objects) nothing.ready;
       laundry = was.laundry;
       frames = subst (λ (z : ℕ). HasFrames (slice_get (reverse header.frames.items) h) k.memory.frames z (frames_wired h past)) (sym nothing.held) was.frames;
-      reached = rests.reached;
+      referred = rests.referred;
       waits = rests.waits;
       fails = nothing.error;
       asker = tt;
@@ -146,45 +173,13 @@ changed_none header h k ids past object control m rests nothing =
 
 -- the pager is ready now
 
-regions_ready : (cs : ChainTable) (os os2 : ObjectTable) (ids : Ids) (region_from : ℕ → Region) (backing_from : ℕ → Backing) (regions_made objects_made o : ℕ) (known : ObjectRow)
-    → HasRegions cs os ids region_from backing_from regions_made objects_made → object_at os o ≡ Some known → known.live ≡ true → PutsObject o (Some (record known { state = state.Ready })) os os2
-    → HasRegions cs os2 ids region_from backing_from regions_made objects_made
-regions_ready cs os os2 ids region_from backing_from regions_made objects_made o known has found live put =
+temporary_ready : (known : ObjectRow) → IsTemporary known → known.live ≡ true → IsTemporary (record known { state = state.Ready })
+temporary_ready known was live =
     record {
-      region = has.region;
-      object = has.object;
-      equal = has.equal;
-      marks = has.marks;
-      rows = has.rows;
-      tops = has.tops;
-      unbacked = has.unbacked;
-      unmade = has.unmade;
-      unknown = λ o2 above. elim (one_case o o2 (Some ready) (object_at os o2) (object_at os2 o2) (put.at o2)) [
-        | inl same ↦ absurd (let bad : None ≡ Some known = sym (has.unknown o2 above) ∙ (sym (ap (object_at os) same.0) ∙ found) in cc)
-        | inr other ↦ other.1 ∙ has.unknown o2 above
-      ];
-      under = λ r row is. elim (one_case o r (Some ready) (object_at os r) (object_at os2 r) (put.at r)) [
-        | inl same ↦ subst (IsUnder row) (sym same.1) (under row (subst (λ (z : ℕ). IsUnder row (object_at os z)) (sym same.0) (has.under r row is)))
-        | inr other ↦ subst (IsUnder row) (sym other.1) (has.under r row is)
-      ];
+      kind = was.kind;
+      live = live;
+      number = λ some. was.number some ∙ ap (λ b. if b then 1 else 0) (sym was.live ∙ live);
     }
-  where
-    ready : ObjectRow
-    ready = record known { state = state.Ready }
-
-    under : (row : RegionRow) → IsUnder row (object_at os o) → IsUnder row (Some ready)
-    under row has_under =
-        let same : has_under.object ≡ known = some_is has_under.object known (sym has_under.found ∙ found) in
-        let pager : has_pager known.state ≡ true = sym (subst (λ (z : ObjectRow). z.live ≡ has_pager z.state) same has_under.live) ∙ live in
-        record {
-          object = ready;
-          found = refl;
-          temporary = ap (λ z. z.kind) (sym same) ∙ has_under.temporary;
-          pages = ap (λ z. z.pages) (sym same) ∙ has_under.pages;
-          references = ap (λ z. z.references) (sym same) ∙ has_under.references;
-          live = live;
-          number = subst (λ (z : ObjectRow). z.control ≡ (if has_pager z.state then 1 else 0)) same has_under.number ∙ ap (λ b. if b then 1 else 0) pager;
-        }
 
 controls_ready : {h : ℕ} {home_at : ℕ → Option ℕ} (os os2 : ObjectTable) (last_at : ℕ → ℕ) (live_at : ℕ → Option ℕ) (ready_at : ℕ → Bool) (o control : ℕ) (known : ObjectRow) → HasControls h os last_at live_at ready_at home_at
     → object_at os o ≡ Some known → known.live ≡ true → is_control control (live_at o) ≡ true → PutsObject o (Some (record known { state = state.Ready })) os os2
@@ -237,14 +232,8 @@ controls_ready {h = h} {home_at = home_at} os os2 last_at live_at ready_at o con
     cases : (o2 : ℕ) → ((o ≡ o2) × (object_at os2 o2 ≡ Some ready)) ⊎ ((o ≡ o2 → ⊥) × (object_at os2 o2 ≡ object_at os o2))
     cases o2 = one_case o o2 (Some ready) (object_at os o2) (object_at os2 o2) (put.at o2)
 
-reached_ready : (cs : ChainTable) (os os2 : ObjectTable) (o : ℕ) (known : ObjectRow) → AllReached cs os → object_at os o ≡ Some known → known.live ≡ true → PutsObject o (Some (record known { state = state.Ready })) os os2 → AllReached cs os2
-reached_ready cs os os2 o known reached found live put o2 row is lives_on = elim (one_case o o2 (Some (record known { state = state.Ready })) (object_at os o2) (object_at os2 o2) (put.at o2)) [
-  | inl now ↦ subst (λ (z : ℕ). has_region cs z ≡ true) now.0 (reached o known found live)
-  | inr other ↦ reached o2 row (sym other.1 ∙ is) lives_on
-]
-
-pages_marked : (fs : FrameTable) (rs : ResidentTable) (os os2 : ObjectTable) (cs : ChainTable) (local_at : ℕ → ℕ → Local) → HasPages fs rs os cs local_at → SameMarks os os2 → HasPages fs rs os2 cs local_at
-pages_marked fs rs os os2 cs local_at has same = record { shown = λ o p. has.shown o p ∙ ap (λ z. local_of_row fs (row_at rs o p) z) (sym (same.at o p)); live = has.live }
+pages_marked : (fs : FrameTable) (rs : ResidentTable) (os os2 : ObjectTable) (local_at : ℕ → ℕ → Local) → HasPages fs rs os local_at → SameMarks os os2 → HasPages fs rs os2 local_at
+pages_marked fs rs os os2 local_at has same = record { shown = λ o p. has.shown o p ∙ ap (λ z. local_of_row fs (row_at rs o p) z) (sym (same.at o p)) }
 
 told_ready : (os os2 : ObjectTable) (o : ℕ) (known : ObjectRow) (object : ObjectId) → PutsObject o (Some (record known { state = state.Ready })) os os2 → (object.0 == o) ≡ false → IsPagerTold os object.0 → IsPagerTold os2 object.0
 told_ready os os2 o known object put apart told =
@@ -270,15 +259,16 @@ changed_ready header h k ids events after past object control cache strategy who
     (subst (λ (z : HostParts). Changed header h k ids (woken.ReadyOf object) z past (hears h object control (message.Ready cache strategy))) (sym readies.rest)
     (record {
       plain = was.fits.plain;
-      regions = regions_ready k.chains k.memory.objects new.objects ids (λ r. region_of header r past) (λ o. backing_of header o past) (next_region header past) (next_object header past) object.0 known was.regions readies.found live readies.ready;
-      pages = pages_marked k.memory.frames k.memory.resident k.memory.objects new.objects k.chains (λ o p. local header.size h (place_of o p) (hears h object control (message.Ready cache strategy) ∷ past))
-          (pages_eq k.memory.frames k.memory.resident k.memory.objects k.chains (λ o p. local header.size h (place_of o p) past) (λ o p. local header.size h (place_of o p) (hears h object control (message.Ready cache strategy) ∷ past)) was.pages
+      regions = regions_controlled object.0 known (record known { state = state.Ready }) k.chains k.memory.objects new.objects ids (λ r. region_of header r past) (λ o. backing_of header o past) (next_region header past) (next_object header past) (marked_regions header past)
+          readies.found readies.ready refl refl (temporary_ready known (was.regions.temporary object.0 known readies.found) live) was.regions;
+      pages = pages_marked k.memory.frames k.memory.resident k.memory.objects new.objects (λ o p. local header.size h (place_of o p) (hears h object control (message.Ready cache strategy) ∷ past))
+          (pages_eq k.memory.frames k.memory.resident k.memory.objects (λ o p. local header.size h (place_of o p) past) (λ o p. local header.size h (place_of o p) (hears h object control (message.Ready cache strategy) ∷ past)) was.pages
           (λ o p. rw (own_host h) (same_effect header.size (object.0 == o && is_control control (live_control h o past)) (local header.size h (place_of o p) past))))
           readies.marks;
       controls = rw (own_host h) (controls_ready k.memory.objects new.objects (λ o. last_control h o past) (λ o. live_control h o past) (λ o. is_ready h o past) object.0 control known was.controls readies.found live lives_now readies.ready);
       laundry = was.laundry;
       frames = was.frames;
-      reached = reached_ready k.chains k.memory.objects new.objects object.0 known rests.reached readies.found live readies.ready;
+      referred = referred_controlled object.0 known (record known { state = state.Ready }) k.chains k.memory.objects new.objects k.memory.resident readies.found readies.ready refl (λ lives. rests.referred.live object.0 known readies.found live) rests.referred;
       waits = waits_heard k.maps k.chains k.memory.resident k.memory.resident k.memory.objects new.objects k.waits.rows (woken.ReadyOf object) (λ t. waiting t past) rests.waits
           (λ o p still asked. asked)
           (λ other still told. told_ready k.memory.objects new.objects object.0 known other readies.ready still told)
@@ -291,7 +281,7 @@ changed_ready header h k ids events after past object control cache strategy who
 
 -- a page that is asked
 
-asks_now : (h : ℕ) (size : ℕ) (k : Parts) (past : List Event) (o p : ℕ) (was : PageRow) → HasPages k.memory.frames k.memory.resident k.memory.objects k.chains (λ o2 p2. local size h (place_of o2 p2) past)
+asks_now : (h : ℕ) (size : ℕ) (k : Parts) (past : List Event) (o p : ℕ) (was : PageRow) → HasPages k.memory.frames k.memory.resident k.memory.objects (λ o2 p2. local size h (place_of o2 p2) past)
     → row_at k.memory.resident o p ≡ Some was → was.here ≡ false → (local size h (place_of o p) past).asked ≡ true
 asks_now h size k past o p was has found away_now = ap (λ z. z.asked) (has.shown o p) ∙ (ap (λ z. (local_of_row k.memory.frames z (absent_at k.memory.objects o p)).asked) found ∙ ap not away_now)
 
@@ -368,8 +358,8 @@ changed_supplied header h k ids events after past object control page lock preci
     let waits = waits_page header h k ids past object.0 page.0 (Some now) (woken.Page key) new rests (λ o2 p2. refl) comes.row here same in
     let shows = ap (local_after header.size (TakesPage 0 false bytes)) (asked_shows k.memory.frames row lacked (was.fits.plain object.0 page.0 row asked.0) asked.1)
     ∙ ap (λ z. record away { here = true; bytes = z; absent = lacked }) (sym (bytes_now key row.frame _ _ _ _ _ k.memory new comes)) in
-    let pages = pages_moved header.size (TakesPage 0 false bytes) key row.frame _ _ _ _ _ k.memory new k.memory.objects k.chains (λ o p. local header.size h (place_of o p) past) was.fits.parts was.pages comes
-    (λ some. was.pages.live object.0 page.0 row asked.0) shows (λ o p apart. refl) in
+    let pages = pages_moved header.size (TakesPage 0 false bytes) key row.frame _ _ _ _ _ k.memory new k.memory.objects (λ o p. local header.size h (place_of o p) past) was.fits.parts was.pages comes
+    shows (λ o p apart. refl) in
     let moves : (o p : ℕ) → local header.size h (place_of o p) (hears h object control (message.Supply page lock precious bytes) ∷ past) ≡ effect_on header.size key (TakesPage 0 false bytes) (λ o2 p2. local header.size h (place_of o2 p2) past) o p =
     λ o p. rw (own_host h) (ap (λ z. local_after header.size z (local header.size h (place_of o p) past))
     (on_page object.0 o (lives h object control past) (is_control control (live_control h o past)) (page.0 == p) (TakesPage lock precious bytes) Elsewhere lives_now (λ e. ap (λ z. is_control control (live_control h z past)) (sym e))))
@@ -378,14 +368,14 @@ changed_supplied header h k ids events after past object control page lock preci
     subst (λ (z : Woken). Changed header h k ids z new past (hears h object control (message.Supply page lock precious bytes))) (sym supplies.woken)
     (record {
       plain = plain_changed key row.frame _ _ _ _ _ k.memory new was.fits.plain comes (record { lock = refl; precious = refl; unlock_sent = refl });
-      regions = regions_of k.chains k.memory.objects new.objects ids (λ r. region_of header r past) (λ o. backing_of header o past) (next_region header past) (next_object header past) was.regions same;
-      pages = pages_eq new.frames new.resident new.objects k.chains (effect_on header.size key (TakesPage 0 false bytes) (λ o2 p2. local header.size h (place_of o2 p2) past))
+      regions = regions_of k.chains k.memory.objects new.objects ids (λ r. region_of header r past) (λ o. backing_of header o past) (next_region header past) (next_object header past) (marked_regions header past) was.regions same;
+      pages = pages_eq new.frames new.resident new.objects (effect_on header.size key (TakesPage 0 false bytes) (λ o2 p2. local header.size h (place_of o2 p2) past))
           (λ o p. local header.size h (place_of o p) (hears h object control (message.Supply page lock precious bytes) ∷ past))
-          (subst (λ (z : ObjectTable). HasPages new.frames new.resident z k.chains (effect_on header.size key (TakesPage 0 false bytes) (λ o2 p2. local header.size h (place_of o2 p2) past))) (sym supplies.objects) pages) moves;
+          (subst (λ (z : ObjectTable). HasPages new.frames new.resident z (effect_on header.size key (TakesPage 0 false bytes) (λ o2 p2. local header.size h (place_of o2 p2) past))) (sym supplies.objects) pages) moves;
       controls = controls_of k.memory.objects new.objects (λ o. last_control h o past) (λ o. live_control h o past) (λ o. is_ready h o past) (λ o. is_ready h o past) was.controls same (λ o live is. refl);
       laundry = laundry_changed key row.frame _ _ _ _ _ k.memory new k.laundry (returns_out h past) was.laundry comes;
       frames = frames_changed (slice_get (reverse header.frames.items) h) key row.frame _ _ _ _ _ k.memory new (frames_held header.size h past) (frames_held header.size h past) (frames_wired h past) was.frames comes (λ held. let kept = comes.claims in omega arith);
-      reached = reached_of k.chains k.memory.objects new.objects rests.reached same;
+      referred = referred_of k.chains k.memory.objects new.objects new.resident (referred_row object.0 page.0 (Some now) k.chains k.memory.objects k.memory.resident new.resident comes.row (λ r is. rests.referred.pages object.0 page.0 row asked.0) rests.referred) same;
       waits = waits.waits;
       fails = refl;
       asker = tt;
@@ -412,12 +402,12 @@ changed_ended header h k ids past object control page m effect who row new rests
     let key = key_of object page in
     let asked = asked_is (row_at k.memory.resident object.0 page.0) row is_asked in
     let waits = waits_page header h k ids past object.0 page.0 None who new rests is.test ends.row (λ r bad. absurd (let no : None ≡ Some r = bad in cc)) same in
-    let pages = pages_moved header.size effect key row.frame _ _ _ _ _ k.memory new new.objects k.chains (λ o p. local header.size h (place_of o p) past) was.fits.parts was.pages ends (λ some. absurd (let bad : false ≡ true = some in cc))
+    let pages = pages_moved header.size effect key row.frame _ _ _ _ _ k.memory new new.objects (λ o p. local header.size h (place_of o p) past) was.fits.parts was.pages ends
     (ap (local_after header.size effect) (asked_shows k.memory.frames row (absent_at k.memory.objects object.0 page.0) (was.fits.plain object.0 page.0 row asked.0) asked.1) ∙ left.here) left.others in
     record {
       plain = plain_changed key row.frame _ _ _ _ _ k.memory new was.fits.plain ends tt;
-      regions = regions_of k.chains k.memory.objects new.objects ids (λ r. region_of header r past) (λ o. backing_of header o past) (next_region header past) (next_object header past) was.regions same;
-      pages = pages_eq new.frames new.resident new.objects k.chains (effect_on header.size key effect (λ o p. local header.size h (place_of o p) past))
+      regions = regions_of k.chains k.memory.objects new.objects ids (λ r. region_of header r past) (λ o. backing_of header o past) (next_region header past) (next_object header past) (marked_regions header past) was.regions same;
+      pages = pages_eq new.frames new.resident new.objects (effect_on header.size key effect (λ o p. local header.size h (place_of o p) past))
           (λ o p. local header.size h (place_of o p) (hears h object control m ∷ past)) pages
           (λ o p. is.moves o p
           ∙ ap (λ z. local_after header.size z (local header.size h (place_of o p) past))
@@ -426,7 +416,7 @@ changed_ended header h k ids past object control page m effect who row new rests
       laundry = laundry_changed key row.frame _ _ _ _ _ k.memory new k.laundry (returns_out h past) was.laundry ends;
       frames = subst (λ (z : ℕ). HasFrames (slice_get (reverse header.frames.items) h) new.frames z (frames_wired h past)) (sym is.held)
           (frames_changed (slice_get (reverse header.frames.items) h) key row.frame _ _ _ _ _ k.memory new (frames_held header.size h past) (frames_held header.size h past - 1) (frames_wired h past) was.frames ends (λ held. let less = ends.claims in omega arith));
-      reached = reached_of k.chains k.memory.objects new.objects rests.reached same;
+      referred = referred_of k.chains k.memory.objects new.objects new.resident (referred_gone object.0 page.0 k.chains k.memory.objects k.memory.resident new.resident ends.row rests.referred) same;
       waits = waits.waits;
       fails = is.fails;
       asker = is.asker;
@@ -543,12 +533,6 @@ hears_it header h k ids host events after past object control m who new rests te
         discards said (nothing (ap (λ z. z.asked) (rests.matches.pages.shown object.0 page.0) ∙ unasked_shows k.memory.frames (row_at k.memory.resident object.0 page.0) (absent_at k.memory.objects object.0 page.0) is)) done
     by_asked page outcome said (Some was) is nothing counts_now done = counts_now was is done
 
-    temporary : (known : ObjectRow) (page : PageNo) (was : PageRow) → object_at k.memory.objects object.0 ≡ Some known → asked_row (row_at k.memory.resident object.0 page.0) ≡ Some was → known.kind ≡ Temp
-    temporary known page was found asked =
-        let region = region_row k.chains object.0 (rests.matches.pages.live object.0 page.0 was (asked_is (row_at k.memory.resident object.0 page.0) was asked).0) in
-        let under = rests.matches.regions.under object.0 region.0 region.1 in
-        ap (λ z. z.kind) (some_is known under.object (sym found ∙ under.found)) ∙ under.temporary
-
     by_message : (known : ObjectRow) (said : Message) → IsTempAnswer k.size said → object_at k.memory.objects object.0 ≡ Some known → known.live ≡ true → lives h object control past ≡ true → live_control h object.0 past ≡ Some known.control
         → Answers (live_outcome known (row_at k.memory.resident object.0) said) → Heard header h k ids who new events after past (hears h object control said)
     by_message known (message.Ready cache strategy) plain found live lives_now number done = by_state known cache strategy known.state refl found live lives_now number done
@@ -557,7 +541,7 @@ hears_it header h k ids host events after past object control m who new rests te
         (λ was asked supplies. record { changed = changed_supplied header h k ids events after past object control page lock precious bytes who new rests supplies lives_now plain.0 plain.1; nothing = supplies.events }) done
     by_message known (message.Unavailable page) plain found live lives_now number done =
         by_asked page (unavailable_outcome known.kind page) (message.Unavailable page) (asked_row (row_at k.memory.resident object.0 page.0)) refl (unlacked header h object control page past)
-        (λ was asked lacks. lacked_now page (subst (λ (z : ObjectKind). Answers (unavailable_outcome z page)) (temporary known page was found asked) lacks)) done
+        (λ was asked lacks. lacked_now page (subst (λ (z : ObjectKind). Answers (unavailable_outcome z page)) (rests.matches.regions.temporary object.0 known found).kind lacks)) done
       where
         lacked_now : (at : PageNo) → Answers (Lacked at) → Heard header h k ids who new events after past (hears h object control (message.Unavailable at))
         lacked_now at lacks = record { changed = changed_lacked header h k ids events after past object control at who new rests lacks lives_now; nothing = lacks.events }

@@ -1,7 +1,8 @@
 -- The frame of the oldest return is free, once its pager took it.
-use Rattle.vm_kernel.proofs.Common.{All, Bool, ChainTable, EachApart, Event, FrameNo, FrameTable, HasFrames, HasLaundry, HasPages, Header, Ids, IsLaundered, IsWashed, LaundryList, List, Local, ObjectId, ObjectTable, Option, PageNo, Parts, Releases, ResidentTable, Rests, Some, Up, [], ap, arith, eqb_tells, false, fit_released, frame_count, frames_held, frames_wired, get_or, host_id, inl, inr, is_claimed, is_skipped, length, length-set, local, mark_there, one_case, place_of, refl, returns_out, reverse, set, set_cases, slice_get, subst, suc, sym, true, zero, ℕ, ◌++◌, ◌+◌, ◌-◌, ◌<◌, ◌∙◌, ◌∷◌, ◌≡◌}
+use Rattle.vm_kernel.proofs.Common.{All, Bool, EachApart, Event, FrameNo, FrameTable, HasFrames, HasLaundry, HasPages, Header, Ids, IsLaundered, IsWashed, LaundryList, List, Local, ObjectId, ObjectTable, Option, PageNo, Parts, Releases, ResidentTable, Rests, Some, Up, [], ap, arith, eqb_tells, false, fit_released, frame_count, frames_held, frames_wired, get_or, host_id, inl, inr, is_claimed, is_skipped, length, length-set, local, mark_there, one_case, place_of, refl, returns_out, reverse, set, set_cases, slice_get, subst, suc, sym, true, zero, ℕ, ◌++◌, ◌+◌, ◌-◌, ◌<◌, ◌∙◌, ◌∷◌, ◌≡◌}
 use Rattle.vm_model.specs.declared.event.Event.TheVariants as event
 use Rattle.vm_model.specs.declared.message.Message.TheVariants as message
+use Rattle.vm_kernel.proofs.After.{Leaves, controls_after, homeless_after, regions_after}
 use Rattle.vm_kernel.proofs.Own.{own_host}
 
 -- no frame of the list is this one
@@ -54,8 +55,8 @@ laundry_less fs fs2 rs laundry laundry2 out f has held room claimed releases =
           unowned = was.unowned;
         }
 
-pages_same : (fs fs2 : FrameTable) (rs : ResidentTable) (os : ObjectTable) (cs : ChainTable) (local_at : ℕ → ℕ → Local) (f : ℕ) → HasPages fs rs os cs local_at → Releases f fs fs2 → HasPages fs2 rs os cs local_at
-pages_same fs fs2 rs os cs local_at f has releases = subst (λ (z : FrameTable). HasPages z rs os cs local_at) (sym releases.is) (record { shown = has.shown; live = has.live })
+pages_same : (fs fs2 : FrameTable) (rs : ResidentTable) (os : ObjectTable) (local_at : ℕ → ℕ → Local) (f : ℕ) → HasPages fs rs os local_at → Releases f fs fs2 → HasPages fs2 rs os local_at
+pages_same fs fs2 rs os local_at f has releases = subst (λ (z : FrameTable). HasPages z rs os local_at) (sym releases.is) (record { shown = has.shown })
 
 -- the frame that is held longest
 pub washed_first : (fs : FrameTable) (rs : ResidentTable) (laundry : LaundryList) (out : ℕ) (f : FrameNo) (more : List FrameNo) → HasLaundry fs rs laundry out → laundry.held ≡ f ∷ more → IsWashed fs rs f
@@ -67,6 +68,7 @@ rests_taken : (header : Header) (h : ℕ) (k : Parts) (ids : Ids) (past : List E
     → Rests header h (record k { memory = record k.memory { frames = fs }; laundry = laundry }) ids (event.Taken (Up (host_id h) object) (message.Return control page dirty false bytes) ∷ past)
 rests_taken header h k ids past object control page dirty bytes f fs laundry rests held room releases =
     let was = rests.matches in
+    let leaves : Leaves header past (event.Taken (Up (host_id h) object) (message.Return control page dirty false bytes) ∷ past) = record { regions_made = refl; objects_made = refl; region = λ r. refl; backing = λ o. refl; home = λ r. refl; made_for = λ o. refl; used = λ g r. refl } in
     let washed = washed_first k.memory.frames k.memory.resident k.laundry (returns_out h past) f laundry.held was.laundry held in
     record {
       matches =
@@ -77,18 +79,19 @@ rests_taken header h k ids past object control page dirty bytes f fs laundry res
             host = was.host;
             fits = record { parts = fit_released k.memory fs f.0 was.fits.parts washed.claimed washed.unowned releases; plain = was.fits.plain; buffers = was.fits.buffers };
             tasks = was.tasks;
-            regions = was.regions;
+            regions = regions_after leaves was.regions;
             entries = was.entries;
-            pages = pages_same k.memory.frames fs k.memory.resident k.memory.objects k.chains (λ o p. local header.size h (place_of o p) past) f.0 was.pages releases;
+            pages = pages_same k.memory.frames fs k.memory.resident k.memory.objects (λ o p. local header.size h (place_of o p) past) f.0 was.pages releases;
             uses = was.uses;
-            controls = was.controls;
-            homeless = was.homeless;
+            controls = controls_after leaves was.controls;
+            homeless = homeless_after leaves was.homeless;
+            homes = was.homes;
             settled = record { returned = refl; shut = λ region. refl };
             laundry = rw (own_host h) (laundry_less k.memory.frames fs k.memory.resident k.laundry laundry (returns_out h past) f was.laundry held room washed.claimed releases);
             frames = rw (own_host h) (frames_less (slice_get (reverse header.frames.items) h) k.memory.frames fs f.0 (frames_held header.size h past) (frames_wired h past) was.frames releases);
           };
       used = rests.used;
-      reached = rests.reached;
+      referred = rests.referred;
       waits = rests.waits;
       order = rests.order;
       idle = rests.idle;

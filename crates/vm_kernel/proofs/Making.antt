@@ -1,14 +1,14 @@
 -- A task is made: it doesn't wait, and who waits goes on waiting; and an object is made, which has no control yet.
-use Rattle.vm_kernel.proofs.Common.{Access, Bool, ChainTable, ChangesOnly, Event, HasControls, HasWaiters, Header, HostId, Ids, List, Mapped, None, ObjectRow, ObjectTable, On, Option, Outside, Parts, PutsObject, Ran, Reason, ResidentTable, Some, Starts, TaskId, Temp, Waiting, Want, Without, Woken, [], ap, arith, entries_in, entry, eqb_tells, false, holds, host_id, inl, inr, is_some, last_in, live_in, next_region, object_at, one_case, ready_in, refl, rows_in, some_is, subst, sym, tasks, true, waiting, waiting_in, ℕ, ◌∙◌, ◌∷◌, ◌≡◌}
+use Rattle.vm_kernel.proofs.Common.{Access, Bool, ChainTable, ChangesOnly, Event, HasControls, HasWaiters, Header, HostId, Ids, List, Mapped, None, ObjectRow, ObjectTable, Option, Outside, Parts, PutsObject, Ran, ResidentTable, Some, Starts, TaskId, Temp, Waiting, Without, Woken, [], ap, arith, entries_in, entry, eqb_tells, false, holds, host_id, inl, inr, is_some, last_in, live_in, next_region, object_at, one_case, ready_in, refl, rows_in, some_is, subst, sym, tasks, true, waiting, waiting_in, ℕ, ◌∙◌, ◌∷◌, ◌≡◌}
 use Rattle.vm_model.specs.declared.event.Event.TheVariants as event
 use Rattle.vm_model.specs.declared.command.Command.TheVariants as command
-use Rattle.vm_waits.specs.declared.waiting.On.TheVariants as on
+use Rattle.vm_kernel.proofs.After.{Leaves, controls_after, homeless_after, regions_after}
 use Rattle.vm_kernel.proofs.Counts.{most_is}
 use Rattle.vm_kernel.proofs.Growing.{suffices}
 use Rattle.vm_kernel.proofs.Heads.{heads_one, ran_head}
 use Rattle.vm_kernel.proofs.Tasks.{can_make, entries_made, tasks_made, unmade}
 use Rattle.vm_kernel.proofs.Uses.{uses_made}
-use Rattle.vm_kernel.proofs.Waited.{tops_same, waits_changed}
+use Rattle.vm_state.proofs.Waited.{tops_same, waits_changed}
 use Rattle.vm_kernel.proofs.Own.{named_host}
 use Rattle.vm_kernel.proofs.Mine.{own_new}
 
@@ -48,6 +48,7 @@ ran_task header h outside task past k ids before after maps s changes told =
     let m = s.rests.matches in
     let e : Event = event.TaskMade task (host_id h) in
     let free = can_make header h task past k ids before s in
+    let leaves : Leaves header past (e ∷ past) = record { regions_made = refl; objects_made = refl; region = λ r. refl; backing = λ o. refl; home = λ r. refl; made_for = λ o. refl; used = λ g r. refl } in
     let log : after ≡ e ∷ [] = told ∙ (ap (λ z. event.TaskMade task z ∷ before) (named_host k.host h m.host) ∙ ap (λ z. e ∷ z) s.nothing) in
     subst (λ (z : List Event). Ran header h outside (command.Task task (host_id h)) past (record k { maps = maps }) ids z) (sym log)
     (ran_head header h outside (command.Task task (host_id h)) past (record k { maps = maps }) ids (e ∷ []) (e ∷ []) refl refl
@@ -62,18 +63,19 @@ ran_task header h outside task past k ids before after maps s changes told =
             host = m.host;
             fits = record { parts = m.fits.parts; plain = m.fits.plain; buffers = m.fits.buffers };
             tasks = tasks_made h header.size k.maps maps past task m.tasks changes;
-            regions = m.regions;
+            regions = regions_after leaves m.regions;
             entries = entries_made header.size k.maps maps k.chains task.0 m.entries changes free s.range.0;
             pages = m.pages;
             uses = uses_made k.maps maps _ (tasks past) _ _ (next_region header past) task.0 m.uses changes free (rw most_is s.range.0) (holds_made header.size task (host_id h) past);
-            controls = m.controls;
-            homeless = m.homeless;
+            controls = controls_after leaves m.controls;
+            homeless = homeless_after leaves m.homeless;
+            homes = m.homes;
             settled = record { returned = refl; shut = λ region. refl };
             laundry = m.laundry;
             frames = m.frames;
           };
       used = s.rests.used;
-      reached = s.rests.reached;
+      referred = s.rests.referred;
       waits = waits_made k.maps maps k.chains k.memory.resident k.memory.objects k.waits.rows _ task (host_id h) past s.rests.waits free changes;
       order = s.rests.order;
       idle = s.rests.idle;
@@ -125,41 +127,3 @@ controls_made {h = h} {home_at2 = home_at2} os os2 last_at live_at ready_at n pa
   where
     was : (o : ℕ) → n ≡ o → object_at os o ≡ None
     was o same = subst (λ (z : ℕ). object_at os z ≡ None) same none
-
--- each object that was known is known as it was
-pub record KnowsMore (old new : ObjectTable) : Type 0 where
-  pub at : (o : ℕ) (row : ObjectRow) → object_at old o ≡ Some row → object_at new o ≡ Some row
-
-pub knows_made : (os os2 : ObjectTable) (n : ℕ) (row : ObjectRow) → object_at os n ≡ None → PutsObject n (Some row) os os2 → KnowsMore os os2
-knows_made os os2 n row none put =
-    record {
-      at = λ o known found. elim (one_case n o (Some row) (object_at os o) (object_at os2 o) (put.at o)) [
-        | inl same ↦ absurd (let bad : None ≡ Some known = sym none ∙ (ap (object_at os) same.0 ∙ found) in cc)
-        | inr apart ↦ apart.1 ∙ found
-      ];
-    }
-
-reason_known : (maps : Mapped) (cs : ChainTable) (rs : ResidentTable) (os os2 : ObjectTable) (task : ℕ) (what : Want) (why : On) → KnowsMore os os2 → Reason maps cs rs os task what why → Reason maps cs rs os2 task what why
-reason_known maps cs rs os os2 task what on.Again more reason = reason
-reason_known maps cs rs os os2 task what (on.Ready object) more reason =
-    let told = reason.3 in
-    (reason.0, reason.1, reason.2, record { row = told.row; found = more.at object.0 told.row told.found; sent = told.sent })
-reason_known maps cs rs os os2 task what (on.Page key) more reason = reason
-reason_known maps cs rs os os2 task what on.Frame more reason = reason
-
-pub waits_known : (maps : Mapped) (cs : ChainTable) (rs : ResidentTable) (os os2 : ObjectTable) (rows : List Waiting) (who : Woken) (waiting_at : ℕ → Option Access)
-    → HasWaiters maps cs rs os rows who waiting_at → KnowsMore os os2 → HasWaiters maps cs rs os2 rows who waiting_at
-waits_known maps cs rs os os2 rows who waiting_at has more =
-    record {
-      is = has.is;
-      allowed = has.allowed;
-      sized = has.sized;
-      reasons = λ t w found apart. reason_known maps cs rs os os2 t w.want w.on more (has.reasons t w found apart);
-      aims = has.aims;
-      askers = has.askers;
-      ready = λ o p row found away. known_ready o (object_at os o) refl (has.ready o p row found away);
-    }
-  where
-    known_ready : (o : ℕ) (known : Option ObjectRow) → object_at os o ≡ known → ready_in known ≡ true → ready_in (object_at os2 o) ≡ true
-    known_ready o None found is = absurd (let bad : false ≡ true = is in cc)
-    known_ready o (Some row) found is = ap ready_in (more.at o row found) ∙ is

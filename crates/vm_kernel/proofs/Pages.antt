@@ -1,5 +1,5 @@
 -- What a host has of its pages and frames, once a page and its frame have changed.
-use Rattle.vm_kernel.proofs.Common.{Asks, Bool, ChainTable, Changes, Elsewhere, Fit, FrameNo, FrameTable, HasFrames, HasLaundry, HasPages, HostParts, IsWashed, LaundryList, List, Local, LocalEffect, None, ObjectTable, Option, PageKey, PageRow, Queues, Some, [], absent_at, ap, arith, claimed, eqb_tells, false, frame_apart, frame_count, get_or, has_region, if◌then◌else◌, inl, inr, is_claimed, is_some, led, length, length-set, local_after, local_of_row, lock_number, not, one_case, owner_of, page_in, refl, row_at, row_cases, row_put, subst, sym, true, ℕ, ◌&&◌, ◌==◌, ◌∙◌, ◌≡◌}
+use Rattle.vm_kernel.proofs.Common.{Asks, Bool, Changes, Elsewhere, Fit, FrameNo, FrameTable, HasFrames, HasLaundry, HasPages, HostParts, IsWashed, LaundryList, List, Local, LocalEffect, None, ObjectTable, Option, PageKey, PageRow, Queues, Some, [], absent_at, ap, arith, claimed, eqb_tells, false, frame_apart, frame_count, get_or, if◌then◌else◌, inl, inr, is_claimed, is_some, led, length, length-set, local_after, local_of_row, lock_number, not, one_case, owner_of, page_in, refl, row_at, row_cases, row_put, subst, sym, true, ℕ, ◌&&◌, ◌==◌, ◌∙◌, ◌≡◌}
 
 pub itself : (n : ℕ) → (n == n) ≡ true
 itself n = elim (eqb_tells n n) [ inl same ↦ same.0 | inr apart ↦ absurd (apart.1 refl) ]
@@ -32,12 +32,12 @@ pub bytes_now : (key : PageKey) (frame : FrameNo) (was now : Option PageRow) (he
 bytes_now key frame was now held bytes lists old new c = elim (one_case frame.0 frame.0 bytes (page_in old.frames frame.0) (page_in new.frames frame.0) (c.page.at frame.0)) [ inl same ↦ same.1 | inr apart ↦ absurd (apart.0 refl) ]
 
 -- one page shows what it shows now, and each other what it did
-pub pages_changed : (key : PageKey) (frame : FrameNo) (was now : Option PageRow) (held : Bool) (bytes : List ℕ) (lists : Queues) (old new : HostParts) (os : ObjectTable) (cs : ChainTable) (local_at local_now : ℕ → ℕ → Local)
-    → Fit old → HasPages old.frames old.resident old.objects cs local_at → Changes key frame was now held bytes lists old new → (is_some now ≡ true → has_region cs key.object.0 ≡ true)
+pub pages_changed : (key : PageKey) (frame : FrameNo) (was now : Option PageRow) (held : Bool) (bytes : List ℕ) (lists : Queues) (old new : HostParts) (os : ObjectTable) (local_at local_now : ℕ → ℕ → Local)
+    → Fit old → HasPages old.frames old.resident old.objects local_at → Changes key frame was now held bytes lists old new
     → (local_at key.object.0 key.page.0 ≡ local_of_row old.frames was (absent_at old.objects key.object.0 key.page.0) → local_now key.object.0 key.page.0 ≡ local_of_row new.frames now (absent_at os key.object.0 key.page.0))
     → ((o p : ℕ) → (key.object.0 == o && key.page.0 == p) ≡ false → (local_now o p ≡ local_at o p) × (absent_at os o p ≡ absent_at old.objects o p))
-    → HasPages new.frames new.resident os cs local_now
-pages_changed key frame was now held bytes lists old new os cs local_at local_now fit has c region here others =
+    → HasPages new.frames new.resident os local_now
+pages_changed key frame was now held bytes lists old new os local_at local_now fit has c here others =
     record {
       shown = λ o p. elim (row_cases key.object.0 key.page.0 now old.resident new.resident c.row o p) [
         | inl put ↦
@@ -48,10 +48,6 @@ pages_changed key frame was now held bytes lists old new os cs local_at local_no
             same.0 ∙ (has.shown o p
             ∙ (shown_same old.frames new.frames (row_at old.resident o p) (absent_at old.objects o p) (λ r is. elsewhere o p r that.apart is)
             ∙ (ap (local_of_row new.frames (row_at old.resident o p)) (sym same.1) ∙ sym (ap (λ z. local_of_row new.frames z (absent_at os o p)) that.is))))
-      ];
-      live = λ o p r is. elim (row_cases key.object.0 key.page.0 now old.resident new.resident c.row o p) [
-        | inl put ↦ subst (λ (z : ℕ). has_region cs z ≡ true) put.object (region (ap is_some (sym put.is ∙ is)))
-        | inr that ↦ has.live o p r (sym that.is ∙ is)
       ];
     }
   where
@@ -77,13 +73,13 @@ pub effect_apart : (size : ℕ) (key : PageKey) (effect : LocalEffect) (local_at
 effect_apart size key effect local_at o p apart = ap (λ b. local_after size (if b then effect else Elsewhere) (local_at o p)) apart
 
 -- what an effect leaves that changes one page
-pub pages_moved : (size : ℕ) (effect : LocalEffect) (key : PageKey) (frame : FrameNo) (was now : Option PageRow) (held : Bool) (bytes : List ℕ) (lists : Queues) (old new : HostParts) (os : ObjectTable) (cs : ChainTable) (local_at : ℕ → ℕ → Local)
-    → Fit old → HasPages old.frames old.resident old.objects cs local_at → Changes key frame was now held bytes lists old new → (is_some now ≡ true → has_region cs key.object.0 ≡ true)
+pub pages_moved : (size : ℕ) (effect : LocalEffect) (key : PageKey) (frame : FrameNo) (was now : Option PageRow) (held : Bool) (bytes : List ℕ) (lists : Queues) (old new : HostParts) (os : ObjectTable) (local_at : ℕ → ℕ → Local)
+    → Fit old → HasPages old.frames old.resident old.objects local_at → Changes key frame was now held bytes lists old new
     → local_after size effect (local_of_row old.frames was (absent_at old.objects key.object.0 key.page.0)) ≡ local_of_row new.frames now (absent_at os key.object.0 key.page.0)
     → ((o p : ℕ) → (key.object.0 == o && key.page.0 == p) ≡ false → absent_at os o p ≡ absent_at old.objects o p)
-    → HasPages new.frames new.resident os cs (effect_on size key effect local_at)
-pages_moved size effect key frame was now held bytes lists old new os cs local_at fit has c region shows absent =
-    pages_changed key frame was now held bytes lists old new os cs local_at (effect_on size key effect local_at) fit has c region
+    → HasPages new.frames new.resident os (effect_on size key effect local_at)
+pages_moved size effect key frame was now held bytes lists old new os local_at fit has c shows absent =
+    pages_changed key frame was now held bytes lists old new os local_at (effect_on size key effect local_at) fit has c
     (λ was_shown. effect_here size key effect local_at ∙ (ap (local_after size effect) was_shown ∙ shows))
     (λ o p apart. (effect_apart size key effect local_at o p apart, absent o p apart))
 

@@ -1,19 +1,29 @@
 -- The lists of pages are as the events say.
-use Rattle.vm_kernel.proofs.Common.{AfterZeros, AllSkipped, AtOnce, Bool, BringsZeros, Changes, DepartsFrom, Does, Ended, Event, FaultStep, Faulted, Faults, FrameNo, Header, Hits, Ids, IsChosen, IsHere, IsVictim, KeepsPages, List, Marks, MarksReferenced, None, NothingChanges, Option, Page, PageKey, PageRow, PagerState, Paging, Parts, Plays, PutsRow, Queues, Reclaim, ReclaimEffects, RequestsPage, ResidentTable, Rests, Some, Still, TaskId, Then, Up, Want, WritesNumber, [], all_tasks, ap, arith, balanced, balanced_done, cleared, controlled, count_by, false, frame_here, from_unreferenced, front_referenced_of, has_page, if◌then◌else◌, in_use, inl, inr, looked, nat_tests, needs_none, none_needed, page_in, paging, places_with_frame, queues_after_search, queues_except, referenced_front, refl, row_at, row_cases, sends, shortage, spared, spared_done, subst, sym, take, told_from, true, victim_frame, with_reference, zeroed, ℕ, ◌&&◌, ◌++◌, ◌<◌, ◌==◌, ◌||◌, ◌∙◌, ◌∷◌, ◌≡◌}
-use Rattle.std.proofs.Common.{map}
+use Rattle.vm_kernel.proofs.Common.{AllSkipped, Bool, Changes, Does, Event, FrameNo, Header, HostParts, Ids, IsChosen, IsVictim, KeepsPages, List, None, Option, Page, PageKey, PageRow, PagerState, Paging, Parts, Plays, PutsRow, Queues, Reclaim, ReclaimEffects, ResidentTable, Rests, Some, Still, TaskId, Then, Up, Want, [], ap, arith, balanced, balanced_done, cleared, controlled, created, false, frame_here, from_unreferenced, front_referenced_of, if◌then◌else◌, inl, inr, is_queued, is_skipped, looked, map, nat_tests, needs_none, none_needed, page_in, paging, places_with_frame, queues_after_search, queues_except, referenced_front, refl, row_at, row_cases, sends, shortage, spared, spared_done, subst, sym, take, told_from, true, victim_frame, with_reference, ℕ, ◌&&◌, ◌++◌, ◌==◌, ◌||◌, ◌∙◌, ◌∷◌, ◌≡◌}
+use Rattle.std.proofs.lemmas.Bool.Decides.{eqb_tells}
+use Rattle.vm_base.specs.declared.ids.HostId.{HostId}
+use Rattle.vm_fault.specs.Faults.{AfterZeros, AtOnce, Ended, Faulted, FaultState, Hits, Raised, References}
+use Rattle.vm_fault.specs.declared.step.FaultStep.{FaultStep}
+use Rattle.vm_fault.specs.declared.step.FaultStep.TheVariants as step
+use Rattle.vm_legal.specs.Walks.{Reach}
+use Rattle.vm_maps.specs.Maps.{Mapped}
 use Rattle.vm_model.specs.declared.event.Event.TheVariants as event
 use Rattle.vm_model.specs.declared.message.Message.TheVariants as message
 use Rattle.vm_objects.specs.declared.row.PagerState.TheVariants as state
 use Rattle.vm_pageout.specs.declared.answer.Reclaim.TheVariants as reclaim
+use Rattle.vm_queues.specs.Queues.{added, marked}
 use Rattle.vm_waits.specs.declared.waiting.Want.TheVariants as want
-use Rattle.vm_kernel.specs.declared.steps.FaultStep.TheVariants as step
-use Rattle.vm_kernel.proofs.Accessing.{brought_here}
-use Rattle.vm_kernel.proofs.Strands.{itself}
-use Rattle.vm_kernel.proofs.Regions.{region_row}
+use Rattle.vm_kernel.specs.Plays.{Looks, AreSources, Arrives, AsUnreached, AsVictim, Departs, uncreated}
+use Rattle.vm_kernel.specs.Turns.{IsFront, Bare, Shadow}
+use Rattle.vm_kernel.proofs.Claiming.{Front, front_in}
+
+itself : (n : ℕ) → (n == n) ≡ true
+itself n = grind (arith, nat_tests)
 
 -- first some events, and then some more
 pub plays_both : {header : Header} {past before mid : List Event} {old k : Paging} {after : List Event} {new : Paging} → Plays header past before old mid k → Plays header past mid k after new → Plays header past before old after new
 plays_both one Still = one
+plays_both one (Looks host events inner new rest searches) = Looks host events inner new (plays_both one rest) searches
 plays_both one (Then e events inner new rest does) = Then e events inner new (plays_both one rest) does
 
 pub plays_still : (header : Header) (past events : List Event) (k : Paging) → Plays header past events k events k
@@ -66,62 +76,151 @@ frames_kept old new o p x put same o2 p2 = elim (row_cases o p x old new put o2 
 pub here_is : (x : Option PageRow) (row : PageRow) (frame : FrameNo) → x ≡ Some row → row.here ≡ true → row.frame ≡ frame → frame_here x ≡ Some frame
 here_is x row frame found here is = ap frame_here found ∙ ap (λ (b : Bool). if b then Some row.frame else None) here ∙ ap Some is
 
--- a page that is here was marked
-marked_one : (key : PageKey) (frame : FrameNo) (k mid new : Parts) → IsHere key frame k → paging mid ≡ paging k → MarksReferenced frame mid new → Marks key.object.0 key.page.0 (paging k) (paging new)
-marked_one key frame k mid new here same touches =
+-- a run changes no lists but those of the host's parts
+abbrev pub paging_in : HostParts → Paging
+paging_in parts = record { frame_at = λ o p. frame_here (row_at parts.resident o p); queues = parts.queues }
+
+-- two marks, in either order
+
+or_turned : (a b c : Bool) → (a || (b || c)) ≡ (b || (a || c))
+or_turned true true c = refl
+or_turned true false c = refl
+or_turned false b c = refl
+
+marked_turned : (f g : ℕ) (pages : List Page) → map (marked f) (map (marked g) pages) ≡ map (marked g) (map (marked f) pages)
+marked_turned f g [] = refl
+marked_turned f g (page ∷ pages) = λ i. record { frame = page.frame; referenced = or_turned (page.frame == f) (page.frame == g) page.referenced i } ∷ marked_turned f g pages i
+
+pub references_turned : (f g : ℕ) (q : Queues) → with_reference f (with_reference g q) ≡ with_reference g (with_reference f q)
+references_turned f g q = λ i. record { active = marked_turned f g q.active i; inactive = marked_turned f g q.inactive i; frames = q.frames }
+
+-- a page's frame was marked, and each page is where it was
+record Touches (frame : FrameNo) (old new : HostParts) : Type 0 where
+  lists : new.queues ≡ with_reference frame.0 old.queues
+  frames : (o p : ℕ) → frame_here (row_at new.resident o p) ≡ frame_here (row_at old.resident o p)
+
+refers_touches : (frame : FrameNo) (old new : HostParts) → References frame old new → Touches frame old new
+refers_touches frame old new refers = record { lists = refers.marks; frames = λ o p. ap (λ (z : HostParts). frame_here (row_at z.resident o p)) refers.is }
+
+hit_touches : (task : TaskId) (what : Want) (key : PageKey) (frame : FrameNo) (at value : ℕ) (e : Event) (old new : HostParts) → Hits task what key frame at value e old new → Touches frame old new
+hit_touches task (want.Load address n) key frame at value e old new hits = refers_touches frame old new hits.1
+hit_touches task (want.Store address n number) key frame at value e old new hits =
+    let wrote = hits.1.1 in
+    let touched = refers_touches frame hits.1.0 new hits.1.2 in
     record {
-      frame = frame;
-      here = here_is (row_at k.memory.resident key.object.0 key.page.0) here.row frame here.found here.here here.is;
-      is = ap paging touches.is ∙ ap (λ q. record { frame_at = (paging mid).frame_at; queues = q }) touches.marks ∙ ap (λ (z : Paging). record { frame_at = z.frame_at; queues = with_reference frame.0 z.queues }) same;
+      lists = touched.lists ∙ ap (with_reference frame.0) wrote.page.queues;
+      frames = λ o p.
+          touched.frames o p
+          ∙ frames_kept old.resident hits.1.0.resident key.object.0 key.page.0 (Some (record wrote.row { dirty = true })) wrote.page.row (sym (ap frame_here wrote.page.found)) o p;
     }
 
-wrote_same : (key : PageKey) (frame : FrameNo) (bytes : List ℕ) (k mid : Parts) → WritesNumber key frame bytes k mid → paging mid ≡ paging k
-wrote_same key frame bytes k mid wrote =
-    same_paging _ _ _ _ (frames_kept k.memory.resident mid.memory.resident key.object.0 key.page.0 (Some (record wrote.row { dirty = true })) wrote.page.row (sym (ap frame_here wrote.page.found))) wrote.page.queues
+-- an access that ends marks its page
+hit_does : (header : Header) (past : List Event) (task : TaskId) (what : Want) (key : PageKey) (frame : FrameNo) (at value : ℕ) (e : Event) (old new : HostParts) (a b : Paging) → Hits task what key frame at value e old new
+    → a.frame_at key.object.0 key.page.0 ≡ Some frame → b ≡ record a { queues = with_reference frame.0 a.queues } → Does header past e a b
+hit_does header past task (want.Load address n) key frame at value e old new a b hits here is = subst (λ (z : Event). Does header past z a b) (sym hits.2) (record { frame = frame; here = here; is = is })
+hit_does header past task (want.Store address n number) key frame at value e old new a b hits here is = subst (λ (z : Event). Does header past z a b) (sym hits.2) (record { frame = frame; here = here; is = is })
 
-hit_plays : (header : Header) (past : List Event) (task : TaskId) (what : Want) (key : PageKey) (frame : FrameNo) (at : ℕ) (k new : Parts) (before after : List Event)
-    → IsHere key frame k → Hits task what key frame at k new before after → Plays header past before (paging k) after (paging new)
-hit_plays header past task (want.Load address size) key frame at k new before after here hits =
-    plays_one header past before after (event.Loaded task key.object key.page hits.0) (paging k) (paging new) hits.3 (marked_one key frame k k new here refl hits.2)
-hit_plays header past task (want.Store address size value) key frame at k new before after here hits =
-    plays_one header past before after (event.Stored task key.object key.page at size value) (paging k) (paging new) hits.3 (marked_one key frame k hits.0 new here (wrote_same key frame _ k hits.0 hits.1) hits.2)
+touched_is : (frame : FrameNo) (old new : HostParts) → Touches frame old new → ◌≡◌ {A = Paging} (paging_in new) (record (paging_in old) { queues = with_reference frame.0 old.queues })
+touched_is frame old new touched = same_paging _ _ _ _ touched.frames touched.lists
 
-brought_plays : (header : Header) (past before : List Event) (key : PageKey) (frame : FrameNo) (k new : Parts) → BringsZeros key frame k new → Plays header past before (paging k) (zeroed key k ∷ before) (paging new)
-brought_plays header past before key frame k new brought =
-    plays_one header past before (zeroed key k ∷ before) (zeroed key k) (paging k) (paging new) refl
-    (record {
+-- a page has come into a frame that was free
+come_is : (key : PageKey) (frame : FrameNo) (row : PageRow) (held : Bool) (bytes : List ℕ) (old new : HostParts) → Changes key frame None (Some row) held bytes (added frame.0 old.queues) old new → frame_here (Some row) ≡ Some frame
+    → ◌≡◌ {A = Paging} (paging_in new) (record { frame_at = places_with_frame key.object.0 key.page.0 (Some frame) (paging_in old).frame_at; queues = added frame.0 old.queues })
+come_is key frame row held bytes old new page here = same_paging _ _ _ _ (frames_put old.resident new.resident key.object.0 key.page.0 (Some row) (Some frame) page.row here) page.queues
+
+came : (key : PageKey) (frame : FrameNo) (row : PageRow) (held : Bool) (bytes : List ℕ) (old new : HostParts) → Changes key frame None (Some row) held bytes (added frame.0 old.queues) old new → frame_here (Some row) ≡ Some frame
+    → Arrives key.object.0 key.page.0 (paging_in old) (paging_in new)
+came key frame row held bytes old new page here =
+    record {
       frame = frame;
-      absent = ap frame_here brought.page.found;
-      unlisted = brought.page.listed;
-      is = same_paging _ _ _ _ (frames_put k.memory.resident new.memory.resident key.object.0 key.page.0 _ (Some frame) brought.page.row refl) brought.page.queues;
-    })
+      absent = ap frame_here page.found;
+      unlisted = page.listed;
+      is = come_is key frame row held bytes old new page here;
+    }
 
-ended_plays : (header : Header) (past : List Event) (task : TaskId) (what : Want) (key : PageKey) (at : ℕ) (k new : Parts) (before after : List Event) → Ended task what key at k new before after → Plays header past before (paging k) after (paging new)
-ended_plays header past task what key at k new before after (AtOnce frame here hits) = hit_plays header past task what key frame at k new before after here hits
-ended_plays header past task what key at k new before after (AfterZeros frame mid none brought hits) =
-    plays_both (brought_plays header past before key frame k mid brought)
-    (hit_plays header past task what key frame at mid new (zeroed key k ∷ before) after (brought_here key frame k mid brought) hits)
+placed : (o p : ℕ) (frame : Option FrameNo) (was : ℕ → ℕ → Option FrameNo) → places_with_frame o p frame was o p ≡ frame
+placed o p frame was = ap (λ (b : Bool). if b && p == p then frame else was o p) (itself o) ∙ ap (λ (b : Bool). if b then frame else was o p) (itself p)
 
-stays_plays : (header : Header) (past : List Event) (k new : Parts) (before after : List Event) → NothingChanges k new before after → Plays header past before (paging k) after (paging new)
-stays_plays header past k new before after stays = plays_none header past before after (paging k) (paging new) stays.told (ap paging stays.same)
+-- another page is where it was
+apart_placed : (o p o2 p2 : ℕ) (frame other : FrameNo) (was : ℕ → ℕ → Option FrameNo) → was o p ≡ None → was o2 p2 ≡ Some other → places_with_frame o p (Some frame) was o2 p2 ≡ was o2 p2
+apart_placed o p o2 p2 frame other was none some = elim (eqb_tells o o2) [
+  | inr apart ↦ ap (λ (b : Bool). if b && p == p2 then Some frame else was o2 p2) apart.0
+  | inl same ↦ elim (eqb_tells p p2) [
+    | inr apart ↦ ap (λ (b : Bool). if b && p == p2 then Some frame else was o2 p2) same.0 ∙ ap (λ (b : Bool). if b then Some frame else was o2 p2) apart.0
+    | inl even ↦ absurd (let bad : None ≡ Some other = sym none ∙ ap (λ z. was z p) same.1 ∙ ap (λ z. was o2 z) even.1 ∙ some in cc)
+  ]
+]
 
-asked_plays : (header : Header) (past : List Event) (key : PageKey) (access : ℕ) (k new : Parts) (before after : List Event) → RequestsPage key access k new before after → Plays header past before (paging k) after (paging new)
-asked_plays header past key access k new before after asked =
-    plays_one header past before after (event.Sent (Up k.host key.object) (message.Request asked.control key.page access)) (paging k) (paging new) asked.told
-    (same_paging _ _ _ _ (frames_kept k.memory.resident new.memory.resident key.object.0 key.page.0 _ asked.page.row (sym (ap frame_here asked.page.found))) asked.page.queues)
+-- the run's front says nothing of the lists
+front_plays : (header : Header) (past : List Event) (s mid : FaultState) → Front s mid → Plays header past s.events (paging_in s.parts) mid.events (paging_in mid.parts)
+front_plays header past s mid f =
+    subst (λ (z : List Event). Plays header past s.events (paging_in s.parts) z (paging_in mid.parts)) (sym f.told)
+    (subst (λ (z : Paging). Plays header past s.events (paging_in s.parts) (f.front ++ s.events) z) (sym same) (by f.is))
+  where
+    same : ◌≡◌ {A = Paging} (paging_in mid.parts) (paging_in s.parts)
+    same = same_paging _ _ _ _ (λ o p. ap (λ z. frame_here (row_at z o p)) f.rows) f.queues
+
+    by : {front : List Event} → IsFront front → Plays header past s.events (paging_in s.parts) (front ++ s.events) (paging_in s.parts)
+    by Bare = Still
+    by (Shadow region new old) = Then (event.Shadowed region new old) s.events (paging_in s.parts) (paging_in s.parts) Still refl
+
+ended_plays : (header : Header) (past : List Event) (host : HostId) (task : TaskId) (what : Want) (top : PageKey) (at value : ℕ) (s new : FaultState) → Ended host task what top at value s.parts new.parts s.chains s.events new.events
+    → Plays header past s.events (paging_in s.parts) new.events (paging_in new.parts)
+ended_plays header past host task what top at value s new (AtOnce steps key row finds stores opens e hits told) =
+    let touched = hit_touches task what key row.frame at value e s.parts new.parts hits in
+    plays_told told
+    (hit_does header (s.events ++ past) task what key row.frame at value e s.parts new.parts (paging_in s.parts) (paging_in new.parts) hits (here_is (row_at s.parts.resident key.object.0 key.page.0) row row.frame finds.found finds.here refl)
+    (touched_is row.frame s.parts new.parts touched))
+ended_plays header past host task what top at value s new (AfterZeros sinks frame brought brings plan e hits told) =
+    let zeroed = event.Zeroed host top.object top.page in
+    let arrives = came top frame _ _ _ s.parts brought brings refl in
+    let come = come_is top frame _ _ _ s.parts brought brings refl in
+    let touched = hit_touches task what top frame at value e brought new.parts hits in
+    let here : (paging_in brought).frame_at top.object.0 top.page.0 ≡ Some frame = ap (λ (z : Paging). z.frame_at top.object.0 top.page.0) come ∙ placed top.object.0 top.page.0 (Some frame) (paging_in s.parts).frame_at in
+    subst (λ (z : List Event). Plays header past s.events (paging_in s.parts) z (paging_in new.parts)) (sym told)
+    (Then e (zeroed ∷ s.events) (paging_in brought) (paging_in new.parts) (Then zeroed s.events (paging_in s.parts) (paging_in brought) Still arrives)
+    (hit_does header ((zeroed ∷ s.events) ++ past) task what top frame at value e brought new.parts (paging_in brought) (paging_in new.parts) hits here (touched_is frame brought new.parts touched)))
+ended_plays header past host task what top at value s new (Raised steps key row finds stores opens frame copied hit raises plan e hits refers told) =
+    let raised = event.Raised host key.object key.page top.object top.page in
+    let o = top.object.0 in
+    let p = top.page.0 in
+    let was = paging_in s.parts in
+    let come = paging_in copied in
+    -- the copy has come, and its source is marked
+    let both : Paging = record come { queues = with_reference row.frame.0 come.queues } in
+    let arrives = came top frame _ _ _ s.parts copied raises refl in
+    let come_so = come_is top frame _ _ _ s.parts copied raises refl in
+    let there : was.frame_at key.object.0 key.page.0 ≡ Some row.frame = here_is (row_at s.parts.resident key.object.0 key.page.0) row row.frame finds.found finds.here refl in
+    let source : come.frame_at key.object.0 key.page.0 ≡ Some row.frame =
+    ap (λ (z : Paging). z.frame_at key.object.0 key.page.0) come_so ∙ apart_placed o p key.object.0 key.page.0 frame row.frame was.frame_at (ap frame_here raises.found) there ∙ there in
+    let here : both.frame_at o p ≡ Some frame = ap (λ (z : Paging). z.frame_at o p) come_so ∙ placed o p (Some frame) was.frame_at in
+    let touched = hit_touches task what top frame at value e copied hit hits in
+    let last = refers_touches row.frame hit new.parts refers in
+    let lists : new.parts.queues ≡ with_reference frame.0 (with_reference row.frame.0 copied.queues) =
+    last.lists ∙ ap (with_reference row.frame.0) touched.lists ∙ references_turned row.frame.0 frame.0 copied.queues in
+    subst (λ (z : List Event). Plays header past s.events (paging_in s.parts) z (paging_in new.parts)) (sym told)
+    (Then e (raised ∷ s.events) both (paging_in new.parts) (Then raised s.events was both Still (record { mid = come; arrives = arrives; marks = record { frame = row.frame; here = source; is = refl } }))
+    (hit_does header ((raised ∷ s.events) ++ past) task what top frame at value e copied hit both (paging_in new.parts) hits here (same_paging _ _ _ _ (λ q r. last.frames q r ∙ touched.frames q r) lists)))
+
+comes_plays : (header : Header) (past : List Event) (maps : Mapped) (host : HostId) (task : TaskId) (what : Want) (may : Bool) (answer : FaultStep) (s new : FaultState) → (f : Faulted maps host task what may answer s new)
+    → Plays header past f.mid.events (paging_in f.mid.parts) new.events (paging_in new.parts)
+comes_plays header past maps host task what may (step.Done value) s new f = ended_plays header past host task what f.top _ value f.mid new f.comes
+comes_plays header past maps host task what may (step.Ask key) s new f =
+    let asked = f.comes in
+    plays_told asked.told
+    (same_paging _ _ _ _ (frames_kept f.mid.parts.resident new.parts.resident key.object.0 key.page.0 _ asked.page.row (sym (ap frame_here asked.page.found))) asked.page.queues)
+comes_plays header past maps host task what may (step.Unlock key) s new f =
+    let asks = f.comes in
+    plays_told asks.told
+    (same_paging _ _ _ _ (frames_kept f.mid.parts.resident new.parts.resident key.object.0 key.page.0 _ asks.page.row (sym (ap frame_here asks.page.found))) asks.page.queues)
+comes_plays header past maps host task what may (step.WaitReady object) s new f = plays_none header past _ _ _ _ f.comes.1.told (ap paging_in f.comes.1.parts)
+comes_plays header past maps host task what may (step.WaitAnswer key) s new f = plays_none header past _ _ _ _ f.comes.1.told (ap paging_in f.comes.1.parts)
+comes_plays header past maps host task what may (step.NeedFrame source) s new f = plays_none header past _ _ _ _ f.comes.2.told (ap paging_in f.comes.2.parts)
 
 -- an access was run once
-fault_does : (header : Header) (past : List Event) (task : TaskId) (what : Want) (may : Bool) (key : PageKey) (answer : FaultStep) (k new : Parts) (before after : List Event)
-    → Faults task what may key answer k new before after → Plays header past before (paging k) after (paging new)
-fault_does header past task what may key step.Done k new before after f = ended_plays header past task what key _ k new before after f
-fault_does header past task what may key (step.Ask asked) k new before after f = asked_plays header past key _ k new before after f.1
-fault_does header past task what may key (step.WaitReady object) k new before after f = stays_plays header past k new before after f.2
-fault_does header past task what may key (step.WaitAnswer asked) k new before after f = stays_plays header past k new before after f.2
-fault_does header past task what may key step.NeedFrame k new before after f = stays_plays header past k new before after f.1
-
-pub fault_plays : (header : Header) (past : List Event) (task : TaskId) (what : Want) (may : Bool) (answer : FaultStep) (k new : Parts) (before after : List Event)
-    → Faulted task what may answer k new before after → Plays header past before (paging k) after (paging new)
-fault_plays header past task what may answer k new before after f = fault_does header past task what may f.key answer k new before after f.faults
+pub plays_attempt : (header : Header) (past : List Event) (maps : Mapped) (host : HostId) (task : TaskId) (what : Want) (may : Bool) (answer : FaultStep) (s new : FaultState) → Faulted maps host task what may answer s new
+    → Plays header past s.events (paging_in s.parts) new.events (paging_in new.parts)
+plays_attempt header past maps host task what may answer s new f = plays_both (front_plays header past s f.mid (front_in f)) (comes_plays header past maps host task what may answer s new f)
 
 -- a victim that was looked for twice is the same
 
@@ -141,56 +240,55 @@ searched_twice q =
     let none : needs_none (queues_after_search q) = none_needed x in
     ap spared (balanced_done (queues_after_search q) none) ∙ spared_done (queues_after_search q) (front_plain b.inactive (take (shortage x) x.active)) none
 
--- where no page is on a list, nothing is searched
-pub searched_none : (q : Queues) → AllSkipped [] q → queues_after_search q ≡ q
-searched_none q none = go q.inactive q.active q.frames none
-  where
-    go : (i a : List Page) (n : ℕ) → AllSkipped [] (record { active = a; inactive = i; frames = n }) → queues_after_search (record { active = a; inactive = i; frames = n }) ≡ record { active = a; inactive = i; frames = n }
-    go [] [] n none = refl
-    go [] (x ∷ a) n none = absurd (let bad : false ≡ true = none x.frame (ap (λ (b : Bool). b || has_page a x.frame) (itself x.frame)) in cc)
-    go (x ∷ i) a n none = absurd (let bad : false ≡ true = none x.frame (ap (λ (b : Bool). b || has_page (i ++ a) x.frame) (itself x.frame)) in cc)
+-- a victim was looked for, and each page on the lists is spared
+pub plays_looked : (header : Header) (h : ℕ) (past events : List Event) (skip : List FrameNo) (k : Parts) (lists : Queues) → AreSources header h (events ++ past) (paging k).frame_at skip → AllSkipped skip k.memory.queues → lists ≡ queues_after_search k.memory.queues
+    → Plays header past events (paging k) events (paging (record k { memory = record k.memory { queues = lists } }))
+plays_looked header h past events skip k lists sources all is =
+    Looks h events (paging k) _ Still (record { skip = skip; sources = sources; all = all; is = ap (λ (z : Queues). record (paging k) { queues = z }) is })
 
--- a page that is here is one of an object in use
-pub page_used : (header : Header) (h : ℕ) (k : Parts) (ids : Ids) (past : List Event) (o p : ℕ) (row : PageRow) → Rests header h k ids past → row_at k.memory.resident o p ≡ Some row → in_use header h o past ≡ true
-page_used header h k ids past o p row rests found =
-    let there = region_row k.chains o (rests.matches.pages.live o p row found) in
-    let some = rests.used o there.0 there.1 in
-    let counts = rests.matches.entries.counts o there.0 there.1 in
-    let less : 0 < count_by all_tasks o k.maps = omega arith in
-    rests.matches.uses.used o ∙ grind (arith, nat_tests)
+-- nothing stands in front but what a return needs
+uncreated_same : (past : List Event) → created past ≡ None → uncreated past ≡ past
+uncreated_same (event.Sent (Up host object) (message.Create control size) ∷ past) none = absurd (let bad : Some (Up host object) ≡ None = none in cc)
+uncreated_same past none = refl
 
--- the victim has gone
-victim_of : (key : PageKey) (row : PageRow) (held : Bool) (bytes : List ℕ) (k k2 : Parts) → IsChosen [] row (queues_after_search k.memory.queues)
-    → Changes key row.frame (Some row) None held bytes (queues_except row.frame.0 (queues_after_search (queues_after_search k.memory.queues))) (looked (record k.memory { queues = queues_after_search k.memory.queues })) k2.memory → IsVictim key.object.0 key.page.0 (paging k) (paging k2)
-victim_of key row held bytes k k2 victim page =
+-- a page is dropped whose object is in no chain
+pub plays_dropped : (header : Header) (past before after : List Event) (host : HostId) (key : PageKey) (old new : Paging) → (Reach header host.0 key.object.0 (before ++ past) → ⊥) → Departs key.object.0 key.page.0 old.queues old new
+    → after ≡ event.Dropped host key.object key.page ∷ before → Plays header past before old after new
+plays_dropped header past before after host key old new none departs told = plays_told told (AsUnreached none departs)
+
+-- the victim has gone; the lists may have been searched before
+victim_of : (header : Header) (host : ℕ) (past : List Event) (skip : List FrameNo) (key : PageKey) (row : PageRow) (held : Bool) (bytes : List ℕ) (k k2 : Parts) (mid : Queues) → queues_after_search mid ≡ queues_after_search k.memory.queues
+    → AreSources header host past (paging k).frame_at skip → IsChosen skip row mid → Changes key row.frame (Some row) None held bytes (queues_except row.frame.0 (queues_after_search mid)) (looked (record k.memory { queues = mid })) k2.memory
+    → IsVictim header host past key.object.0 key.page.0 (paging k) (paging k2)
+victim_of header host past skip key row held bytes k k2 mid same sources victim page =
     let o = key.object.0 in
     let p = key.page.0 in
     let here = here_is (row_at k.memory.resident o p) row row.frame page.found victim.here refl in
-    let lists : queues_after_search (queues_after_search k.memory.queues) ≡ queues_after_search k.memory.queues = searched_twice k.memory.queues in
     record {
-      victim = ap (victim_frame []) (sym lists) ∙ victim.victim ∙ sym here;
+      skip = skip;
+      sources = sources;
+      victim = ap (victim_frame skip) (sym same) ∙ victim.victim ∙ sym here;
       departs =
           record {
             frame = row.frame;
             here = here;
-            is = same_paging _ _ _ _ (frames_put k.memory.resident k2.memory.resident o p None None page.row refl) (page.queues ∙ ap (queues_except row.frame.0) lists);
+            is = same_paging _ _ _ _ (frames_put k.memory.resident k2.memory.resident o p None None page.row refl) (page.queues ∙ ap (queues_except row.frame.0) same);
           };
     }
 
--- a page was reclaimed, or none is here
-pub reclaim_plays : (header : Header) (h : ℕ) (past : List Event) (ids : Ids) (answer : Reclaim) (k k2 : Parts) (before after : List Event) → Rests header h k ids (before ++ past) → KeepsPages k.memory.queues (queues_after_search k.memory.queues)
-    → ReclaimEffects answer k.host [] (record k.memory { queues = queues_after_search k.memory.queues }) k2.memory k.laundry k2.laundry before after → Plays header past before (paging k) after (paging k2)
-reclaim_plays header h past ids reclaim.Freed k k2 before after rests keeps is =
-    plays_one header past before after (event.Dropped k.host is.key.object is.key.page) (paging k) (paging k2) is.events
-    (subst (λ (b : Bool). DepartsFrom b is.key.object.0 is.key.page.0 (paging k) (paging k2)) (sym used) (victim_of is.key is.row _ _ k k2 is.victim is.page))
+-- a page was reclaimed, where one is on a list that isn't skipped; the lists may have been searched before
+pub reclaim_plays_from : (header : Header) (h : ℕ) (past : List Event) (ids : Ids) (skip : List FrameNo) (answer : Reclaim) (k k2 : Parts) (mid : Queues) (before after : List Event) → Rests header h k ids (before ++ past) → AreSources header h (before ++ past) (paging k).frame_at skip
+    → queues_after_search mid ≡ queues_after_search k.memory.queues → (f : ℕ) → is_queued mid f ≡ true → is_skipped skip f ≡ false
+    → ReclaimEffects answer k.host skip (record k.memory { queues = mid }) k2.memory k.laundry k2.laundry before after → Plays header past before (paging k) after (paging k2)
+reclaim_plays_from header h past ids skip reclaim.Freed k k2 mid before after rests sources same f queued unskipped is =
+    plays_told is.events
+    (AsVictim (victim_of header k.host.0 (before ++ past) skip is.key is.row _ _ k k2 mid same (subst (λ (z : ℕ). AreSources header z (before ++ past) (paging k).frame_at skip) (sym rests.matches.host) sources) is.victim is.page))
+reclaim_plays_from header h past ids skip reclaim.Returned k k2 mid before after rests sources same f queued unskipped is =
+    subst (λ (z : List Event). Plays header past before (paging k) z (paging k2)) (sym is.events)
+    (Then goes (told_from is.object.state creation before) (paging k) (paging k2) (made is.object.state) (subst (λ (z : List Event). IsVictim header k.host.0 z is.key.object.0 is.key.page.0 (paging k) (paging k2)) (sym (bare is.object.state)) victim))
   where
-    used : in_use header k.host.0 is.key.object.0 (before ++ past) ≡ true
-    used = ap (λ z. in_use header z is.key.object.0 (before ++ past)) rests.matches.host ∙ page_used header h k ids (before ++ past) is.key.object.0 is.key.page.0 is.row rests is.page.found
-reclaim_plays header h past ids reclaim.Returned k k2 before after rests keeps is =
-    subst (λ (z : List Event). Plays header past before (paging k) z (paging k2)) (sym is.events) (Then goes (told_from is.object.state creation before) (paging k) (paging k2) (created is.object.state) victim)
-  where
-    victim : IsVictim is.key.object.0 is.key.page.0 (paging k) (paging k2)
-    victim = victim_of is.key is.row _ _ k k2 is.victim is.page
+    victim : IsVictim header k.host.0 (before ++ past) is.key.object.0 is.key.page.0 (paging k) (paging k2)
+    victim = victim_of header k.host.0 (before ++ past) skip is.key is.row _ _ k k2 mid same (subst (λ (z : ℕ). AreSources header z (before ++ past) (paging k).frame_at skip) (sym rests.matches.host) sources) is.victim is.page
 
     goes : Event
     goes = sends k.host is.key (message.Return (controlled is.object).control is.key.page is.row.dirty false (page_in k.memory.frames is.row.frame.0))
@@ -198,10 +296,21 @@ reclaim_plays header h past ids reclaim.Returned k k2 before after rests keeps i
     creation : Event
     creation = sends k.host is.key (message.Create (controlled is.object).control k.memory.buffers.size)
 
-    created : (pager : PagerState) → Plays header past before (paging k) (told_from pager creation before) (paging k)
-    created state.Without = Then creation before (paging k) (paging k) Still refl
-    created state.Sent = Still
-    created state.Ready = Still
-reclaim_plays header h past ids reclaim.Nothing k k2 before after rests keeps is =
-    plays_none header past before after (paging k) (paging k2) is.events
-    (same_paging _ _ _ _ (λ o p. ap (λ z. frame_here (row_at z o p)) is.resident) (is.queues ∙ searched_twice k.memory.queues ∙ searched_none k.memory.queues (λ f on. is.skipped f (keeps f ∙ on))))
+    made : (pager : PagerState) → Plays header past before (paging k) (told_from pager creation before) (paging k)
+    made state.Without = Then creation before (paging k) (paging k) Still refl
+    made state.Sent = Still
+    made state.Ready = Still
+
+    bare : (pager : PagerState) → uncreated (told_from pager creation before ++ past) ≡ before ++ past
+    bare state.Without = refl
+    bare state.Sent = uncreated_same (before ++ past) rests.matches.settled.returned
+    bare state.Ready = uncreated_same (before ++ past) rests.matches.settled.returned
+reclaim_plays_from header h past ids skip reclaim.Nothing k k2 mid before after rests sources same f queued unskipped is =
+    absurd (let bad : true ≡ false = sym (is.skipped f queued) ∙ unskipped in cc)
+
+-- and where they were
+pub reclaim_plays : (header : Header) (h : ℕ) (past : List Event) (ids : Ids) (skip : List FrameNo) (answer : Reclaim) (k k2 : Parts) (before after : List Event) → Rests header h k ids (before ++ past) → AreSources header h (before ++ past) (paging k).frame_at skip
+    → KeepsPages k.memory.queues (queues_after_search k.memory.queues) → (f : ℕ) → is_queued k.memory.queues f ≡ true → is_skipped skip f ≡ false
+    → ReclaimEffects answer k.host skip (record k.memory { queues = queues_after_search k.memory.queues }) k2.memory k.laundry k2.laundry before after → Plays header past before (paging k) after (paging k2)
+reclaim_plays header h past ids skip answer k k2 before after rests sources keeps f queued unskipped is =
+    reclaim_plays_from header h past ids skip answer k k2 (queues_after_search k.memory.queues) before after rests sources (searched_twice k.memory.queues) f (keeps f ∙ queued) unskipped is

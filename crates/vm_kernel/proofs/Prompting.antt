@@ -1,9 +1,13 @@
 -- At the end of a step nobody waits in vain, and nothing is left behind.
-use Rattle.vm_kernel.proofs.Common.{AReady, Access, AnAnswer, Awaits, Bool, Entry, Event, FrameTable, HasPlace, HasQueue, HasWaits, Header, HostIsFull, Ids, IsAsked, IsAt, IsPagerTold, IsSwept, IsTop, List, Matches, None, NoneInVain, ObjectRow, On, Option, PageKey, PageRow, Parts, PromptAt, QueueIsServed, Reach, Reason, Rests, Some, Waiting, Waits, WaitsForPager, Want, [], absent_at, access_in, address_in, address_of, all_tasks, ap, arith, count_by, entries_in, entries_of, entry, entry_at, false, has_region, if◌then◌else◌, inl, inr, is_again, is_frame, is_on, is_ready_state, is_store, length, live_control, live_in, local_of_row, nat_lt, nat_tests, next_page, none_again, none_queued, not, object_at, page_at, page_of, page_on, ready_in, refl, region_of, row_at, rows_in, subst, sym, true, waiting, waiting_in, ℕ, ◌+◌, ◌<◌, ◌∙◌, ◌≡◌, ◌≢◌, ◌⊎◌}
+use Rattle.vm_kernel.proofs.Common.{Access, Bool, Entry, Event, FrameTable, HasPlace, HasQueue, HasWaits, Header, HostIsFull, Ids, IsPagerTold, IsSwept, List, Matches, None, NoneInVain, ObjectRow, On, Option, PageKey, PageRow, Parts, PromptAt, QueueIsServed, Reach, Reason, RegionRow, Rests, Some, Waiting, Waits, WaitsForPager, Want, [], absent_at, access_in, address_in, address_of, all_tasks, ap, arith, count_by, entries_in, entries_of, entry, entry_at, false, if◌then◌else◌, in_use, inl, inr, is_again, is_frame, is_on, is_store, length, live_in, local_of_row, nat_lt, nat_tests, next_page, none_again, none_queued, object_at, page_of, page_on, refl, region_at, row_at, rows_in, some_is, subst, sym, true, waiting, waiting_in, ℕ, ◌<◌, ◌∙◌, ◌≡◌, ◌⊎◌}
 use Rattle.std.proofs.Common.{is_some}
-use Rattle.vm_kernel.proofs.Regions.{region_row}
-use Rattle.vm_kernel.proofs.Leading.{address_is}
-use Rattle.vm_objects.specs.declared.row.PagerState.TheVariants as state
+use Rattle.vm_fault.specs.Walks.{top_place}
+use Rattle.vm_kernel.proofs.Sources.{address_of_want, page_of_want, shown_of}
+use Rattle.vm_state.proofs.Reaching.{reach_up}
+use Rattle.vm_state.proofs.Shown.{awaits_page, awaits_ready}
+use Rattle.vm_state.proofs.Walks.{place_of_page}
+use Rattle.vm_state.specs.Waiters.{IsPlaceOf, LeadsTo}
+use Rattle.vm_terminate.specs.Finishes.{IsReferred}
 use Rattle.vm_supply.specs.declared.woken.Woken.TheVariants as woken
 use Rattle.vm_waits.specs.declared.waiting.On.TheVariants as on
 use Rattle.vm_kernel.proofs.Own.{own_host}
@@ -28,38 +32,19 @@ has_row k past task access has here waits = go (entry k.waits.rows task) refl
         let same : Some access ≡ Some (access_in row.want) = sym waits ∙ (has.is task here ∙ ap waiting_in found) in
         record { row = row; found = found; is = cc }
 
--- the page of an access that waits is one of its places
-pub has_place : (header : Header) (h : ℕ) (k : Parts) (ids : Ids) (past : List Event) (lost : List Entry) (task : ℕ) (what : Want) (key : PageKey) → Matches header h k ids lost past → IsAt k.maps k.chains task what key → (waits : Waits header task (access_in what) past) → is_some (entries_in task k.maps) ≡ true
-    → HasPlace header waits.at.entry.region.0 (page_of header task (access_in what) past waits.at.entry) key.object.0 key.page.0 past
-has_place header h k ids past lost task what key m at waits here =
-    let next = next_page task past in
-    let address : address_of header.size next (access_in what) ≡ address_in what = address_is header.size next what in
+-- where an access waits is one of the places of its page
+pub has_place : (header : Header) (h : ℕ) (k : Parts) (ids : Ids) (past : List Event) (lost : List Entry) (task : ℕ) (what : Want) (key : PageKey) → Matches header h k ids lost past → IsPlaceOf k.maps k.chains task what key → (waits : Waits header task (access_in what) past)
+    → is_some (entries_in task k.maps) ≡ true → HasPlace header waits.at.entry.region.0 (page_of header task (access_in what) past waits.at.entry) key.object.0 key.page.0 past
+has_place header h k ids past lost task what key m is waits here =
+    let at = is.at in
+    let address : address_of header.size (next_page task past) (access_in what) ≡ address_in what = address_of_want header.size (next_page task past) what in
     let found : entry_at (address_in what) (rows_in task k.maps) ≡ Some waits.at.entry =
     ap (entry_at (address_in what)) (sym (m.tasks.rows task here)) ∙ (ap (λ z. entry_at z (entries_of header.size task past)) (sym address) ∙ waits.at.found) in
-    let both : Some at.entry ≡ Some waits.at.entry = sym at.found ∙ found in
-    let same : at.entry ≡ waits.at.entry = cc in
-    let region : region_of header at.entry.region.0 past ≡ record { mark = at.row.marked; top = at.row.top.0; shift = at.row.shift; pages = at.row.pages } = m.regions.rows at.entry.region.0 at.row at.region in
-    let shift : (region_of header at.entry.region.0 past).shift ≡ at.row.shift = ap (λ z. z.shift) region in
-    let page : key.page.0 ≡ at.row.shift + page_at k.maps.size (address_in what) at.entry = ap (λ z. z.page.0) at.is in
-    let index : page_at header.size (address_of header.size next (access_in what)) at.entry ≡ page_at k.maps.size (address_in what) at.entry =
-    ap (λ z. page_at header.size z at.entry) address ∙ ap (λ z. page_at z (address_in what) at.entry) (sym m.tasks.sized) in
-    let top : IsTop (region_of header at.entry.region.0 past) (page_at header.size (address_of header.size next (access_in what)) at.entry) key.object.0 key.page.0 =
-    record { object = ap (λ z. z.top) region ∙ sym (ap (λ z. z.object.0) at.is); page = omega (arith, shift, page, index) } in
+    let same : at.entry ≡ waits.at.entry = some_is at.entry waits.at.entry (sym at.found ∙ found) in
+    let place : is.top ≡ top_place at.row (page_of header task (access_in what) past at.entry) = at.is ∙ ap (top_place at.row) (page_of_want header h k ids past lost task what at.entry m) in
     subst (λ (z : Entry). HasPlace header z.region.0 (page_of header task (access_in what) past z) key.object.0 key.page.0 past) same
-    (record { top = key.object.0; top_page = key.page.0; steps = 0; is_top = top; leads = (refl, refl) })
-
--- a pager that was told of its object, and isn't ready
-awaits_ready : (header : Header) (h : ℕ) (k : Parts) (ids : Ids) (past : List Event) (lost : List Entry) (o p : ℕ) (store : Bool) → Matches header h k ids lost past → IsPagerTold k.memory.objects o → Awaits header h store o p past
-awaits_ready header h k ids past lost o p store m told =
-    let apart : told.row.state ≢ state.Without = λ same. let bad : state.Sent ≡ state.Without = sym told.sent ∙ same in cc in
-    let live : told.row.live ≡ true = m.controls.all_live.at o told.row told.found apart in
-    let control : live_control h o past ≡ Some told.row.control = m.controls.live o ∙ (ap live_in told.found ∙ ap (λ b. if b then Some told.row.control else None) live) in
-    AReady told.row.control control (m.controls.ready o told.row.control control ∙ (ap ready_in told.found ∙ ap is_ready_state told.sent))
-
--- a page that is asked
-awaits_page : (header : Header) (h : ℕ) (k : Parts) (ids : Ids) (past : List Event) (lost : List Entry) (o p : ℕ) (store : Bool) → Matches header h k ids lost past → IsAsked k.memory.resident o p → Awaits header h store o p past
-awaits_page header h k ids past lost o p store m asked =
-    AnAnswer (ap (λ z. z.asked) (m.pages.shown o p) ∙ (ap (λ z. (local_of_row k.memory.frames z (absent_at k.memory.objects o p)).asked) asked.found ∙ ap not asked.away))
+    (place_of_page (shown_of header h k ids past lost m) at.entry.region.0 at.row at.region (page_of header task (access_in what) past at.entry) is.steps key
+    (subst (λ (z : PageKey). LeadsTo k.chains is.steps z key) place is.leads))
 
 -- a task that waits on the host is in its maps
 pub at_home : (header : Header) (h : ℕ) (k : Parts) (ids : Ids) (past : List Event) (task : ℕ) (access : Access) → Matches header h k ids [] past → (waits : Waits header task access past) → waits.at.host ≡ h → is_some (entries_in task k.maps) ≡ true
@@ -77,7 +62,7 @@ waits_for header h k ids past task what (on.Ready object) m reason fresh full wa
       object = reason.0.object.0;
       page = reason.0.page.0;
       place = has_place header h k ids past [] task what reason.0 m reason.1 waits (at_home header h k ids past task (access_in what) m waits home);
-      what = awaits_ready header h k ids past [] reason.0.object.0 reason.0.page.0 (is_store (access_in what)) m told;
+      what = awaits_ready (shown_of header h k ids past [] m) reason.0.object.0 told.row told.found told.sent (is_store (access_in what)) reason.0.page.0;
     })
 waits_for header h k ids past task what (on.Page key) m reason fresh full waits home =
     inl (record {
@@ -86,7 +71,7 @@ waits_for header h k ids past task what (on.Page key) m reason fresh full waits 
       object = key.object.0;
       page = key.page.0;
       place = has_place header h k ids past [] task what key m reason.0 waits (at_home header h k ids past task (access_in what) m waits home);
-      what = awaits_page header h k ids past [] key.object.0 key.page.0 (is_store (access_in what)) m reason.1;
+      what = awaits_page (shown_of header h k ids past [] m) key.object.0 key.page.0 reason.1 (is_store (access_in what));
     })
 waits_for header h k ids past task what on.Frame m reason fresh full waits home = inr (full refl)
 
@@ -103,15 +88,21 @@ none_in_vain header h k ids past rests served task access waits home =
     (waits_for header h k ids past task w.want w.on rests.matches (rests.waits.reasons task w row.found refl) (none_again k.waits.rows task w rests.idle row.found) (queue_full header h k past task w served row.found))
     waits home
 
--- a region leads to the object with its number
-reaches : (header : Header) (h : ℕ) (k : Parts) (ids : Ids) (past : List Event) (object : ℕ) → Rests header h k ids past → has_region k.chains object ≡ true → Reach header h object past
-reaches header h k ids past object rests there =
+-- the regions that a kernel knows are in use
+regions_used : (header : Header) (h : ℕ) (k : Parts) (ids : Ids) (past : List Event) → Rests header h k ids past → (r : ℕ) (row : RegionRow) → region_at k.chains r ≡ Some row → in_use header h r past ≡ true
+regions_used header h k ids past rests r row found =
     let m = rests.matches in
-    let region = region_row k.chains object there in
-    let some = rests.used object region.0 region.1 in
-    let less : 0 < count_by all_tasks object k.maps = let counts = m.entries.counts object region.0 region.1 in omega arith in
-    let test : nat_lt 0 (count_by all_tasks object k.maps) ≡ true = grind (arith, nat_tests) in
-    (object, 0, m.uses.used object ∙ test, (m.regions.tops object).top)
+    let some = rests.used r row found in
+    let counts = m.entries.counts r row found in
+    let less : 0 < count_by all_tasks r k.maps = omega (arith, some, counts) in
+    let test : nat_lt 0 (count_by all_tasks r k.maps) ≡ true = grind (arith, nat_tests) in
+    m.uses.used r ∙ test
+
+-- an object to which something refers is in the chain of one of them
+reaches : (header : Header) (h : ℕ) (k : Parts) (ids : Ids) (past : List Event) (object : ℕ) → Rests header h k ids past → IsReferred k.memory.objects object → Reach header h object past
+reaches header h k ids past object rests referred =
+    let has = rests.matches.regions in
+    reach_up has has.older rests.referred.shadows (λ r. in_use header h r past) (regions_used header h k ids past rests) object referred
 
 swept : (header : Header) (h : ℕ) (k : Parts) (ids : Ids) (past : List Event) → Rests header h k ids past → IsSwept header h past
 swept header h k ids past rests =
@@ -127,11 +118,11 @@ swept header h k ids past rests =
     gone object page away true is =
         let m = rests.matches in
         let row = here_row k.memory.frames (row_at k.memory.resident object page) (absent_at k.memory.objects object page) (ap (λ z. z.here) (sym (m.pages.shown object page)) ∙ is) in
-        absurd (away (reaches header h k ids past object rests (m.pages.live object page row.0 row.1)))
+        absurd (away (reaches header h k ids past object rests (rests.referred.pages object page row.0 row.1)))
 
     dead : (object : ℕ) → (Reach header h object past → ⊥) → (row : ObjectRow) → object_at k.memory.objects object ≡ Some row → (b : Bool) → row.live ≡ b → (if b then Some row.control else None) ≡ None
     dead object away row found false is = refl
-    dead object away row found true is = absurd (away (reaches header h k ids past object rests (rests.reached object row found is)))
+    dead object away row found true is = absurd (away (reaches header h k ids past object rests (record { row = row; known = found; some = rests.referred.live object row found is })))
 
     ended : (object : ℕ) → (Reach header h object past → ⊥) → (x : Option ObjectRow) → object_at k.memory.objects object ≡ x → live_in x ≡ None
     ended object away None is = refl

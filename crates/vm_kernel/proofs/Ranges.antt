@@ -1,5 +1,5 @@
 -- A range is allocated: a region over a new object, and an entry on the whole of it.
-use Rattle.vm_kernel.proofs.Common.{AllLicensed, AllReached, AllRows, AllUsed, Bool, ChainTable, ChangesOnly, EachIn, Enters, Entry, Event, Fit, FrameTable, HasEntries, HasPages, HasRegions, HasUse, Header, HostParts, Ids, IfSome, IsInside, IsLined, IsMine, IsOverOwn, IsUnder, List, Local, MadeRange, MapChange, Mapped, None, ObjectId, ObjectRow, ObjectTable, Option, Outside, Parts, PutsObject, PutsRegion, Ran, Region, RegionRow, ResidentTable, Rests, SameMarks, Some, Starts, TaskId, [], all_tasks, ap, arith, backing_of, begins_copy, begins_here, both_left, code_where, copy_target, count_by, entered, entering, entries_in, entries_of, entry, eqb_tells, false, fills, fit_within, got, has_entry, has_region, head, holds, home_entered, home_of, home_stays, homeless_next, host_of, if◌then◌else◌, in_use, inl, inr, is_none, is_range, is_ready, is_some, last_control, length, length_entered, live_control, lives_on, local, local_of_row, made_here, marked_regions, meets_range, most_entries, nat_le, nat_tests, next_object, next_region, object_at, one_case, page_below, pages_in, pages_of_row, place_of, refl, region_at, region_of, region_pages, row_at, rows_entered, rows_in, rows_map, some_is, starts_copy, subst, sym, tasks, true, waiting, waiting_in, whole_entry, ℕ, ◌%◌, ◌++◌, ◌+◌, ◌-◌, ◌/◌, ◌<◌, ◌==◌, ◌^◌, ◌||◌, ◌∙◌, ◌∷◌, ◌≡◌, ◌≢◌, ◌≤◌, ◌⊎◌}
+use Rattle.vm_kernel.proofs.Common.{AllLicensed, AllReferred, AllRows, AllUsed, Bool, ChainTable, ChangesOnly, EachIn, Enters, Entry, Event, Fit, FrameTable, HasCause, HasEntries, HasHomes, HasPages, HasRegions, HasUse, HaveHomes, Header, HostParts, Ids, IfSome, IsInside, IsLined, IsMine, List, Local, MadeRange, MapChange, Mapped, None, ObjectId, ObjectRow, ObjectTable, Option, Outside, Parts, PutsObject, PutsRegion, Ran, Region, RegionId, RegionRow, ResidentTable, Rests, SameMarks, Some, Starts, TaskId, [], all_tasks, ap, arith, backing_of, begins_copy, begins_here, both_left, code_where, copy_target, count_by, entered, entering, entries_in, entries_of, entry, eqb_tells, false, fills, fit_within, got, has_entry, has_region, head, holds, home_entered, home_of, homes_next, homes_stay, host_of, if◌then◌else◌, in_use, inl, inr, is_none, is_range, is_ready, is_some, last_control, length, length_entered, live_control, lives_on, local, local_of_row, made_here, marked_regions, meets_range, most_entries, nat_le, nat_tests, next_object, next_region, object_at, object_home, one_case, page_below, pages_in, pages_of_row, place_of, refl, region_at, region_of, region_pages, row_at, rows_entered, rows_in, rows_map, some_is, starts_copy, subst, sym, tasks, true, waiting, waiting_in, whole_entry, ℕ, ◌%◌, ◌++◌, ◌+◌, ◌-◌, ◌/◌, ◌<◌, ◌==◌, ◌^◌, ◌||◌, ◌∙◌, ◌∷◌, ◌≡◌, ◌≢◌, ◌≤◌, ◌⊎◌}
 use Rattle.std.proofs.Common.{nat_lt, not}
 use Rattle.vm_base.specs.declared.code.Code.TheVariants as code
 use Rattle.vm_model.specs.declared.event.Event.TheVariants as event
@@ -8,12 +8,22 @@ use Rattle.vm_model.specs.Regions as R
 use Rattle.vm_kernel.proofs.Counts.{by_none, most_is, on_entered}
 use Rattle.vm_kernel.proofs.Growing.{licensed, suffices}
 use Rattle.vm_kernel.proofs.Heads.{passed, ran_head}
-use Rattle.vm_kernel.proofs.Making.{controls_made, idle_of, knows_made, new_object, waits_known}
+use Rattle.vm_kernel.proofs.After.{regions_moved}
+use Rattle.vm_kernel.proofs.Making.{controls_made, idle_of, new_object}
 use Rattle.vm_kernel.proofs.Mine.{mine_of, own_task}
 use Rattle.vm_kernel.proofs.Rows.{region_cases}
 use Rattle.vm_kernel.proofs.Tasks.{Keeps, entries_changed, inside_kept, tasks_entered}
 use Rattle.vm_kernel.proofs.Uses.{unfilled, uses_entered, ApartFrom, holds_rows}
-use Rattle.vm_kernel.proofs.Waited.{SameTops, waits_changed, told_changed}
+use Rattle.vm_abroad.proofs.Home.{objects_stay, region_made}
+use Rattle.vm_abroad.specs.Home.{home_at}
+use Rattle.vm_base.specs.Limits.{most_objects}
+use Rattle.vm_state.proofs.Bare.{next_bare}
+use Rattle.vm_state.proofs.Making.{regions_made}
+use Rattle.vm_state.proofs.Marks.{marked_made}
+use Rattle.vm_state.proofs.Places.{keeps_made}
+use Rattle.vm_state.proofs.Referred.{referred_put}
+use Rattle.vm_state.proofs.Told.{knows_made, waits_known}
+use Rattle.vm_state.proofs.Waited.{waits_changed, told_changed}
 use Rattle.vm_kernel.proofs.Own.{lives_here, lives_in, rows_here}
 
 -- what an allocation that isn't refused has
@@ -28,6 +38,7 @@ pub record MayRange (size : ℕ) (k : Parts) (ids : Ids) (task address bytes : �
   pub room : length (rows_in task k.maps) < most_entries
   pub regions : ids.next_region < 8192
   pub objects : ids.next_object < 8192
+  pub marks : ids.next_object + ids.marks < 8192
   pub idle : entry k.waits.rows task ≡ None
 
 pub may_range : (header : Header) (h : ℕ) (task : TaskId) (address bytes : ℕ) (past : List Event) (k : Parts) (ids : Ids) (events : List Event) → Starts header h (command.Allocate task address bytes) past k ids events → MayRange header.size k ids task.0 address bytes
@@ -55,6 +66,7 @@ may_range header h task address bytes past k ids events s =
     let objects : nat_le 8192 (next_object header past + marked_regions header past) ≡ false = counts.2 in
     let next_one = m.regions.region in
     let next_two = m.regions.object in
+    let marked = m.regions.marks in
     record {
       lives = lives;
       whole = grind (arith, nat_tests);
@@ -66,6 +78,7 @@ may_range header h task address bytes past k ids events s =
       room = subst (λ (z : List Entry). length z < most_entries) own (grind (arith, nat_tests));
       regions = grind (arith, nat_tests);
       objects = grind (arith, nat_tests);
+      marks = grind (arith, nat_tests);
       idle = idle_of (entry k.waits.rows task.0) (waiting task.0 past) (s.rests.waits.is task.0 (ap is_some lives)) idle.0;
     }
   where
@@ -107,69 +120,11 @@ keeps_new old new n row none put =
       ];
     }
 
--- a region that is made over the object with its number
-own_made : (b : Bool) (object pages region : ℕ) (was : Region) → (b ≡ true → object ≡ region) → IsOverOwn was region → IsOverOwn (R.made b object pages was) region
-own_made true object pages region was is own = record { unmarked = refl; top = is refl; shift = refl }
-own_made false object pages region was is own = record { unmarked = own.unmarked; top = own.top; shift = own.shift }
-
-eqb_means : (a b : ℕ) → (a == b) ≡ true → b ≡ a
-eqb_means a b same_number = elim (eqb_tells a b) [ inl same ↦ sym same.1 | inr apart ↦ absurd (let bad : false ≡ true = sym apart.0 ∙ same_number in cc) ]
-
 made_test : (r n o pages : ℕ) (was : Region) → n ≡ r → R.made (r == n) o pages was ≡ record { mark = false; top = o; shift = 0; pages = pages }
 made_test r n o pages was same = elim (eqb_tells r n) [
   | inl is ↦ ap (λ b. R.made b o pages was) is.0
   | inr apart ↦ absurd (apart.1 (sym same))
 ]
-
-made_other : (r n o pages : ℕ) (was : Region) → (n ≡ r → ⊥) → R.made (r == n) o pages was ≡ was
-made_other r n o pages was apart = elim (eqb_tells r n) [
-  | inl is ↦ absurd (apart (sym is.1))
-  | inr other ↦ ap (λ b. R.made b o pages was) other.0
-]
-
--- a region more, with its object
-regions_made : (chains chains2 : ChainTable) (objects objects2 : ObjectTable) (ids : Ids) (region_from : ℕ → Region) (backing_from : ℕ → R.Backing) (regions_now objects_now pages : ℕ) → HasRegions chains objects ids region_from backing_from regions_now objects_now
-    → PutsRegion ids.next_region (Some (new_region (record { 0 = ids.next_object }) pages)) chains chains2 → PutsObject ids.next_object (Some (new_object pages)) objects objects2
-    → HasRegions chains2 objects2 (record ids { next_object = ids.next_object + 1; next_region = ids.next_region + 1 }) (λ r. R.made (r == ids.next_region) ids.next_object pages (region_from r)) backing_from (regions_now + 1) (objects_now + 1)
-regions_made chains chains2 objects objects2 ids region_from backing_from regions_now objects_now pages has put object =
-    let n = ids.next_region in
-    let new : RegionRow = new_region (record { 0 = ids.next_object }) pages in
-    record {
-      region = ap (λ z. z + 1) has.region;
-      object = ap (λ z. z + 1) has.object;
-      equal = ap (λ z. z + 1) has.equal;
-      marks = has.marks;
-      rows = λ r row found. elim (region_cases n (Some new) chains chains2 put r) [
-        | inl same ↦ made_test r n ids.next_object pages (region_from r) same.0 ∙ ap (λ (z : RegionRow). record { mark = z.marked; top = z.top.0; shift = z.shift; pages = z.pages }) (some_is new row (sym same.1 ∙ found))
-        | inr apart ↦ made_other r n ids.next_object pages (region_from r) apart.0 ∙ has.rows r row (sym apart.1 ∙ found)
-      ];
-      tops = λ r. own_made (r == n) ids.next_object pages r (region_from r) (λ test. let same = eqb_means r n test in omega (arith, numbers)) (has.tops r);
-      unbacked = has.unbacked;
-      unmade = λ r more. elim (region_cases n (Some new) chains chains2 put r) [
-        | inl same ↦ absurd (let number = has.region in let is = same.0 in omega arith)
-        | inr apart ↦ apart.1 ∙ has.unmade r (omega arith)
-      ];
-      unknown = λ o more. elim (one_case ids.next_object o (Some (new_object pages)) (object_at objects o) (object_at objects2 o) (object.at o)) [
-        | inl same ↦ absurd (let number = has.object in let is = same.0 in omega arith)
-        | inr apart ↦ apart.1 ∙ has.unknown o (omega arith)
-      ];
-      under = λ r row found. elim (region_cases n (Some new) chains chains2 put r) [
-        | inl same ↦ elim (one_case ids.next_object r (Some (new_object pages)) (object_at objects r) (object_at objects2 r) (object.at r)) [
-          | inl it ↦ subst (λ (z : Option ObjectRow). IsUnder row z) (sym it.1) (under_new row (some_is new row (sym same.1 ∙ found)))
-          | inr other ↦ absurd (other.0 (let is = same.0 in omega (arith, numbers)))
-        ]
-        | inr apart ↦ elim (one_case ids.next_object r (Some (new_object pages)) (object_at objects r) (object_at objects2 r) (object.at r)) [
-          | inl it ↦ absurd (apart.0 (let is = it.0 in omega (arith, numbers)))
-          | inr other ↦ subst (λ (z : Option ObjectRow). IsUnder row z) (sym other.1) (has.under r row (sym apart.1 ∙ found))
-        ]
-      ];
-    }
-  where
-    under_new : (row : RegionRow) → new_region (record { 0 = ids.next_object }) pages ≡ row → IsUnder row (Some (new_object pages))
-    under_new row is = record { object = new_object pages; found = refl; temporary = refl; pages = ap (λ z. z.pages) is; references = refl; live = refl; number = refl }
-
-    numbers : ids.next_object ≡ ids.next_region
-    numbers = has.object ∙ (has.equal ∙ sym has.region)
 
 -- nothing leads to a region that isn't there
 none_leads : (size : ℕ) (chains : ChainTable) (n : ℕ) (rows : List Entry) → region_at chains n ≡ None → AllRows (IsInside size chains) rows → has_entry n rows ≡ false
@@ -217,8 +172,8 @@ entries_range size maps new chains chains2 task n address bytes object has none 
     other : (r : ℕ) → (n ≡ r → ⊥) → ◌≡◌ {A = ℕ} (if n == r then 1 else 0) 0
     other r apart = elim (eqb_tells n r) [ inl is ↦ absurd (apart is.1) | inr isnt ↦ ap (λ b. if b then 1 else 0) isnt.0 ]
 
-pub pages_range : (fs : FrameTable) (rs : ResidentTable) (os os2 : ObjectTable) (chains chains2 : ChainTable) (local_at : ℕ → ℕ → Local) → HasPages fs rs os chains local_at → SameMarks os os2 → Keeps chains chains2 → HasPages fs rs os2 chains2 local_at
-pages_range fs rs os os2 chains chains2 local_at has marks keeps = record { shown = λ o p. has.shown o p ∙ ap (local_of_row fs (row_at rs o p)) (sym (marks.at o p)); live = λ o p row found. keeps.there o (has.live o p row found) }
+pub pages_range : (fs : FrameTable) (rs : ResidentTable) (os os2 : ObjectTable) (local_at : ℕ → ℕ → Local) → HasPages fs rs os local_at → SameMarks os os2 → HasPages fs rs os2 local_at
+pages_range fs rs os os2 local_at has marks = record { shown = λ o p. has.shown o p ∙ ap (local_of_row fs (row_at rs o p)) (sym (marks.at o p)) }
 
 used_range : (chains chains2 : ChainTable) (n : ℕ) (object : ObjectId) (pages : ℕ) → AllUsed chains → PutsRegion n (Some (new_region object pages)) chains chains2 → AllUsed chains2
 used_range chains chains2 n object pages used put r row found = elim (region_cases n (Some (new_region object pages)) chains chains2 put r) [
@@ -226,29 +181,25 @@ used_range chains chains2 n object pages used put r row found = elim (region_cas
   | inr apart ↦ used r row (sym apart.1 ∙ found)
 ]
 
-reached_range : (chains chains2 : ChainTable) (os os2 : ObjectTable) (n pages : ℕ) → AllReached chains os → Keeps chains chains2 → PutsObject n (Some (new_object pages)) os os2 → AllReached chains2 os2
-reached_range chains chains2 os os2 n pages reached keeps put o row found live = elim (one_case n o (Some (new_object pages)) (object_at os o) (object_at os2 o) (put.at o)) [
-  | inl same ↦ absurd (let bad : false ≡ true = ap (λ z. z.live) (some_is (new_object pages) row (sym same.1 ∙ found)) ∙ live in cc)
-  | inr apart ↦ keeps.there o (reached o row (sym apart.1 ∙ found) live)
-]
-
-tops_range : (chains chains2 : ChainTable) (n : ℕ) (row : RegionRow) → region_at chains n ≡ None → PutsRegion n (Some row) chains chains2 → SameTops chains chains2
-tops_range chains chains2 n row none put =
-    record {
-      at = λ r was found. elim (region_cases n (Some row) chains chains2 put r) [
-        | inl same ↦ absurd (let bad : None ≡ Some was = sym none ∙ (ap (region_at chains) same.0 ∙ found) in cc)
-        | inr apart ↦ record { row_now = was; found = apart.1 ∙ found; top = refl; shift = refl }
-      ];
-    }
-
-fit_range : (parts : HostParts) (os : ObjectTable) (chains : ChainTable) (local_at : ℕ → ℕ → Local) (n o : ℕ) (row : ObjectRow) → Fit parts → HasPages parts.frames parts.resident parts.objects chains local_at → region_at chains n ≡ None → o ≡ n
-    → PutsObject o (Some row) parts.objects os → Fit (record parts { objects = os })
-fit_range parts os chains local_at n o row fit pages none is put =
+-- no page is of an object that isn't known
+fit_range : (parts : HostParts) (os : ObjectTable) (chains : ChainTable) (n : ℕ) (row : ObjectRow) → Fit parts → AllReferred chains parts.objects parts.resident → object_at parts.objects n ≡ None
+    → PutsObject n (Some row) parts.objects os → Fit (record parts { objects = os })
+fit_range parts os chains n row fit referred none put =
     fit_within parts os fit
-    (λ o2 p r found. elim (one_case o o2 (Some row) (object_at parts.objects o2) (object_at os o2) (put.at o2)) [
-      | inl same ↦ absurd (not_there chains n o2 none (sym is ∙ same.0) (pages.live o2 p r found))
-      | inr apart ↦ subst (λ (z : ℕ). p < z) (sym (ap pages_of_row apart.1)) (fit.inside o2 p r found)
+    (λ o p r found. elim (one_case n o (Some row) (object_at parts.objects o) (object_at os o) (put.at o)) [
+      | inl same ↦
+          let is = referred.pages o p r found in
+          absurd (let bad : None ≡ Some is.row = sym none ∙ (ap (object_at parts.objects) same.0 ∙ is.known) in cc)
+      | inr apart ↦ subst (λ (z : ℕ). p < z) (sym (ap pages_of_row apart.1)) (fit.inside o p r found)
     ])
+
+-- the regions are the host's, and the new one was made for its task
+homes_range : (h : ℕ) (chains chains2 : ChainTable) (n : ℕ) (row : RegionRow) (home_from home_from2 : ℕ → Option ℕ) → HasHomes h chains home_from → ((r : ℕ) → home_from r ≡ Some h → home_from2 r ≡ Some h) → home_from2 n ≡ Some h
+    → PutsRegion n (Some row) chains chains2 → HasHomes h chains2 home_from2
+homes_range h chains chains2 n row home_from home_from2 has stay home put r row2 found = elim (region_cases n (Some row) chains chains2 put r) [
+  | inl same ↦ subst (λ (z : ℕ). home_from2 z ≡ Some h) same.0 home
+  | inr apart ↦ stay r (has r row2 (sym apart.1 ∙ found))
+]
 
 -- the entry that was entered
 pub changes_entered : (old new : Mapped) (task : ℕ) (change : MapChange) (row : Entry) → change ≡ entering row → IfSome change.entry (λ other. ChangesOnly old new task (Some (entered other (rows_in task old)))) → ChangesOnly old new task (Some (entered row (rows_in task old)))
@@ -367,13 +318,54 @@ range_mine header h task address bytes past k ids lined rests here =
       (mine_of header h made past rests.matches.settled.shut (λ g is. absurd (let bad : false ≡ true = sym (ap (begins_here g) lined.is) ∙ is in cc)) tt, tt),
     )
 
+-- the causes of the two
+range_made : (header : Header) (h : ℕ) (outside : Outside) (task : TaskId) (address bytes : ℕ) (past : List Event) (k : Parts) (ids : Ids) → Rests header h k ids past
+    → HasCause header outside (event.RegionMade (record { 0 = ids.next_region }) (record { 0 = ids.next_object }) (bytes / header.size)) past
+range_made header h outside task address bytes past k ids rests = (command.Allocate task address bytes, (rests.matches.regions.region, rests.matches.regions.object))
+
 range_homeless : (header : Header) (h : ℕ) (outside : Outside) (task : TaskId) (address bytes : ℕ) (past : List Event) (k : Parts) (ids : Ids) → IsLined past → Rests header h k ids past → MayRange header.size k ids task.0 address bytes
-    → (r : ℕ) → next_region header past + 1 ≤ r → home_of r (ranged task ids address bytes (bytes / header.size) ++ past) ≡ None
+    → HaveHomes header (ranged task ids address bytes (bytes / header.size) ++ past)
 range_homeless header h outside task address bytes past k ids lined rests may =
+    let made : Event = event.RegionMade (record { 0 = ids.next_region }) (record { 0 = ids.next_object }) (bytes / header.size) in
+    homes_next header outside (got task (whole_entry address bytes (record { 0 = ids.next_region }))) (made ∷ past) (command.Allocate task address bytes, range_enters header h task address bytes past k ids lined rests may)
+    (homes_next header outside made past (range_made header h outside task address bytes past k ids rests) rests.matches.homeless)
+
+-- the new region is on the host, and so is its object
+range_home : (header : Header) (h : ℕ) (task : TaskId) (address bytes : ℕ) (past : List Event) (k : Parts) (ids : Ids) → Rests header h k ids past → MayRange header.size k ids task.0 address bytes
+    → home_of ids.next_region (ranged task ids address bytes (bytes / header.size) ++ past) ≡ Some h
+range_home header h task address bytes past k ids rests may =
     let m = rests.matches in
     let made : Event = event.RegionMade (record { 0 = ids.next_region }) (record { 0 = ids.next_object }) (bytes / header.size) in
-    homeless_next header outside (got task (whole_entry address bytes (record { 0 = ids.next_region }))) (made ∷ past) (command.Allocate task address bytes, range_enters header h task address bytes past k ids lined rests may)
-    (homeless_next header outside made past (command.Allocate task address bytes, (m.regions.region, m.regions.object)) m.homeless)
+    let row = whole_entry address bytes (record { 0 = ids.next_region }) in
+    home_entered h task row.address row.bytes row.region row.offset row.prot row.inherit (made ∷ past) (m.homeless.regions ids.next_region (omega (arith, m.regions.region))) (lives_here m.tasks may.lives)
+
+range_object_home : (header : Header) (h : ℕ) (task : TaskId) (address bytes : ℕ) (past : List Event) (k : Parts) (ids : Ids) → Rests header h k ids past → MayRange header.size k ids task.0 address bytes
+    → object_home ids.next_object (ranged task ids address bytes (bytes / header.size) ++ past) ≡ Some h
+range_object_home header h task address bytes past k ids rests may =
+    let m = rests.matches in
+    let region : RegionId = record { 0 = ids.next_region } in
+    let object : ObjectId = record { 0 = ids.next_object } in
+    let none = m.homeless.objects ids.next_object (omega (arith, m.regions.object)) in
+    ap (λ z. home_at z (ranged task ids address bytes (bytes / header.size) ++ past)) (region_made region object (bytes / header.size) past none)
+    ∙ range_home header h task address bytes past k ids rests may
+
+-- the regions and objects behind the two
+range_regions : (header : Header) (h : ℕ) (task : TaskId) (address bytes : ℕ) (past : List Event) (k k2 : Parts) (ids : Ids) → Rests header h k ids past → MayRange header.size k ids task.0 address bytes
+    → MadeRange (record { 0 = ids.next_region }) (record { 0 = ids.next_object }) (bytes / header.size) k k2
+    → HasRegions k2.chains k2.memory.objects (ids_after ids) (λ r. region_of header r (ranged task ids address bytes (bytes / header.size) ++ past)) (λ o. backing_of header o (ranged task ids address bytes (bytes / header.size) ++ past))
+    (next_region header (ranged task ids address bytes (bytes / header.size) ++ past)) (next_object header (ranged task ids address bytes (bytes / header.size) ++ past)) (marked_regions header (ranged task ids address bytes (bytes / header.size) ++ past))
+range_regions header h task address bytes past k k2 ids rests may made =
+    let m = rests.matches in
+    let pages = bytes / header.size in
+    let region : RegionId = record { 0 = ids.next_region } in
+    let object : ObjectId = record { 0 = ids.next_object } in
+    let e : Event = event.RegionMade region object pages in
+    let room : next_object header past + marked_regions header past < most_objects = omega (arith, may.marks, m.regions.object, m.regions.marks) in
+    let now = regions_made header past region object (new_region object pages) (new_object pages) pages k.chains k2.chains k.memory.objects k2.memory.objects ids (next_region header past) (next_object header past) (marked_regions header past)
+    m.regions.region m.regions.object room (next_bare header past m.homeless) refl refl made.region_row made.object_row m.regions in
+    let marks : marked_regions header (e ∷ past) ≡ marked_regions header past = marked_made header past region object pages m.regions.region in
+    regions_moved header (e ∷ past) (ranged task ids address bytes pages ++ past) refl refl (λ r. refl) (λ o. refl)
+    (subst (λ (z : ℕ). HasRegions k2.chains k2.memory.objects (ids_after ids) (λ r. region_of header r (e ∷ past)) (λ o. backing_of header o (e ∷ past)) (next_region header past + 1) (next_object header past + 1) z) (sym marks) now)
 
 rests_range : (header : Header) (h : ℕ) (outside : Outside) (task : TaskId) (address bytes : ℕ) (past : List Event) (k k2 : Parts) (ids : Ids) (maps : Mapped) → IsLined past → Rests header h k ids past → MayRange header.size k ids task.0 address bytes → task.0 < 1024
     → MadeRange (record { 0 = ids.next_region }) (record { 0 = ids.next_object }) (bytes / header.size) k k2 → ChangesOnly k.maps maps task.0 (Some (entered (whole_entry address bytes (record { 0 = ids.next_region })) (rows_in task.0 k.maps)))
@@ -385,9 +377,7 @@ rests_range header h outside task address bytes past k k2 ids maps lined rests m
     let object : ObjectId = record { 0 = ids.next_object } in
     let row = whole_entry address bytes (record { 0 = n }) in
     let none = region_free header h k ids past rests in
-    let keeps = keeps_new k.chains k2.chains n (new_region object pages) none made.region_row in
     let local_at = λ (o p : ℕ). local header.size h (place_of o p) past in
-    let number : ids.next_object ≡ n = m.regions.object ∙ (m.regions.equal ∙ sym m.regions.region) in
     let unknown = object_free header h k ids past rests in
     record {
       matches =
@@ -396,26 +386,26 @@ rests_range header h outside task address bytes past k k2 ids maps lined rests m
             known = m.known;
             size = m.size;
             host = m.host;
-            fits = record { parts = fit_range k.memory k2.memory.objects k.chains local_at n ids.next_object (new_object pages) m.fits.parts m.pages none number made.object_row; plain = m.fits.plain; buffers = m.fits.buffers };
+            fits = record { parts = fit_range k.memory k2.memory.objects k.chains ids.next_object (new_object pages) m.fits.parts rests.referred unknown made.object_row; plain = m.fits.plain; buffers = m.fits.buffers };
             tasks = tasks_entered h header.size k.maps maps (event.RegionMade (record { 0 = n }) object pages ∷ past) task (whole_entry address bytes (record { 0 = n })) m.tasks changes may.lives;
-            regions = regions_made k.chains k2.chains k.memory.objects k2.memory.objects ids (λ r. region_of header r past) (λ o. backing_of header o past) (next_region header past) (next_object header past) pages m.regions made.region_row made.object_row;
+            regions = range_regions header h task address bytes past k k2 ids rests may made;
             entries = entries_range header.size k.maps maps k.chains k2.chains task.0 n address bytes object m.entries none made.region_row changes below may.whole may.some may.below may.room;
-            pages = pages_range k.memory.frames k.memory.resident k.memory.objects k2.memory.objects k.chains k2.chains local_at m.pages made.marks keeps;
+            pages = pages_range k.memory.frames k.memory.resident k.memory.objects k2.memory.objects local_at m.pages made.marks;
             uses = range_uses header h task address bytes past k ids maps object (bytes / header.size) lined rests may (rw most_is below) changes;
             controls = controls_made k.memory.objects k2.memory.objects (λ o. last_control h o past) (λ o. live_control h o past) (λ o. is_ready h o past) ids.next_object pages m.controls unknown made.object_row
-                (λ o is. home_stays o h (got task row) (event.RegionMade (record { 0 = n }) object pages ∷ past) is)
-                (subst (λ (z : ℕ). home_of z (ranged task ids address bytes pages ++ past) ≡ Some h) (sym number)
-                (home_entered h task row.address row.bytes row.region row.offset row.prot row.inherit (event.RegionMade (record { 0 = n }) object pages ∷ past) (m.homeless n (omega (arith, m.regions.region))) (lives_here m.tasks may.lives)));
+                (λ o is. objects_stay o h (ranged task ids address bytes pages) past is)
+                (range_object_home header h task address bytes past k ids rests may);
             homeless = range_homeless header h outside task address bytes past k ids lined rests may;
+            homes = homes_range h k.chains k2.chains n (new_region object pages) (λ r. home_of r past) (λ r. home_of r (ranged task ids address bytes pages ++ past)) m.homes (λ r is. homes_stay r h (ranged task ids address bytes pages) past is) (range_home header h task address bytes past k ids rests may) made.region_row;
             settled = record { returned = refl; shut = λ region. refl };
             laundry = m.laundry;
             frames = m.frames;
           };
       used = used_range k.chains k2.chains n object pages rests.used made.region_row;
-      reached = reached_range k.chains k2.chains k.memory.objects k2.memory.objects ids.next_object pages rests.reached keeps made.object_row;
+      referred = referred_put ids.next_object (new_object pages) n (Some (new_region object pages)) k.chains k2.chains k.memory.objects k2.memory.objects k.memory.resident made.region_row made.object_row (omega arith) rests.referred;
       waits =
           waits_known maps k2.chains k.memory.resident k.memory.objects k2.memory.objects k.waits.rows _ (λ t. waiting t past)
-          (waits_changed k.maps maps k.chains k2.chains k.memory.resident k.memory.objects k.waits.rows _ (λ t. waiting t past) task.0 _ rests.waits changes may.idle (tops_range k.chains k2.chains n (new_region object pages) none made.region_row)
+          (waits_changed k.maps maps k.chains k2.chains k.memory.resident k.memory.objects k.waits.rows _ (λ t. waiting t past) task.0 _ rests.waits changes may.idle (keeps_made k.chains k2.chains n (new_region object pages) none made.region_row)
           (told_changed k.maps maps k.waits.rows (λ t. waiting t past) task.0 (rows_in task.0 k.maps) _ rests.waits.is changes may.lives))
           (knows_made k.memory.objects k2.memory.objects ids.next_object (new_object pages) unknown made.object_row);
       order = rests.order;

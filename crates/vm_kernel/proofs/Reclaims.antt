@@ -1,5 +1,5 @@
 -- One page of a host is reclaimed, and a pageout does that over and over.
-use Rattle.vm_kernel.proofs.Common.{AllLive, AllSkipped, AreHomeless, ArePlain, Bool, Channel, Command, Created, Creates, Declared, EachGone, Elsewhere, Event, Fit, FreesOrReturns, GivesBack, HasControls, HasFrames, HasLaundry, HasOrder, HasPages, HasRegions, HasTasks, HasUse, HasWaits, Header, HostId, HostIsFull, Ids, IsExhausted, IsFreed, IsNothing, IsReturned, KeepsPages, LegalEvents, List, MatchOption, Matches, None, ObjectRow, Option, Outside, PageKey, PageRow, PagerState, PagesOut, Parts, PartsFit, PutsObject, Queues, Reclaim, ReclaimEffects, Rests, ReturnCause, Returns, ReturnsOn, Some, Starves, Up, [], absent_at, ap, arith, away, backing_of, claimed, controlled, departures, entries_of, false, fit_touched, frame_count, frames_held, frames_wired, free, has_pager, holds, home_of, host_id, host_of, if_true, if◌then◌else◌, in_use, inl, inr, is_claimed, is_queued, is_ready, last_control, last_in, length, live_control, live_in, local, local_after, local_of_row, looked, mark_there, next_object, next_region, not, owner_of, page_in, place_of, queues_after_search, refl, region_of, returns_out, reverse, row_at, row_with_control, sends, slice_get, subst, sym, told_from, true, unnamed, ℕ, ◌&&◌, ◌++◌, ◌+◌, ◌-◌, ◌<◌, ◌==◌, ◌||◌, ◌∙◌, ◌∷◌, ◌≡◌, ◌≤◌, ◌⊎◌}
+use Rattle.vm_kernel.proofs.Common.{AllLive, AllSkipped, ArePlain, Bool, ChainTable, Channel, Command, Created, Creates, Declared, EachGone, Elsewhere, Err, Event, Fit, FrameNo, FrameTable, FreesOrReturns, GivesBack, HasControls, HasFrames, HasLaundry, HasOrder, HasPages, HasRegions, HasTasks, HasUse, HasWaits, HaveHomes, Header, HostId, HostIsFull, Ids, IfSome, IsExhausted, IsFreed, IsNothing, IsReturned, KeepsPages, LegalEvents, List, MatchOption, Matches, None, ObjectRow, ObjectTable, Ok, OnOk, Option, Outside, PageKey, PageRow, PagerState, PagesOut, Parts, PartsFit, PutsObject, PutsRow, Queues, Reclaim, ReclaimEffects, ResidentTable, Rests, Result, ReturnCause, Returns, ReturnsOn, Some, Starves, Up, [], absent_at, ap, arith, away, backing_of, claimed, controlled, departures, entries_of, eqb_tells, false, fit_touched, frame_count, frames_held, frames_wired, free, has_pager, holds, home_of, host_id, host_of, if_true, if◌then◌else◌, in_use, inl, inr, is_claimed, is_queued, is_ready, is_skipped, last_control, last_in, length, live_control, live_in, local, local_after, local_of_row, looked, mark_there, next_object, next_region, not, owner_of, page_in, page_key, place_of, queues_after_search, refl, region_of, returns_out, reverse, row_at, row_cases, row_with_control, sends, slice_get, some_is, subst, sym, told_from, true, unnamed, ℕ, ◌&&◌, ◌++◌, ◌+◌, ◌-◌, ◌<◌, ◌==◌, ◌||◌, ◌∙◌, ◌∷◌, ◌≡◌, ◌≤◌, ◌⊎◌}
 use Rattle.vm_legal.specs.Licences.{Drops, Reclaimed as ForFrames}
 use Rattle.vm_legal.specs.Living.{tasks as made_tasks}
 use Rattle.vm_legal.specs.Reclaims.{Reclaims as May}
@@ -12,10 +12,20 @@ use Rattle.vm_supply.specs.declared.woken.Woken.TheVariants as woken
 use Rattle.vm_kernel.proofs.Growing.{Follows, free_is, goes_none, goes_one, suffices}
 use Rattle.vm_kernel.proofs.Losing.{IsSeen, seen_here}
 use Rattle.vm_kernel.proofs.Brings.{plain_changed}
-use Rattle.vm_kernel.proofs.Hearing.{pages_eq}
-use Rattle.vm_kernel.proofs.Pages.{effect_on, frames_changed, itself, laundry_changed, pages_moved}
-use Rattle.vm_kernel.proofs.Strands.{waiters_lost}
-use Rattle.vm_kernel.proofs.Returning.{controls_begun, controls_same, controls_told, first_of_object, pages_created, ready_controlled, reached_controlled, regions_controlled, told_controlled, unasked}
+use Rattle.vm_kernel.proofs.Pages.{frames_changed, itself, laundry_changed, pages_moved}
+use Rattle.std.proofs.Common.{suc, zero}
+use Rattle.std.specs.Prelude.{IfOk}
+use Rattle.vm_abroad.proofs.Home.{object_stays}
+use Rattle.vm_kernel.proofs.Returning.{controls_begun, controls_moved, controls_same, controls_told, counts_controlled, first_of_object, pages_created, ready_controlled, temporary_controlled, told_controlled, unasked}
+use Rattle.vm_abroad.specs.Home.{object_home}
+use Rattle.vm_legal.specs.Prompt.{IsSource}
+use Rattle.vm_model.specs.Regions.{marked_below, marked_regions}
+use Rattle.vm_parts.proofs.Rows.{stood}
+use Rattle.vm_state.specs.Stands.{HasHomes, IsTemporary}
+use Rattle.vm_kernel.specs.Serving.{FreesBut, IsHere, IsToCopy}
+use Rattle.vm_state.proofs.Changing.{regions_controlled}
+use Rattle.vm_state.proofs.Referred.{referred_controlled, referred_gone}
+use Rattle.vm_state.proofs.Told.{waiters_lost}
 use Rattle.vm_kernel.proofs.Washing.{laundry_room, laundry_returned}
 use Rattle.vm_kernel.proofs.Own.{named_host, own_host}
 use Rattle.vm_kernel.proofs.Mine.{mine_of, own_named}
@@ -32,11 +42,11 @@ pub record Beside (k k2 : Parts) : Type 0 where
   pub live : AllLive k2.memory.objects
 
 -- what a reclaim owes its caller
-pub record Took (header : Header) (h : ℕ) (outside : Outside) (doing : Command) (past : List Event) (ids : Ids) (answer : Reclaim) (k k2 : Parts) (before after : List Event) : Type 0 where
+pub record Took (header : Header) (h : ℕ) (outside : Outside) (doing : Command) (past : List Event) (ids : Ids) (answer : Reclaim) (skip : List FrameNo) (k k2 : Parts) (before after : List Event) : Type 0 where
   pub rests : Rests header h k2 ids (after ++ past)
   pub goes : LegalEvents header h outside doing past before after
   pub gone : EachGone h before after
-  pub reclaimed : FreesOrReturns h answer k k2 (before ++ past) (after ++ past)
+  pub reclaimed : FreesBut h skip answer k k2 (before ++ past) (after ++ past)
 
 -- why a page may be reclaimed
 abbrev pub MayTake : Header → ℕ → Command → List Event → Type 0
@@ -50,16 +60,36 @@ may_take header h doing o p past none why = record { spared = λ waits. unnamed 
 fits_of : (k k2 : Parts) → Beside k k2 → PartsFit k → ArePlain k2.memory.resident → PartsFit k2
 fits_of k k2 beside fits plain = record { parts = beside.fit; plain = plain; buffers = beside.buffers ∙ (fits.buffers ∙ sym beside.size) }
 
-no_bool : (b : Bool) → (b ≡ true → ⊥) → b ≡ false
-no_bool true never = absurd (never refl)
-no_bool false never = refl
+-- a page whose frame is skipped is no victim, so it stays
+row_stays : (skip : List FrameNo) (key : PageKey) (row : PageRow) (rs rs2 : ResidentTable) → row_at rs key.object.0 key.page.0 ≡ Some row → PutsRow key.object.0 key.page.0 None rs rs2 → is_skipped skip row.frame.0 ≡ false
+    → (o p : ℕ) (other : PageRow) → row_at rs o p ≡ Some other → is_skipped skip other.frame.0 ≡ true → row_at rs2 o p ≡ Some other
+row_stays skip key row rs rs2 found put unskipped o p other there skips = elim (row_cases key.object.0 key.page.0 None rs rs2 put o p) [
+  | inl now ↦
+      let same : row ≡ other = some_is row other (sym (stood rs key.object.0 key.page.0 o p (Some row) now.object now.page found) ∙ there) in
+      absurd (let bad : false ≡ true = sym unskipped ∙ (ap (λ (z : PageRow). is_skipped skip z.frame.0) same ∙ skips) in cc)
+  | inr apart ↦ apart.is ∙ there
+]
+
+-- the regions stand as they did behind an event that says nothing of them
+
+marked_same : (header : Header) (n : ℕ) (e : Event) (past : List Event) → ((r : ℕ) → (region_of header r (e ∷ past)).mark ≡ (region_of header r past).mark) → marked_below header n (e ∷ past) ≡ marked_below header n past
+marked_same header zero e past same = refl
+marked_same header (suc n) e past same =
+    ap (λ b. if b then marked_below header n (e ∷ past) + 1 else marked_below header n (e ∷ past)) (same n) ∙ ap (λ z. if (region_of header n past).mark then z + 1 else z) (marked_same header n e past same)
+
+-- such an event leaves the numbers and the marks
+regions_behind : (header : Header) (e : Event) (past : List Event) (cs : ChainTable) (os : ObjectTable) (ids : Ids) → ((r : ℕ) → (region_of header r (e ∷ past)).mark ≡ (region_of header r past).mark)
+    → HasRegions cs os ids (λ r. region_of header r past) (λ o. backing_of header o past) (next_region header past) (next_object header past) (marked_regions header past)
+    → HasRegions cs os ids (λ r. region_of header r past) (λ o. backing_of header o past) (next_region header past) (next_object header past) (marked_below header (next_region header past) (e ∷ past))
+regions_behind header e past cs os ids same has =
+    subst (λ (n : ℕ). HasRegions cs os ids (λ r. region_of header r past) (λ o. backing_of header o past) (next_region header past) (next_object header past) n) (sym (marked_same header (next_region header past) e past same)) has
 
 -- no page was found
-took_nothing : (header : Header) (h : ℕ) (outside : Outside) (doing : Command) (past : List Event) (ids : Ids) (k k2 : Parts) (before after : List Event)
-    → Rests header h k ids (before ++ past) → Beside k k2 → IsNothing [] k.memory k2.memory k.laundry k2.laundry before after → Took header h outside doing past ids reclaim.Nothing k k2 before after
-took_nothing header h outside doing past ids k k2 before after rests beside is =
+took_nothing : (header : Header) (h : ℕ) (outside : Outside) (doing : Command) (past : List Event) (ids : Ids) (skip : List FrameNo) (k k2 : Parts) (before after : List Event)
+    → Rests header h k ids (before ++ past) → Beside k k2 → IsNothing skip k.memory k2.memory k.laundry k2.laundry before after → Took header h outside doing past ids reclaim.Nothing skip k k2 before after
+took_nothing header h outside doing past ids skip k k2 before after rests beside is =
     let m = rests.matches in
-    subst (λ (z : List Event). Took header h outside doing past ids reclaim.Nothing k k2 before z) (sym is.events)
+    subst (λ (z : List Event). Took header h outside doing past ids reclaim.Nothing skip k k2 before z) (sym is.events)
     (record {
       rests =
           record {
@@ -73,16 +103,17 @@ took_nothing header h outside doing past ids k k2 before after rests beside is =
                   tasks = rw beside.maps m.tasks;
                   regions = rw (beside.chains, is.objects) m.regions;
                   entries = rw (beside.chains, beside.maps) m.entries;
-                  pages = rw (beside.chains, is.objects, is.frames, is.resident) m.pages;
+                  pages = rw (is.objects, is.frames, is.resident) m.pages;
                   uses = rw beside.maps m.uses;
                   controls = rw is.objects m.controls;
                   homeless = m.homeless;
+                  homes = rw beside.chains m.homes;
                   settled = m.settled;
                   laundry = rw (is.frames, is.resident, is.laundry) m.laundry;
                   frames = rw is.frames m.frames;
                 };
             used = rw beside.chains rests.used;
-            reached = rw (beside.chains, is.objects) rests.reached;
+            referred = rw (beside.chains, is.objects, is.resident) rests.referred;
             waits = rw (beside.chains, beside.maps, beside.waits, is.objects, is.resident) rests.waits;
             order = rw beside.waits rests.order;
             idle = rw beside.waits rests.idle;
@@ -94,17 +125,15 @@ took_nothing header h outside doing past ids k k2 before after rests beside is =
             waits = beside.waits;
             freed = λ bad. absurd (let clash : reclaim.Nothing ≡ reclaim.Freed = bad in cc);
             returned = λ bad. absurd (let clash : reclaim.Nothing ≡ reclaim.Returned = bad in cc);
-            nothing = λ same. (refl, (λ o p row found. away o p row (ap (λ z. row_at z o p) (sym is.resident) ∙ found)), ap free is.frames);
+            nothing = λ same. (refl, (λ o p row found here. is.skipped row.frame.0 (rests.matches.fits.parts.listed o p row (ap (λ z. row_at z o p) (sym is.resident) ∙ found) ∙ here)), ap free is.frames);
+            kept = λ o p row found here skips. ap (λ z. row_at z o p) is.resident ∙ found;
           };
     })
-  where
-    away : (o p : ℕ) (row : PageRow) → row_at k.memory.resident o p ≡ Some row → row.here ≡ false
-    away o p row found = no_bool row.here (λ here. let bad : false ≡ true = is.skipped row.frame.0 (rests.matches.fits.parts.listed o p row found ∙ here) in cc)
 
 -- a clean page was dropped
-took_freed : (header : Header) (h : ℕ) (outside : Outside) (doing : Command) (past : List Event) (ids : Ids) (k k2 : Parts) (before after : List Event)
-    → Rests header h k ids (before ++ past) → Beside k k2 → KeepsPages k.memory.queues (queues_after_search k.memory.queues) → MayTake header h doing (before ++ past) → IsFreed k.host [] k.memory k2.memory k.laundry k2.laundry before after → Took header h outside doing past ids reclaim.Freed k k2 before after
-took_freed header h outside doing past ids k k2 before after rests beside keeps may freed =
+took_freed : (header : Header) (h : ℕ) (outside : Outside) (doing : Command) (past : List Event) (ids : Ids) (skip : List FrameNo) (k k2 : Parts) (before after : List Event)
+    → Rests header h k ids (before ++ past) → Beside k k2 → KeepsPages k.memory.queues (queues_after_search k.memory.queues) → MayTake header h doing (before ++ past) → IsFreed k.host skip k.memory k2.memory k.laundry k2.laundry before after → Took header h outside doing past ids reclaim.Freed skip k k2 before after
+took_freed header h outside doing past ids skip k k2 before after rests beside keeps may freed =
     let m = rests.matches in
     let key = freed.key in
     let row = freed.row in
@@ -123,7 +152,7 @@ took_freed header h outside doing past ids k k2 before after rests beside keeps 
     let follows : Follows header h outside doing e moment =
     record { consequence = tt; cause = drops; own_bytes = tt; frames = suffices header h k2.memory.frames (e ∷ moment) frames; inner = tt; said = tt; own = own_named h; creates = tt } in
     let fit = fit_touched k.memory (queues_after_search k.memory.queues) m.fits.parts keeps refl in
-    subst (λ (z : List Event). Took header h outside doing past ids reclaim.Freed k k2 before z) (sym log)
+    subst (λ (z : List Event). Took header h outside doing past ids reclaim.Freed skip k k2 before z) (sym log)
     (record {
       rests =
           record {
@@ -135,19 +164,20 @@ took_freed header h outside doing past ids k k2 before after rests beside keeps 
                   host = rw beside.host m.host;
                   fits = fits_of k k2 beside m.fits (plain_changed key row.frame _ _ _ _ _ (looked k.memory) k2.memory m.fits.plain page tt);
                   tasks = rw beside.maps m.tasks;
-                  regions = rw (beside.chains, freed.objects) m.regions;
+                  regions = rw (beside.chains, freed.objects) (regions_behind header e moment k.chains k.memory.objects ids (λ r. refl) m.regions);
                   entries = rw (beside.chains, beside.maps) m.entries;
-                  pages = rw (beside.chains, freed.objects, own_host h) (pages_moved header.size Leaves key row.frame _ _ _ _ _ (looked k.memory) k2.memory k.memory.objects k.chains (λ o p. local header.size h (place_of o p) moment) fit m.pages page (λ some. absurd (let bad : false ≡ true = some in cc))
+                  pages = rw (freed.objects, own_host h) (pages_moved header.size Leaves key row.frame _ _ _ _ _ (looked k.memory) k2.memory k.memory.objects (λ o p. local header.size h (place_of o p) moment) fit m.pages page
                       (ap (λ z. record away { asked = not z; absent = absent_at k.memory.objects o p }) here) (λ o p apart. refl));
                   uses = rw beside.maps m.uses;
-                  controls = rw freed.objects m.controls;
-                  homeless = m.homeless;
+                  controls = rw freed.objects (controls_moved k.memory.objects _ _ _ m.controls (λ o is. object_stays o h e moment is));
+                  homeless = record { regions = m.homeless.regions; objects = m.homeless.objects; stay = m.homeless.stay };
+                  homes = rw beside.chains m.homes;
                   settled = record { returned = refl; shut = λ region. refl };
                   laundry = rw freed.laundry (laundry_changed key row.frame _ _ _ _ _ (looked k.memory) k2.memory k.laundry (returns_out h moment) m.laundry page);
                   frames = frames;
                 };
             used = rw beside.chains rests.used;
-            reached = rw (beside.chains, freed.objects) rests.reached;
+            referred = rw (beside.chains, freed.objects) (referred_gone o p k.chains k.memory.objects k.memory.resident k2.memory.resident page.row rests.referred);
             waits = rw (beside.chains, beside.maps, beside.waits, freed.objects) (waiters_lost k.maps k.chains k.memory.resident k2.memory.resident k.memory.objects k.memory.objects k.waits.rows woken.Nobody _ o p row rests.waits page.found here page.row (λ object told. told) (λ object is. is));
             order = rw beside.waits rests.order;
             idle = rw beside.waits rests.idle;
@@ -160,26 +190,30 @@ took_freed header h outside doing past ids k k2 before after rests beside keeps 
             freed = λ same. (let less = page.claims in omega arith, (rw (own_host h) refl));
             returned = λ bad. absurd (let clash : reclaim.Freed ≡ reclaim.Returned = bad in cc);
             nothing = λ bad. absurd (let clash : reclaim.Freed ≡ reclaim.Nothing = bad in cc);
+            kept = λ o p other found here skips. row_stays skip key row k.memory.resident k2.memory.resident page.found page.row freed.victim.unskipped o p other found skips;
           };
     })
 
 -- a page is on its way to its pager, in its frame
-on_its_way : (h : ℕ) (k k2 : Parts) (before after : List Event) → Beside k k2 → claimed k2.memory.frames + 1 ≡ claimed k.memory.frames + 1 → free k2.memory.frames + 1 ≡ free k.memory.frames + 1 → departures h after ≡ departures h before + 1 → 0 < returns_out h after → FreesOrReturns h reclaim.Returned k k2 before after
-on_its_way h k k2 before after beside claims left less out =
+on_its_way : (h : ℕ) (skip : List FrameNo) (k k2 : Parts) (before after : List Event) → Beside k k2 → claimed k2.memory.frames + 1 ≡ claimed k.memory.frames + 1 → free k2.memory.frames + 1 ≡ free k.memory.frames + 1 → departures h after ≡ departures h before + 1 → 0 < returns_out h after
+    → ((o p : ℕ) (other : PageRow) → row_at k.memory.resident o p ≡ Some other → is_skipped skip other.frame.0 ≡ true → row_at k2.memory.resident o p ≡ Some other) → FreesBut h skip reclaim.Returned k k2 before after
+on_its_way h skip k k2 before after beside claims left less out stay =
     record {
       waits = beside.waits;
       freed = λ bad. absurd (let clash : reclaim.Returned ≡ reclaim.Freed = bad in cc);
       returned = λ same. (let kept : claimed k2.memory.frames ≡ claimed k.memory.frames = omega arith in kept, less, let kept : free k2.memory.frames ≡ free k.memory.frames = omega arith in kept, out);
       nothing = λ bad. absurd (let clash : reclaim.Returned ≡ reclaim.Nothing = bad in cc);
+      kept = λ o p other found here skips. stay o p other found skips;
     }
 
 -- what holds of a history in front of a return, of all but the object's control
 record Before (header : Header) (h : ℕ) (k : Parts) (ids : Ids) (past : List Event) : Type 0 where
   tasks : HasTasks h header.size k.maps (λ task. host_of task past) (λ task. entries_of header.size task past)
-  regions : HasRegions k.chains k.memory.objects ids (λ r. region_of header r past) (λ o. backing_of header o past) (next_region header past) (next_object header past)
-  pages : HasPages k.memory.frames k.memory.resident k.memory.objects k.chains (λ o p. local header.size h (place_of o p) past)
+  regions : HasRegions k.chains k.memory.objects ids (λ r. region_of header r past) (λ o. backing_of header o past) (next_region header past) (next_object header past) (marked_regions header past)
+  pages : HasPages k.memory.frames k.memory.resident k.memory.objects (λ o p. local header.size h (place_of o p) past)
   uses : HasUse k.maps (λ r. in_use header h r past) (made_tasks past) (λ t r. holds header.size t r past) (next_region header past)
-  homeless : AreHomeless header past
+  homeless : HaveHomes header past
+  homes : HasHomes h k.chains (λ r. home_of r past)
   laundry : HasLaundry k.memory.frames k.memory.resident k.laundry (returns_out h past)
   frames : HasFrames (slice_get (reverse header.frames.items) h) k.memory.frames (frames_held header.size h past) (frames_wired h past)
   waits : HasWaits k woken.Nobody past
@@ -194,10 +228,10 @@ abbrev creating : ℕ → PageKey → ℕ → ℕ → Event
 creating h key control size = event.Sent (Up (host_id h) key.object) (message.Create control size)
 
 -- what a return leaves of the kernel
-returned_rests : (header : Header) (h : ℕ) (ids : Ids) (k k2 : Parts) (before after moment past : List Event) (control : ℕ) → Rests header h k ids past → Beside k k2 → KeepsPages k.memory.queues (queues_after_search k.memory.queues) → (is : IsReturned k.host [] k.memory k2.memory k.laundry k2.laundry before after) → Before header h k ids moment
-    → HasControls h k2.memory.objects (λ o. last_control h o moment) (λ o. live_control h o moment) (λ o. is_ready h o moment) (λ o. home_of o moment)
+returned_rests : (header : Header) (h : ℕ) (ids : Ids) (skip : List FrameNo) (k k2 : Parts) (before after moment past : List Event) (control : ℕ) → Rests header h k ids past → Beside k k2 → KeepsPages k.memory.queues (queues_after_search k.memory.queues) → (is : IsReturned k.host skip k.memory k2.memory k.laundry k2.laundry before after) → Before header h k ids moment
+    → HasControls h k2.memory.objects (λ o. last_control h o moment) (λ o. live_control h o moment) (λ o. is_ready h o moment) (λ o. object_home o moment)
     → Rests header h k2 ids (returning h is.key control is.row.dirty (page_in k.memory.frames is.row.frame.0) ∷ moment)
-returned_rests header h ids k k2 before after moment past control rests beside keeps is b controls =
+returned_rests header h ids skip k k2 before after moment past control rests beside keeps is b controls =
     let m = rests.matches in
     let o = is.key.object.0 in
     let p = is.key.page.0 in
@@ -205,8 +239,20 @@ returned_rests header h ids k k2 before after moment past control rests beside k
     let row = is.row in
     let page = is.page in
     let fit = fit_touched k.memory (queues_after_search k.memory.queues) m.fits.parts keeps refl in
+    let referred = rests.referred.pages o p is.row page.found in
+    let counts = counts_controlled is.object.state is.object in
+    let has : IsTemporary is.object = b.regions.temporary o is.object is.known in
+    let some : 0 < (controlled is.object).references =
+    subst (λ (z : ℕ). 0 < z) (ap (λ (z : ObjectRow). z.references) (some_is referred.row is.object (sym referred.known ∙ is.known)) ∙ sym counts.references) referred.some in
     let local_at = λ (o p : ℕ). local header.size h (place_of o p) moment in
-    let region = m.pages.live o p is.row page.found in
+    let e = returning h key control row.dirty (page_in k.memory.frames row.frame.0) in
+    let regions : HasRegions k.chains k2.memory.objects ids (λ r. region_of header r moment) (λ o. backing_of header o moment) (next_region header moment) (next_object header moment) (marked_regions header moment) =
+    regions_controlled o is.object (controlled is.object) k.chains k.memory.objects k2.memory.objects ids _ _ _ _ _ is.known is.objects counts.references counts.pages (temporary_controlled is.object.state is.object refl has) b.regions in
+    let moved = pages_moved header.size (Returns false) key row.frame _ _ _ _ _ (looked k.memory) k2.memory k2.memory.objects local_at fit b.pages page
+    (ap (λ z. record away { asked = not z }) is.victim.here ∙ ap (λ z. record away { absent = z }) (sym (is.present.at o p ∙ rw (itself o, itself p) refl)))
+    (λ o2 p2 apart. is.present.at o2 p2 ∙ ap (λ b. if b then false else absent_at k.memory.objects o2 p2) apart) in
+    let pages : HasPages k2.memory.frames k2.memory.resident k2.memory.objects (λ o2 p2. local_after header.size (if o == o2 then (if p == p2 then Returns false else Elsewhere) else Elsewhere) (local_at o2 p2)) =
+    record { shown = λ o2 p2. ap (λ e. local_after header.size e (local_at o2 p2)) (nested (o == o2) (p == p2)) ∙ moved.shown o2 p2 } in
     record {
       matches =
           record {
@@ -216,22 +262,22 @@ returned_rests header h ids k k2 before after moment past control rests beside k
             host = rw beside.host m.host;
             fits = fits_of k k2 beside m.fits (plain_changed key row.frame _ _ _ _ _ (looked k.memory) k2.memory m.fits.plain page tt);
             tasks = rw beside.maps b.tasks;
-            regions = rw beside.chains (regions_controlled k.chains k.memory.objects k2.memory.objects ids _ _ _ _ o is.object b.regions is.known is.objects);
+            regions = rw beside.chains (regions_behind header e moment k.chains k2.memory.objects ids (λ r. refl) regions);
             entries = rw (beside.chains, beside.maps) m.entries;
-            pages = rw (beside.chains, own_host h) (pages_eq k2.memory.frames k2.memory.resident k2.memory.objects k.chains (effect_on header.size key (Returns false) local_at) (λ o2 p2. local_after header.size (if o == o2 then (if p == p2 then Returns false else Elsewhere) else Elsewhere) (local_at o2 p2))
-                (pages_moved header.size (Returns false) key row.frame _ _ _ _ _ (looked k.memory) k2.memory k2.memory.objects k.chains local_at fit b.pages page (λ some. absurd (let bad : false ≡ true = some in cc))
-                (ap (λ z. record away { asked = not z }) is.victim.here ∙ ap (λ z. record away { absent = z }) (sym (is.present.at o p ∙ rw (itself o, itself p) refl)))
-                (λ o2 p2 apart. is.present.at o2 p2 ∙ ap (λ b. if b then false else absent_at k.memory.objects o2 p2) apart))
-                (λ o2 p2. ap (λ e. local_after header.size e (local_at o2 p2)) (nested (o == o2) (p == p2))));
+            pages = rw (own_host h) pages;
             uses = rw beside.maps b.uses;
-            controls = controls;
-            homeless = b.homeless;
+            controls = controls_moved k2.memory.objects _ _ _ controls (λ o is. object_stays o h e moment is);
+            homeless = record { regions = b.homeless.regions; objects = b.homeless.objects; stay = b.homeless.stay };
+            homes = rw beside.chains b.homes;
             settled = record { returned = refl; shut = λ region. refl };
             laundry = rw (own_host h) (laundry_returned key row _ _ (looked k.memory) k2.memory k.laundry k2.laundry (returns_out h moment) b.laundry page is.held is.room);
             frames = frames_changed (slice_get (reverse header.frames.items) h) key row.frame _ _ _ _ _ (looked k.memory) k2.memory (frames_held header.size h moment) (frames_held header.size h moment) (frames_wired h moment) b.frames page (λ held. let same = page.claims in omega arith);
           };
       used = rw beside.chains rests.used;
-      reached = rw beside.chains (reached_controlled k.chains k.memory.objects k2.memory.objects o (controlled is.object) rests.reached region is.objects);
+      referred =
+          rw beside.chains
+          (referred_gone o p k.chains k2.memory.objects k.memory.resident k2.memory.resident page.row
+          (referred_controlled o is.object (controlled is.object) k.chains k.memory.objects k2.memory.objects k.memory.resident is.known is.objects counts.references (λ live. some) rests.referred));
       waits = rw (beside.chains, beside.maps, beside.waits) (waiters_lost k.maps k.chains k.memory.resident k2.memory.resident k.memory.objects k2.memory.objects k.waits.rows woken.Nobody _ o p is.row b.waits page.found is.victim.here page.row (told_controlled k.memory.objects k2.memory.objects o is.object is.known is.objects) (ready_controlled k.memory.objects k2.memory.objects o is.object is.known is.objects));
       order = rw beside.waits b.order;
       idle = rw beside.waits rests.idle;
@@ -262,10 +308,10 @@ sent_back key dirty object bytes events size pager host =
     ∷ told_from pager (sends host key (message.Create (row_with_control pager object).control size)) events
 
 -- a changed page was returned, to a pager that was told of the object
-took_told : (header : Header) (h : ℕ) (outside : Outside) (doing : Command) (past : List Event) (ids : Ids) (k k2 : Parts) (before after : List Event) → Rests header h k ids (before ++ past) → Beside k k2 → KeepsPages k.memory.queues (queues_after_search k.memory.queues) → MayTake header h doing (before ++ past)
-    → (is : IsReturned k.host [] k.memory k2.memory k.laundry k2.laundry before after) → is.row.dirty ≡ true → has_pager is.object.state ≡ true → controlled is.object ≡ is.object
-    → after ≡ returning h is.key is.object.control is.row.dirty (page_in k.memory.frames is.row.frame.0) ∷ before → Took header h outside doing past ids reclaim.Returned k k2 before after
-took_told header h outside doing past ids k k2 before after rests beside keeps may is dirty paged same log =
+took_told : (header : Header) (h : ℕ) (outside : Outside) (doing : Command) (past : List Event) (ids : Ids) (skip : List FrameNo) (k k2 : Parts) (before after : List Event) → Rests header h k ids (before ++ past) → Beside k k2 → KeepsPages k.memory.queues (queues_after_search k.memory.queues) → MayTake header h doing (before ++ past)
+    → (is : IsReturned k.host skip k.memory k2.memory k.laundry k2.laundry before after) → is.row.dirty ≡ true → has_pager is.object.state ≡ true → controlled is.object ≡ is.object
+    → after ≡ returning h is.key is.object.control is.row.dirty (page_in k.memory.frames is.row.frame.0) ∷ before → Took header h outside doing past ids reclaim.Returned skip k k2 before after
+took_told header h outside doing past ids skip k k2 before after rests beside keeps may is dirty paged same log =
     let m = rests.matches in
     let key = is.key in
     let row = is.row in
@@ -275,25 +321,25 @@ took_told header h outside doing past ids k k2 before after rests beside keeps m
     let moment = before ++ past in
     let e = returning h key is.object.control row.dirty (page_in k.memory.frames is.row.frame.0) in
     let seen = seen_here k.memory.frames row (absent_at k.memory.objects o p) (local header.size h (place_of o p) moment) (m.pages.shown o p ∙ ap (λ z. local_of_row k.memory.frames z (absent_at k.memory.objects o p)) page.found) is.victim.here (m.fits.plain o p row page.found) in
-    let first = first_of_object k.chains k.memory.objects ids _ _ _ _ o is.object m.regions (m.pages.live o p row page.found) is.known in
+    let first = first_of_object k.memory.objects o is.object (rests.referred.pages o p row page.found) is.known (m.regions.temporary o is.object is.known) in
     let lives : live_control h o moment ≡ Some is.object.control = m.controls.live o ∙ (ap live_in is.known ∙ ap (λ b. if b then Some is.object.control else None) (first.live ∙ paged)) in
     let why : ReturnCause header doing h o p false moment = ForFrames refl (may_take header h doing o p moment seen.lock may) in
     let follows = back_follows header h outside doing ids k key row is.row.frame.0 is.object.control moment moment m page.found refl seen dirty lives why m.frames in
-    let b : Before header h k ids moment = record { tasks = m.tasks; regions = m.regions; pages = m.pages; uses = m.uses; homeless = m.homeless; laundry = m.laundry; frames = m.frames; waits = rests.waits; order = rests.order } in
+    let b : Before header h k ids moment = record { tasks = m.tasks; regions = m.regions; pages = m.pages; uses = m.uses; homeless = m.homeless; homes = m.homes; laundry = m.laundry; frames = m.frames; waits = rests.waits; order = rests.order } in
     let controls = controls_same k.memory.objects k2.memory.objects _ _ _ m.controls (controls_told k.memory.objects k2.memory.objects o is.object is.known same is.objects) in
-    subst (λ (z : List Event). Took header h outside doing past ids reclaim.Returned k k2 before z) (sym log)
+    subst (λ (z : List Event). Took header h outside doing past ids reclaim.Returned skip k k2 before z) (sym log)
     (record {
-      rests = returned_rests header h ids k k2 before after moment moment is.object.control rests beside keeps is b controls;
+      rests = returned_rests header h ids skip k k2 before after moment moment is.object.control rests beside keeps is b controls;
       goes = goes_one header h outside doing past before e m.settled follows;
       gone = record { more = e ∷ []; is = refl; each = (refl, tt) };
-      reclaimed = on_its_way h k k2 moment (e ∷ moment) beside page.claims page.left (rw (own_host h) refl) (rw (own_host h) (omega arith));
+      reclaimed = on_its_way h skip k k2 moment (e ∷ moment) beside page.claims page.left (rw (own_host h) refl) (rw (own_host h) (omega arith)) (row_stays skip key row k.memory.resident k2.memory.resident page.found page.row is.victim.unskipped);
     })
 
 -- a changed page was returned, and its pager told of the object first
-took_first : (header : Header) (h : ℕ) (outside : Outside) (doing : Command) (past : List Event) (ids : Ids) (k k2 : Parts) (before after : List Event) → Rests header h k ids (before ++ past) → Beside k k2 → KeepsPages k.memory.queues (queues_after_search k.memory.queues) → MayTake header h doing (before ++ past)
-    → (is : IsReturned k.host [] k.memory k2.memory k.laundry k2.laundry before after) → is.row.dirty ≡ true → is.object.state ≡ state.Without
-    → after ≡ returning h is.key (is.object.control + 1) is.row.dirty (page_in k.memory.frames is.row.frame.0) ∷ creating h is.key (is.object.control + 1) header.size ∷ before → Took header h outside doing past ids reclaim.Returned k k2 before after
-took_first header h outside doing past ids k k2 before after rests beside keeps may is dirty without log =
+took_first : (header : Header) (h : ℕ) (outside : Outside) (doing : Command) (past : List Event) (ids : Ids) (skip : List FrameNo) (k k2 : Parts) (before after : List Event) → Rests header h k ids (before ++ past) → Beside k k2 → KeepsPages k.memory.queues (queues_after_search k.memory.queues) → MayTake header h doing (before ++ past)
+    → (is : IsReturned k.host skip k.memory k2.memory k.laundry k2.laundry before after) → is.row.dirty ≡ true → is.object.state ≡ state.Without
+    → after ≡ returning h is.key (is.object.control + 1) is.row.dirty (page_in k.memory.frames is.row.frame.0) ∷ creating h is.key (is.object.control + 1) header.size ∷ before → Took header h outside doing past ids reclaim.Returned skip k k2 before after
+took_first header h outside doing past ids skip k k2 before after rests beside keeps may is dirty without log =
     let m = rests.matches in
     let key = is.key in
     let row = is.row in
@@ -305,25 +351,38 @@ took_first header h outside doing past ids k k2 before after rests beside keeps 
     let e1 = creating h key control header.size in
     let e2 = returning h key control row.dirty (page_in k.memory.frames is.row.frame.0) in
     let moment = e1 ∷ h0 in
-    let first = first_of_object k.chains k.memory.objects ids _ _ _ _ o is.object m.regions (m.pages.live o p row page.found) is.known in
+    let first = first_of_object k.memory.objects o is.object (rests.referred.pages o p row page.found) is.known (m.regions.temporary o is.object is.known) in
     let none : is.object.control ≡ 0 = first.number ∙ ap (λ z. if has_pager z then 1 else 0) without in
     let dead : live_control h o h0 ≡ None = m.controls.live o ∙ (ap live_in is.known ∙ ap (λ b. if b then Some is.object.control else None) (first.live ∙ ap has_pager without)) in
-    let pages : HasPages k.memory.frames k.memory.resident k.memory.objects k.chains (λ o p. local header.size h (place_of o p) moment) =
-    rw (own_host h) (pages_created header.size k.memory.frames k.memory.resident k.memory.objects k.chains (λ o p. local header.size h (place_of o p) h0) o m.pages (λ q. unasked header.size h o q h0 dead)) in
+    let pages : HasPages k.memory.frames k.memory.resident k.memory.objects (λ o p. local header.size h (place_of o p) moment) =
+    rw (own_host h) (pages_created header.size k.memory.frames k.memory.resident k.memory.objects (λ o p. local header.size h (place_of o p) h0) o m.pages (λ q. unasked header.size h o q h0 dead)) in
     let plain = m.fits.plain o p row page.found in
     let seen0 = seen_here k.memory.frames row (absent_at k.memory.objects o p) (local header.size h (place_of o p) h0) (m.pages.shown o p ∙ ap (λ z. local_of_row k.memory.frames z (absent_at k.memory.objects o p)) page.found) is.victim.here plain in
     let seen = seen_here k.memory.frames row (absent_at k.memory.objects o p) (local header.size h (place_of o p) moment) (pages.shown o p ∙ ap (λ z. local_of_row k.memory.frames z (absent_at k.memory.objects o p)) page.found) is.victim.here plain in
     let put : PutsObject o (Some (row_with_control state.Without is.object)) k.memory.objects k2.memory.objects = subst (λ (z : PagerState). PutsObject o (Some (row_with_control z is.object)) k.memory.objects k2.memory.objects) without is.objects in
-    let controls : HasControls h k2.memory.objects (λ o. last_control h o moment) (λ o. live_control h o moment) (λ o. is_ready h o moment) (λ o. home_of o moment) = rw (own_host h) (controls_begun k.memory.objects k2.memory.objects _ _ _ o is.object m.controls beside.live is.known none put) in
+    let begun : HasControls h k2.memory.objects (λ o. last_control h o moment) (λ o. live_control h o moment) (λ o. is_ready h o moment) (λ o. object_home o h0) = rw (own_host h) (controls_begun k.memory.objects k2.memory.objects _ _ _ o is.object m.controls beside.live is.known none put) in
+    let controls : HasControls h k2.memory.objects (λ o. last_control h o moment) (λ o. live_control h o moment) (λ o. is_ready h o moment) (λ o. object_home o moment) = controls_moved k2.memory.objects _ _ _ begun (λ o is. object_stays o h e1 h0 is) in
     let lives : live_control h o moment ≡ Some control = if_true o (Some control) (live_control h o h0) (live_control h o moment) (rw (own_host h) refl) in
     let why : ReturnCause header doing h o p false moment = Created control header.size h0 refl refl (may_take header h doing o p h0 seen0.lock may) in
     let follows = back_follows header h outside doing ids k key row is.row.frame.0 control h0 moment m page.found refl seen dirty lives why m.frames in
     let creates : Creates header h control o header.size h0 =
     record { number = ap (λ z. z + 1) none; sized = refl; temporary = subst (λ (z : List Declared). length z ≤ o) (sym m.plain.objects) (omega arith); never = m.controls.last o ∙ (ap last_in is.known ∙ none); page = p; here = seen0.here } in
-    let b : Before header h k ids moment = record { tasks = m.tasks; regions = m.regions; pages = pages; uses = m.uses; homeless = m.homeless; laundry = m.laundry; frames = m.frames; waits = rests.waits; order = rests.order } in
-    subst (λ (z : List Event). Took header h outside doing past ids reclaim.Returned k k2 before z) (sym log)
+    let b : Before header h k ids moment =
+    record {
+      tasks = m.tasks;
+      regions = regions_behind header e1 h0 k.chains k.memory.objects ids (λ r. refl) m.regions;
+      pages = pages;
+      uses = m.uses;
+      homeless = record { regions = m.homeless.regions; objects = m.homeless.objects; stay = m.homeless.stay };
+      homes = m.homes;
+      laundry = m.laundry;
+      frames = m.frames;
+      waits = rests.waits;
+      order = rests.order;
+    } in
+    subst (λ (z : List Event). Took header h outside doing past ids reclaim.Returned skip k k2 before z) (sym log)
     (record {
-      rests = returned_rests header h ids k k2 before after moment h0 control rests beside keeps is b controls;
+      rests = returned_rests header h ids skip k k2 before after moment h0 control rests beside keeps is b controls;
       goes =
           record {
             more = e2 ∷ e1 ∷ [];
@@ -337,12 +396,12 @@ took_first header h outside doing past ids k k2 before after rests beside keeps 
             mine = (mine_of header h e2 moment (λ region. refl) follows.own tt, (mine_of header h e1 h0 m.settled.shut (own_named h) (m.controls.home o is.object is.known), tt));
           };
       gone = record { more = e2 ∷ e1 ∷ []; is = refl; each = (refl, (refl, tt)) };
-      reclaimed = on_its_way h k k2 h0 (e2 ∷ moment) beside page.claims page.left (rw (own_host h) refl) (rw (own_host h) (omega arith));
+      reclaimed = on_its_way h skip k k2 h0 (e2 ∷ moment) beside page.claims page.left (rw (own_host h) refl) (rw (own_host h) (omega arith)) (row_stays skip key row k.memory.resident k2.memory.resident page.found page.row is.victim.unskipped);
     })
 
-took_returned : (header : Header) (h : ℕ) (outside : Outside) (doing : Command) (past : List Event) (ids : Ids) (k k2 : Parts) (before after : List Event) → Rests header h k ids (before ++ past) → Beside k k2 → KeepsPages k.memory.queues (queues_after_search k.memory.queues) → MayTake header h doing (before ++ past)
-    → IsReturned k.host [] k.memory k2.memory k.laundry k2.laundry before after → Took header h outside doing past ids reclaim.Returned k k2 before after
-took_returned header h outside doing past ids k k2 before after rests beside keeps may is = go is.object.state refl
+took_returned : (header : Header) (h : ℕ) (outside : Outside) (doing : Command) (past : List Event) (ids : Ids) (skip : List FrameNo) (k k2 : Parts) (before after : List Event) → Rests header h k ids (before ++ past) → Beside k k2 → KeepsPages k.memory.queues (queues_after_search k.memory.queues) → MayTake header h doing (before ++ past)
+    → IsReturned k.host skip k.memory k2.memory k.laundry k2.laundry before after → Took header h outside doing past ids reclaim.Returned skip k k2 before after
+took_returned header h outside doing past ids skip k k2 before after rests beside keeps may is = go is.object.state refl
   where
     bytes : List ℕ
     bytes = page_in k.memory.frames is.row.frame.0
@@ -361,17 +420,17 @@ took_returned header h outside doing past ids k k2 before after rests beside kee
         ∙ (ap (sent_back is.key is.row.dirty is.object bytes before header.size is.object.state) (named_host k.host h rests.matches.host)
         ∙ ap (λ z. sent_back is.key is.row.dirty is.object bytes before header.size z (host_id h)) same))
 
-    go : (pager : PagerState) → is.object.state ≡ pager → Took header h outside doing past ids reclaim.Returned k k2 before after
-    go state.Without same = took_first header h outside doing past ids k k2 before after rests beside keeps may is dirty same (log state.Without same)
-    go state.Sent same = took_told header h outside doing past ids k k2 before after rests beside keeps may is dirty (ap has_pager same) (ap (λ z. row_with_control z is.object) same) (log state.Sent same)
-    go state.Ready same = took_told header h outside doing past ids k k2 before after rests beside keeps may is dirty (ap has_pager same) (ap (λ z. row_with_control z is.object) same) (log state.Ready same)
+    go : (pager : PagerState) → is.object.state ≡ pager → Took header h outside doing past ids reclaim.Returned skip k k2 before after
+    go state.Without same = took_first header h outside doing past ids skip k k2 before after rests beside keeps may is dirty same (log state.Without same)
+    go state.Sent same = took_told header h outside doing past ids skip k k2 before after rests beside keeps may is dirty (ap has_pager same) (ap (λ z. row_with_control z is.object) same) (log state.Sent same)
+    go state.Ready same = took_told header h outside doing past ids skip k k2 before after rests beside keeps may is dirty (ap has_pager same) (ap (λ z. row_with_control z is.object) same) (log state.Ready same)
 
 -- a page was reclaimed, or none is here
-pub took : (header : Header) (h : ℕ) (outside : Outside) (doing : Command) (past : List Event) (ids : Ids) (answer : Reclaim) (k k2 : Parts) (before after : List Event) → Rests header h k ids (before ++ past) → Beside k k2 → KeepsPages k.memory.queues (queues_after_search k.memory.queues) → MayTake header h doing (before ++ past)
-    → ReclaimEffects answer k.host [] k.memory k2.memory k.laundry k2.laundry before after → Took header h outside doing past ids answer k k2 before after
-took header h outside doing past ids reclaim.Freed k k2 before after rests beside keeps may is = took_freed header h outside doing past ids k k2 before after rests beside keeps may is
-took header h outside doing past ids reclaim.Returned k k2 before after rests beside keeps may is = took_returned header h outside doing past ids k k2 before after rests beside keeps may is
-took header h outside doing past ids reclaim.Nothing k k2 before after rests beside keeps may is = took_nothing header h outside doing past ids k k2 before after rests beside is
+pub took : (header : Header) (h : ℕ) (outside : Outside) (doing : Command) (past : List Event) (ids : Ids) (answer : Reclaim) (skip : List FrameNo) (k k2 : Parts) (before after : List Event) → Rests header h k ids (before ++ past) → Beside k k2 → KeepsPages k.memory.queues (queues_after_search k.memory.queues) → MayTake header h doing (before ++ past)
+    → ReclaimEffects answer k.host skip k.memory k2.memory k.laundry k2.laundry before after → Took header h outside doing past ids answer skip k k2 before after
+took header h outside doing past ids reclaim.Freed skip k k2 before after rests beside keeps may is = took_freed header h outside doing past ids skip k k2 before after rests beside keeps may is
+took header h outside doing past ids reclaim.Returned skip k k2 before after rests beside keeps may is = took_returned header h outside doing past ids skip k k2 before after rests beside keeps may is
+took header h outside doing past ids reclaim.Nothing skip k k2 before after rests beside keeps may is = took_nothing header h outside doing past ids skip k k2 before after rests beside is
 
 -- the lists of pages have another order
 
@@ -393,28 +452,30 @@ rests_touched header h ids k queues past rests keeps count =
             uses = m.uses;
             controls = m.controls;
             homeless = m.homeless;
+            homes = m.homes;
             settled = m.settled;
             laundry = m.laundry;
             frames = m.frames;
           };
       used = rests.used;
-      reached = rests.reached;
+      referred = rests.referred;
       waits = rests.waits;
       order = rests.order;
       idle = rests.idle;
     }
 
-pub reclaimed_touched : (h : ℕ) (answer : Reclaim) (k k2 : Parts) (queues : Queues) (before after : List Event) → FreesOrReturns h answer (record k { memory = record k.memory { queues = queues } }) k2 before after → FreesOrReturns h answer k k2 before after
-reclaimed_touched h answer k k2 queues before after r = record { waits = r.waits; freed = r.freed; returned = r.returned; nothing = r.nothing }
+pub reclaimed_touched : (h : ℕ) (answer : Reclaim) (skip : List FrameNo) (k k2 : Parts) (queues : Queues) (before after : List Event) → FreesBut h skip answer (record k { memory = record k.memory { queues = queues } }) k2 before after → FreesBut h skip answer k k2 before after
+reclaimed_touched h answer skip k k2 queues before after r = record { waits = r.waits; freed = r.freed; returned = r.returned; nothing = r.nothing; kept = r.kept }
 
--- no page is on a list, so none is here
-pub none_queued : (header : Header) (h : ℕ) (k : Parts) (queues : Queues) (ids : Ids) (past : List Event) → Rests header h k ids past → AllSkipped [] k.memory.queues → FreesOrReturns h reclaim.Nothing k (record k { memory = record k.memory { queues = queues } }) past past
-none_queued header h k queues ids past rests none =
+-- each page on a list is skipped, so each that is here is
+pub all_skipped : (header : Header) (h : ℕ) (skip : List FrameNo) (k : Parts) (queues : Queues) (ids : Ids) (past : List Event) → Rests header h k ids past → AllSkipped skip k.memory.queues → FreesBut h skip reclaim.Nothing k (record k { memory = record k.memory { queues = queues } }) past past
+all_skipped header h skip k queues ids past rests all =
     record {
       waits = refl;
       freed = λ bad. absurd (let clash : reclaim.Nothing ≡ reclaim.Freed = bad in cc);
       returned = λ bad. absurd (let clash : reclaim.Nothing ≡ reclaim.Returned = bad in cc);
-      nothing = λ same. (refl, (λ o p row found. no_bool row.here (λ here. let bad : false ≡ true = none row.frame.0 (rests.matches.fits.parts.listed o p row found ∙ here) in cc)), refl);
+      nothing = λ same. (refl, (λ o p row found here. all row.frame.0 (rests.matches.fits.parts.listed o p row found ∙ here)), refl);
+      kept = λ o p row found here skips. found;
     }
 
 -- a page is on a list, so a frame is not held by a return
@@ -432,22 +493,94 @@ room_for header h k ids past f rests listed = go (owner_of k.memory.resident f) 
     go None none = absurd (let bad : false ≡ true = sym (m.fits.parts.unlisted f none) ∙ listed in cc)
     go (Some key) owner = laundry_room k.memory.frames k.memory.resident k.laundry (returns_out h past) f key m.laundry (omega (arith, m.frames.fits)) (mine (is_claimed k.memory.frames f) key refl owner) owner
 
+-- one page is spared: the one whose frame is skipped
+
+itself_skipped : (f : FrameNo) (g : ℕ) → f.0 ≡ g → is_skipped (f ∷ []) g ≡ true
+itself_skipped f g same = subst (λ (z : ℕ). is_skipped (f ∷ []) z ≡ true) same (rw (itself f.0) refl)
+
+skipped_one : (f : FrameNo) (g : ℕ) → is_skipped (f ∷ []) g ≡ true → f.0 ≡ g
+skipped_one f g is = elim (eqb_tells f.0 g) [
+  | inl same ↦ same.1
+  | inr apart ↦ absurd (let bad : false ≡ true = sym (ap (λ b. b || false) apart.0) ∙ is in cc)
+]
+
+-- the page that is spared is here still
+pub spared_here : (h : ℕ) (answer : Reclaim) (k k2 : Parts) (before after : List Event) (key : PageKey) (here : IsHere k key) → FreesBut h (here.0.frame ∷ []) answer k k2 before after → row_at k2.memory.resident key.object.0 key.page.0 ≡ Some here.0
+spared_here h answer k k2 before after key here r = r.kept key.object.0 key.page.0 here.0 here.1 here.2 (itself_skipped here.0.frame here.0.frame.0 refl)
+
+pub spared_some : (h : ℕ) (answer : Reclaim) (k k2 : Parts) (before after : List Event) (key : PageKey) (here : IsHere k key) → Fit k2.memory → FreesBut h (here.0.frame ∷ []) answer k k2 before after → FreesOrReturns h (Some key) answer k k2 before after
+spared_some h answer k k2 before after key here fit r =
+    record {
+      waits = r.waits;
+      freed = r.freed;
+      returned = r.returned;
+      nothing = λ none. let all = r.nothing none in (all.0, (λ o p row found is. owner o p row found (skipped_one here.0.frame row.frame.0 (all.1 o p row found is))), all.2);
+      kept = λ o p row found is same. r.kept o p row found is (itself_skipped here.0.frame row.frame.0 (ap (λ (z : PageRow). z.frame.0) (its_row o p row found (some_is key (page_key o p) same))));
+    }
+  where
+    -- a frame is that of one page
+    owner : (o p : ℕ) (row : PageRow) → row_at k2.memory.resident o p ≡ Some row → here.0.frame.0 ≡ row.frame.0 → Some key ≡ Some (page_key o p)
+    owner o p row found same =
+        sym (fit.owned.at key.object.0 key.page.0 here.0 (spared_here h answer k k2 before after key here r)) ∙ (ap (owner_of k2.memory.resident) same ∙ fit.owned.at o p row found)
+
+    its_row : (o p : ℕ) (row : PageRow) → row_at k.memory.resident o p ≡ Some row → key ≡ page_key o p → here.0 ≡ row
+    its_row o p row found same = some_is here.0 row (sym here.1 ∙ (ap (λ (z : PageKey). row_at k.memory.resident z.object.0 z.page.0) same ∙ found))
+
+-- so it is where a page was reclaimed
+frame_of_row : (k : Parts) (key : PageKey) (frame : FrameNo) (here : IsHere k key) → IfSome (row_at k.memory.resident key.object.0 key.page.0) (λ row. frame ≡ row.frame) → frame ≡ here.0.frame
+frame_of_row k key frame here told = subst (λ (z : Option PageRow). IfSome z (λ row. frame ≡ row.frame)) here.1 told
+
+pub spares : {B : Type 0} (r : Result Reclaim B) (header : Header) (h : ℕ) (k k2 : Parts) (ids : Ids) (spared : Option PageKey) (key : PageKey) (frame : FrameNo) (before after : List Event) → spared ≡ Some key → IsToCopy header h k spared before
+    → IfSome (row_at k.memory.resident key.object.0 key.page.0) (λ row. frame ≡ row.frame) → OnOk r (Rests header h k2 ids after) → IfOk r (λ answer. FreesBut h (frame ∷ []) answer k k2 before after) → IfOk r (λ answer. FreesOrReturns h spared answer k k2 before after)
+spares (Ok answer) header h k k2 ids spared key frame before after is to_copy told rests frees =
+    let here : IsHere k key = (subst (λ (z : Option PageKey). IsToCopy header h k z before) is to_copy).1 in
+    subst (λ (z : Option PageKey). FreesOrReturns h z answer k k2 before after) (sym is)
+    (spared_some h answer k k2 before after key here rests.matches.fits.parts (subst (λ (z : FrameNo). FreesBut h (z ∷ []) answer k k2 before after) (frame_of_row k key frame here told) frees))
+spares (Err e) header h k k2 ids spared key frame before after is to_copy told rests frees = tt
+
+pub keeps_spared : {B : Type 0} (r : Result Reclaim B) (header : Header) (h : ℕ) (k k2 : Parts) (spared : Option PageKey) (key : PageKey) (frame : FrameNo) (before after : List Event) → spared ≡ Some key → IsToCopy header h k spared before
+    → IfSome (row_at k.memory.resident key.object.0 key.page.0) (λ row. frame ≡ row.frame) → IfOk r (λ answer. FreesBut h (frame ∷ []) answer k k2 before after) → OnOk r (IfSome spared (λ it. IsHere k2 it))
+keeps_spared (Ok answer) header h k k2 spared key frame before after is to_copy told frees =
+    let here : IsHere k key = (subst (λ (z : Option PageKey). IsToCopy header h k z before) is to_copy).1 in
+    subst (λ (z : Option PageKey). IfSome z (λ it. IsHere k2 it)) (sym is)
+    (here.0, spared_here h answer k k2 before after key here (subst (λ (z : FrameNo). FreesBut h (z ∷ []) answer k k2 before after) (frame_of_row k key frame here told) frees), here.2)
+keeps_spared (Err e) header h k k2 spared key frame before after is to_copy told frees = tt
+
 -- the front of the frame queue has to wait
 
--- no page is here, so nothing can be reclaimed
-pub exhausted : (header : Header) (h : ℕ) (k : Parts) (ids : Ids) (moment past : List Event) → Matches header h k ids [] past → ((o p : ℕ) (row : PageRow) → row_at k.memory.resident o p ≡ Some row → row.here ≡ false) → IsExhausted header h moment past
-exhausted header h k ids moment past m none = record { held = λ o p here. never o p here; one = λ o p q u here here2 spared spared2. never o p here }
-  where
-    away : (o p : ℕ) (x : Option PageRow) → row_at k.memory.resident o p ≡ x → (local header.size h (place_of o p) past).here ≡ false
-    away o p None found = ap (λ z. z.here) (m.pages.shown o p ∙ ap (λ z. local_of_row k.memory.frames z (absent_at k.memory.objects o p)) found)
-    away o p (Some row) found = ap (λ z. z.here) (m.pages.shown o p ∙ ap (λ z. local_of_row k.memory.frames z (absent_at k.memory.objects o p)) found) ∙ none o p row found
+-- a page that is here has a row that says so
+here_row : (fs : FrameTable) (x : Option PageRow) (lacked : Bool) → (local_of_row fs x lacked).here ≡ true → (row : PageRow) × (x ≡ Some row) × (row.here ≡ true)
+here_row fs None lacked bad = absurd (let no : false ≡ true = bad in cc)
+here_row fs (Some row) lacked is = (row, refl, is)
 
-    never : {B : Type 0} (o p : ℕ) → (local header.size h (place_of o p) past).here ≡ true → B
-    never o p here = absurd (let bad : false ≡ true = sym (away o p (row_at k.memory.resident o p) refl) ∙ here in cc)
+-- each page that is here is the one that is spared, and that was to be copied at a moment: so nothing can be reclaimed
+pub exhausted : (header : Header) (h : ℕ) (k : Parts) (ids : Ids) (spared : Option PageKey) (moment past : List Event) → Matches header h k ids [] past → IfSome spared (λ key. IsSource header h key.object.0 key.page.0 moment)
+    → ((o p : ℕ) (row : PageRow) → row_at k.memory.resident o p ≡ Some row → row.here ≡ true → spared ≡ Some (page_key o p)) → IsExhausted header h moment past
+exhausted header h k ids spared moment past m source each =
+    record {
+      held = λ o p here. inr (subst (λ (z : Option PageKey). IfSome z (λ key. IsSource header h key.object.0 key.page.0 moment)) (only o p here) source);
+      one = λ o p q u here there waited waits.
+          let same : page_key o p ≡ page_key q u = some_is (page_key o p) (page_key q u) (sym (only o p here) ∙ only q u there) in
+          (ap (λ (z : PageKey). z.object.0) same, ap (λ (z : PageKey). z.page.0) same);
+    }
+  where
+    only : (o p : ℕ) → (local header.size h (place_of o p) past).here ≡ true → spared ≡ Some (page_key o p)
+    only o p here =
+        let row = here_row k.memory.frames (row_at k.memory.resident o p) (absent_at k.memory.objects o p) (ap (λ z. z.here) (sym (m.pages.shown o p)) ∙ here) in
+        each o p row.0 row.1 row.2
+
+-- the page that is to be copied is so
+pub source_of : (header : Header) (h : ℕ) (k : Parts) (source : Option PageKey) (past : List Event) → IsToCopy header h k source past → IfSome source (λ key. IsSource header h key.object.0 key.page.0 past)
+source_of header h k None past is = tt
+source_of header h k (Some key) past is = is.0
 
 -- nothing was freed
-pub full_after : (header : Header) (h : ℕ) (k k2 : Parts) (ids : Ids) (answer : Reclaim) (past after : List Event) → Rests header h k2 ids after → free k.memory.frames ≡ 0 → FreesOrReturns h answer k k2 past after → (answer ≡ reclaim.Returned) ⊎ (answer ≡ reclaim.Nothing) → HostIsFull header h after
-full_after header h k k2 ids answer past after rests none r (inl returned) =
-    record { none = free_is header h k2.memory.frames after rests.matches.frames ∙ ((r.returned returned).2 ∙ none); why = inl (r.returned returned).3 }
-full_after header h k k2 ids answer past after rests none r (inr nothing) =
-    record { none = free_is header h k2.memory.frames after rests.matches.frames ∙ ((r.nothing nothing).2 ∙ none); why = inr (exhausted header h k2 ids after after rests.matches (r.nothing nothing).1) }
+pub full_after : (header : Header) (h : ℕ) (k k2 : Parts) (ids : Ids) (spared : Option PageKey) (answer : Reclaim) (past after : List Event) → Rests header h k2 ids after → free k.memory.frames ≡ 0 → IsToCopy header h k spared past → FreesOrReturns h spared answer k k2 past after
+    → (answer ≡ reclaim.Returned) ⊎ (answer ≡ reclaim.Nothing) → HostIsFull header h after
+full_after header h k k2 ids spared answer past after rests none source r (inl returned) =
+    let all = r.returned returned in
+    record { none = free_is header h k2.memory.frames after rests.matches.frames ∙ (all.2 ∙ none); why = inl all.3 }
+full_after header h k k2 ids spared answer past after rests none source r (inr nothing) =
+    let all = r.nothing nothing in
+    let still = subst (λ (z : List Event). IfSome spared (λ key. IsSource header h key.object.0 key.page.0 z)) (sym all.0) (source_of header h k spared past source) in
+    record { none = free_is header h k2.memory.frames after rests.matches.frames ∙ (all.2 ∙ none); why = inr (exhausted header h k2 ids spared after after rests.matches still all.1) }

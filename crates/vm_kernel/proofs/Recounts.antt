@@ -1,11 +1,17 @@
 -- Regions that count other entries, and are as they were else.
-use Rattle.vm_kernel.proofs.Common.{AllRows, ChainTable, Entry, List, Lowered, None, Option, PutsEntries, Raised, RegionRow, Some, [], ap, arith, count_on, drop, drop-cons, entries_in_row, eqb_tells, false, get_or, get_or_from_slice_get, has_region, if◌then◌else◌, inl, inr, is_some, length, pages_in, refl, region_at, region_entries, region_pages, slice_get_within, some_is, subst, suc, sym, take, take_more, true, with_entries, zero, ℕ, ◌++◌, ◌+◌, ◌-◌, ◌<◌, ◌==◌, ◌^◌, ◌∙◌, ◌∷◌, ◌≡◌, ◌≤◌}
+use Rattle.vm_kernel.proofs.Common.{AllRows, ChainTable, Entry, List, Lowered, None, Option, PutsEntries, Raised, RegionRow, Some, [], ap, arith, count_on, drop, drop-cons, entries_in_row, eqb_tells, false, get_or, get_or_from_slice_get, has_region, if◌then◌else◌, inl, inr, is_some, length, pages_in, refl, region_at, region_entries, region_pages, shadow_at, slice_get_within, some_is, subst, suc, sym, take, take_more, true, with_entries, zero, ℕ, ◌++◌, ◌+◌, ◌-◌, ◌<◌, ◌==◌, ◌^◌, ◌∙◌, ◌∷◌, ◌≡◌, ◌≤◌}
 use Rattle.std.proofs.Common.{slice_get}
+use Rattle.vm_state.proofs.Changing.{SameButEntries}
 use Rattle.vm_kernel.proofs.Counts.{on_append, on_few}
 
 -- each region counts so many entries now
 pub record Recounts (count : ℕ → ℕ) (old new : ChainTable) : Type 0 where
   pub at : (r : ℕ) → region_at new r ≡ with_entries (count r) (region_at old r)
+  pub shadows : (o : ℕ) → shadow_at new o ≡ shadow_at old o
+
+-- they are the same but for these counts
+pub recounts_but : (count : ℕ → ℕ) (old new : ChainTable) → Recounts count old new → SameButEntries old new
+recounts_but count old new is = record { count = count; at = is.at; shadows = is.shadows }
 
 -- one row with another count
 has_with : (n : ℕ) (x : Option RegionRow) → is_some (with_entries n x) ≡ is_some x
@@ -45,13 +51,13 @@ pub entries_are : (count : ℕ → ℕ) (old new : ChainTable) → Recounts coun
 entries_are count old new is r there = ap entries_in_row (is.at r) ∙ entries_there (count r) (region_at old r) there
 
 pub recounts_same : (chains : ChainTable) → Recounts (region_entries chains) chains chains
-recounts_same chains = record { at = λ r. with_own (region_at chains r) }
+recounts_same chains = record { at = λ r. with_own (region_at chains r); shadows = λ o. refl }
 
 pub recounts_twice : (one two : ℕ → ℕ) (old mid new : ChainTable) → Recounts one old mid → Recounts two mid new → Recounts two old new
-recounts_twice one two old mid new a b = record { at = λ r. b.at r ∙ (ap (with_entries (two r)) (a.at r) ∙ with_twice (two r) (one r) (region_at old r)) }
+recounts_twice one two old mid new a b = record { at = λ r. b.at r ∙ (ap (with_entries (two r)) (a.at r) ∙ with_twice (two r) (one r) (region_at old r)); shadows = λ o. b.shadows o ∙ a.shadows o }
 
 pub recounts_as : (one two : ℕ → ℕ) (old new : ChainTable) → Recounts one old new → ((r : ℕ) → has_region old r ≡ true → one r ≡ two r) → Recounts two old new
-recounts_as one two old new a same = record { at = λ r. a.at r ∙ go (one r) (two r) (region_at old r) (same r) }
+recounts_as one two old new a same = record { at = λ r. a.at r ∙ go (one r) (two r) (region_at old r) (same r); shadows = a.shadows }
   where
     go : (n m : ℕ) (x : Option RegionRow) → (is_some x ≡ true → n ≡ m) → with_entries n x ≡ with_entries m x
     go n m None e = refl
@@ -68,6 +74,7 @@ recounts_put region n old new put = record {
         put.at r ∙ (ap (λ b. if b then with_entries n (region_at old region) else region_at old r) apart.0
         ∙ (with_own (region_at old r) ∙ ap (λ b. with_entries (if b then n else region_entries old r) (region_at old r)) (sym apart.0)))
   ];
+  shadows = λ o. ap (λ f. f o) put.shadows;
 }
 
 -- a region that has a row now had one, with another count
@@ -110,10 +117,10 @@ on_split r (row ∷ rows) (suc i) = omega (arith, on_split r rows i)
 -- counts go up, an entry at a time
 
 pub raised_recounts : (rows : List Entry) (old new : ChainTable) → Raised rows old new → Recounts (λ r. region_entries old r + count_on r rows) old new
-raised_recounts rows old new is = record { at = is.at }
+raised_recounts rows old new is = record { at = is.at; shadows = is.shadows }
 
 pub lowered_recounts : (rows : List Entry) (old new : ChainTable) → Lowered rows old new → Recounts (λ r. region_entries old r - count_on r rows) old new
-lowered_recounts rows old new is = record { at = is.at }
+lowered_recounts rows old new is = record { at = is.at; shadows = is.shadows }
 
 pub raised_more : (front : List Entry) (entry : Entry) (old mid new : ChainTable) → Raised front old mid → PutsEntries entry.region.0 (region_entries mid entry.region.0 + 1) mid new → Raised (front ++ entry ∷ []) old new
 raised_more front entry old mid new is put =
@@ -133,7 +140,7 @@ raised_more front entry old mid new is put =
           let last : count_on r (entry ∷ []) ≡ 0 = rw apart.0 refl in
           rw apart.0 (omega arith)
     ]) in
-    record { at = all.at }
+    record { shadows = all.shadows; at = all.at }
 
 pub lowered_more : (front : List Entry) (entry : Entry) (old mid new : ChainTable) → Lowered front old mid → PutsEntries entry.region.0 (region_entries mid entry.region.0 - 1) mid new → Lowered (front ++ entry ∷ []) old new
 lowered_more front entry old mid new is put =
@@ -153,7 +160,7 @@ lowered_more front entry old mid new is put =
           let last : count_on r (entry ∷ []) ≡ 0 = rw apart.0 refl in
           rw apart.0 (omega arith)
     ]) in
-    record { at = all.at }
+    record { shadows = all.shadows; at = all.at }
 
 -- one more fits its type
 pub raise_fits : (rows : List Entry) (i : ℕ) (entry : Entry) (old mid : ChainTable) → Raised (take i rows) old mid → slice_get rows i ≡ Some entry → region_entries old entry.region.0 + length rows < 2 ^ 32 → region_entries mid entry.region.0 + 1 < 2 ^ 32

@@ -1,10 +1,13 @@
 -- The refusals of a kernel are those of its history.
-use Rattle.vm_kernel.proofs.Common.{Bool, Code, Command, Entry, Event, HasTasks, Header, HostId, Ids, InRange, Inherit, IsAccessSize, IsForHere, IsSome, List, Mapped, None, Option, Parts, Rests, Some, TaskId, Waiting, [], acting, acting_in, acts_on, ap, arith, code_of, code_where, copies, copies_from, entries_in, entry, false, frames_free, frames_wired, has_copy_mark, host_of, is_copied, is_on, is_range, is_some, kernel_runs, lives_on, marked_below, marked_regions, meets_declared, nat_le, nat_tests, new_marks, next_object, next_region, refl, refusal, region_of, rows_in, sources, subst, suc, sym, takes_name, true, waiting, waiting_in, zero, ℕ, ◌&&◌, ◌+◌, ◌<◌, ◌==◌, ◌||◌, ◌∙◌, ◌∷◌, ◌≡◌}
+use Rattle.vm_kernel.proofs.Common.{AllRows, Bool, Code, Command, Entry, Event, HasTasks, Header, HostId, Ids, InRange, Inherit, IsAccessSize, IsForHere, IsInside, IsSome, List, Mapped, None, Option, Parts, Region, Rests, Some, TaskId, Waiting, [], acting, acting_in, acts_on, ap, arith, code_of, code_where, copies_from, entries_in, entry, false, frames_free, frames_wired, has_copy_mark, has_region, host_of, is_copied, is_marked, is_on, is_range, is_some, kernel_runs, lives_on, marked_regions, meets_declared, nat_tests, new_marks, next_object, object_total, refl, refusal, rows_in, rows_map, subst, sym, takes_name, true, waiting, waiting_in, ℕ, ◌&&◌, ◌+◌, ◌<◌, ◌==◌, ◌||◌, ◌∙◌, ◌∷◌, ◌≡◌}
 use Rattle.std.proofs.Common.{nat_lt, if◌then◌else◌, not}
 use Rattle.vm_base.specs.declared.code.Code.TheVariants as code
 use Rattle.vm_model.specs.declared.command.Command.TheVariants as command
+use Rattle.vm_kernel.specs.Begun.{targets_here}
+use Rattle.vm_kernel.proofs.Copies.{copy_refused}
 use Rattle.vm_kernel.proofs.Growing.{free_is}
 use Rattle.vm_kernel.proofs.Own.{host_same, lives_in, on_is, rows_here}
+use Rattle.vm_kernel.proofs.Regions.{region_row}
 
 -- a task that lives here has its entries in the maps
 has_entries : {h size : ℕ} {maps : Mapped} {host_at : ℕ → Option ℕ} {rows_at : ℕ → List Entry} (task : ℕ) → HasTasks h size maps host_at rows_at → is_on h (host_at task) ≡ true → IsSome (entries_in task maps)
@@ -19,15 +22,16 @@ entries_same task has home = rows_here has (lives_in task has home)
 some_size : (n : ℕ) → IsAccessSize n → 0 < n
 some_size n is = grind arith
 
-pub for_here : (header : Header) (h : ℕ) (k : Parts) (ids : Ids) (past : List Event) (doing : Command) → Rests header h k ids past → acts_on h doing past ≡ true → InRange header doing → IsForHere k.maps doing
-for_here header h k ids past (command.Fork task child) rests acts range = has_entries task.0 rests.matches.tasks acts
-for_here header h k ids past (command.Allocate task address bytes) rests acts range = has_entries task.0 rests.matches.tasks acts
-for_here header h k ids past (command.Deallocate task address bytes) rests acts range = has_entries task.0 rests.matches.tasks acts
-for_here header h k ids past (command.Protect task address bytes prot) rests acts range = has_entries task.0 rests.matches.tasks acts
-for_here header h k ids past (command.Inherit task address bytes inherit) rests acts range = has_entries task.0 rests.matches.tasks acts
-for_here header h k ids past (command.Load task address size) rests acts range = (has_entries task.0 rests.matches.tasks acts, some_size size range.size)
-for_here header h k ids past (command.Store task address size value) rests acts range = (has_entries task.0 rests.matches.tasks acts, some_size size range.0.size)
-for_here header h k ids past other rests acts range = tt
+pub for_here : (header : Header) (h : ℕ) (k : Parts) (ids : Ids) (past : List Event) (doing : Command) → Rests header h k ids past → acts_on h doing past ≡ true → targets_here h doing past ≡ true → InRange header doing → IsForHere k.maps doing
+for_here header h k ids past (command.Fork task child) rests acts both range = has_entries task.0 rests.matches.tasks acts
+for_here header h k ids past (command.Allocate task address bytes) rests acts both range = has_entries task.0 rests.matches.tasks acts
+for_here header h k ids past (command.Deallocate task address bytes) rests acts both range = has_entries task.0 rests.matches.tasks acts
+for_here header h k ids past (command.Protect task address bytes prot) rests acts both range = has_entries task.0 rests.matches.tasks acts
+for_here header h k ids past (command.Inherit task address bytes inherit) rests acts both range = has_entries task.0 rests.matches.tasks acts
+for_here header h k ids past (command.Load task address size) rests acts both range = (has_entries task.0 rests.matches.tasks acts, some_size size range.size)
+for_here header h k ids past (command.Store task address size value) rests acts both range = (has_entries task.0 rests.matches.tasks acts, some_size size range.0.size)
+for_here header h k ids past (command.Copy task address bytes target to) rests acts both range = (has_entries task.0 rests.matches.tasks acts, has_entries target.0 rests.matches.tasks both)
+for_here header h k ids past other rests acts both range = tt
 
 -- whether a task that lives here can act
 
@@ -42,48 +46,20 @@ waits_is header h k ids past task rests acts =
 acting_is : (header : Header) (h : ℕ) (k : Parts) (ids : Ids) (past : List Event) (task : ℕ) (later mine : Option Code) → Rests header h k ids past → lives_on h task past ≡ true → later ≡ mine → acting past task later ≡ acting_in k task mine
 acting_is header h k ids past task later mine rests acts same = rw (on_is h (host_of task past) acts, waits_is header h k ids past task rests acts, same) refl
 
--- no region is marked
-
-none_marked : (header : Header) (past : List Event) (n : ℕ) → ((r : ℕ) → (region_of header r past).mark ≡ false) → marked_below header n past ≡ 0
-none_marked header past zero each = refl
-none_marked header past (suc n) each = skipped (region_of header n past).mark (marked_below header n past) (each n) ∙ none_marked header past n each
-  where
-    skipped : (b : Bool) (count : ℕ) → b ≡ false → (if b then count + 1 else count) ≡ count
-    skipped true count is = absurd (let bad : true ≡ false = is in cc)
-    skipped false count is = refl
-
-all_new : (marked : ℕ → Bool) (rows : List Entry) → ((r : ℕ) → marked r ≡ false) → new_marks marked rows ≡ sources rows
-all_new marked [] each = refl
-all_new marked (row ∷ rows) each = counted (is_copied row.inherit) (copies_from row.region.0 rows) (marked row.region.0) (new_marks marked rows) (sources rows) (each row.region.0) (all_new marked rows each)
-  where
-    counted : (copied other b : Bool) (x y : ℕ) → b ≡ false → x ≡ y → (if copied && (not other && not b) then x + 1 else x) ≡ (if copied && not other then y + 1 else y)
-    counted copied other true x y is same = absurd (let bad : true ≡ false = is in cc)
-    counted true true false x y is same = same
-    counted true false false x y is same = ap (λ z. z + 1) same
-    counted false other false x y is same = same
-
-unmarked : (header : Header) (h : ℕ) (k : Parts) (ids : Ids) (past : List Event) → Rests header h k ids past → (r : ℕ) → (region_of header r past).mark ≡ false
-unmarked header h k ids past rests r = (rests.matches.regions.tops r).unmarked
-
--- the objects, with the marked regions, are as many as the regions
-objects_are : (header : Header) (h : ℕ) (k : Parts) (ids : Ids) (past : List Event) → Rests header h k ids past → next_object header past + marked_regions header past ≡ ids.next_region
+-- the objects that there are, with those that marked regions may still get
+objects_are : (header : Header) (h : ℕ) (k : Parts) (ids : Ids) (past : List Event) → Rests header h k ids past → next_object header past + marked_regions header past ≡ object_total ids
 objects_are header h k ids past rests =
     let regions = rests.matches.regions in
-    let none = none_marked header past (next_region header past) (unmarked header h k ids past rests) in
-    omega (arith, none, regions.equal, regions.region)
+    omega (arith, regions.object, regions.marks)
 
 -- why a range is not allocated
 
-twice : (b : Bool) → (b || b) ≡ b
-twice true = refl
-twice false = refl
-
 allocate_code : (header : Header) (h : ℕ) (k : Parts) (ids : Ids) (past : List Event) (task : TaskId) (address bytes : ℕ) → Rests header h k ids past → lives_on h task.0 past ≡ true
-    → refusal header past (command.Allocate task address bytes) ≡ code_of k ids.next_region (command.Allocate task address bytes)
+    → refusal header past (command.Allocate task address bytes) ≡ code_of k ids (command.Allocate task address bytes)
 allocate_code header h k ids past task address bytes rests acts =
     let m = rests.matches in
     acting_is header h k ids past task.0 _ _ rests acts
-    (rw (m.size, entries_same task.0 m.tasks acts, objects_are header h k ids past rests, ← m.regions.region, twice (nat_le 8192 ids.next_region)) refl)
+    (rw (m.size, entries_same task.0 m.tasks acts, objects_are header h k ids past rests, ← m.regions.region) refl)
 
 -- why an inheritance is refused, where no object is declared
 
@@ -97,7 +73,7 @@ nothing_more false true = refl
 nothing_more false false = refl
 
 inherit_code : (header : Header) (h : ℕ) (k : Parts) (ids : Ids) (past : List Event) (task : TaskId) (address bytes : ℕ) (inherit : Inherit) → Rests header h k ids past → lives_on h task.0 past ≡ true
-    → refusal header past (command.Inherit task address bytes inherit) ≡ code_of k ids.next_region (command.Inherit task address bytes inherit)
+    → refusal header past (command.Inherit task address bytes inherit) ≡ code_of k ids (command.Inherit task address bytes inherit)
 inherit_code header h k ids past task address bytes inherit rests acts =
     let m = rests.matches in
     acting_is header h k ids past task.0 _ _ rests acts
@@ -105,11 +81,27 @@ inherit_code header h k ids past task address bytes inherit rests acts =
 
 -- why a fork is refused
 
-larger : (a b : ℕ) → (nat_lt 8192 a || nat_lt 8192 (a + b)) ≡ nat_lt 8192 (a + b)
-larger a b = grind (arith, nat_tests)
+-- a fork marks as many regions where those of its entries have the same marks
+marks_same : (one two : ℕ → Bool) (rows : List Entry) → AllRows (λ row. one row.region.0 ≡ two row.region.0) rows → new_marks one rows ≡ new_marks two rows
+marks_same one two [] all = refl
+marks_same one two (row ∷ rows) all =
+    ap (λ b. if is_copied row.inherit && (not (copies_from row.region.0 rows) && not b) then new_marks one rows + 1 else new_marks one rows) all.0
+    ∙ ap (λ n. if is_copied row.inherit && (not (copies_from row.region.0 rows) && not (two row.region.0)) then n + 1 else n) (marks_same one two rows all.1)
+
+-- the history marks the regions that the kernel does
+mark_is : (header : Header) (h : ℕ) (k : Parts) (ids : Ids) (past : List Event) (r : ℕ) → Rests header h k ids past → has_region k.chains r ≡ true → has_copy_mark header past r ≡ is_marked k.chains r
+mark_is header h k ids past r rests there =
+    let row = region_row k.chains r there in
+    let mark : has_copy_mark header past r ≡ row.0.marked = ap (λ (z : Region). z.mark) (rests.matches.regions.rows r row.0 row.1) in
+    mark ∙ sym (rw row.1 refl)
+
+marks_are : (header : Header) (h : ℕ) (k : Parts) (ids : Ids) (past : List Event) (task : ℕ) → Rests header h k ids past → new_marks (has_copy_mark header past) (rows_in task k.maps) ≡ new_marks (is_marked k.chains) (rows_in task k.maps)
+marks_are header h k ids past task rests =
+    marks_same (has_copy_mark header past) (is_marked k.chains) (rows_in task k.maps)
+    (rows_map (IsInside header.size k.chains) (λ row. has_copy_mark header past row.region.0 ≡ is_marked k.chains row.region.0) (λ row inside. mark_is header h k ids past row.region.0 rests inside.region) (rows_in task k.maps) (rests.matches.entries.inside task))
 
 fork_code : (header : Header) (h : ℕ) (k : Parts) (ids : Ids) (past : List Event) (task child : TaskId) → Rests header h k ids past → lives_on h task.0 past ≡ true → is_some (host_of child.0 past) ≡ false
-    → refusal header past (command.Fork task child) ≡ code_of k ids.next_region (command.Fork task child)
+    → refusal header past (command.Fork task child) ≡ code_of k ids (command.Fork task child)
 fork_code header h k ids past task child rests acts unnamed =
     let m = rests.matches in
     rw (
@@ -119,41 +111,41 @@ fork_code header h k ids past task child rests acts unnamed =
       entries_same task.0 m.tasks acts,
       objects_are header h k ids past rests,
       ← m.regions.region,
-      all_new (has_copy_mark header past) (rows_in task.0 k.maps) (unmarked header h k ids past rests),
-      larger (ids.next_region + copies (rows_in task.0 k.maps)) (sources (rows_in task.0 k.maps)),
+      marks_are header h k ids past task.0 rests,
     ) refl
 
 -- why frames are not wired, or not unwired
 
 wire_code : (header : Header) (h : ℕ) (k : Parts) (ids : Ids) (past : List Event) (host : HostId) (count : ℕ) → Rests header h k ids past → (host.0 == h) ≡ true
-    → refusal header past (command.Wire host count) ≡ code_of k ids.next_region (command.Wire host count)
+    → refusal header past (command.Wire host count) ≡ code_of k ids (command.Wire host count)
 wire_code header h k ids past host count rests acts =
     ap (λ (z : ℕ). code_where (nat_lt z count) code.ResourceShortage None)
     (ap (λ (z : HostId). frames_free header z.0 past) (host_same host h acts) ∙ free_is header h k.memory.frames past rests.matches.frames)
 
 unwire_code : (header : Header) (h : ℕ) (k : Parts) (ids : Ids) (past : List Event) (host : HostId) (count : ℕ) → Rests header h k ids past → (host.0 == h) ≡ true
-    → refusal header past (command.Unwire host count) ≡ code_of k ids.next_region (command.Unwire host count)
+    → refusal header past (command.Unwire host count) ≡ code_of k ids (command.Unwire host count)
 unwire_code header h k ids past host count rests acts =
     ap (λ (z : ℕ). code_where (nat_lt z count) code.InvalidArgument None) (ap (λ (z : HostId). frames_wired z.0 past) (host_same host h acts) ∙ rests.matches.frames.wired)
 
 -- the code of a command that acts on the host, and whose new names are free
-pub refusal_is : (header : Header) (h : ℕ) (k : Parts) (ids : Ids) (past : List Event) (doing : Command) → Rests header h k ids past → acts_on h doing past ≡ true → kernel_runs doing ≡ true → takes_name doing past ≡ false
-    → refusal header past doing ≡ code_of k ids.next_region doing
-refusal_is header h k ids past (command.Task task host) rests acts built unnamed = rw unnamed refl
-refusal_is header h k ids past (command.Fork task child) rests acts built unnamed = fork_code header h k ids past task child rests acts unnamed
-refusal_is header h k ids past (command.Exit task) rests acts built unnamed = acting_is header h k ids past task.0 None None rests acts refl
-refusal_is header h k ids past (command.Allocate task address bytes) rests acts built unnamed = allocate_code header h k ids past task address bytes rests acts
-refusal_is header h k ids past (command.Deallocate task address bytes) rests acts built unnamed =
+pub refusal_is : (header : Header) (h : ℕ) (k : Parts) (ids : Ids) (past : List Event) (doing : Command) → Rests header h k ids past → acts_on h doing past ≡ true → targets_here h doing past ≡ true → kernel_runs doing ≡ true → takes_name doing past ≡ false
+    → refusal header past doing ≡ code_of k ids doing
+refusal_is header h k ids past (command.Task task host) rests acts both built unnamed = rw unnamed refl
+refusal_is header h k ids past (command.Fork task child) rests acts both built unnamed = fork_code header h k ids past task child rests acts unnamed
+refusal_is header h k ids past (command.Exit task) rests acts both built unnamed = acting_is header h k ids past task.0 None None rests acts refl
+refusal_is header h k ids past (command.Allocate task address bytes) rests acts both built unnamed = allocate_code header h k ids past task address bytes rests acts
+refusal_is header h k ids past (command.Deallocate task address bytes) rests acts both built unnamed =
     acting_is header h k ids past task.0 _ _ rests acts (rw (entries_same task.0 rests.matches.tasks acts, rests.matches.tasks.sized) refl)
-refusal_is header h k ids past (command.Protect task address bytes prot) rests acts built unnamed =
+refusal_is header h k ids past (command.Protect task address bytes prot) rests acts both built unnamed =
     acting_is header h k ids past task.0 _ _ rests acts (rw (entries_same task.0 rests.matches.tasks acts, rests.matches.tasks.sized) refl)
-refusal_is header h k ids past (command.Inherit task address bytes inherit) rests acts built unnamed = inherit_code header h k ids past task address bytes inherit rests acts
-refusal_is header h k ids past (command.Load task address size) rests acts built unnamed = acting_is header h k ids past task.0 _ _ rests acts (rw (entries_same task.0 rests.matches.tasks acts) refl)
-refusal_is header h k ids past (command.Store task address size value) rests acts built unnamed = acting_is header h k ids past task.0 _ _ rests acts (rw (entries_same task.0 rests.matches.tasks acts) refl)
-refusal_is header h k ids past (command.Pageout host count) rests acts built unnamed = refl
-refusal_is header h k ids past (command.Wire host count) rests acts built unnamed = wire_code header h k ids past host count rests acts
-refusal_is header h k ids past (command.Unwire host count) rests acts built unnamed = unwire_code header h k ids past host count rests acts
-refusal_is header h k ids past other rests acts built unnamed = absurd (let bad : false ≡ true = built in cc)
+refusal_is header h k ids past (command.Inherit task address bytes inherit) rests acts both built unnamed = inherit_code header h k ids past task address bytes inherit rests acts
+refusal_is header h k ids past (command.Load task address size) rests acts both built unnamed = acting_is header h k ids past task.0 _ _ rests acts (rw (entries_same task.0 rests.matches.tasks acts) refl)
+refusal_is header h k ids past (command.Store task address size value) rests acts both built unnamed = acting_is header h k ids past task.0 _ _ rests acts (rw (entries_same task.0 rests.matches.tasks acts) refl)
+refusal_is header h k ids past (command.Copy task address bytes target to) rests acts both built unnamed = copy_refused header h k ids past task address bytes target to rests acts both
+refusal_is header h k ids past (command.Pageout host count) rests acts both built unnamed = refl
+refusal_is header h k ids past (command.Wire host count) rests acts both built unnamed = wire_code header h k ids past host count rests acts
+refusal_is header h k ids past (command.Unwire host count) rests acts both built unnamed = unwire_code header h k ids past host count rests acts
+refusal_is header h k ids past other rests acts both built unnamed = absurd (let bad : false ≡ true = built in cc)
 
 -- the parts have the size of a page that the maps have
 pub maps_sized : {header : Header} {h : ℕ} {k : Parts} {ids : Ids} {past : List Event} → Rests header h k ids past → k.maps.size ≡ k.size

@@ -1,9 +1,11 @@
 -- A page goes back to its pager, which is told of its object first where it wasn't.
-use Rattle.vm_kernel.proofs.Common.{AllLive, AllReached, Asks, Backing, Begins, Bool, ChainTable, Down, Drops, Elsewhere, Ends, Event, FrameTable, HasControls, HasPages, HasRegions, Ids, IsPagerTold, IsUnder, List, Local, LocalEffect, Message, None, ObjectRow, ObjectTable, Option, PagerState, PutsObject, Raises, Region, RegionRow, ResidentTable, Returns, Some, Stores, TakesError, TakesLock, TakesNothing, TakesPage, Temp, Unlocks, Up, Zeroes, [], ap, arith, eqb_tells, false, has_pager, has_region, if◌then◌else◌, inl, inr, is_control, is_ready_state, is_some, last_in, live_control, live_in, local, local_after, local_with_page, object_at, one_case, place_of, ready_in, refl, region_at, row_with_control, some_is, subst, sym, taken_effect, true, without_control, ℕ, ◌&&◌, ◌+◌, ◌==◌, ◌∙◌, ◌∷◌, ◌≡◌}
+use Rattle.vm_kernel.proofs.Common.{AllLive, Asks, Begins, Bool, Down, Drops, Elsewhere, Ends, Event, FrameTable, HasControls, HasPages, IsPagerTold, List, Local, LocalEffect, Message, None, ObjectRow, ObjectTable, Option, PagerState, PutsObject, Raises, ResidentTable, Returns, Some, Stores, TakesError, TakesLock, TakesNothing, TakesPage, Unlocks, Up, Zeroes, [], ap, arith, eqb_tells, false, has_pager, if◌then◌else◌, inl, inr, is_control, is_ready_state, last_in, live_control, live_in, local, local_after, local_with_page, object_at, one_case, place_of, ready_in, refl, row_with_control, some_is, subst, sym, taken_effect, true, without_control, ℕ, ◌&&◌, ◌+◌, ◌<◌, ◌==◌, ◌∙◌, ◌∷◌, ◌≡◌}
 use Rattle.std.specs.Prelude.{◌||◌}
 use Rattle.vm_model.specs.declared.event.Event.TheVariants as event
 use Rattle.vm_model.specs.declared.message.Message.TheVariants as message
 use Rattle.vm_objects.specs.declared.row.PagerState.TheVariants as state
+use Rattle.vm_state.specs.Stands.{IsTemporary}
+use Rattle.vm_terminate.specs.Finishes.{IsReferred}
 
 -- nothing is asked of an object without a live control
 
@@ -85,9 +87,9 @@ unasked size host o p (event.Taken (Down at object control) m ∷ past) none = c
 unasked size host o p (e ∷ past) none = unasked size host o p past none
 
 -- the pager is told of the object, of which nothing is asked
-pub pages_created : (size : ℕ) (fs : FrameTable) (rs : ResidentTable) (os : ObjectTable) (cs : ChainTable) (local_at : ℕ → ℕ → Local) (o : ℕ)
-    → HasPages fs rs os cs local_at → ((p : ℕ) → (local_at o p).asked ≡ false) → HasPages fs rs os cs (λ o2 p2. local_after size (if o == o2 then Begins else Elsewhere) (local_at o2 p2))
-pages_created size fs rs os cs local_at o has none =
+pub pages_created : (size : ℕ) (fs : FrameTable) (rs : ResidentTable) (os : ObjectTable) (local_at : ℕ → ℕ → Local) (o : ℕ)
+    → HasPages fs rs os local_at → ((p : ℕ) → (local_at o p).asked ≡ false) → HasPages fs rs os (λ o2 p2. local_after size (if o == o2 then Begins else Elsewhere) (local_at o2 p2))
+pages_created size fs rs os local_at o has none =
     record {
       shown = λ o2 p2. elim (eqb_tells o o2) [
         | inl same ↦
@@ -95,49 +97,24 @@ pages_created size fs rs os cs local_at o has none =
             ∙ (ap (λ z. record (local_at o2 p2) { asked = z }) (sym (subst (λ (z : ℕ). (local_at z p2).asked ≡ false) same.1 (none p2))) ∙ has.shown o2 p2)
         | inr apart ↦ ap (λ b. local_after size (if b then Begins else Elsewhere) (local_at o2 p2)) apart.0 ∙ has.shown o2 p2
       ];
-      live = has.live;
     }
 
 -- an object with a pager, which begins where it had none
 
-under_controlled : (pager : PagerState) (row : ObjectRow) (x : RegionRow) → row.state ≡ pager → IsUnder x (Some row) → IsUnder x (Some (row_with_control pager row))
-under_controlled state.Sent row x is under = under
-under_controlled state.Ready row x is under = under
-under_controlled state.Without row x is under =
-    let same : under.object ≡ row = sym (some_is row under.object under.found) in
-    let number : row.control ≡ (if has_pager row.state then 1 else 0) = subst (λ (z : ObjectRow). z.control ≡ (if has_pager z.state then 1 else 0)) same under.number in
-    record {
-      object = row_with_control state.Without row;
-      found = refl;
-      temporary = subst (λ (z : ObjectRow). z.kind ≡ Temp) same under.temporary;
-      pages = subst (λ (z : ObjectRow). z.pages ≡ x.pages) same under.pages;
-      references = subst (λ (z : ObjectRow). z.references ≡ 1) same under.references;
-      live = refl;
-      number = ap (λ z. z + 1) (number ∙ ap (λ z. if has_pager z then 1 else 0) is);
-    }
+pub temporary_controlled : (pager : PagerState) (row : ObjectRow) → row.state ≡ pager → IsTemporary row → IsTemporary (row_with_control pager row)
+temporary_controlled state.Sent row is has = has
+temporary_controlled state.Ready row is has = has
+temporary_controlled state.Without row is has = record { kind = has.kind; live = refl; number = λ some. ap (λ z. z + 1) (has.number some ∙ ap (λ z. if has_pager z then 1 else 0) is) }
 
-pub regions_controlled : (cs : ChainTable) (os os2 : ObjectTable) (ids : Ids) (region_from : ℕ → Region) (backing_from : ℕ → Backing) (regions_made objects_made o : ℕ) (row : ObjectRow)
-    → HasRegions cs os ids region_from backing_from regions_made objects_made → object_at os o ≡ Some row → PutsObject o (Some (row_with_control row.state row)) os os2
-    → HasRegions cs os2 ids region_from backing_from regions_made objects_made
-regions_controlled cs os os2 ids region_from backing_from regions_made objects_made o row has found put =
-    record {
-      region = has.region;
-      object = has.object;
-      equal = has.equal;
-      marks = has.marks;
-      rows = has.rows;
-      tops = has.tops;
-      unbacked = has.unbacked;
-      unmade = has.unmade;
-      unknown = λ k beyond. elim (one_case o k (Some (row_with_control row.state row)) (object_at os k) (object_at os2 k) (put.at k)) [
-        | inl same ↦ absurd (let bad : None ≡ Some row = sym (has.unknown k beyond) ∙ (sym (ap (object_at os) same.0) ∙ found) in cc)
-        | inr other ↦ other.1 ∙ has.unknown k beyond
-      ];
-      under = λ r x is. elim (one_case o r (Some (row_with_control row.state row)) (object_at os r) (object_at os2 r) (put.at r)) [
-        | inl same ↦ subst (λ (z : Option ObjectRow). IsUnder x z) (sym same.1) (under_controlled row.state row x refl (subst (λ (z : Option ObjectRow). IsUnder x z) (sym (ap (object_at os) same.0) ∙ found) (has.under r x is)))
-        | inr other ↦ subst (λ (z : Option ObjectRow). IsUnder x z) (sym other.1) (has.under r x is)
-      ];
-    }
+-- it has the references and the pages that it had
+pub record KeepsCounts (old new : ObjectRow) : Type 0 where
+  pub references : new.references ≡ old.references
+  pub pages : new.pages ≡ old.pages
+
+pub counts_controlled : (pager : PagerState) (row : ObjectRow) → KeepsCounts row (row_with_control pager row)
+counts_controlled state.Sent row = record { references = refl; pages = refl }
+counts_controlled state.Ready row = record { references = refl; pages = refl }
+counts_controlled state.Without row = record { references = refl; pages = refl }
 
 -- those whose pagers were told of them are told still
 pub told_controlled : (os os2 : ObjectTable) (o : ℕ) (row : ObjectRow) → object_at os o ≡ Some row → PutsObject o (Some (row_with_control row.state row)) os os2 → (object : ℕ) → IsPagerTold os object → IsPagerTold os2 object
@@ -174,6 +151,12 @@ controls_same os os2 last_at live_at ready_at has same =
       ended = λ o row is. has.ended o row (sym (same o) ∙ is);
       home = λ o row is. has.home o row (sym (same o) ∙ is);
     }
+
+-- they are of the same host, whichever says so
+pub controls_moved : {h : ℕ} {home_at home_at2 : ℕ → Option ℕ} (os : ObjectTable) (last_at : ℕ → ℕ) (live_at : ℕ → Option ℕ) (ready_at : ℕ → Bool) → HasControls h os last_at live_at ready_at home_at → ((o : ℕ) → home_at o ≡ Some h → home_at2 o ≡ Some h)
+    → HasControls h os last_at live_at ready_at home_at2
+controls_moved os last_at live_at ready_at has home =
+    record { last = has.last; live = has.live; ready = has.ready; all_live = has.all_live; numbers = has.numbers; ended = has.ended; home = λ o row found. home o (has.home o row found) }
 
 pub controls_told : (os os2 : ObjectTable) (o : ℕ) (row : ObjectRow) → object_at os o ≡ Some row → (row_with_control row.state row ≡ row) → PutsObject o (Some (row_with_control row.state row)) os os2 → (k : ℕ) → object_at os2 k ≡ object_at os k
 controls_told os os2 o row found told put k = elim (one_case o k (Some (row_with_control row.state row)) (object_at os k) (object_at os2 k) (put.at k)) [
@@ -228,25 +211,12 @@ controls_begun {h = h} {home_at = home_at} os os2 last_at live_at ready_at o row
     was : (k : ℕ) → (o == k) ≡ false → object_at os2 k ≡ object_at os k
     was k apart = put.at k ∙ ap (λ b. if b then Some (row_with_control state.Without row) else object_at os k) apart
 
--- a control that lives is that of an object under a region
-pub reached_controlled : (cs : ChainTable) (os os2 : ObjectTable) (o : ℕ) (row : ObjectRow) → AllReached cs os → has_region cs o ≡ true → PutsObject o (Some row) os os2 → AllReached cs os2
-reached_controlled cs os os2 o row all region put k r is alive = elim (one_case o k (Some row) (object_at os k) (object_at os2 k) (put.at k)) [
-  | inl same ↦ subst (λ (z : ℕ). has_region cs z ≡ true) same.0 region
-  | inr other ↦ all k r (sym other.1 ∙ is) alive
-]
-
--- an object under a region has its first control exactly where its pager was told of it
+-- an object to which something refers has its first control exactly where its pager was told of it
 pub record IsFirst (row : ObjectRow) : Type 0 where
   pub live : row.live ≡ has_pager row.state
   pub number : row.control ≡ (if has_pager row.state then 1 else 0)
 
-pub first_of_object : (cs : ChainTable) (os : ObjectTable) (ids : Ids) (region_from : ℕ → Region) (backing_from : ℕ → Backing) (regions_made objects_made o : ℕ) (row : ObjectRow)
-    → HasRegions cs os ids region_from backing_from regions_made objects_made → has_region cs o ≡ true → object_at os o ≡ Some row → IsFirst row
-first_of_object cs os ids region_from backing_from regions_made objects_made o row has region found = go (region_at cs o) refl region
-  where
-    go : (x : Option RegionRow) → region_at cs o ≡ x → is_some x ≡ true → IsFirst row
-    go None is none = absurd (let bad : false ≡ true = none in cc)
-    go (Some x) is some =
-        let under = has.under o x is in
-        let same : under.object ≡ row = some_is under.object row (sym under.found ∙ found) in
-        subst (λ (z : ObjectRow). IsFirst z) same (record { live = under.live; number = under.number })
+pub first_of_object : (os : ObjectTable) (o : ℕ) (row : ObjectRow) → IsReferred os o → object_at os o ≡ Some row → IsTemporary row → IsFirst row
+first_of_object os o row referred found is =
+    let same : referred.row ≡ row = some_is referred.row row (sym referred.known ∙ found) in
+    record { live = is.live; number = is.number (subst (λ (z : ObjectRow). 0 < z.references) same referred.some) }

@@ -1,29 +1,22 @@
 -- A task's entries are cut, changed or taken away, and regions count what is left.
-use Rattle.vm_kernel.proofs.Common.{AllEntriesInside, AllRows, AllUsed, Backing, Bool, ChainTable, ChangesOnly, Entry, FrameTable, HasEntries, HasPages, HasRegions, HasTasks, Ids, Inside, IsInside, List, Local, Mapped, None, ObjectTable, Option, Region, RegionRow, ResidentTable, Some, [], all_tasks, ap, arith, count_on, cut, entries_in, entries_in_row, eqb_tells, false, flat_map, has_entry, has_region, if◌then◌else◌, inl, inr, is_on, is_some, length, max, min, most_entries, nat_lt, nat_tests, part, parts_in, refl, region_entries, removed, rewritten, rows_in, rows_map, subst, suc, sym, true, unwrap_or, with_entries, zero, ℕ, ◌++◌, ◌+◌, ◌<◌, ◌==◌, ◌^◌, ◌∙◌, ◌∷◌, ◌≡◌, ◌≢◌, ◌≤◌}
+use Rattle.vm_kernel.proofs.Common.{AllEntriesInside, AllReferred, AllRows, AllUsed, Backing, Bool, ChainTable, ChangesOnly, Entry, HasEntries, HasHomes, HasRegions, HasTasks, Ids, Inside, IsInside, List, Mapped, None, ObjectTable, Option, Region, ResidentTable, Some, [], all_tasks, ap, arith, count_on, cut, entries_in, entries_in_row, eqb_tells, false, flat_map, has_entry, has_region, if◌then◌else◌, inl, inr, is_on, is_some, length, max, min, most_entries, nat_lt, nat_tests, part, parts_in, refl, region_entries, removed, rewritten, rows_in, rows_map, subst, suc, sym, true, unwrap_or, zero, ℕ, ◌++◌, ◌+◌, ◌<◌, ◌==◌, ◌^◌, ◌∙◌, ◌∷◌, ◌≡◌, ◌≢◌, ◌≤◌}
 use Rattle.vm_kernel.proofs.Counts.{by_changed, on_append, on_zero}
-use Rattle.vm_kernel.proofs.Recounts.{Recounts, has_same, pages_same, row_before}
+use Rattle.vm_kernel.proofs.Recounts.{Recounts, has_same, pages_same, recounts_but, row_before}
+use Rattle.vm_state.proofs.Changing.{regions_recounted}
+use Rattle.vm_state.proofs.Referred.{referred_recounted}
 use Rattle.vm_kernel.proofs.Own.{rows_here}
 
 -- regions that count anew are as they were else
 
-pub recount_regions : (count : ℕ → ℕ) (cs cs2 : ChainTable) (os : ObjectTable) (ids : Ids) (region_from : ℕ → Region) (backing_from : ℕ → Backing) (regions_made objects_made : ℕ) → Recounts count cs cs2
-    → HasRegions cs os ids region_from backing_from regions_made objects_made → HasRegions cs2 os ids region_from backing_from regions_made objects_made
-recount_regions count cs cs2 os ids region_from backing_from regions_made objects_made is has =
-    record {
-      region = has.region;
-      object = has.object;
-      equal = has.equal;
-      marks = has.marks;
-      rows = λ r row found. let b = row_before count cs cs2 is r row found in subst (λ (z : RegionRow). region_from r ≡ record { mark = z.marked; top = z.top.0; shift = z.shift; pages = z.pages }) (sym b.is) (has.rows r b.was b.found);
-      tops = has.tops;
-      unbacked = has.unbacked;
-      unmade = λ r le. is.at r ∙ ap (with_entries (count r)) (has.unmade r le);
-      unknown = has.unknown;
-      under = λ r row found. let b = row_before count cs cs2 is r row found in let was = has.under r b.was b.found in record { object = was.object; found = was.found; temporary = was.temporary; pages = was.pages ∙ ap (λ z. z.pages) (sym b.is); references = was.references; live = was.live; number = was.number };
-    }
+pub recount_regions : (count : ℕ → ℕ) (cs cs2 : ChainTable) (os : ObjectTable) (ids : Ids) (region_from : ℕ → Region) (backing_from : ℕ → Backing) (regions_made objects_made marked : ℕ) → Recounts count cs cs2
+    → HasRegions cs os ids region_from backing_from regions_made objects_made marked → HasRegions cs2 os ids region_from backing_from regions_made objects_made marked
+recount_regions count cs cs2 os ids region_from backing_from regions_made objects_made marked is has = regions_recounted cs cs2 os ids region_from backing_from regions_made objects_made marked (recounts_but count cs cs2 is) has
 
-pub recount_pages : (count : ℕ → ℕ) (fs : FrameTable) (rs : ResidentTable) (os : ObjectTable) (cs cs2 : ChainTable) (local_at : ℕ → ℕ → Local) → Recounts count cs cs2 → HasPages fs rs os cs local_at → HasPages fs rs os cs2 local_at
-recount_pages count fs rs os cs cs2 local_at is has = record { shown = has.shown; live = λ o p row found. has_same count cs cs2 is o ∙ has.live o p row found }
+pub recount_homes : (count : ℕ → ℕ) (h : ℕ) (cs cs2 : ChainTable) (home_from : ℕ → Option ℕ) → Recounts count cs cs2 → HasHomes h cs home_from → HasHomes h cs2 home_from
+recount_homes count h cs cs2 home_from is has r row found = let b = row_before count cs cs2 is r row found in has r b.was b.found
+
+pub recount_referred : (count : ℕ → ℕ) (cs cs2 : ChainTable) (os : ObjectTable) (rs : ResidentTable) → Recounts count cs cs2 → AllReferred cs os rs → AllReferred cs2 os rs
+recount_referred count cs cs2 os rs is all = referred_recounted cs cs2 os rs (recounts_but count cs cs2 is) all
 
 pub recount_used : (count : ℕ → ℕ) (cs cs2 : ChainTable) → Recounts count cs cs2 → ((r : ℕ) → has_region cs r ≡ true → 0 < region_entries cs r → 0 < count r) → AllUsed cs → AllUsed cs2
 recount_used count cs cs2 is more used r row found =

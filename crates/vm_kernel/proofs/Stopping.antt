@@ -1,50 +1,48 @@
 -- Who waits for a page that is asked has a row that says so, but in the frame queue.
-use Rattle.vm_kernel.proofs.Common.{Access, AllInner, Asked, Bool, Comes, Command, Down, EndsAll, EndsEach, Entry, Event, HasQueue, Header, Ids, IsPagerTold, IsTop, LegalEvents, List, Local, Message, None, ObjectId, ObjectTable, On, Option, Outside, PageKey, PageRow, Parts, Reason, Rests, Some, Waiting, Waits, WaitsAt, Want, [], absent_at, access_in, ap, append-nil, backing_of, before_more, before_step, entries_of, entry, entry_at, error_more, error_taken, false, frames_free, host_id, if◌then◌else◌, inl, inr, is_again, is_control, is_frame, is_ready_state, live_control, local, local_of_row, next_page, none_again, none_queued, not, object_at, page_key, page_of, place_of, ready_in, refl, region_of, row_at, subst, sym, true, ℕ, ◌&&◌, ◌++◌, ◌∙◌, ◌∷◌, ◌≡◌}
+use Rattle.vm_kernel.proofs.Common.{Access, AllInner, Asked, Awaits, Bool, Command, Down, EndsAll, EndsEach, Event, HasPlace, HasQueue, Header, Ids, IsPagerTold, LegalEvents, List, Local, Message, None, ObjectId, ObjectTable, On, Option, Outside, PageRow, Parts, Reason, Rests, Some, Waiting, Waits, WaitsAt, [], absent_at, access_in, ap, append-nil, before_more, before_step, entry, error_more, error_taken, false, frames_free, host_id, if◌then◌else◌, inl, inr, is_again, is_control, is_frame, is_ready_state, is_some, is_store, live_control, local, local_of_row, none_again, none_queued, not, object_at, page_key, page_of, place_of, ready_in, refl, row_at, some_is, subst, sym, true, ℕ, ◌&&◌, ◌++◌, ◌∙◌, ◌∷◌, ◌≡◌}
 use Rattle.vm_model.specs.declared.event.Event.TheVariants as event
 use Rattle.vm_model.specs.declared.message.Message.TheVariants as message
-use Rattle.vm_supply.specs.declared.woken.Woken.TheVariants as woken
 use Rattle.vm_waits.specs.declared.waiting.On.TheVariants as on
-use Rattle.vm_kernel.proofs.Finding.{some_same, walk_ends}
-use Rattle.vm_kernel.proofs.Leading.{Leads, address_is, leads_of, top_at}
 use Rattle.vm_kernel.proofs.Prompting.{has_row, at_home}
-
--- the place where its walk stops is the page that it is about
-comes_key : (header : Header) (h : ℕ) (past : List Event) (host task : ℕ) (what : Want) (key : PageKey) (object page : ℕ) → Leads header h past task what key → (waits : Waits header task (access_in what) past)
-    → Comes header host waits.at.entry.region.0 (page_of header task (access_in what) past waits.at.entry) object page past → (key.object.0 ≡ object) × (key.page.0 ≡ page)
-comes_key header h past host task what key object page to waits comes =
-    let same : to.entry ≡ waits.at.entry =
-    some_same to.entry waits.at.entry (sym to.found ∙ (ap (λ z. entry_at z (entries_of header.size task past)) (sym (address_is header.size (next_page task past) what)) ∙ waits.at.found)) in
-    let top : IsTop (region_of header waits.at.entry.region.0 past) (page_of header task (access_in what) past waits.at.entry) key.object.0 key.page.0 =
-    subst (λ (z : Entry). IsTop (region_of header z.region.0 past) (page_of header task (access_in what) past z) key.object.0 key.page.0) same (top_at header h past task what key to) in
-    let object_is : key.object.0 ≡ comes.top = sym top.object ∙ comes.is_top.object in
-    let page_is : key.page.0 ≡ comes.top_page = sym top.page ∙ comes.is_top.page in
-    let ends = walk_ends _ (λ k. backing_of header k past) comes.steps comes.top comes.top_page object page (subst (λ (z : ℕ). (backing_of header z past).backed ≡ false) object_is to.bare) comes.walks in
-    (object_is ∙ ends.0, page_is ∙ ends.1)
+use Rattle.vm_kernel.proofs.Shown.{shown_at, waiting_place}
+use Rattle.vm_state.proofs.Shown.{awaits_page, awaits_ready}
 
 -- a pager that was told of its object isn't ready
 told_unready : (os : ObjectTable) (o : ℕ) → IsPagerTold os o → ready_in (object_at os o) ≡ true → ⊥
 told_unready os o told ready = let bad : false ≡ true = sym (ap ready_in told.found ∙ ap is_ready_state told.sent) ∙ ready in cc
 
+-- nothing but this place of its page is awaited
+abbrev AwaitsOnly : (header : Header) (h task : ℕ) (access : Access) (past : List Event) → Waits header task access past → ℕ → ℕ → Type 0
+AwaitsOnly header h task access past waits object page =
+    (other other_page : ℕ) → HasPlace header waits.at.entry.region.0 (page_of header task access past waits.at.entry) other other_page past → Awaits header h (is_store access) other other_page past → (other ≡ object) × (other_page ≡ page)
+
 -- so its row says that it waits for that page
 waits_there : (header : Header) (h : ℕ) (k : Parts) (ids : Ids) (past : List Event) (task object page : ℕ) (w : Waiting) (why : On) → Rests header h k ids past → HasQueue header h k past → entry k.waits.rows task ≡ Some w → w.on ≡ why
-    → (waits : Waits header task (access_in w.want) past) → Comes header h waits.at.entry.region.0 (page_of header task (access_in w.want) past waits.at.entry) object page past → ready_in (object_at k.memory.objects object) ≡ true
+    → (waits : Waits header task (access_in w.want) past) → AwaitsOnly header h task (access_in w.want) past waits object page → ready_in (object_at k.memory.objects object) ≡ true
     → (frames_free header h past ≡ 0 → ⊥) → why ≡ on.Page (page_key object page)
-waits_there header h k ids past task object page w on.Again rests queue found is waits comes ready frees =
+waits_there header h k ids past task object page w on.Again rests queue found is waits only ready frees =
     absurd (let bad : true ≡ false = sym (ap is_again is) ∙ none_again k.waits.rows task w rests.idle found in cc)
-waits_there header h k ids past task object page w (on.Ready told) rests queue found is waits comes ready frees =
+waits_there header h k ids past task object page w (on.Ready told) rests queue found is waits only ready frees =
+    let m = rests.matches in
+    let here = ap is_some (rests.waits.allowed task w found).lives in
     let reason : Reason k.maps k.chains k.memory.resident k.memory.objects task w.want (on.Ready told) =
     subst (λ (z : On). Reason k.maps k.chains k.memory.resident k.memory.objects task w.want z) is (rests.waits.reasons task w found refl) in
-    let to = leads_of header h k ids past woken.Nobody task w reason.0 rests.matches rests.waits found reason.1 in
-    let key = comes_key header h past h task w.want reason.0 object page to waits comes in
-    let same : told.0 ≡ object = ap (λ (z : ObjectId). z.0) (sym reason.2) ∙ key.0 in
-    absurd (told_unready k.memory.objects object (subst (IsPagerTold k.memory.objects) same reason.3) ready)
-waits_there header h k ids past task object page w (on.Page key) rests queue found is waits comes ready frees =
-    let to = leads_of header h k ids past woken.Nobody task w key rests.matches rests.waits found (rests.waits.aims task w key found is) in
-    let same = comes_key header h past h task w.want key object page to waits comes in
+    let pager = reason.3 in
+    let awaits : Awaits header h (is_store (access_in w.want)) told.0 reason.0.page.0 past = awaits_ready (shown_at m) told.0 pager.row pager.found pager.sent (is_store (access_in w.want)) reason.0.page.0 in
+    let same = only reason.0.object.0 reason.0.page.0 (waiting_place m reason.1 here waits)
+    (subst (λ (z : ObjectId). Awaits header h (is_store (access_in w.want)) z.0 reason.0.page.0 past) (sym reason.2) awaits) in
+    let named : told.0 ≡ object = ap (λ (z : ObjectId). z.0) (sym reason.2) ∙ same.0 in
+    absurd (told_unready k.memory.objects object (subst (IsPagerTold k.memory.objects) named pager) ready)
+waits_there header h k ids past task object page w (on.Page key) rests queue found is waits only ready frees =
+    let m = rests.matches in
+    let here = ap is_some (rests.waits.allowed task w found).lives in
+    let reason : Reason k.maps k.chains k.memory.resident k.memory.objects task w.want (on.Page key) =
+    subst (λ (z : On). Reason k.maps k.chains k.memory.resident k.memory.objects task w.want z) is (rests.waits.reasons task w found refl) in
+    let same = only key.object.0 key.page.0 (waiting_place m reason.0 here waits) (awaits_page (shown_at m) key.object.0 key.page.0 reason.1 (is_store (access_in w.want))) in
     λ i. on.Page (page_key (same.0 i) (same.1 i))
-waits_there header h k ids past task object page w on.Frame rests (inl none) found is waits comes ready frees =
+waits_there header h k ids past task object page w on.Frame rests (inl none) found is waits only ready frees =
     absurd (let bad : true ≡ false = sym (ap is_frame is) ∙ none_queued k.waits.rows task w none found in cc)
-waits_there header h k ids past task object page w on.Frame rests (inr short) found is waits comes ready frees = absurd (frees short)
+waits_there header h k ids past task object page w on.Frame rests (inr short) found is waits only ready frees = absurd (frees short)
 
 -- the step of an error
 
@@ -57,7 +55,7 @@ error_asked h size object control (message.Error page reason) past host o p is =
     go : (a b : Bool) → (local size h (place_of object.0 page.0) past).asked ≡ b
         → if◌then◌else◌ {A = Option Asked} (a && b) (Some (record { host = h; object = object.0; page = page.0 })) None ≡ Some (record { host = host; object = o; page = p }) → (host ≡ h) × ((local size h (place_of o p) past).asked ≡ true)
     go true true asked same =
-        let it = some_same (record { host = h; object = object.0; page = page.0 }) (record { host = host; object = o; page = p }) same in
+        let it = some_is (record { host = h; object = object.0; page = page.0 }) (record { host = host; object = o; page = p }) same in
         (sym (ap (λ (z : Asked). z.host) it), subst (λ (z : Asked). (local size h (place_of z.object z.page) past).asked ≡ true) it asked)
     go true false asked none = absurd (cc)
     go false b asked none = absurd (cc)
@@ -91,6 +89,6 @@ ends_waiters header h outside doing k ids past front object control m events res
     let row = has_row k past task stops_here.access rests.waits (at_home header h k ids past task stops_here.access rests.matches stops_here.waits stops_here.on_host) stops_here.waits.waits in
     let w = row.row in
     let on_page : w.on ≡ on.Page (page_key o p) =
-    subst (λ (z : Access). (waits : Waits header task z past) → Comes header h waits.at.entry.region.0 (page_of header task z past waits.at.entry) o p past → w.on ≡ on.Page (page_key o p)) (sym row.is)
-    (λ waits comes. waits_there header h k ids past task o p w w.on rests queue row.found refl waits comes ready frees_here) stops_here.waits stops_here.comes in
+    subst (λ (z : Access). (waits : Waits header task z past) → AwaitsOnly header h task z past waits o p → w.on ≡ on.Page (page_key o p)) (sym row.is)
+    (λ waits only. waits_there header h k ids past task o p w w.on rests queue row.found refl waits only ready frees_here) stops_here.waits stops_here.only in
     each host o p task w error row.found on_page

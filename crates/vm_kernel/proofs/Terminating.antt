@@ -1,25 +1,166 @@
--- An object to which no region leads any more: its control ends, where one lives.
-use Rattle.vm_kernel.proofs.Common.{Backing, Bool, Caused, ChainTable, Command, Elsewhere, Entry, Event, FrameTable, HasControls, HasPages, HasRegions, Header, Ids, IsUnder, List, Local, Matches, None, ObjectId, ObjectRow, ObjectTable, Option, Outside, Parts, PutsObject, Region, ResidentTable, SameMarks, Some, Strands, Sweeps, Up, absent_at, ap, arith, away, eqb_tells, false, fit_objects, host_id, if◌then◌else◌, inl, inr, is_control, is_ready, last_control, last_in, length, live_control, live_in, local, local_after, local_of_row, object_at, one_case, place_of, ready_in, refl, region_at, row_at, same_pages, some_is, subst, sym, true, waiting, without_control, ℕ, ◌++◌, ◌-◌, ◌<◌, ◌==◌, ◌^◌, ◌∙◌, ◌∷◌, ◌≡◌, ◌⊎◌}
+-- An object to which nothing refers: its pages go, its control ends, where one lives, and what stood under it has one reference less.
+use Rattle.vm_kernel.proofs.Common.{AllEntriesInside, AllUsed, Bool, Caused, ChainTable, Command, Does, Drops, Elsewhere, EndsObject, Entry, Event, FrameTable, HasControls, HasEntries, HasFrames, HasPages, HasWaiters, Header, HostParts, Ids, Inside, IsInStep, IsInside, IsReferred, IsTemporary, List, Local, Mapped, Matches, None, ObjectId, ObjectRow, ObjectTable, Option, Outside, PageKey, PageRow, Parts, PutsObject, Reach, RegionRow, ResidentTable, SameMarks, Some, Sweeps, Unreached, Up, [], absent_at, all_tasks, ap, arith, away, backing_of, count_by, eqb_tells, false, fit_objects, frames_held, frames_wired, has_entry, has_region, host_id, if◌then◌else◌, in_use, inl, inr, is_control, is_ready, is_some, last_control, last_in, length, live_control, live_in, local, local_after, local_of_row, marked_regions, nat_lt, nat_tests, next_object, next_region, not, object_at, one_case, page_in, pages_in, paging, place_of, queues_except, ready_in, refl, region_at, region_of, returns_out, reverse, row_at, row_cases, rows_in, rows_map, same_pages, slice_get, some_is, subst, sym, true, waiting, without_control, ℕ, ◌++◌, ◌+◌, ◌-◌, ◌<◌, ◌==◌, ◌^◌, ◌∙◌, ◌∷◌, ◌≡◌, ◌⊎◌}
+use Rattle.vm_kernel.specs.Fits.{ArePlain}
+use Rattle.vm_kernel.specs.Plays.{AsUnreached}
 use Rattle.vm_model.specs.declared.event.Event.TheVariants as event
 use Rattle.vm_model.specs.declared.message.Message.TheVariants as message
 use Rattle.vm_model.specs.Local.{Ends as EndsControl}
 use Rattle.vm_objects.specs.declared.row.PagerState.TheVariants as state
+use Rattle.vm_parts.proofs.Fitting.{fit_changed}
+use Rattle.vm_parts.specs.Changes.{Discards}
+use Rattle.vm_shadow.specs.Chains.{DropsShadow, shadow_at}
+use Rattle.vm_shadow.specs.declared.shadow_row.ShadowRow.{ShadowRow}
 use Rattle.vm_supply.specs.declared.woken.Woken.TheVariants as woken
+use Rattle.vm_kernel.proofs.After.{Leaves, controls_after, homeless_after, regions_after}
+use Rattle.vm_kernel.proofs.Counts.{by_some}
 use Rattle.vm_kernel.proofs.Growing.{grows_more, suffices}
-use Rattle.vm_kernel.proofs.Strands.{StillTold, at_region, itself, waits_told}
-use Rattle.vm_kernel.proofs.Walking.{unreached}
-use Rattle.vm_kernel.proofs.Own.{named_host, own_host}
 use Rattle.vm_kernel.proofs.Mine.{own_named}
+use Rattle.vm_kernel.proofs.Own.{own_host}
+use Rattle.vm_kernel.proofs.Pages.{frames_changed, itself, laundry_changed, pages_moved}
+use Rattle.vm_kernel.proofs.Playing.{frames_put, here_is, same_paging}
+use Rattle.vm_kernel.proofs.Regions.{region_row}
+use Rattle.vm_kernel.proofs.Strands.{controls_referred}
+use Rattle.vm_state.proofs.Changing.{regions_controlled}
+use Rattle.vm_state.proofs.Going.{regions_dropped}
+use Rattle.vm_state.proofs.Knowing.{known_put}
+use Rattle.vm_state.proofs.Places.{told_apart, waits_dropped}
+use Rattle.vm_state.proofs.Reaching.{reach_down}
+use Rattle.vm_state.proofs.Referred.{but_dropped, but_gone, but_known, referred_dropped}
+use Rattle.vm_state.proofs.Referring.{unreferred_region, unreferred_shadow}
+use Rattle.vm_state.proofs.Told.{waiters_lost, waits_told}
 
--- a control ends
+-- no region that is in use leads to it
+
+entry_there : (size r : ℕ) (cs : ChainTable) (rows : List Entry) → AllEntriesInside size cs rows → has_entry r rows ≡ true → has_region cs r ≡ true
+entry_there size r cs [] all has = absurd (let bad : false ≡ true = has in cc)
+entry_there size r cs (row ∷ rows) all has = elim (eqb_tells row.region.0 r) [
+  | inl same ↦ subst (λ (z : ℕ). has_region cs z ≡ true) same.1 all.0.region
+  | inr apart ↦ entry_there size r cs rows all.1 (rw apart.0 at has)
+]
+
+-- a region in use is there
+pub used_there : (header : Header) (h : ℕ) (k : Parts) (ids : Ids) (rest : List Entry) (past : List Event) (r : ℕ) → Matches header h k ids rest past → in_use header h r past ≡ true → (row : RegionRow) × (region_at k.chains r ≡ Some row)
+used_there header h k ids rest past r m used =
+    let count : nat_lt 0 (count_by all_tasks r k.maps) ≡ true = sym (m.uses.used r) ∙ used in
+    let some : 0 < count_by all_tasks r k.maps = grind (arith, nat_tests) in
+    let task = by_some all_tasks r k.maps some in
+    region_row k.chains r (entry_there header.size r k.chains (rows_in task.0 k.maps) (m.entries.inside task.0) task.1)
+
+pub unreached : (header : Header) (h : ℕ) (k : Parts) (ids : Ids) (rest : List Entry) (past : List Event) (o : ℕ) (row : ObjectRow) → Matches header h k ids rest past → object_at k.memory.objects o ≡ Some row → row.references ≡ 0 → Reach header h o past → ⊥
+unreached header h k ids rest past o row m known none reach =
+    let is : IsReferred k.memory.objects o = reach_down m.regions (λ r. in_use header h r past) (λ r used. used_there header h k ids rest past r m used) o reach in
+    let some = is.some in
+    let same = ap (λ z. z.references) (some_is row is.row (sym known ∙ is.known)) in
+    omega (arith, some, same, none)
+
+-- a page of it goes
+pub ends_lost : (header : Header) (h : ℕ) (outside : Outside) (doing : Command) (past : List Event) (k : Parts) (ids : Ids) (rest : List Entry) (key : PageKey) (row : PageRow) (memory : HostParts) (events : List Event)
+    → EndsObject header h outside doing past k ids rest key.object.0 events → ((q : ℕ) → q < key.page.0 → row_at k.memory.resident key.object.0 q ≡ None) → row.here ≡ true → Discards key row k.memory memory
+    → memory.objects ≡ k.memory.objects → memory.buffers ≡ k.memory.buffers → EndsObject header h outside doing past (record k { memory = memory }) ids rest key.object.0 (event.Dropped (host_id h) key.object key.page ∷ events)
+ends_lost header h outside doing past k ids rest key row memory events e first is_here c objects buffers =
+    record {
+      runs = record {
+        begins = e.runs.begins;
+        matches = record {
+          plain = m.plain;
+          known = m.known;
+          size = m.size;
+          host = m.host;
+          fits = record {
+            parts = fit_changed key row.frame (Some row) None false (page_in k.memory.frames row.frame.0) (queues_except row.frame.0 k.memory.queues) k.memory memory m.fits.parts c (λ some. absurd (let bad : false ≡ true = some in cc))
+                (λ some. absurd (let bad : false ≡ true = some in cc)) (m.fits.parts.all_sized row.frame.0 c.inside) refl objects buffers;
+            plain = plain2;
+            buffers = ap (λ z. z.size) buffers ∙ m.fits.buffers;
+          };
+          tasks = m.tasks;
+          regions = rw objects (regions_after leaves m.regions);
+          homes = m.homes;
+          entries = m.entries;
+          pages = rw objects pages2;
+          uses = m.uses;
+          controls = rw objects (controls_after leaves m.controls);
+          homeless = homeless_after leaves m.homeless;
+          settled = record { returned = refl; shut = λ region. refl };
+          laundry = laundry_changed key row.frame _ _ _ _ _ k.memory memory k.laundry (returns_out h moment) m.laundry c;
+          frames = frames2;
+        };
+        waits = rw objects waits2;
+        order = e.runs.order;
+        idle = e.runs.idle;
+        grows = grows_more header h outside doing past events gone e.runs.grows m.settled (record { consequence = tt; cause = cause; own_bytes = tt; frames = suffices header h memory.frames (gone ∷ moment) frames2; inner = tt; said = tt; own = own_named h; creates = tt });
+      };
+      used = e.used;
+      row = e.row;
+      known = rw objects e.known;
+      none = e.none;
+      referred = rw objects (but_gone o o p k.chains k.memory.objects k.memory.resident memory.resident c.row e.referred);
+    }
+  where
+    m : Matches header h k ids rest (events ++ past)
+    m = e.runs.matches
+
+    moment : List Event
+    moment = events ++ past
+
+    o : ℕ
+    o = key.object.0
+
+    p : ℕ
+    p = key.page.0
+
+    gone : Event
+    gone = event.Dropped (host_id h) key.object key.page
+
+    leaves : Leaves header (events ++ past) (event.Dropped (host_id h) key.object key.page ∷ (events ++ past))
+    leaves = record { regions_made = refl; objects_made = refl; region = λ r. refl; backing = λ o. refl; home = λ r. refl; made_for = λ o. refl; used = λ g r. refl }
+
+    here : (local header.size h (place_of o p) (events ++ past)).here ≡ true
+    here = ap (λ z. z.here) (m.pages.shown o p ∙ ap (λ z. local_of_row k.memory.frames z (absent_at k.memory.objects o p)) c.found) ∙ is_here
+
+    least : (q : ℕ) → q < p → (local header.size h (place_of o q) (events ++ past)).here ≡ false
+    least q low = ap (λ z. z.here) (m.pages.shown o q ∙ ap (λ z. local_of_row k.memory.frames z (absent_at k.memory.objects o q)) (first q low))
+
+    cause : Caused header outside doing (event.Dropped (host_id h) key.object key.page) (events ++ past)
+    cause = record { here = here; why = Unreached (let none = ap length m.plain.objects in omega arith) (unreached header h k ids rest (events ++ past) o e.row m e.known e.none) least }
+
+    plain2 : ArePlain memory.resident
+    plain2 o2 p2 row2 found = elim (row_cases o p None k.memory.resident memory.resident c.row o2 p2) [
+      | inl put ↦ absurd (let bad : None ≡ Some row2 = sym put.is ∙ found in cc)
+      | inr other ↦ m.fits.plain o2 p2 row2 (sym other.is ∙ found)
+    ]
+
+    pages2 : HasPages memory.frames memory.resident k.memory.objects (λ o2 p2. local header.size h (place_of o2 p2) (event.Dropped (host_id h) key.object key.page ∷ (events ++ past)))
+    pages2 =
+        rw (own_host h) (pages_moved header.size Drops key row.frame _ _ _ _ _ k.memory memory k.memory.objects (λ o2 p2. local header.size h (place_of o2 p2) (events ++ past)) m.fits.parts m.pages c
+        (ap (λ z. record away { asked = not z; absent = absent_at k.memory.objects o p }) is_here) (λ o2 p2 apart. refl))
+
+    frames2 : HasFrames (slice_get (reverse header.frames.items) h) memory.frames (frames_held header.size h (event.Dropped (host_id h) key.object key.page ∷ (events ++ past))) (frames_wired h (event.Dropped (host_id h) key.object key.page ∷ (events ++ past)))
+    frames2 = rw (own_host h) (frames_changed (slice_get (reverse header.frames.items) h) key row.frame _ _ _ _ _ k.memory memory (frames_held header.size h moment) (frames_held header.size h moment - 1) (frames_wired h moment) m.frames c (λ held. let less = c.claims in omega arith))
+
+    waits2 : HasWaiters k.maps k.chains memory.resident k.memory.objects k.waits.rows woken.Nobody (λ t. waiting t (events ++ past))
+    waits2 = waiters_lost k.maps k.chains k.memory.resident memory.resident k.memory.objects k.memory.objects k.waits.rows woken.Nobody (λ t. waiting t (events ++ past)) o p row e.runs.waits c.found is_here c.row (λ object told. told) (λ object is. is)
+
+-- and is off the lists
+pub lost_plays : (header : Header) (h : ℕ) (outside : Outside) (doing : Command) (past : List Event) (k : Parts) (ids : Ids) (rest : List Entry) (key : PageKey) (row : PageRow) (memory : HostParts) (events : List Event)
+    → EndsObject header h outside doing past k ids rest key.object.0 events → row.here ≡ true → Discards key row k.memory memory
+    → Does header (events ++ past) (event.Dropped (host_id h) key.object key.page) (paging k) (paging (record k { memory = memory }))
+lost_plays header h outside doing past k ids rest key row memory events e is_here c =
+    AsUnreached (unreached header h k ids rest (events ++ past) key.object.0 e.row e.runs.matches e.known e.none)
+    (record {
+      frame = row.frame;
+      here = here_is (row_at k.memory.resident key.object.0 key.page.0) row row.frame c.found is_here refl;
+      is = same_paging _ _ _ _ (frames_put k.memory.resident memory.resident key.object.0 key.page.0 None None c.row refl) c.queues;
+    })
+
+-- its control ends
 
 -- the row of an object whose control has ended
-abbrev quiet_row : ObjectRow → ObjectRow
+abbrev pub quiet_row : ObjectRow → ObjectRow
 quiet_row row = record row { live = false; state = state.Without }
 
-pages_quiet : (size control o : ℕ) (fs : FrameTable) (rs : ResidentTable) (os os2 : ObjectTable) (cs : ChainTable) (local_at : ℕ → ℕ → Local) (live_at : ℕ → Option ℕ) → HasPages fs rs os cs local_at → live_at o ≡ Some control → ((p : ℕ) → row_at rs o p ≡ None) → SameMarks os os2
-    → HasPages fs rs os2 cs (λ o2 p. local_after size (if o == o2 then (if is_control control (live_at o2) then EndsControl else Elsewhere) else Elsewhere) (local_at o2 p))
-pages_quiet size control o fs rs os os2 cs local_at live_at has live bare marks =
+pages_quiet : (size control o : ℕ) (fs : FrameTable) (rs : ResidentTable) (os os2 : ObjectTable) (local_at : ℕ → ℕ → Local) (live_at : ℕ → Option ℕ) → HasPages fs rs os local_at → live_at o ≡ Some control → ((p : ℕ) → row_at rs o p ≡ None) → SameMarks os os2
+    → HasPages fs rs os2 (λ o2 p. local_after size (if o == o2 then (if is_control control (live_at o2) then EndsControl else Elsewhere) else Elsewhere) (local_at o2 p))
+pages_quiet size control o fs rs os os2 local_at live_at has live bare marks =
     record {
       shown = λ o2 p. elim (eqb_tells o o2) [
         | inl same ↦
@@ -33,7 +174,6 @@ pages_quiet size control o fs rs os os2 cs local_at live_at has live bare marks 
             ap (λ b. local_after size (if b then (if is_control control (live_at o2) then EndsControl else Elsewhere) else Elsewhere) (local_at o2 p)) apart.0
             ∙ (has.shown o2 p ∙ ap (local_of_row fs (row_at rs o2 p)) (sym (marks.at o2 p)))
       ];
-      live = has.live;
     }
 
 controls_quiet : {h : ℕ} {home_at : ℕ → Option ℕ} (control o : ℕ) (row : ObjectRow) (os os2 : ObjectTable) (last_at : ℕ → ℕ) (live_at : ℕ → Option ℕ) (ready_at : ℕ → Bool) → HasControls h os last_at live_at ready_at home_at → object_at os o ≡ Some row → live_at o ≡ Some control
@@ -98,47 +238,13 @@ controls_quiet {h = h} {home_at = home_at} control o row os os2 last_at live_at 
     ended : without_control control (Some control) ≡ None
     ended = ap (λ b. if b then None else Some control) (itself control)
 
-told_quiet : (header : Header) (h : ℕ) (k : Parts) (ids : Ids) (rest : List Entry) (moment : List Event) (o : ℕ) (row : ObjectRow) (os2 : ObjectTable) → Matches header h k ids rest moment → region_at k.chains o ≡ None
-    → PutsObject o (Some (quiet_row row)) k.memory.objects os2 → StillTold k.maps k.chains k.memory.objects os2
-told_quiet header h k ids rest moment o row os2 m none put =
-    record {
-      at = λ task what key at told. elim (one_case o key.object.0 (Some (quiet_row row)) (object_at k.memory.objects key.object.0) (object_at os2 key.object.0) (put.at key.object.0)) [
-        | inl this ↦
-            let region : o ≡ at.entry.region.0 = this.0 ∙ at_region k.maps k.chains k.memory.objects ids _ _ _ _ task what key m.regions at in
-            absurd (let bad : None ≡ Some at.row = sym none ∙ (ap (region_at k.chains) region ∙ at.region) in cc)
-        | inr other ↦ record { row = told.row; found = other.1 ∙ told.found; sent = told.sent }
-      ];
-    }
-
-regions_quiet : (o : ℕ) (row : ObjectRow) (cs : ChainTable) (os os2 : ObjectTable) (ids : Ids) (region_from : ℕ → Region) (backing_from : ℕ → Backing) (regions_made objects_made : ℕ)
-    → region_at cs o ≡ None → object_at os o ≡ Some row → PutsObject o (Some (quiet_row row)) os os2
-    → HasRegions cs os ids region_from backing_from regions_made objects_made → HasRegions cs os2 ids region_from backing_from regions_made objects_made
-regions_quiet o row cs os os2 ids region_from backing_from regions_made objects_made none found put has =
-    record {
-      region = has.region;
-      object = has.object;
-      equal = has.equal;
-      marks = has.marks;
-      rows = has.rows;
-      tops = has.tops;
-      unbacked = has.unbacked;
-      unmade = has.unmade;
-      unknown = λ o2 le. elim (one_case o o2 (Some (quiet_row row)) (object_at os o2) (object_at os2 o2) (put.at o2)) [
-        | inl this ↦ absurd (let bad : None ≡ Some row = sym (has.unknown o2 le) ∙ subst (λ (z : ℕ). object_at os z ≡ Some row) this.0 found in cc)
-        | inr other ↦ other.1 ∙ has.unknown o2 le
-      ];
-      under = λ r region there. elim (one_case o r (Some (quiet_row row)) (object_at os r) (object_at os2 r) (put.at r)) [
-        | inl this ↦ absurd (let bad : None ≡ Some region = sym none ∙ (ap (region_at cs) this.0 ∙ there) in cc)
-        | inr other ↦ subst (IsUnder region) (sym other.1) (has.under r region there)
-      ];
-    }
-
 -- the control ends, and its pager is told
-pub sweeps_told : (header : Header) (h : ℕ) (outside : Outside) (doing : Command) (past : List Event) (k : Parts) (ids : Ids) (rest : List Entry) (object : ObjectId) (events after : List Event) (row : ObjectRow) (objects : ObjectTable)
-    → Strands header h outside doing past k ids rest object.0 events → object_at k.memory.objects object.0 ≡ Some row → row.live ≡ true → PutsObject object.0 (Some (record row { live = false; state = state.Without })) k.memory.objects objects → SameMarks k.memory.objects objects
-    → after ≡ event.Sent (Up k.host object) (message.Terminate row.control) ∷ events → Sweeps header h outside doing past (record k { memory = record k.memory { objects = objects } }) ids rest after
-sweeps_told header h outside doing past k ids rest object events after row objects s found live put marks told =
-    subst (λ (z : List Event). Sweeps header h outside doing past (record k { memory = record k.memory { objects = objects } }) ids rest z) (ap (λ z. event.Sent (Up z object) (message.Terminate row.control) ∷ events) (sym (named_host k.host h m.host)) ∙ sym told) (record {
+pub ends_told : (header : Header) (h : ℕ) (outside : Outside) (doing : Command) (past : List Event) (k : Parts) (ids : Ids) (rest : List Entry) (object : ObjectId) (events : List Event) (row : ObjectRow) (objects : ObjectTable)
+    → EndsObject header h outside doing past k ids rest object.0 events → ((p : ℕ) → row_at k.memory.resident object.0 p ≡ None) → object_at k.memory.objects object.0 ≡ Some row → row.live ≡ true
+    → PutsObject object.0 (Some (quiet_row row)) k.memory.objects objects → SameMarks k.memory.objects objects
+    → EndsObject header h outside doing past (record k { memory = record k.memory { objects = objects } }) ids rest object.0 (event.Sent (Up (host_id h) object) (message.Terminate row.control) ∷ events)
+ends_told header h outside doing past k ids rest object events row objects s none found live put marks =
+    record {
       runs = record {
         begins = s.runs.begins;
         matches = record {
@@ -148,19 +254,21 @@ sweeps_told header h outside doing past k ids rest object events after row objec
           host = m.host;
           fits = record { parts = fit_objects k.memory objects m.fits.parts (same_pages k.memory.objects objects o row (quiet_row row) found refl put); plain = m.fits.plain; buffers = m.fits.buffers };
           tasks = m.tasks;
-          regions = regions_quiet o row k.chains k.memory.objects objects ids _ _ _ _ s.none found put m.regions;
+          regions = regions_after leaves (regions_controlled o row (quiet_row row) k.chains k.memory.objects objects ids (λ r. region_of header r moment) (λ o2. backing_of header o2 moment) (next_region header moment) (next_object header moment) (marked_regions header moment) found put refl refl temporary m.regions);
+          homes = m.homes;
           entries = m.entries;
-          pages = rw (own_host h) (pages_quiet header.size row.control o k.memory.frames k.memory.resident k.memory.objects objects k.chains (λ o2 p. local header.size h (place_of o2 p) moment) (λ o2. live_control h o2 moment) m.pages alive s.pages marks);
+          pages = rw (own_host h) (pages_quiet header.size row.control o k.memory.frames k.memory.resident k.memory.objects objects (λ o2 p. local header.size h (place_of o2 p) moment) (λ o2. live_control h o2 moment) m.pages alive none marks);
           uses = m.uses;
-          controls = rw (own_host h) (controls_quiet row.control o row k.memory.objects objects (λ o2. last_control h o2 moment) (λ o2. live_control h o2 moment) (λ o2. is_ready h o2 moment) m.controls found alive put);
-          homeless = m.homeless;
+          controls = controls_after leaves (rw (own_host h) (controls_quiet row.control o row k.memory.objects objects (λ o2. last_control h o2 moment) (λ o2. live_control h o2 moment) (λ o2. is_ready h o2 moment) m.controls found alive put));
+          homeless = homeless_after leaves m.homeless;
           settled = record { returned = refl; shut = λ region. refl };
           laundry = m.laundry;
           frames = m.frames;
         };
-        waits = waits_told k.maps k.chains k.memory.resident k.memory.objects objects k.waits.rows woken.Nobody (λ t. waiting t moment) s.runs.waits (told_quiet header h k ids rest moment o row objects m s.none put)
+        waits = waits_told k.maps k.chains k.memory.resident k.memory.objects objects k.waits.rows woken.Nobody (λ t. waiting t moment) s.runs.waits
+            (told_apart k.maps k.chains k.memory.objects objects o (Some (quiet_row row)) put (unreferred_region m.regions o row found unreferred) (unreferred_shadow m.regions o row found unreferred))
             (λ o2 p page there is. elim (one_case o o2 (Some (quiet_row row)) (object_at k.memory.objects o2) (object_at objects o2) (put.at o2)) [
-              | inl this ↦ absurd (let bad : None ≡ Some page = sym (subst (λ (z : ℕ). row_at k.memory.resident z p ≡ None) this.0 (s.pages p)) ∙ there in cc)
+              | inl this ↦ absurd (let bad : None ≡ Some page = sym (subst (λ (z : ℕ). row_at k.memory.resident z p ≡ None) this.0 (none p)) ∙ there in cc)
               | inr other ↦ ap ready_in other.1 ∙ is
             ]);
         order = s.runs.order;
@@ -168,11 +276,11 @@ sweeps_told header h outside doing past k ids rest object events after row objec
         grows = grows_more header h outside doing past events ending s.runs.grows m.settled (record { consequence = tt; cause = cause; own_bytes = tt; frames = suffices header h k.memory.frames (ending ∷ moment) m.frames; inner = tt; said = refl; own = own_named h; creates = tt });
       };
       used = s.used;
-      reached = λ o2 row2 found2 lives. elim (one_case o o2 (Some (quiet_row row)) (object_at k.memory.objects o2) (object_at objects o2) (put.at o2)) [
-        | inl this ↦ absurd (let bad : true ≡ false = sym lives ∙ ap (λ z. z.live) (some_is row2 (quiet_row row) (sym found2 ∙ this.1)) in cc)
-        | inr other ↦ s.others o2 row2 (λ same. other.0 (sym same)) (sym other.1 ∙ found2) lives
-      ];
-    })
+      row = quiet_row row;
+      known = known_put o (quiet_row row) k.memory.objects objects put;
+      none = unreferred;
+      referred = but_known o (quiet_row row) k.chains k.memory.objects objects k.memory.resident put s.referred;
+    }
   where
     moment : List Event
     moment = events ++ past
@@ -186,17 +294,117 @@ sweeps_told header h outside doing past k ids rest object events after row objec
     ending : Event
     ending = event.Sent (Up (host_id h) object) (message.Terminate row.control)
 
+    leaves : Leaves header (events ++ past) (event.Sent (Up (host_id h) object) (message.Terminate row.control) ∷ (events ++ past))
+    leaves = record { regions_made = refl; objects_made = refl; region = λ r. refl; backing = λ o. refl; home = λ r. refl; made_for = λ o. refl; used = λ g r. refl }
+
+    unreferred : row.references ≡ 0
+    unreferred = ap (λ z. z.references) (some_is row s.row (sym found ∙ s.known)) ∙ s.none
+
+    temporary : IsTemporary (quiet_row row)
+    temporary = record {
+      kind = (m.regions.temporary object.0 row found).kind;
+      live = refl;
+      number = λ some. absurd (omega (arith, some, unreferred));
+    }
+
     alive : live_control h object.0 (events ++ past) ≡ Some row.control
     alive = m.controls.live object.0 ∙ (ap live_in found ∙ ap (λ b. if b then Some row.control else None) live)
 
     bare : (p : ℕ) → local header.size h (place_of object.0 p) (events ++ past) ≡ local_of_row k.memory.frames None (absent_at k.memory.objects object.0 p)
-    bare p = m.pages.shown object.0 p ∙ ap (λ z. local_of_row k.memory.frames z (absent_at k.memory.objects object.0 p)) (s.pages p)
+    bare p = m.pages.shown object.0 p ∙ ap (λ z. local_of_row k.memory.frames z (absent_at k.memory.objects object.0 p)) (none p)
 
     cause : Caused header outside doing (event.Sent (Up (host_id h) object) (message.Terminate row.control)) (events ++ past)
     cause = record {
       live = alive;
-      unreached = λ le. unreached header h object.0 (events ++ past) m.regions.tops m.regions.unbacked s.unused;
+      unreached = λ le. unreached header h k ids rest (events ++ past) object.0 row m found unreferred;
       unheld = λ less. absurd (let none = ap length m.plain.objects in omega arith);
       away = λ p. ap (λ z. z.here) (bare p);
       unasked = λ p. ap (λ z. z.asked) (bare p);
+    }
+
+-- what stood under it goes
+
+entries_kept : (size : ℕ) (maps : Mapped) (cs cs2 : ChainTable) (rest : List Entry) → ((r : ℕ) → region_at cs2 r ≡ region_at cs r) → HasEntries size maps cs rest → HasEntries size maps cs2 rest
+entries_kept size maps cs cs2 rest same has =
+    record {
+      inside = λ task.
+          rows_map (IsInside size cs) (IsInside size cs2)
+          (λ row is. record { region = ap is_some (same row.region.0) ∙ is.region; some = is.some; below = is.below; inside = subst (λ (z : ℕ). Inside size z row) (sym (ap pages_in (same row.region.0))) is.inside })
+          (rows_in task maps) (has.inside task);
+      known = rows_map (λ row. has_region cs row.region.0 ≡ true) (λ row. has_region cs2 row.region.0 ≡ true) (λ row is. ap is_some (same row.region.0) ∙ is) rest has.known;
+      most = has.most;
+      few = has.few;
+      counts = λ r row found. has.counts r row (sym (same r) ∙ found);
+    }
+
+-- An object to which nothing refers, without pages and without a control, loses what stands under it: that has so many references left.
+pub record LeavesOne (k : Parts) (o left : ℕ) (row : ShadowRow) (known : ObjectRow) (chains : ChainTable) (objects : ObjectTable) : Type 0 where
+  pub bare : (p : ℕ) → row_at k.memory.resident o p ≡ None
+  pub quiet : (known : ObjectRow) → object_at k.memory.objects o ≡ Some known → known.live ≡ false
+  pub found : shadow_at k.chains o ≡ Some row
+  pub drops : DropsShadow o k.chains chains
+  pub under : object_at k.memory.objects row.under.0 ≡ Some known
+  pub less : left + 1 ≡ known.references
+  pub put : PutsObject row.under.0 (Some (record known { references = left })) k.memory.objects objects
+  pub marks : SameMarks k.memory.objects objects
+
+runs_dropped : (header : Header) (h : ℕ) (outside : Outside) (doing : Command) (past : List Event) (k : Parts) (ids : Ids) (rest : List Entry) (o left : ℕ) (row : ShadowRow) (known : ObjectRow) (events : List Event) (chains : ChainTable) (objects : ObjectTable)
+    → EndsObject header h outside doing past k ids rest o events → LeavesOne k o left row known chains objects → IsInStep header h outside doing past (record k { chains = chains; memory = record k.memory { objects = objects } }) ids rest events
+runs_dropped header h outside doing past k ids rest o left row known events chains objects e leaves =
+    let moment = events ++ past in
+    let m : Matches header h k ids rest moment = e.runs.matches in
+    let under = row.under.0 in
+    record {
+      begins = e.runs.begins;
+      matches = record {
+        plain = m.plain;
+        known = m.known;
+        size = m.size;
+        host = m.host;
+        fits = record { parts = fit_objects k.memory objects m.fits.parts (same_pages k.memory.objects objects under known (record known { references = left }) leaves.under refl leaves.put); plain = m.fits.plain; buffers = m.fits.buffers };
+        tasks = m.tasks;
+        regions = regions_dropped o left row e.row known k.chains chains k.memory.objects objects ids (λ r. region_of header r moment) (λ o2. backing_of header o2 moment) (next_region header moment) (next_object header moment) (marked_regions header moment)
+            leaves.found e.known e.none leaves.drops leaves.under leaves.less leaves.put m.regions;
+        homes = λ r region found. m.homes r region (sym (ap (λ f. f r) leaves.drops.regions) ∙ found);
+        entries = entries_kept header.size k.maps k.chains chains rest (λ r. ap (λ f. f r) leaves.drops.regions) m.entries;
+        pages = record { shown = λ o2 p. m.pages.shown o2 p ∙ ap (local_of_row k.memory.frames (row_at k.memory.resident o2 p)) (sym (leaves.marks.at o2 p)) };
+        uses = m.uses;
+        controls = controls_referred under left known k.memory.objects objects _ _ _ leaves.under leaves.put m.controls;
+        homeless = m.homeless;
+        settled = m.settled;
+        laundry = m.laundry;
+        frames = m.frames;
+      };
+      waits = waits_dropped k.maps k.chains chains k.memory.resident k.memory.objects objects k.waits.rows woken.Nobody (λ t. waiting t moment) o under left known e.runs.waits leaves.drops
+          (unreferred_region m.regions o e.row e.known e.none) (unreferred_shadow m.regions o e.row e.known e.none) leaves.under leaves.put;
+      order = e.runs.order;
+      idle = e.runs.idle;
+      grows = e.runs.grows;
+    }
+
+used_dropped : (header : Header) (h : ℕ) (outside : Outside) (doing : Command) (past : List Event) (k : Parts) (ids : Ids) (rest : List Entry) (o : ℕ) (events : List Event) (chains : ChainTable) → EndsObject header h outside doing past k ids rest o events
+    → DropsShadow o k.chains chains → AllUsed chains
+used_dropped header h outside doing past k ids rest o events chains e drops r row found = e.used r row (sym (ap (λ f. f r) drops.regions) ∙ found)
+
+-- something else refers to that still
+pub sweeps_dropped : (header : Header) (h : ℕ) (outside : Outside) (doing : Command) (past : List Event) (k : Parts) (ids : Ids) (rest : List Entry) (o left : ℕ) (row : ShadowRow) (known : ObjectRow) (events : List Event) (chains : ChainTable) (objects : ObjectTable)
+    → EndsObject header h outside doing past k ids rest o events → LeavesOne k o left row known chains objects → 0 < left → Sweeps header h outside doing past (record k { chains = chains; memory = record k.memory { objects = objects } }) ids rest events
+sweeps_dropped header h outside doing past k ids rest o left row known events chains objects e leaves some =
+    record {
+      runs = runs_dropped header h outside doing past k ids rest o left row known events chains objects e leaves;
+      used = used_dropped header h outside doing past k ids rest o events chains e leaves.drops;
+      referred = referred_dropped o row.under.0 (record known { references = left }) k.chains chains k.memory.objects objects k.memory.resident leaves.drops leaves.put some leaves.quiet leaves.bare e.referred;
+    }
+
+-- or nothing does, and it ends too
+pub ends_dropped : (header : Header) (h : ℕ) (outside : Outside) (doing : Command) (past : List Event) (k : Parts) (ids : Ids) (rest : List Entry) (o : ℕ) (row : ShadowRow) (known : ObjectRow) (events : List Event) (chains : ChainTable) (objects : ObjectTable)
+    → EndsObject header h outside doing past k ids rest o events → LeavesOne k o 0 row known chains objects → EndsObject header h outside doing past (record k { chains = chains; memory = record k.memory { objects = objects } }) ids rest row.under.0 events
+ends_dropped header h outside doing past k ids rest o row known events chains objects e leaves =
+    record {
+      runs = runs_dropped header h outside doing past k ids rest o 0 row known events chains objects e leaves;
+      used = used_dropped header h outside doing past k ids rest o events chains e leaves.drops;
+      row = record known { references = 0 };
+      known = known_put row.under.0 (record known { references = 0 }) k.memory.objects objects leaves.put;
+      none = refl;
+      referred = but_dropped o row.under.0 (record known { references = 0 }) k.chains chains k.memory.objects objects k.memory.resident leaves.drops leaves.put leaves.quiet leaves.bare e.referred;
     }

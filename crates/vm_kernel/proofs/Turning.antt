@@ -5,6 +5,10 @@ use Rattle.vm_model.specs.declared.event.Event.TheVariants as event
 use Rattle.vm_model.specs.declared.message.Message.TheVariants as message
 use Rattle.vm_waits.specs.declared.waiting.On.TheVariants as on
 use Rattle.vm_supply.specs.declared.woken.Woken.TheVariants as woken
+use Rattle.vm_kernel.specs.Serving.{wants_frame}
+use Rattle.vm_kernel.specs.Turns.{Bare, ForCopy, IsFront, Shadow}
+use Rattle.vm_kernel.specs.declared.attempt.Attempt.{Attempt}
+use Rattle.vm_kernel.specs.declared.attempt.Attempt.TheVariants as attempt
 use Rattle.vm_kernel.proofs.Growing.{free_is}
 use Rattle.vm_kernel.proofs.Ordering.{oldest_first}
 
@@ -68,10 +72,12 @@ apart_left task left rest t once there same =
 
 pub did_kept : {rows rows2 : List Waiting} {earlier earlier2 : ℕ → Type 0} {task : TaskId} {claims : Bool} {own : List Event} → (claims ≡ true → entry rows2 task.0 ≡ entry rows task.0)
     → (claims ≡ true → (t : ℕ) → earlier2 t → earlier t × (entry rows2 t ≡ entry rows t)) → Did rows earlier task claims own → Did rows2 earlier2 task claims own
-did_kept mine queue_without Nothing = Nothing
-did_kept mine queue_without (Found end ends) = Found end ends
-did_kept mine queue_without (ForZeros end host key ends) = ForZeros end host key ends
-did_kept mine queue_without (ForAsked host key control row found waits none) = ForAsked host key control row (mine refl ∙ found) waits (λ t w early is. let one = queue_without refl t early in none t w one.0 (sym one.1 ∙ is))
+did_kept mine others (Nothing front is) = Nothing front is
+did_kept mine others (Found front is end ends) = Found front is end ends
+did_kept mine others (ForZeros front is end host key ends) = ForZeros front is end host key ends
+did_kept mine others (ForCopy front is end host lower upper ends) = ForCopy front is end host lower upper ends
+did_kept mine others (ForAsked front is host key control steps row found waits none) =
+    ForAsked front is host key control steps row (mine refl ∙ found) waits (λ t w early at. let one = others refl t early in none t w one.0 (sym one.1 ∙ at))
 
 -- the rows of those who left are as they were
 claims_kept : (rows rows2 : List Waiting) (left : List TaskId) (events : List Event) → ((t : ℕ) → is_listed t left ≡ true → entry rows2 t ≡ entry rows t) → ClaimsInTurn rows left events → ClaimsInTurn rows2 left events
@@ -102,6 +108,11 @@ gone_quiet h other is = absurd is
 each_quiet : (h : ℕ) (events : List Event) → EachOf (IsReclaim h) events → EachOf RunsNone events
 each_quiet h [] all = tt
 each_quiet h (e ∷ events) all = (gone_quiet h e all.0, each_quiet h events all.1)
+
+-- a front runs nobody
+pub front_quiet : {front : List Event} → IsFront front → EachOf RunsNone front
+front_quiet Bare = tt
+front_quiet (Shadow region new old) = (tt, tt)
 
 -- nobody joins or leaves
 
@@ -146,11 +157,18 @@ end_begun t task (event.Loaded owner object page value) past is = refl
 end_begun t task (event.Stored owner object page at bytes value) past is = refl
 end_begun t task other past is = absurd is
 
+-- nor does a front
+front_begun : {front : List Event} (t : ℕ) (events past : List Event) → IsFront front → begun_at t ((front ++ events) ++ past) ≡ begun_at t (events ++ past)
+front_begun t events past Bare = refl
+front_begun t events past (Shadow region new old) = refl
+
 did_begun : {rows : List Waiting} {earlier : ℕ → Type 0} {task : TaskId} {claims : Bool} {own : List Event} (t : ℕ) (events past : List Event) → Did rows earlier task claims own → begun_at t ((own ++ events) ++ past) ≡ begun_at t (events ++ past)
-did_begun t events past Nothing = refl
-did_begun {task = task} t events past (Found end ends) = end_begun t task.0 end (events ++ past) ends
-did_begun {task = task} t events past (ForZeros end host key ends) = end_begun t task.0 end (event.Zeroed host key.object key.page ∷ (events ++ past)) ends
-did_begun t events past (ForAsked host key control row found waits none) = refl
+did_begun t events past (Nothing front is) = front_begun t events past is
+did_begun {task = task} t events past (Found front is end ends) = end_begun t task.0 end ((front ++ events) ++ past) ends ∙ front_begun t events past is
+did_begun {task = task} t events past (ForZeros front is end host key ends) = end_begun t task.0 end (event.Zeroed host key.object key.page ∷ ((front ++ events) ++ past)) ends ∙ front_begun t events past is
+did_begun {task = task} t events past (ForCopy front is end host lower upper ends) =
+    end_begun t task.0 end (event.Raised host lower.object lower.page upper.object upper.page ∷ ((front ++ events) ++ past)) ends ∙ front_begun t events past is
+did_begun t events past (ForAsked front is host key control steps row found waits none) = front_begun t events past is
 
 unlisted : (t : ℕ) (task : TaskId) (queue : List TaskId) → (task.0 ≡ t → ⊥) → is_listed t queue ≡ false → is_listed t (queue ++ task ∷ []) ≡ false
 unlisted t task queue apart out = elim (eqb_tells task.0 t) [
@@ -162,10 +180,12 @@ unlisted t task queue apart out = elim (eqb_tells task.0 t) [
 restarts_kept : (h : ℕ) → {header : Header} {rows rows2 : List Waiting} {past : List Event} {q : List TaskId} {from : ℕ} {queue : List TaskId} {events : List Event} → ((t : ℕ) → begun_at t (events ++ past) < from → is_listed t queue ≡ false → entry rows2 t ≡ entry rows t)
     → Restarts header h rows past q from queue events → Restarts header h rows2 past q from queue events
 restarts_kept h same (Start events none) = Start events none
-restarts_kept h {past = past} same (Joins task from queue events was le wants mine why) =
-    Joins task from queue events
-    (restarts_kept h (λ t low out. same t (omega arith) (unlisted t task queue (λ is. (let even : begun_at task.0 (events ++ past) ≡ begun_at t (events ++ past) = ap (λ z. begun_at z (events ++ past)) is in omega arith)) out)) was)
+restarts_kept h {past = past} same (Joins task from queue front events was le is wants mine why) =
+    let low = λ (t : ℕ) (below : begun_at t (events ++ past) < suc (begun_at task.0 (events ++ past))). subst (λ (z : ℕ). z < suc (begun_at task.0 (events ++ past))) (sym (front_begun t events past is)) below in
+    Joins task from queue front events
+    (restarts_kept h (λ t below out. same t (low t (omega arith)) (unlisted t task queue (λ at. (let even : begun_at task.0 (events ++ past) ≡ begun_at t (events ++ past) = ap (λ z. begun_at z (events ++ past)) at in omega arith)) out)) was)
     le
+    is
     wants
     mine
     why
@@ -212,9 +232,10 @@ pub record Wanting (header : Header) (h : ℕ) (w : Waiting) (may : Bool) (past 
   pub mine : wants.task ≡ w.task.0
   pub none : may ≡ true → frames_free header h past ≡ 0
 
-pub wanting_of : (header : Header) (h : ℕ) (w : Waiting) (may wants : Bool) (old new : Parts) (ids : Ids) (before after : List Event) → Works header h new ids woken.Nobody after → Attempts header h w may wants old new before after → wants ≡ true → Wanting header h w may after
-wanting_of header h w may true old new ids before after now attempts wants = record { wants = attempts.wants; mine = attempts.mine; none = λ can. free_is header h new.memory.frames after now.matches.frames ∙ attempts.none can }
-wanting_of header h w may false old new ids before after now attempts wants = absurd (let clash : false ≡ true = wants in cc)
+pub wanting_of : (header : Header) (h : ℕ) (w : Waiting) (may : Bool) (answer : Attempt) (old new : Parts) (ids : Ids) (before after : List Event) → Works header h new ids woken.Nobody after → Attempts header h w may answer old new before after → wants_frame answer ≡ true
+    → Wanting header h w may after
+wanting_of header h w may (attempt.Wants source) old new ids before after now joins wants = record { wants = joins.wants; mine = joins.mine; none = λ can. free_is header h new.memory.frames after now.matches.frames ∙ joins.none can }
+wanting_of header h w may attempt.Ran old new ids before after now ran wants = absurd (let clash : false ≡ true = wants in cc)
 
 -- what stands in front of a run of the oldest
 pub record Next (past : List Event) (w : Waiting) (may_claim : Bool) (now : WaitTable) (events : List Event) : Type 0 where
@@ -228,13 +249,13 @@ pub record Next (past : List Event) (w : Waiting) (may_claim : Bool) (now : Wait
 goes_on : (header : Header) (h : ℕ) (past : List Event) (q : List TaskId) (w : Waiting) (may wants : Bool) (old new : WaitTable) (before after : List Event) (from : ℕ) → Restarts header h new.rows past q from old.queue before → from ≤ begun_at w.task.0 (before ++ past) → Next past w may old before
     → (run : RunsOnce w may wants old new before after) → (wants ≡ true → Wanting header h w may (after ++ past)) → Restarts header h new.rows past q (suc (begun_at w.task.0 (before ++ past))) new.queue after
 goes_on header h past q w may true old new before after from was le next run wanting =
-    let same : after ≡ before = run.told ∙ ap (λ z. z ++ before) (run.nothing refl) in
     let queue : new.queue ≡ old.queue ++ w.task ∷ [] = subst (λ (z : Bool). new.queue ≡ (if z then old.queue else old.queue ++ w.task ∷ [])) (again_other w.on next.again) run.queue in
-    let now : Wanting header h w may (before ++ past) = subst (λ (z : List Event). Wanting header h w may (z ++ past)) same (wanting refl) in
+    let now : Wanting header h w may ((run.more ++ before) ++ past) = subst (λ (z : List Event). Wanting header h w may (z ++ past)) run.told (wanting refl) in
     subst (λ (z : List TaskId). Restarts header h new.rows past q (suc (begun_at w.task.0 (before ++ past))) z after) (sym queue)
-    (subst (λ (z : List Event). Restarts header h new.rows past q (suc (begun_at w.task.0 (before ++ past))) (old.queue ++ w.task ∷ []) z) (sym same) (Joins w.task from old.queue before was le now.wants now.mine (why may refl now.none)))
+    (subst (λ (z : List Event). Restarts header h new.rows past q (suc (begun_at w.task.0 (before ++ past))) (old.queue ++ w.task ∷ []) z) (sym run.told)
+    (Joins w.task from old.queue run.more before was le (run.nothing refl) now.wants now.mine (why may refl now.none)))
   where
-    why : (b : Bool) → may ≡ b → (may ≡ true → frames_free header h (before ++ past) ≡ 0) → (old.queue ≢ []) ⊎ (frames_free header h (before ++ past) ≡ 0)
+    why : (b : Bool) → may ≡ b → (may ≡ true → frames_free header h ((run.more ++ before) ++ past) ≡ 0) → (old.queue ≢ []) ⊎ (frames_free header h ((run.more ++ before) ++ past) ≡ 0)
     why true is none = inr (none is)
     why false is none = inl (queue_some old.queue old.rows may is next.line next.may)
 goes_on header h past q w may false old new before after from was le next run wanting =
@@ -287,9 +308,9 @@ leaves_ran q w may true old new start before after was line front frame run =
       left = was.left;
       queue = was.queue ∙ ap (λ z. reverse was.left ++ z) (sym same);
       once = was.once;
-      served = was.served;
-      told = run.told ∙ (ap (λ z. z ++ before) (run.nothing refl) ∙ was.told);
-      turns = claims_kept old.rows new.rows was.left was.served (λ t there. run.rest t (apart_left w.task was.left s.rest t once there)) was.turns;
+      served = run.more ++ was.served;
+      told = run.told ∙ (ap (λ z. run.more ++ z) was.told ∙ sym (append_assoc run.more was.served start));
+      turns = claims_late new.rows was.left run.more was.served (front_quiet (run.nothing refl)) (claims_kept old.rows new.rows was.left was.served (λ t there. run.rest t (apart_left w.task was.left s.rest t once there)) was.turns);
     }
 leaves_ran q w may false old new start before after was line front frame run =
     let s = split w.task old.queue front in

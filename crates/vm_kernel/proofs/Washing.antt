@@ -20,7 +20,7 @@ unheld fs rs held f key all owner = go (is_skipped held f) refl
     go false is = is
 
 -- frames that stand there once each, and are claimed, are no more than there are claims
-each_counted : (claims : List Bool) (fs : List FrameNo) → ((g : ℕ) → is_skipped fs g ≡ true → get_or claims g false ≡ true) → EachApart fs → length fs ≤ count_claims claims
+pub each_counted : (claims : List Bool) (fs : List FrameNo) → ((g : ℕ) → is_skipped fs g ≡ true → get_or claims g false ≡ true) → EachApart fs → length fs ≤ count_claims claims
 each_counted claims [] all apart = omega arith
 each_counted claims (f ∷ fs) all apart =
     let mine : get_or claims f.0 false ≡ true = all f.0 (first (f.0 == f.0) (is_skipped fs f.0) (itself f.0)) in

@@ -1,9 +1,10 @@
 -- Frames are wired, or wired no more.
-use Rattle.vm_kernel.proofs.Common.{All, Bool, ChainTable, Command, Event, Fit, FrameNo, FrameTable, HasFrames, HasLaundry, HasPages, Header, HostParts, Ids, IsDone, IsWashed, LaundryList, List, Local, None, ObjectTable, Option, Outside, PageRow, Parts, Ran, ResidentTable, Rests, Some, Starts, [], absent_at, ap, arith, claimed, false, frame_count, frames_free, frames_held, frames_wired, free, head, host_id, if◌then◌else◌, local, local_of_row, nat_le, nat_tests, place_of, refl, returns_out, reverse, row_at, slice_get, subst, sym, true, ℕ, ◌+◌, ◌-◌, ◌∙◌, ◌∷◌, ◌≡◌, ◌≤◌}
+use Rattle.vm_kernel.proofs.Common.{All, Bool, Command, Event, Fit, FrameNo, FrameTable, HasFrames, HasLaundry, HasPages, Header, HostParts, Ids, IsDone, IsWashed, LaundryList, List, Local, None, ObjectTable, Option, Outside, PageRow, Parts, Ran, ResidentTable, Rests, Some, Starts, [], absent_at, ap, arith, claimed, false, frame_count, frames_free, frames_held, frames_wired, free, head, host_id, if◌then◌else◌, local, local_of_row, nat_le, nat_tests, place_of, refl, returns_out, reverse, row_at, slice_get, subst, sym, true, ℕ, ◌+◌, ◌-◌, ◌∙◌, ◌∷◌, ◌≡◌, ◌≤◌}
 use Rattle.std.proofs.Common.{nat_lt}
 use Rattle.vm_base.specs.declared.code.Code.TheVariants as code
 use Rattle.vm_model.specs.declared.event.Event.TheVariants as event
 use Rattle.vm_model.specs.declared.command.Command.TheVariants as command
+use Rattle.vm_kernel.proofs.After.{Leaves, controls_after, homeless_after, regions_after}
 use Rattle.vm_kernel.proofs.Growing.{free_is, suffices}
 use Rattle.vm_kernel.proofs.Heads.{heads_one, passed, ran_head}
 use Rattle.vm_kernel.proofs.Own.{named_host, own_host}
@@ -37,14 +38,15 @@ shown_wired : (fs : FrameTable) (wired : ℕ) (x : Option PageRow) (lacked : Boo
 shown_wired fs wired None lacked = refl
 shown_wired fs wired (Some row) lacked = refl
 
-pages_wired : (fs : FrameTable) (rs : ResidentTable) (os : ObjectTable) (cs : ChainTable) (local_at : ℕ → ℕ → Local) (wired : ℕ) → HasPages fs rs os cs local_at → HasPages (with_wired fs wired) rs os cs local_at
-pages_wired fs rs os cs local_at wired has = record { shown = λ o p. has.shown o p ∙ shown_wired fs wired (row_at rs o p) (absent_at os o p); live = has.live }
+pages_wired : (fs : FrameTable) (rs : ResidentTable) (os : ObjectTable) (local_at : ℕ → ℕ → Local) (wired : ℕ) → HasPages fs rs os local_at → HasPages (with_wired fs wired) rs os local_at
+pages_wired fs rs os local_at wired has = record { shown = λ o p. has.shown o p ∙ shown_wired fs wired (row_at rs o p) (absent_at os o p) }
 
 -- so many frames are wired now, and that was told
 ran_wired : (header : Header) (h : ℕ) (outside : Outside) (doing : Command) (past : List Event) (k : Parts) (ids : Ids) (wired : ℕ) → Rests header h k ids past → claimed k.memory.frames + wired ≤ frame_count k.memory.frames → head header past doing ≡ Some (event.Wired (host_id h) wired ∷ [])
     → IsDone header doing (event.Wired (host_id h) wired ∷ []) past → Ran header h outside doing past (record k { memory = record k.memory { frames = with_wired k.memory.frames wired } }) ids (event.Wired (host_id h) wired ∷ [])
 ran_wired header h outside doing past k ids wired rests few first done =
     let m = rests.matches in
+    let leaves : Leaves header past (event.Wired (host_id h) wired ∷ past) = record { regions_made = refl; objects_made = refl; region = λ r. refl; backing = λ o. refl; home = λ r. refl; made_for = λ o. refl; used = λ g r. refl } in
     let frames : HasFrames (slice_get (reverse header.frames.items) h) (with_wired k.memory.frames wired) (frames_held header.size h (event.Wired (host_id h) wired ∷ past)) (frames_wired h (event.Wired (host_id h) wired ∷ past)) =
     record { total = m.frames.total; held = m.frames.held; wired = rw (own_host h) refl; fits = few } in
     ran_head header h outside doing past (record k { memory = record k.memory { frames = with_wired k.memory.frames wired } }) ids (event.Wired (host_id h) wired ∷ []) (event.Wired (host_id h) wired ∷ []) first refl
@@ -59,18 +61,19 @@ ran_wired header h outside doing past k ids wired rests few first done =
             host = m.host;
             fits = record { parts = fit_wired k.memory wired m.fits.parts; plain = m.fits.plain; buffers = m.fits.buffers };
             tasks = m.tasks;
-            regions = m.regions;
+            regions = regions_after leaves m.regions;
             entries = m.entries;
-            pages = pages_wired k.memory.frames k.memory.resident k.memory.objects k.chains (λ o p. local header.size h (place_of o p) past) wired m.pages;
+            pages = pages_wired k.memory.frames k.memory.resident k.memory.objects (λ o p. local header.size h (place_of o p) past) wired m.pages;
             uses = m.uses;
-            controls = m.controls;
-            homeless = m.homeless;
+            controls = controls_after leaves m.controls;
+            homeless = homeless_after leaves m.homeless;
+            homes = m.homes;
             settled = record { returned = refl; shut = λ region. refl };
             laundry = laundry_wired k.memory.frames k.memory.resident k.laundry (returns_out h past) wired m.laundry;
             frames = frames;
           };
       used = rests.used;
-      reached = rests.reached;
+      referred = rests.referred;
       waits = rests.waits;
       order = rests.order;
       idle = rests.idle;

@@ -1,25 +1,24 @@
 -- What other hosts do leaves what a kernel stands for.
-use Rattle.std.specs.Prelude.{ℕ, ◌≡◌, false, List}
+use Rattle.std.specs.Prelude.{◌≡◌, ◌+◌, ◌≤◌, false, List}
+use Rattle.vm_base.specs.Limits.{most_objects}
 use Rattle.vm_model.specs.declared.event.Event.{Event}
 use Rattle.vm_model.specs.declared.event.Event.TheVariants as event
 use Rattle.vm_model.specs.declared.message.Channel.TheVariants.{Up, Down}
 use Rattle.vm_model.specs.declared.script.Header.{Header}
-use Rattle.vm_model.specs.Regions.{backing_of, next_object, next_region, region_of}
+use Rattle.vm_model.specs.Regions.{marked_regions, next_object, next_region}
 use Rattle.vm_legal.specs.Homes.{gives_frame}
-use Rattle.vm_abroad.specs.Home.{AreHomeless}
+use Rattle.vm_abroad.specs.Home.{HaveHomes}
 use Rattle.vm_shadow.specs.declared.ids.Ids.{Ids}
-use Rattle.vm_kernel.specs.Matches.{IsOverOwn, IsSettled}
+use Rattle.vm_kernel.specs.Matches.{IsSettled}
 
--- what the kernels of all hosts say alike: the next numbers, and that each region is over an object of its own, which has no other under it
+-- what the kernels of all hosts say alike: the next numbers, how many regions are marked, and that no more can be than objects are left for
 pub record IsCommon (header : Header) (ids : Ids) (past : List Event) : Type 0 where
   pub region : ids.next_region ≡ next_region header past
   pub object : ids.next_object ≡ next_object header past
-  pub equal : next_object header past ≡ next_region header past
-  pub marks : ids.marks ≡ 0
-  pub tops : (r : ℕ) → IsOverOwn (region_of header r past) r
-  pub unbacked : (o : ℕ) → (backing_of header o past).backed ≡ false
+  pub marks : ids.marks ≡ marked_regions header past
+  pub few : next_object header past + marked_regions header past ≤ most_objects
   pub settled : IsSettled past
-  pub homeless : AreHomeless header past
+  pub homeless : HaveHomes header past
 
 -- an event of no host: a line, a refusal, what a pager says or its device does, and the taking of a message that gives no frame back
 abbrev pub IsNobodys : Event → Type 0

@@ -18,10 +18,9 @@ use Rattle.vm_legal.specs.Outside.{Outside}
 use Rattle.vm_legal.specs.Prompt.{PromptAt}
 use Rattle.vm_legal.specs.Refusal.{refusal}
 use Rattle.vm_legal.specs.Stretches.{AllInner, EachIn, EachOf, MomentsIn}
-use Rattle.vm_abroad.specs.Home.{home_of}
+use Rattle.vm_abroad.specs.Home.{object_home}
 use Rattle.vm_abroad.specs.Whose.{IsOnlyOfHost}
 use Rattle.vm_shadow.specs.declared.ids.Ids.{Ids}
-use Rattle.vm_kernel.specs.Built.{copies_entries}
 use Rattle.vm_kernel.specs.Matches.{HasOrder, HasWaits, Matches, Rests, host_id}
 use Rattle.vm_kernel.specs.Serving.{HasQueue}
 use Rattle.vm_supply.specs.declared.woken.Woken.TheVariants as woken
@@ -81,9 +80,9 @@ KernelSays h size (event.Raised host lower lower_page upper upper_page) = Unit {
 KernelSays h size (event.Shadowed region new old) = Unit {0}
 KernelSays h size (event.Wired host count) = Unit {0}
 
--- a pager is told of an object on the host of its region
+-- a pager is told of an object on the host of the region that it was made for
 abbrev pub CreatesHere : ℕ → Event → List Event → Type 0
-CreatesHere h (event.Sent (Up host object) (message.Create control size)) past = home_of object.0 past ≡ Some h
+CreatesHere h (event.Sent (Up host object) (message.Create control size)) past = object_home object.0 past ≡ Some h
 CreatesHere h other past = Unit {0}
 
 -- whosever an event is, it is the kernel's; and behind a region that it makes stands its entry
@@ -137,13 +136,17 @@ acts_on h (command.Wire host count) past = host.0 == h
 acts_on h (command.Unwire host count) past = host.0 == h
 acts_on h other past = false
 
--- a kernel may run a command that acts on its host, is in its ranges, isn't refused and copies no entries; its line stands in front
+-- a copy goes to a task that lives on the host, too
+abbrev pub targets_here : ℕ → Command → List Event → Bool
+targets_here h (command.Copy task address bytes target to) past = lives_on h target.0 past
+targets_here h other past = true
+
+-- a kernel may run a command that acts on its host, is in its ranges, and isn't refused; its line stands in front
 pub record Starts (header : Header) (h : ℕ) (doing : Command) (past : List Event) (k : Parts) (ids : Ids) (events : List Event) : Type 0 where
   pub rests : Rests header h k ids past
   pub acts : acts_on h doing past ≡ true
   pub range : InRange header doing
   pub accepted : refusal header past doing ≡ None
-  pub enough : copies_entries header past doing ≡ false
   pub begins : IsLined past
   pub nothing : events ≡ []
 

@@ -1,15 +1,13 @@
 -- Which commands a kernel runs.
-use Rattle.std.specs.Prelude.{Bool, true, false, not, ◌==◌, List}
-use Rattle.vm_model.specs.declared.event.Event.{Event}
+use Rattle.std.specs.Prelude.{Bool, true, false}
 use Rattle.vm_model.specs.declared.command.Command.{Command}
 use Rattle.vm_model.specs.declared.command.Command.TheVariants as command
-use Rattle.vm_model.specs.declared.script.Header.{Header}
-use Rattle.vm_model.specs.Tasks.{copies, entries_of}
 
 -- the commands that are built
 abbrev pub kernel_runs : Command → Bool
 kernel_runs (command.Task task host) = true
 kernel_runs (command.Fork task child) = true
+kernel_runs (command.Copy task address bytes target to) = true
 kernel_runs (command.Exit task) = true
 kernel_runs (command.Allocate task address bytes) = true
 kernel_runs (command.Deallocate task address bytes) = true
@@ -21,11 +19,6 @@ kernel_runs (command.Pageout host count) = true
 kernel_runs (command.Wire host count) = true
 kernel_runs (command.Unwire host count) = true
 kernel_runs other = false
-
--- A fork that would copy entries can't be run yet.
-abbrev pub copies_entries : Header → List Event → Command → Bool
-copies_entries header past (command.Fork task child) = not (copies (entries_of header.size task.0 past) == 0)
-copies_entries header past other = false
 
 -- the command changes a task's entries
 abbrev pub changes_entries : Command → Bool

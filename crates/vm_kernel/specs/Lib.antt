@@ -2,17 +2,12 @@ pub mod Abroad
 pub mod Begun
 pub mod Built
 pub mod Changes
-pub mod Counts
-pub mod Faulting
 pub mod Fits
 pub mod Forking
 pub mod Matches
-pub mod Pagers
-pub mod Places
 pub mod Plays
 pub mod Refusing
 pub mod Serving
 pub mod Sweeping
 pub mod Taking
 pub mod Turns
-pub mod Waiters

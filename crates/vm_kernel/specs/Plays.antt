@@ -1,5 +1,5 @@
 -- What happens to the lists of a host's pages over a call: what its events say, one after another.
-use Rattle.std.specs.Prelude.{ℕ, ◌≡◌, ◌==◌, ◌&&◌, Bool, true, false, List, [], ◌∷◌, ◌++◌, Option, Some, None, if◌then◌else◌}
+use Rattle.std.specs.Prelude.{ℕ, ◌≡◌, ◌==◌, ◌&&◌, false, List, [], ◌∷◌, ◌++◌, Option, Some, None, if◌then◌else◌}
 use Rattle.vm_base.specs.declared.ids.FrameNo.{FrameNo}
 use Rattle.vm_base.specs.declared.ids.ObjectId.{ObjectId}
 use Rattle.vm_model.specs.declared.event.Event.{Event}
@@ -7,9 +7,10 @@ use Rattle.vm_model.specs.declared.event.Event.TheVariants as event
 use Rattle.vm_model.specs.declared.message.Channel.TheVariants.{Up}
 use Rattle.vm_model.specs.declared.message.Message.TheVariants as message
 use Rattle.vm_model.specs.declared.script.Header.{Header}
-use Rattle.vm_legal.specs.Used.{in_use}
+use Rattle.vm_legal.specs.Prompt.{IsSource}
+use Rattle.vm_legal.specs.Walks.{Reach}
 use Rattle.vm_pageout.specs.Reclaims.{queues_after_search}
-use Rattle.vm_queues.specs.Queues.{Queues, added, is_queued, queues_except, victim_frame, with_reference}
+use Rattle.vm_queues.specs.Queues.{AllSkipped, Queues, added, is_queued, queues_except, victim_frame, with_reference}
 use Rattle.vm_resident.specs.Resident.{row_at}
 use Rattle.vm_resident.specs.declared.page_row.PageRow.{PageRow}
 use Rattle.vm_supply.specs.Answers.{AnswerOutcome, Supplied}
@@ -52,28 +53,55 @@ pub record Departs (object page : ℕ) (lists : Queues) (old new : Paging) : Typ
   pub here : old.frame_at object page ≡ Some frame
   pub is : new ≡ record { frame_at = places_with_frame object page None old.frame_at; queues = queues_except frame.0 lists }
 
--- the page that has gone is the victim: the one that the lists choose, with none skipped
-pub record IsVictim (object page : ℕ) (old new : Paging) : Type 0 where
-  pub victim : victim_frame [] (queues_after_search old.queues) ≡ old.frame_at object page
+-- each frame is that of a page that an access is to copy which wants a frame
+abbrev pub AreSources : Header → ℕ → List Event → (ℕ → ℕ → Option FrameNo) → List FrameNo → Type 0
+AreSources header host past frame_at [] = Unit {0}
+AreSources header host past frame_at (frame ∷ frames) = ((o p : ℕ) × IsSource header host o p past × (frame_at o p ≡ Some frame)) × AreSources header host past frame_at frames
+
+-- the page that has gone is the victim: the one that the lists choose, where no page is skipped but what is to be copied
+pub record IsVictim (header : Header) (host : ℕ) (past : List Event) (object page : ℕ) (old new : Paging) : Type 0 where
+  pub skip : List FrameNo
+  pub sources : AreSources header host past old.frame_at skip
+  pub victim : victim_frame skip (queues_after_search old.queues) ≡ old.frame_at object page
   pub departs : Departs object page (queues_after_search old.queues) old new
 
--- a page of an object in use goes as the victim, and each of another one in any order
-abbrev pub DepartsFrom : Bool → ℕ → ℕ → Paging → Paging → Type 0
-DepartsFrom true object page old new = IsVictim object page old new
-DepartsFrom false object page old new = Departs object page old.queues old new
+-- a page goes as the victim, or its object is in no chain, and then its pages go in any order
+pub data DepartsFrom (header : Header) (host : ℕ) (past : List Event) (object page : ℕ) (old new : Paging) : Type 0 where
+  AsVictim : IsVictim header host past object page old new → DepartsFrom header host past object page old new
+  AsUnreached : (Reach header host object past → ⊥) → Departs object page old.queues old new → DepartsFrom header host past object page old new
+
+-- in front of the create that a return needs
+abbrev pub uncreated : List Event → List Event
+uncreated (event.Sent (Up host object) (message.Create control size) ∷ past) = past
+uncreated past = past
+
+-- a copy of a page has come, and the page is marked as referenced
+pub record Copies (lower lower_page upper upper_page : ℕ) (old new : Paging) : Type 0 where
+  pub mid : Paging
+  pub arrives : Arrives upper upper_page old mid
+  pub marks : Marks lower lower_page mid new
 
 -- what an event behind a history says of the lists
 abbrev pub Does : Header → List Event → Event → Paging → Paging → Type 0
 Does header past (event.Loaded task object page value) old new = Marks object.0 page.0 old new
 Does header past (event.Stored task object page at size value) old new = Marks object.0 page.0 old new
 Does header past (event.Zeroed host object page) old new = Arrives object.0 page.0 old new
-Does header past (event.Dropped host object page) old new = DepartsFrom (in_use header host.0 object.0 past) object.0 page.0 old new
-Does header past (event.Sent (Up host object) (message.Return control page dirty false bytes)) old new = IsVictim object.0 page.0 old new
+Does header past (event.Raised host lower lower_page upper upper_page) old new = Copies lower.0 lower_page.0 upper.0 upper_page.0 old new
+Does header past (event.Dropped host object page) old new = DepartsFrom header host.0 past object.0 page.0 old new
+Does header past (event.Sent (Up host object) (message.Return control page dirty false bytes)) old new = IsVictim header host.0 (uncreated past) object.0 page.0 old new
 Does header past other old new = new ≡ old
 
--- The lists are as the events say that were added to some, one after another.
+-- a victim was looked for, and there is none: each page on the lists is one that an access is to copy which wants a frame
+pub record Searches (header : Header) (host : ℕ) (past : List Event) (old new : Paging) : Type 0 where
+  pub skip : List FrameNo
+  pub sources : AreSources header host past old.frame_at skip
+  pub all : AllSkipped skip old.queues
+  pub is : new ≡ record old { queues = queues_after_search old.queues }
+
+-- The lists are as the events say that were added to some, one after another, and as looks for a victim left them that found none.
 pub data Plays (header : Header) (past before : List Event) (old : Paging) : List Event → Paging → Type 0 where
   Still : Plays header past before old before old
+  Looks : (host : ℕ) (events : List Event) (mid new : Paging) → Plays header past before old events mid → Searches header host (events ++ past) mid new → Plays header past before old events new
   Then : (e : Event) (events : List Event) (mid new : Paging) → Plays header past before old events mid → Does header (events ++ past) e mid new → Plays header past before old (e ∷ events) new
 
 -- a page that an answer supplies has come; no other answer does anything to the lists

@@ -1,21 +1,24 @@
 -- Why a kernel refuses a command, from what it keeps.
-use Rattle.std.specs.Prelude.{ℕ, ◌+◌, ◌/◌, ◌%◌, ◌<◌, ◌==◌, ◌||◌, Bool, false, not, List, length, nat_le, nat_lt, Option, None, IsSome, is_some}
+use Rattle.std.specs.Prelude.{ℕ, ◌+◌, ◌/◌, ◌%◌, ◌<◌, ◌==◌, ◌&&◌, ◌||◌, if◌then◌else◌, Bool, false, not, List, length, nat_le, nat_lt, Option, Some, None, IsSome, is_some}
 use Rattle.vm_base.specs.declared.code.Code.{Code}
-use Rattle.vm_base.specs.declared.code.Code.TheVariants.{Blocked, InvalidArgument, NoSpace, ResourceShortage, TableFull}
+use Rattle.vm_base.specs.declared.code.Code.TheVariants.{Blocked, InvalidAddress, InvalidArgument, NoSpace, ProtectionFailure, ResourceShortage, TableFull}
 use Rattle.vm_base.specs.declared.entry.Entry.{Entry}
 use Rattle.vm_base.specs.declared.ids.Access.{Access}
 use Rattle.vm_base.specs.declared.ids.Access.TheVariants as need
-use Rattle.vm_base.specs.Entries.{entry_at, is_range, meets_range, most_entries}
-use Rattle.vm_base.specs.Limits.{most_pages, most_regions}
+use Rattle.vm_base.specs.Entries.{allows, entry_at, is_range, meets_range, most_entries}
+use Rattle.vm_base.specs.Limits.{most_objects, most_pages, most_regions}
 use Rattle.vm_model.specs.declared.command.Command.{Command}
 use Rattle.vm_model.specs.declared.command.Command.TheVariants as command
 use Rattle.vm_model.specs.declared.event.Event.{Event}
-use Rattle.vm_model.specs.Tasks.{copies, host_of, sources}
+use Rattle.vm_model.specs.Tasks.{copies, host_of, new_marks}
 use Rattle.vm_legal.specs.Refusal.{access_refusal, code_where}
 use Rattle.vm_frames.specs.Frames.{free}
 use Rattle.vm_maps.specs.declared.change.MapChange.{MapChange}
 use Rattle.vm_maps.specs.Judge.{judged}
 use Rattle.vm_maps.specs.Maps.{Mapped, entries_in, rows_in}
+use Rattle.vm_shadow.specs.Chains.{ChainTable, region_at}
+use Rattle.vm_shadow.specs.declared.ids.Ids.{Ids}
+use Rattle.vm_shadow.specs.declared.region_row.RegionRow.{RegionRow}
 use Rattle.vm_waits.specs.Waits.{entry}
 use Rattle.vm_kernel.specs.Changes.{inheritance, protection, removal}
 use Rattle.vm_kernel.specs.declared.parts.Parts.{Parts}
@@ -30,16 +33,52 @@ takes_name other past = false
 abbrev pub acting_in : Parts → ℕ → Option Code → Option Code
 acting_in k task later = code_where (is_some (entry k.waits.rows task)) Blocked later
 
--- the code of an allocation of a task with these entries, where there are so many regions
-abbrev pub range_code : ℕ → List Entry → ℕ → ℕ → ℕ → Option Code
-range_code size rows count address bytes =
+-- the objects that there are, and those that marked regions may still get
+abbrev pub object_total : Ids → ℕ
+object_total ids = ids.next_object + ids.marks
+
+-- the code of an allocation of a task with these entries
+abbrev pub range_code : ℕ → List Entry → Ids → ℕ → ℕ → Option Code
+range_code size rows ids address bytes =
     code_where (not (is_range size address bytes) || nat_lt most_pages (bytes / size)) InvalidArgument
     (code_where (meets_range address bytes rows) NoSpace
-    (code_where (nat_lt most_entries (length rows + 1) || nat_le most_regions count) TableFull None))
+    (code_where (nat_lt most_entries (length rows + 1) || (nat_le most_regions ids.next_region || nat_le most_objects (object_total ids))) TableFull None))
 
--- the code of a fork of a task with these entries, where there are so many regions
-abbrev pub fork_code : List Entry → ℕ → Option Code
-fork_code rows count = code_where (nat_lt most_regions (count + copies rows + sources rows)) TableFull None
+-- the region has a copy mark
+abbrev pub is_marked : ChainTable → ℕ → Bool
+is_marked chains r = mark_in (region_at chains r)
+  where
+    mark_in : Option RegionRow → Bool
+    mark_in None = false
+    mark_in (Some row) = row.marked
+
+-- a fork of these entries makes too many regions, or leaves too few objects for those that are marked
+abbrev pub makes_too_many : ChainTable → List Entry → Ids → Bool
+makes_too_many chains rows ids = nat_lt most_regions (ids.next_region + copies rows) || nat_lt most_objects (object_total ids + copies rows + new_marks (is_marked chains) rows)
+
+-- the code of a fork of a task with these entries
+abbrev pub fork_code : ChainTable → List Entry → Ids → Option Code
+fork_code chains rows ids = code_where (makes_too_many chains rows ids) TableFull None
+
+-- one copy of the region more is too much, with its mark and the one that the region may get
+abbrev pub is_copy_full : ChainTable → Ids → ℕ → Bool
+is_copy_full chains ids source =
+    nat_le most_regions ids.next_region || nat_lt most_objects (object_total ids + (if is_marked chains source then 1 else 2))
+
+-- the code of a copy from an entry, to a task with these entries, of a range whose numbers are right
+abbrev pub source_code : ChainTable → Ids → List Entry → ℕ → ℕ → ℕ → Option Entry → Option Code
+source_code chains ids rows address bytes to None = Some InvalidAddress
+source_code chains ids rows address bytes to (Some row) =
+    code_where (nat_lt (row.address + row.bytes) (address + bytes)) InvalidAddress
+    (code_where (not (allows need.Load row.prot)) ProtectionFailure
+    (code_where (meets_range to bytes rows) NoSpace
+    (code_where (nat_lt most_entries (length rows + 1) || is_copy_full chains ids row.region.0) TableFull None)))
+
+-- the code of a copy from a task with these entries to one with others
+abbrev pub copy_code : ℕ → ChainTable → Ids → List Entry → List Entry → ℕ → ℕ → ℕ → Option Code
+copy_code size chains ids own rows address bytes to =
+    code_where (not (is_range size address bytes && is_range size to bytes) || nat_lt most_pages (bytes / size)) InvalidArgument
+    (source_code chains ids rows address bytes to (entry_at address own))
 
 -- the code of a load or store of so many bytes, of a task with these entries
 abbrev pub access_code : List Entry → ℕ → ℕ → Access → Option Code
@@ -56,18 +95,20 @@ changing_code k (command.Protect task address bytes prot) = change_code k task.0
 changing_code k (command.Inherit task address bytes inherit) = change_code k task.0 (inheritance address bytes inherit)
 changing_code k other = None
 
--- the code of a command, where there are so many regions
-abbrev pub code_of : Parts → ℕ → Command → Option Code
-code_of k count (command.Fork task child) = acting_in k task.0 (fork_code (rows_in task.0 k.maps) count)
-code_of k count (command.Exit task) = acting_in k task.0 None
-code_of k count (command.Allocate task address bytes) = acting_in k task.0 (range_code k.size (rows_in task.0 k.maps) count address bytes)
-code_of k count (command.Load task address size) = acting_in k task.0 (access_code (rows_in task.0 k.maps) address size need.Load)
-code_of k count (command.Store task address size value) = acting_in k task.0 (access_code (rows_in task.0 k.maps) address size need.Store)
-code_of k count (command.Wire host frames) = code_where (nat_lt (free k.memory.frames) frames) ResourceShortage None
-code_of k count (command.Unwire host frames) = code_where (nat_lt k.memory.frames.wired frames) InvalidArgument None
-code_of k count other = changing_code k other
+-- the code of a command
+abbrev pub code_of : Parts → Ids → Command → Option Code
+code_of k ids (command.Fork task child) = acting_in k task.0 (fork_code k.chains (rows_in task.0 k.maps) ids)
+code_of k ids (command.Exit task) = acting_in k task.0 None
+code_of k ids (command.Allocate task address bytes) = acting_in k task.0 (range_code k.size (rows_in task.0 k.maps) ids address bytes)
+code_of k ids (command.Load task address size) = acting_in k task.0 (access_code (rows_in task.0 k.maps) address size need.Load)
+code_of k ids (command.Store task address size value) = acting_in k task.0 (access_code (rows_in task.0 k.maps) address size need.Store)
+code_of k ids (command.Copy task address bytes target to) =
+    acting_in k task.0 (acting_in k target.0 (copy_code k.maps.size k.chains ids (rows_in task.0 k.maps) (rows_in target.0 k.maps) address bytes to))
+code_of k ids (command.Wire host frames) = code_where (nat_lt (free k.memory.frames) frames) ResourceShortage None
+code_of k ids (command.Unwire host frames) = code_where (nat_lt k.memory.frames.wired frames) InvalidArgument None
+code_of k ids other = changing_code k other
 
--- The task of the command is in the maps, and an access is of some bytes.
+-- The tasks of the command are in the maps, and an access is of some bytes.
 abbrev pub IsForHere : Mapped → Command → Type 0
 IsForHere maps (command.Fork task child) = IsSome (entries_in task.0 maps)
 IsForHere maps (command.Allocate task address bytes) = IsSome (entries_in task.0 maps)
@@ -76,4 +117,5 @@ IsForHere maps (command.Protect task address bytes prot) = IsSome (entries_in ta
 IsForHere maps (command.Inherit task address bytes inherit) = IsSome (entries_in task.0 maps)
 IsForHere maps (command.Load task address size) = IsSome (entries_in task.0 maps) × (0 < size)
 IsForHere maps (command.Store task address size value) = IsSome (entries_in task.0 maps) × (0 < size)
+IsForHere maps (command.Copy task address bytes target to) = IsSome (entries_in task.0 maps) × IsSome (entries_in target.0 maps)
 IsForHere maps other = Unit {0}

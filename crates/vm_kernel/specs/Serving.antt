@@ -1,19 +1,26 @@
 -- Accesses are run, and the frame queue is served.
-use Rattle.std.specs.Prelude.{ℕ, ◌+◌, ◌-◌, ◌<◌, ◌≡◌, ◌⊎◌, Bool, true, false, List, ◌++◌, Some}
+use Rattle.std.specs.Prelude.{ℕ, ◌+◌, ◌-◌, ◌<◌, ◌≡◌, ◌⊎◌, ◌||◌, Bool, true, false, List, ◌++◌, Option, Some, None}
+use Rattle.vm_base.specs.declared.ids.FrameNo.{FrameNo}
+use Rattle.vm_base.specs.declared.ids.PageKey.{PageKey}
+use Rattle.vm_queues.specs.Queues.{is_skipped}
 use Rattle.vm_frames.specs.Frames.{claimed, free}
 use Rattle.vm_model.specs.declared.event.Event.{Event}
 use Rattle.vm_model.specs.declared.script.Header.{Header}
 use Rattle.vm_legal.specs.Accesses.{FindsPage, Wants}
 use Rattle.vm_legal.specs.Follows.{EndsNext}
 use Rattle.vm_legal.specs.Frames.{frames_free, returns_out}
-use Rattle.vm_legal.specs.Prompt.{HostIsFull}
+use Rattle.vm_legal.specs.Prompt.{HostIsFull, IsSource}
 use Rattle.vm_legal.specs.Steps.{departures}
 use Rattle.vm_pageout.specs.declared.answer.Reclaim.{Reclaim}
 use Rattle.vm_pageout.specs.declared.answer.Reclaim.TheVariants as reclaim
-use Rattle.vm_resident.specs.Resident.{row_at}
+use Rattle.vm_resident.specs.Resident.{page_key, row_at}
 use Rattle.vm_resident.specs.declared.page_row.PageRow.{PageRow}
-use Rattle.vm_waits.specs.Waits.{count_again, entry, is_again, one_again, one_frame, queued}
+use Rattle.vm_waits.specs.Waits.{count_again, entry, is_again, is_frame, one_again, one_frame, queued}
+use Rattle.vm_waits.specs.declared.waiting.On.{On}
 use Rattle.vm_waits.specs.declared.waiting.Waiting.{Waiting}
+use Rattle.vm_kernel.specs.Turns.{IsFront}
+use Rattle.vm_kernel.specs.declared.attempt.Attempt.{Attempt}
+use Rattle.vm_kernel.specs.declared.attempt.Attempt.TheVariants as attempt
 use Rattle.vm_kernel.specs.declared.parts.Parts.{Parts}
 
 -- an access was run: it has ended, or waits for something else than a frame
@@ -22,28 +29,53 @@ pub record LeavesFrameQueue (was : Waiting) (old new : Parts) : Type 0 where
   pub queued : queued new.waits.rows + one_frame was.on ≡ queued old.waits.rows
   pub laundry : new.laundry ≡ old.laundry
 
--- an access wants a frame, and stands in the queue
-pub record JoinsQueue (header : Header) (h : ℕ) (was : Waiting) (may_claim : Bool) (old new : Parts) (before after : List Event) : Type 0 where
-  pub same : after ≡ before
+-- the page is here
+abbrev pub IsHere : Parts → PageKey → Type 0
+IsHere k key = (row : PageRow) × (row_at k.memory.resident key.object.0 key.page.0 ≡ Some row) × (row.here ≡ true)
+
+-- the page that an access is to copy that waits for a frame: it is here, and is where the walk of one that wants a frame ends
+abbrev pub IsToCopy : Header → ℕ → Parts → Option PageKey → List Event → Type 0
+IsToCopy header h k None past = Unit {0}
+IsToCopy header h k (Some key) past = IsSource header h key.object.0 key.page.0 past × IsHere k key
+
+-- an access wants a frame, and stands in the queue; its region may have got an object of its own
+pub record JoinsQueue (header : Header) (h : ℕ) (was : Waiting) (may_claim : Bool) (source : Option PageKey) (old new : Parts) (before after : List Event) : Type 0 where
+  pub front : List Event
+  pub prepared : IsFront front
+  pub same : after ≡ front ++ before
   pub wants : Wants header h after
   pub mine : wants.task ≡ was.task.0
+  pub to_copy : IsToCopy header h new source after
   pub none : may_claim ≡ true → free new.memory.frames ≡ 0
   pub again : count_again new.waits.rows + one_again was.on ≡ count_again old.waits.rows
   pub queued : queued new.waits.rows ≡ queued old.waits.rows + (1 - one_frame was.on)
   pub claimed : claimed new.memory.frames ≡ claimed old.memory.frames
   pub laundry : new.laundry ≡ old.laundry
 
--- an access was run, and it needs a frame or not
-abbrev pub Attempts : Header → ℕ → Waiting → Bool → Bool → Parts → Parts → List Event → List Event → Type 0
-Attempts header h was may_claim true old new before after = JoinsQueue header h was may_claim old new before after
-Attempts header h was may_claim false old new before after = LeavesFrameQueue was old new
+-- an access was run, and it wants a frame or not
+abbrev pub Attempts : Header → ℕ → Waiting → Bool → Attempt → Parts → Parts → List Event → List Event → Type 0
+Attempts header h was may_claim (attempt.Wants source) old new before after = JoinsQueue header h was may_claim source old new before after
+Attempts header h was may_claim attempt.Ran old new before after = LeavesFrameQueue was old new
 
--- some page was reclaimed, and is dropped or on its way
-pub record FreesOrReturns (h : ℕ) (answer : Reclaim) (old new : Parts) (before after : List Event) : Type 0 where
+abbrev pub wants_frame : Attempt → Bool
+wants_frame (attempt.Wants source) = true
+wants_frame attempt.Ran = false
+
+-- some page was reclaimed, and is dropped or on its way; or each page that is here is one of those that are spared
+pub record FreesWhere (h : ℕ) (Spares : ℕ → ℕ → PageRow → Type 0) (answer : Reclaim) (old new : Parts) (before after : List Event) : Type 0 where
   pub waits : new.waits ≡ old.waits
   pub freed : answer ≡ reclaim.Freed → (claimed old.memory.frames ≡ claimed new.memory.frames + 1) × (departures h after ≡ departures h before + 1)
   pub returned : answer ≡ reclaim.Returned → (claimed new.memory.frames ≡ claimed old.memory.frames) × (departures h after ≡ departures h before + 1) × (free new.memory.frames ≡ free old.memory.frames) × (0 < returns_out h after)
-  pub nothing : answer ≡ reclaim.Nothing → (after ≡ before) × ((o p : ℕ) (row : PageRow) → row_at new.memory.resident o p ≡ Some row → row.here ≡ false) × (free new.memory.frames ≡ free old.memory.frames)
+  pub nothing : answer ≡ reclaim.Nothing → (after ≡ before) × ((o p : ℕ) (row : PageRow) → row_at new.memory.resident o p ≡ Some row → row.here ≡ true → Spares o p row) × (free new.memory.frames ≡ free old.memory.frames)
+  pub kept : (o p : ℕ) (row : PageRow) → row_at old.memory.resident o p ≡ Some row → row.here ≡ true → Spares o p row → row_at new.memory.resident o p ≡ Some row
+
+-- those whose frames are skipped are spared
+abbrev pub FreesBut : ℕ → List FrameNo → Reclaim → Parts → Parts → List Event → List Event → Type 0
+FreesBut h skip answer old new before after = FreesWhere h (λ o p row. is_skipped skip row.frame.0 ≡ true) answer old new before after
+
+-- one page is spared
+abbrev pub FreesOrReturns : ℕ → Option PageKey → Reclaim → Parts → Parts → List Event → List Event → Type 0
+FreesOrReturns h spared answer old new before after = FreesWhere h (λ o p row. spared ≡ Some (page_key o p)) answer old new before after
 
 -- the frame queue is empty, or can't go on
 abbrev pub QueueIsServed : Header → ℕ → Parts → List Event → Type 0
@@ -61,3 +93,7 @@ RunsFirst header rows past before after = (task : ℕ) → IsNextAccess task row
 -- somebody stands in the frame queue only while no frame is free
 abbrev pub HasQueue : Header → ℕ → Parts → List Event → Type 0
 HasQueue header h k past = (queued k.waits.rows ≡ 0) ⊎ (frames_free header h past ≡ 0)
+
+-- an access is run that is to be run again, or that wants a frame
+abbrev pub runs_now : On → Bool
+runs_now reason = is_again reason || is_frame reason

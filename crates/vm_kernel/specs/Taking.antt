@@ -15,7 +15,7 @@ use Rattle.vm_supply.specs.declared.woken.Woken.TheVariants as woken
 use Rattle.vm_waits.specs.Waits.{entry}
 use Rattle.vm_waits.specs.declared.waiting.On.TheVariants as on
 use Rattle.vm_waits.specs.declared.waiting.Waiting.{Waiting}
-use Rattle.vm_kernel.specs.Waiters.{Asker, is_woken}
+use Rattle.vm_state.specs.Waiters.{Asker, is_woken}
 
 -- what the default pager may say, where a page has so many bytes
 abbrev pub IsTempAnswer : ℕ → Message → Type 0

@@ -2,7 +2,9 @@
 -- leave, and while somebody queues they alone claim frames.
 use Rattle.std.specs.Prelude.{◌≡◌, ◌≢◌, ◌⊎◌, ◌<◌, ◌≤◌, ℕ, suc, Bool, true, false, List, [], ◌∷◌, ◌++◌, reverse, Some, if◌then◌else◌}
 use Rattle.vm_base.specs.declared.ids.HostId.{HostId}
+use Rattle.vm_base.specs.declared.ids.ObjectId.{ObjectId}
 use Rattle.vm_base.specs.declared.ids.PageKey.{PageKey}
+use Rattle.vm_base.specs.declared.ids.RegionId.{RegionId}
 use Rattle.vm_base.specs.declared.ids.TaskId.{TaskId}
 use Rattle.vm_legal.specs.Accesses.{Wants, begun_at}
 use Rattle.vm_legal.specs.Follows.{IsEnd}
@@ -18,7 +20,7 @@ use Rattle.vm_waits.specs.Kept.{EachListedOnce}
 use Rattle.vm_waits.specs.Waits.{WaitTable, entry, is_again, is_frame, is_listed, queue_without}
 use Rattle.vm_waits.specs.declared.waiting.On.TheVariants as on
 use Rattle.vm_waits.specs.declared.waiting.Waiting.{Waiting}
-use Rattle.vm_kernel.specs.Waiters.{access_in}
+use Rattle.vm_state.specs.Waiters.{access_in}
 
 -- the event is of no access that was run: none loads or stores, no page comes as zeros or from a region below, and none is asked for
 abbrev pub RunsNone : Event → Type 0
@@ -65,24 +67,33 @@ RunsNone (event.DeviceFailed who way object page) = Unit {0}
 RunsNone (event.NoSlot object page) = Unit {0}
 RunsNone (event.Wired host count) = Unit {0}
 
--- what a task's access did when it was run, and whether it claimed a frame: nothing; it found its page and ended; it claimed one for a page of zeros, with which it
--- ended; or it claimed one for a page that it asked for, on which it waits now, and none of those that were run earlier
+-- what stands first where an access is run: nothing, or a shadow for the region of a store
+pub data IsFront : List Event → Type 0 where
+  Bare : IsFront []
+  Shadow : (region : RegionId) → (new old : ObjectId) → IsFront (event.Shadowed region new old ∷ [])
+
+-- what a task's access did when it was run, and whether it claimed a frame: no more than make a shadow; it found its page and ended; it claimed one for a page of
+-- zeros, or for a copy of its page, with which it ended; or it claimed one for a page that it asked for, on which it waits now, and none of those that were run
+-- earlier
 pub data Did (rows : List Waiting) (earlier : ℕ → Type 0) (task : TaskId) : Bool → List Event → Type 0 where
-  Nothing : Did rows earlier task false []
-  Found : (end : Event) → IsEnd task.0 end → Did rows earlier task false (end ∷ [])
-  ForZeros : (end : Event) → (host : HostId) → (key : PageKey) → IsEnd task.0 end → Did rows earlier task true (end ∷ event.Zeroed host key.object key.page ∷ [])
-  ForAsked : (host : HostId) → (key : PageKey) → (control : ℕ) → (row : Waiting) → entry rows task.0 ≡ Some row → row.on ≡ on.Page key
+  Nothing : (front : List Event) → IsFront front → Did rows earlier task false front
+  Found : (front : List Event) → IsFront front → (end : Event) → IsEnd task.0 end → Did rows earlier task false (end ∷ front)
+  ForZeros : (front : List Event) → IsFront front → (end : Event) → (host : HostId) → (key : PageKey) → IsEnd task.0 end
+      → Did rows earlier task true (end ∷ event.Zeroed host key.object key.page ∷ front)
+  ForCopy : (front : List Event) → IsFront front → (end : Event) → (host : HostId) → (lower upper : PageKey) → IsEnd task.0 end
+      → Did rows earlier task true (end ∷ event.Raised host lower.object lower.page upper.object upper.page ∷ front)
+  ForAsked : (front : List Event) → IsFront front → (host : HostId) → (key : PageKey) → (control steps : ℕ) → (row : Waiting) → entry rows task.0 ≡ Some row → row.on ≡ on.Page key
       → ((t : ℕ) (w : Waiting) → earlier t → entry rows t ≡ Some w → w.on ≢ on.Page key)
-      → Did rows earlier task true (event.Sent (Up host key.object) (message.Request control key.page (desired_access (access_in row.want) 0)) ∷ [])
+      → Did rows earlier task true (event.Sent (Up host key.object) (message.Request control key.page (desired_access (access_in row.want) steps)) ∷ front)
 
 -- Some accesses were run again, each once, in the order in which they began: from when on the next one began, the queue, and the events, which have the newest first.
 pub data Restarts (header : Header) (h : ℕ) (rows : List Waiting) (past : List Event) (old : List TaskId) : ℕ → List TaskId → List Event → Type 0 where
   -- none was run yet
   Start : (events : List Event) → EachOf RunsNone events → Restarts header h rows past old 0 old events
   -- one wants a frame while somebody queues or none is free: it joins the back
-  Joins : (task : TaskId) (from : ℕ) (queue : List TaskId) (events : List Event) → Restarts header h rows past old from queue events → from ≤ begun_at task.0 (events ++ past)
-      → (wants : Wants header h (events ++ past)) → wants.task ≡ task.0 → (queue ≢ []) ⊎ (frames_free header h (events ++ past) ≡ 0)
-      → Restarts header h rows past old (suc (begun_at task.0 (events ++ past))) (queue ++ task ∷ []) events
+  Joins : (task : TaskId) (from : ℕ) (queue : List TaskId) (front events : List Event) → Restarts header h rows past old from queue events → from ≤ begun_at task.0 (events ++ past) → IsFront front
+      → (wants : Wants header h ((front ++ events) ++ past)) → wants.task ≡ task.0 → (queue ≢ []) ⊎ (frames_free header h ((front ++ events) ++ past) ≡ 0)
+      → Restarts header h rows past old (suc (begun_at task.0 (events ++ past))) (queue ++ task ∷ []) (front ++ events)
   -- one doesn't join, and claims a frame only where nobody queues
   Goes : (task : TaskId) (from : ℕ) (queue : List TaskId) (claims : Bool) (own events : List Event) → Restarts header h rows past old from queue events → from ≤ begun_at task.0 (events ++ past)
       → Did rows (λ t. begun_at t (events ++ past) < begun_at task.0 (events ++ past)) task claims own → (claims ≡ true → queue ≡ [])
@@ -121,14 +132,15 @@ abbrev pub QueueAfter : Waiting → Bool → List TaskId → List TaskId → Typ
 QueueAfter was true old new = new ≡ (if is_frame was.on then old else old ++ was.task ∷ [])
 QueueAfter was false old new = new ≡ queue_without was.task.0 old
 
--- an access was run once: it claims no frame where it may not; if it wants one still, nothing has happened; it is not to be run again; and only its own row has changed
+-- an access was run once: it claims no frame where it may not; if it wants one still, no more than a shadow was made; it is not to be run again; and only its own row
+-- has changed
 pub record RunsOnce (was : Waiting) (may_claim wants : Bool) (old new : WaitTable) (before after : List Event) : Type 0 where
   pub more : List Event
   pub told : after ≡ more ++ before
   pub claims : Bool
   pub did : Did new.rows (λ t. t ≢ was.task.0) was.task claims more
   pub none : may_claim ≡ false → claims ≡ false
-  pub nothing : wants ≡ true → more ≡ []
+  pub nothing : wants ≡ true → IsFront more
   pub done : (w : Waiting) → entry new.rows was.task.0 ≡ Some w → is_again w.on ≡ false
   pub rest : (t : ℕ) → t ≢ was.task.0 → entry new.rows t ≡ entry old.rows t
   pub queue : QueueAfter was wants old.queue new.queue

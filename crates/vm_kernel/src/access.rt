@@ -14,7 +14,7 @@ use vm_waits::Want;
 impl Parts {
     pub fn load(
         &mut self,
-        ids: &Ids,
+        ids: &mut Ids,
         task: TaskId,
         address: u64,
         size: u32,
@@ -22,8 +22,8 @@ impl Parts {
     ) -> Result<(), NoMemory>
         ghost given: { Doing }
         requires is { given.command ≡ command.Load task address size }
-        requires starts { Starts given.header given.host given.command given.past self.old ids.now log.old.items }
-        ensures ran { OnOk result (Ran given.header given.host given.outside given.command given.past self.new ids.now log.new.items) }
+        requires starts { Starts given.header given.host given.command given.past self.old ids.old log.old.items }
+        ensures ran { OnOk result (Ran given.header given.host given.outside given.command given.past self.new ids.new log.new.items) }
         ensures plays { OnOk result (Plays given.header given.past log.old.items (paging self.old) log.new.items (paging self.new)) }
         ensures restarts { OnOk result (Restarted given.header given.host self.new.waits.rows given.past self.old.waits.queue self.new.waits.queue log.new.items) }
     {
@@ -39,7 +39,7 @@ impl Parts {
 
     pub fn store(
         &mut self,
-        ids: &Ids,
+        ids: &mut Ids,
         task: TaskId,
         address: u64,
         size: u32,
@@ -48,8 +48,8 @@ impl Parts {
     ) -> Result<(), NoMemory>
         ghost given: { Doing }
         requires is { given.command ≡ command.Store task address size value }
-        requires starts { Starts given.header given.host given.command given.past self.old ids.now log.old.items }
-        ensures ran { OnOk result (Ran given.header given.host given.outside given.command given.past self.new ids.now log.new.items) }
+        requires starts { Starts given.header given.host given.command given.past self.old ids.old log.old.items }
+        ensures ran { OnOk result (Ran given.header given.host given.outside given.command given.past self.new ids.new log.new.items) }
         ensures plays { OnOk result (Plays given.header given.past log.old.items (paging self.old) log.new.items (paging self.new)) }
         ensures restarts { OnOk result (Restarted given.header given.host self.new.waits.rows given.past self.old.waits.queue self.new.waits.queue log.new.items) }
     {

@@ -18,7 +18,7 @@ use vm_model::{Event, Events};
 use vm_shadow::{Ids, RegionRow};
 
 // An entry on the whole of a region: readable, writable, and copied by a fork.
-fn whole_entry(address: u64, bytes: u64, region: RegionId) -> Entry
+pub fn whole_entry(address: u64, bytes: u64, region: RegionId) -> Entry
     ensures { result ≡ whole_entry address bytes region }
 {
     Entry {

@@ -1,9 +1,11 @@
 // What a fork makes of a task's entries.
 ghost use Rattle.std.specs.Prelude.{◌≡◌, ◌≤◌, ◌==◌, ◌&&◌, drop, length, not};
 ghost use Rattle.vm_base.specs.Entries.{by_address};
-ghost use Rattle.vm_model.specs.Tasks.{copies, copies_from, is_copied, sources};
+ghost use Rattle.vm_model.specs.Tasks.{copies, copies_from, is_copied, new_marks};
+ghost use Rattle.vm_kernel.specs.Refusing.{is_marked};
 
 use vm_base::{Entries, Entry, Inherit, RegionId};
+use vm_shadow::Chains;
 
 fn is_copied(inherit: Inherit) -> bool
     ensures { result ≡ is_copied inherit }
@@ -28,25 +30,38 @@ pub fn copies(entries: &Entries) -> u32
     count
 }
 
-// How many regions a fork copies from.
-pub fn sources(entries: &Entries) -> u32
-    ensures count { result ≡ sources (by_address entries.now) }
+// How many regions a fork marks that had no mark.
+pub fn new_marks(entries: &Entries, chains: &Chains) -> u32
+    ensures count { result ≡ new_marks (is_marked chains.now) (by_address entries.now) }
     ensures few { result ≤ length entries.now.items }
 {
     let mut count = 0;
     'all: for i in 0..entries.len() {
-        if is_source(*entries.at(i), entries, i + 1) {
+        if is_newly_marked(*entries.at(i), entries, i + 1, chains) {
             count += 1;
         }
     }
     count
 }
 
-// Whether a fork copies an entry, and none on its region of the entries from a place on.
-fn is_source(entry: Entry, entries: &Entries, from: u32) -> bool
-    ensures { result ≡ (is_copied entry.inherit && not (copies_from entry.region.0 (drop from (by_address entries.now)))) }
+// Whether a fork copies an entry on a region without a mark, and none on its region of the entries
+// from a place on.
+fn is_newly_marked(entry: Entry, entries: &Entries, from: u32, chains: &Chains) -> bool
+    ensures { result ≡ (is_copied entry.inherit && (not (copies_from entry.region.0 (drop from (by_address entries.now))) && not (is_marked chains.now entry.region.0))) }
 {
-    is_copied(entry.inherit) && !copies_from(entries, from, entry.region)
+    is_copied(entry.inherit)
+        && !is_marked(chains, entry.region)
+        && !copies_from(entries, from, entry.region)
+}
+
+// Whether a region has the copy mark.
+pub fn is_marked(chains: &Chains, region: RegionId) -> bool
+    ensures { result ≡ is_marked chains.now region.0 }
+{
+    match chains.region(region) {
+        Some(row) => row.marked,
+        None => false,
+    }
 }
 
 // Whether a fork copies an entry on the region.

@@ -2,8 +2,8 @@
 ghost use Rattle.std.specs.Prelude.{◌≡◌, ◌+◌, ◌<◌, ◌≤◌, ◌^◌, ℕ, true, length};
 ghost use Rattle.vm_base.specs.Entries.{by_address};
 ghost use Rattle.vm_model.specs.Rows.{AllRows};
-ghost use Rattle.vm_kernel.specs.Counts.{count_on};
-ghost use Rattle.vm_kernel.specs.Places.{has_region, region_entries};
+ghost use Rattle.vm_state.specs.Counts.{count_on};
+ghost use Rattle.vm_state.specs.Places.{has_region, region_entries};
 ghost use Rattle.vm_kernel.specs.Sweeping.{Lowered, Raised, PutsEntries};
 
 use vm_base::{Entries, RegionId};

@@ -1,40 +1,37 @@
-// Forks, which share entries of a task with its child.
-ghost use Rattle.std.specs.Prelude.{◌≡◌, OnOk};
+// Forks and copies: a task gets entries on the regions of another, or on symmetric copies of them.
+ghost use Rattle.std.specs.Prelude.{◌≡◌, OnOk, Some};
+ghost use Rattle.vm_base.specs.declared.entry.Entry.{Entry as Row};
+ghost use Rattle.vm_base.specs.declared.ids.Access.TheVariants as need;
+ghost use Rattle.vm_base.specs.Entries.{entry_at};
+ghost use Rattle.vm_maps.specs.Judge.{IsAllowed, place_at};
+ghost use Rattle.vm_maps.specs.Maps.{rows_in};
 ghost use Rattle.vm_model.specs.declared.command.Command.TheVariants as command;
-ghost use Rattle.vm_model.specs.Tasks.{is_shared};
 ghost use Rattle.vm_kernel.specs.Begun.{Ran, Given, Starts};
-ghost use Rattle.vm_kernel.specs.Forking.{CanShare, Shares};
+ghost use Rattle.vm_kernel.specs.Forking.{CanCopy, CanShare, EntersCopy, Shares};
 ghost use Rattle.vm_kernel.specs.Plays.{Plays, paging};
 ghost use Rattle.vm_kernel.specs.Turns.{QueueIsStill};
 
-use crate::building::{entered, entering};
+use crate::building::{entered, entering, whole_entry};
 use crate::counting::{count_of, set_count};
 use crate::parts::Parts;
-use vm_base::{Entry, Inherit, NoMemory, TaskId};
+use vm_base::{Access, Entry, Inherit, NoMemory, RegionId, TaskId};
+use vm_maps::Place;
 use vm_model::{Event, Events};
 use vm_shadow::Ids;
 
-fn is_shared(inherit: Inherit) -> bool
-    ensures { result ≡ is_shared inherit }
-{
-    match inherit {
-        Inherit::Share => true,
-        Inherit::Copy | Inherit::Never => false,
-    }
-}
-
 impl Parts {
-    // A child of the task is made, with those of its entries that are to be shared.
+    // A child of the task is made, with those of its entries that are to be shared, and one on a copy
+    // for each that is to be copied.
     pub fn fork(
         &mut self,
-        ids: &Ids,
+        ids: &mut Ids,
         task: TaskId,
         child: TaskId,
         log: &mut Events,
     ) -> Result<(), NoMemory>
         ghost given: { Given }
-        requires { Starts given.header given.host (command.Fork task child) given.past self.old ids.now log.old.items }
-        ensures ran { OnOk result (Ran given.header given.host given.outside (command.Fork task child) given.past self.new ids.now log.new.items) }
+        requires { Starts given.header given.host (command.Fork task child) given.past self.old ids.old log.old.items }
+        ensures ran { OnOk result (Ran given.header given.host given.outside (command.Fork task child) given.past self.new ids.new log.new.items) }
         ensures plays { OnOk result (Plays given.header given.past log.old.items (paging self.old) log.new.items (paging self.new)) }
         ensures quiet { OnOk result (QueueIsStill self.old.waits.queue self.new.waits.queue log.old.items log.new.items) }
     {
@@ -45,11 +42,48 @@ impl Parts {
         })?;
         'all: for i in 0..self.maps.entries(task).len() {
             let entry = *self.maps.entries(task).at(i);
-            if is_shared(entry.inherit) {
-                self.share(child, entry, log)?;
+            match entry.inherit {
+                Inherit::Share => self.share(child, entry, log)?,
+                Inherit::Copy => {
+                    self.enter_copy(ids, child, entry.region, entry.offset, entry, log)?
+                }
+                Inherit::Never => {}
             }
         }
         Ok(())
+    }
+
+    // A task gets a range on a copy of pages of another task's region.
+    pub fn copy(
+        &mut self,
+        ids: &mut Ids,
+        task: TaskId,
+        address: u64,
+        bytes: u64,
+        target: TaskId,
+        to: u64,
+        log: &mut Events,
+    ) -> Result<(), NoMemory>
+        ghost given: { Given }
+        requires { Starts given.header given.host (command.Copy task address bytes target to) given.past self.old ids.old log.old.items }
+        ensures ran { OnOk result (Ran given.header given.host given.outside (command.Copy task address bytes target to) given.past self.new ids.new log.new.items) }
+        ensures plays { OnOk result (Plays given.header given.past log.old.items (paging self.old) log.new.items (paging self.new)) }
+        ensures quiet { OnOk result (QueueIsStill self.old.waits.queue self.new.waits.queue log.old.items log.new.items) }
+    {
+        let place = self.place(task, address);
+        let range = whole_entry(to, bytes, place.region);
+        self.enter_copy(ids, target, place.region, place.page.0, range, log)
+    }
+
+    // Where an address of a task leads that it may read.
+    fn place(&self, task: TaskId, address: u64) -> Place
+        requires { IsAllowed self.now.maps task.0 address need.Load }
+        ensures { (entry : Row) → entry_at address (rows_in task.0 self.now.maps) ≡ Some entry → result ≡ place_at self.now.maps.size address entry }
+    {
+        let Ok(place) = self.maps.lookup(task, address, Access::Load) else {
+            unreachable!()
+        };
+        place
     }
 
     // Gives a task an entry of another.
@@ -61,5 +95,44 @@ impl Parts {
         let count = count_of(&self.chains, entry.region);
         set_count(&mut self.chains, entry.region, count + 1);
         log.push(entered(child, entry))
+    }
+
+    // Gives a task an entry for a range, on a symmetric copy of pages of a region.
+    fn enter_copy(
+        &mut self,
+        ids: &mut Ids,
+        task: TaskId,
+        source: RegionId,
+        offset: u32,
+        range: Entry,
+        log: &mut Events,
+    ) -> Result<(), NoMemory>
+        requires { CanCopy task.0 source offset range self.old ids.old }
+        ensures { OnOk result (EntersCopy task source offset range self.old self.new ids.old ids.new log.old.items log.new.items) }
+    {
+        let Some(row) = self.chains.region(source) else {
+            unreachable!()
+        };
+        // The copy lies within the object, whose pages a `u32` counts.
+        let Some(_top) = self.memory.objects.find(row.top) else {
+            unreachable!()
+        };
+        let pages = (range.bytes / u64::from(self.size.bytes())) as u32;
+        let copy = self.chains.symmetric(source, offset, pages, ids)?;
+        self.memory.objects.refer(row.top);
+        set_count(&mut self.chains, copy, 1);
+        let entry = Entry {
+            region: copy,
+            offset: 0,
+            ..range
+        };
+        self.maps.enter(task, &entering(entry))?;
+        log.push(Event::RegionCopied {
+            region: copy,
+            source,
+            offset,
+            pages,
+        })?;
+        log.push(entered(task, entry))
     }
 }

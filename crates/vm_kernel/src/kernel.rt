@@ -7,14 +7,14 @@ ghost use Rattle.vm_kernel.specs.Serving.{HasQueue};
 ghost use Rattle.vm_frames.specs.Frames.{free};
 ghost use Rattle.vm_objects.specs.Objects.{object_at};
 ghost use Rattle.vm_model.specs.Ranges.{InRange};
-ghost use Rattle.vm_model.specs.Tasks.{entries_of, host_of};
 ghost use Rattle.vm_legal.specs.Refusal.{refusal};
-ghost use Rattle.vm_kernel.specs.Begun.{Doing, Given, IsLaundered, Passed, Passing, Ran, Served, Starts, acts_on};
-ghost use Rattle.vm_kernel.specs.Built.{copies_entries, kernel_runs};
+ghost use Rattle.vm_kernel.specs.Begun.{Doing, Given, IsLaundered, Passed, Passing, Ran, Served, Starts, acts_on, targets_here};
+ghost use Rattle.vm_kernel.specs.Built.{kernel_runs};
 ghost use Rattle.vm_kernel.specs.Plays.{Plays, PlaysAnswer, paging};
 ghost use Rattle.vm_resident.specs.Resident.{row_at};
 ghost use Rattle.vm_supply.specs.Answers.{outcome_of};
-ghost use Rattle.vm_kernel.specs.Matches.{HasTasks, IsPlain, Rests, first_ids, host_id};
+ghost use Rattle.vm_state.specs.Stands.{HasTasks};
+ghost use Rattle.vm_kernel.specs.Matches.{IsPlain, Rests, first_ids, host_id};
 ghost use Rattle.vm_kernel.specs.Refusing.{takes_name};
 ghost use Rattle.vm_kernel.specs.Taking.{EndsAll, IsErrorPaid, IsTempAnswer};
 ghost use Rattle.vm_kernel.specs.Turns.{KeepsOthers, LeavesInTurn, Restarted};
@@ -79,8 +79,8 @@ impl Kernel {
     /// are served behind that.
     ///
     /// The commands are vm_allocate, vm_deallocate, vm_protect, vm_inherit, task_create and
-    /// task_terminate, loads and stores, and this profile's `pageout`, `wire` and `unwire`. Addresses
-    /// and lengths are in bytes.
+    /// task_terminate, vm_copy, loads and stores, and this profile's `pageout`, `wire` and `unwire`.
+    /// Addresses and lengths are in bytes.
     ///
     /// After `NoMemory` the kernel is used no more.
     pub fn begin(&mut self, command: &Command, ids: &mut Ids) -> Result<Events, NoMemory>
@@ -168,27 +168,18 @@ impl Kernel {
     }
 
     /// Why a command that acts on this host is refused now, if it is; the numbers that it gives to
-    /// tasks are free. It takes no memory.
+    /// tasks are free, and the task to which it copies lives here. It takes no memory.
     pub fn refusal(&self, command: &Command, ids: &Ids) -> Option<Code>
         ghost given: { Given }
         requires rests { Rests given.header given.host self.now ids.now given.past }
         requires acts { acts_on given.host command.now given.past ≡ true }
+        requires both { targets_here given.host command.now given.past ≡ true }
         requires range { InRange given.header command.now }
         requires built { kernel_runs command.now ≡ true }
         requires unnamed { takes_name command.now given.past ≡ false }
         ensures { result ≡ refusal given.header given.past command.now }
     {
         self.parts.refusal(command, ids)
-    }
-
-    /// Whether a command that acts on this host is a fork that would copy an entry of its task.
-    pub fn copies_entries(&self, command: &Command) -> bool
-        ghost given: { Given }
-        requires tasks { HasTasks given.host given.header.size self.now.maps (λ task. host_of task given.past) (λ task. entries_of given.header.size task given.past) }
-        requires acts { acts_on given.host command.now given.past ≡ true }
-        ensures { result ≡ copies_entries given.header given.past command.now }
-    {
-        self.parts.copies_entries(command)
     }
 
     /// The number of frames that are neither claimed nor wired.

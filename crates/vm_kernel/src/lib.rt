@@ -2,12 +2,12 @@
 #![tactic(auto)]
 
 mod access;
+mod attempt;
 mod building;
 mod changes;
 mod copying;
 mod counting;
 mod dropping;
-mod faults;
 mod forking;
 mod kernel;
 mod others;
@@ -15,7 +15,6 @@ mod parts;
 mod refusing;
 mod running;
 mod serving;
-mod steps;
 mod sweeping;
 mod taking;
 

@@ -1,39 +1,80 @@
 // Why a command is refused.
-ghost use Rattle.std.specs.Prelude.{◌≡◌, ◌<◌, true, IsSome, nat_lt, None};
+ghost use Rattle.std.specs.Prelude.{◌≡◌, ◌≤◌, ◌+◌, ◌<◌, ◌^◌, true, IsSome, nat_lt, not, None};
 ghost use Rattle.vm_base.specs.declared.code.Code.TheVariants as code;
-ghost use Rattle.vm_model.specs.Tasks.{entries_of, host_of};
+ghost use Rattle.vm_base.specs.Entries.{by_address, entry_at, is_range};
 ghost use Rattle.vm_legal.specs.Refusal.{code_where};
 ghost use Rattle.vm_frames.specs.Frames.{free};
 ghost use Rattle.vm_maps.specs.Maps.{entries_in, rows_in};
 ghost use Rattle.vm_kernel.specs.Begun.{Given, acts_on};
-ghost use Rattle.vm_kernel.specs.Built.{copies_entries};
-ghost use Rattle.vm_kernel.specs.Matches.{HasTasks};
-ghost use Rattle.vm_kernel.specs.Refusing.{IsForHere, access_code, acting_in, change_code, changing_code, code_of, fork_code, range_code};
+ghost use Rattle.vm_state.specs.Stands.{HasTasks};
+ghost use Rattle.vm_kernel.specs.Refusing.{IsForHere, access_code, acting_in, change_code, changing_code, code_of, copy_code, fork_code, is_copy_full, makes_too_many, object_total, range_code, source_code};
 
 use crate::changes::{enter, inheritance, protection, removal};
-use crate::copying::{copies, sources};
+use crate::copying::{copies, is_marked, new_marks};
 use crate::parts::Parts;
-use vm_base::limits::{MOST_PAGES, MOST_REGIONS};
-use vm_base::{Access, Code, TaskId};
+use vm_base::limits::{MOST_OBJECTS, MOST_PAGES, MOST_REGIONS};
+use vm_base::{Access, Code, Entries, Entry, RegionId, TaskId};
 use vm_maps::MapChange;
 use vm_model::Command;
-use vm_shadow::Ids;
+use vm_shadow::{Chains, Ids};
+
+// The objects that there are, and those that marked regions may still get.
+fn object_total(ids: &Ids) -> u64
+    ensures value { result ≡ object_total ids.now }
+    ensures few { result < 2 ^ 33 }
+{
+    u64::from(ids.next_object) + u64::from(ids.marks)
+}
+
+// Whether a symmetric copy of the region is one too many.
+fn is_copy_full(chains: &Chains, ids: &Ids, source: RegionId) -> bool
+    ensures { result ≡ is_copy_full chains.now ids.now source.0 }
+{
+    let marks = if is_marked(chains, source) { 1 } else { 2 };
+    ids.next_region >= MOST_REGIONS || object_total(ids) + marks > u64::from(MOST_OBJECTS)
+}
+
+// Whether a fork of these entries makes too many regions, or leaves too few objects for those that are
+// marked. No more sources are marked than entries are copied: which ones is looked up near the limit alone.
+#[tactic(auto, using(crate::proofs::Copied::marks_few))]
+fn makes_too_many(entries: &Entries, chains: &Chains, ids: &Ids) -> bool
+    ensures { result ≡ makes_too_many chains.now (by_address entries.now) ids.now }
+{
+    let copied = u64::from(copies(entries));
+    if u64::from(ids.next_region) + copied > u64::from(MOST_REGIONS) {
+        return true;
+    }
+    let objects = object_total(ids) + copied;
+    if objects + copied <= u64::from(MOST_OBJECTS) {
+        return false;
+    }
+    objects + u64::from(new_marks(entries, chains)) > u64::from(MOST_OBJECTS)
+}
+
+// Whether so many bytes from an address of the entry on end behind it.
+fn ends_behind(entry: Entry, address: u64, bytes: u64) -> bool
+    requires from { entry.address ≤ address }
+    requires to { address < entry.address + entry.bytes }
+    ensures { result ≡ nat_lt (entry.address + entry.bytes) (address + bytes) }
+{
+    bytes > entry.bytes - (address - entry.address)
+}
 
 impl Parts {
     // Why the command is refused now, if it is.
     pub fn refusal(&self, command: &Command, ids: &Ids) -> Option<Code>
         requires sized { self.now.maps.size ≡ self.now.size }
         requires here { IsForHere self.now.maps command.now }
-        ensures { result ≡ code_of self.now ids.now.next_region command.now }
+        ensures { result ≡ code_of self.now ids.now command.now }
     {
         match command {
-            Command::Fork { task, .. } => self.fork_refusal(*task, ids.next_region),
+            Command::Fork { task, .. } => self.fork_refusal(*task, ids),
             Command::Exit { task } => self.acting_refusal(*task),
             Command::Allocate {
                 task,
                 address,
                 bytes,
-            } => self.allocate_refusal(*task, *address, *bytes, ids.next_region),
+            } => self.allocate_refusal(*task, *address, *bytes, ids),
             Command::Load {
                 task,
                 address,
@@ -45,22 +86,16 @@ impl Parts {
                 size,
                 ..
             } => self.access_refusal(*task, *address, *size, Access::Store),
+            Command::Copy {
+                task,
+                address,
+                bytes,
+                target,
+                to,
+            } => self.copy_refusal(*task, *address, *bytes, *target, *to, ids),
             Command::Wire { count, .. } => self.wire_refusal(*count),
             Command::Unwire { count, .. } => self.unwire_refusal(*count),
             _ => self.changing_refusal(command),
-        }
-    }
-
-    // Whether the command is a fork that would copy an entry of its task.
-    pub fn copies_entries(&self, command: &Command) -> bool
-        ghost given: { Given }
-        requires tasks { HasTasks given.host given.header.size self.now.maps (λ task. host_of task given.past) (λ task. entries_of given.header.size task given.past) }
-        requires acts { acts_on given.host command.now given.past ≡ true }
-        ensures { result ≡ copies_entries given.header given.past command.now }
-    {
-        match command {
-            Command::Fork { task, .. } => copies(self.maps.entries(*task)) != 0,
-            _ => false,
         }
     }
 
@@ -101,10 +136,10 @@ impl Parts {
         }
     }
 
-    fn allocate_refusal(&self, task: TaskId, address: u64, bytes: u64, regions: u32) -> Option<Code>
+    fn allocate_refusal(&self, task: TaskId, address: u64, bytes: u64, ids: &Ids) -> Option<Code>
         requires sized { self.now.maps.size ≡ self.now.size }
         requires here { IsSome (entries_in task.0 self.now.maps) }
-        ensures { result ≡ acting_in self.now task.0 (range_code self.now.size (rows_in task.0 self.now.maps) regions address bytes) }
+        ensures { result ≡ acting_in self.now task.0 (range_code self.now.size (rows_in task.0 self.now.maps) ids.now address bytes) }
     {
         if let Some(code) = self.acting_refusal(task) {
             return Some(code);
@@ -115,7 +150,7 @@ impl Parts {
         if let Some(code) = self.maps.judge(task, &enter(address, bytes)) {
             return Some(code);
         }
-        if regions >= MOST_REGIONS {
+        if ids.next_region >= MOST_REGIONS || object_total(ids) >= u64::from(MOST_OBJECTS) {
             return Some(Code::TableFull);
         }
         None
@@ -145,16 +180,90 @@ impl Parts {
         self.maps.judge(task, change)
     }
 
-    fn fork_refusal(&self, task: TaskId, regions: u32) -> Option<Code>
+    fn fork_refusal(&self, task: TaskId, ids: &Ids) -> Option<Code>
         requires { IsSome (entries_in task.0 self.now.maps) }
-        ensures { result ≡ acting_in self.now task.0 (fork_code (rows_in task.0 self.now.maps) regions) }
+        ensures { result ≡ acting_in self.now task.0 (fork_code self.now.chains (rows_in task.0 self.now.maps) ids.now) }
     {
         if let Some(code) = self.acting_refusal(task) {
             return Some(code);
         }
-        let entries = self.maps.entries(task);
-        let more = copies(entries) + sources(entries);
-        if regions > MOST_REGIONS - more {
+        if makes_too_many(self.maps.entries(task), &self.chains, ids) {
+            return Some(Code::TableFull);
+        }
+        None
+    }
+
+    // The tests of a copy, in their order: both tasks can act, both ranges are ranges of whole pages
+    // and not too long, and one is to be had from the other.
+    fn copy_refusal(
+        &self,
+        task: TaskId,
+        address: u64,
+        bytes: u64,
+        target: TaskId,
+        to: u64,
+        ids: &Ids,
+    ) -> Option<Code>
+        requires sized { self.now.maps.size ≡ self.now.size }
+        requires here { IsSome (entries_in task.0 self.now.maps) }
+        requires there { IsSome (entries_in target.0 self.now.maps) }
+        ensures { result ≡ acting_in self.now task.0 (acting_in self.now target.0 (copy_code self.now.maps.size self.now.chains ids.now (rows_in task.0 self.now.maps) (rows_in target.0 self.now.maps) address bytes to)) }
+    {
+        if let Some(code) = self.acting_refusal(task) {
+            return Some(code);
+        }
+        if let Some(code) = self.acting_refusal(target) {
+            return Some(code);
+        }
+        if !self.is_range(task, address, bytes) || !self.is_range(target, to, bytes) {
+            return Some(Code::InvalidArgument);
+        }
+        if bytes / u64::from(self.size.bytes()) > u64::from(MOST_PAGES) {
+            return Some(Code::InvalidArgument);
+        }
+        self.source_refusal(task, address, bytes, target, to, ids)
+    }
+
+    // Whether the range is one of whole pages below the end of addresses, by the map of a task.
+    fn is_range(&self, task: TaskId, address: u64, bytes: u64) -> bool
+        requires { IsSome (entries_in task.0 self.now.maps) }
+        ensures { result ≡ is_range self.now.maps.size address bytes }
+    {
+        match self.maps.judge(task, &enter(address, bytes)) {
+            Some(Code::InvalidArgument) => false,
+            _ => true,
+        }
+    }
+
+    // The range is to be copied from an entry that can be read and that it doesn't leave, to a range
+    // that is free, as one entry and one region more.
+    fn source_refusal(
+        &self,
+        task: TaskId,
+        address: u64,
+        bytes: u64,
+        target: TaskId,
+        to: u64,
+        ids: &Ids,
+    ) -> Option<Code>
+        requires here { IsSome (entries_in task.0 self.now.maps) }
+        requires there { IsSome (entries_in target.0 self.now.maps) }
+        requires range { is_range self.now.maps.size to bytes ≡ true }
+        ensures { result ≡ source_code self.now.chains ids.now (rows_in target.0 self.now.maps) address bytes to (entry_at address (rows_in task.0 self.now.maps)) }
+    {
+        let Some(entry) = self.maps.entry(task, address) else {
+            return Some(Code::InvalidAddress);
+        };
+        if ends_behind(entry, address, bytes) {
+            return Some(Code::InvalidAddress);
+        }
+        if !entry.prot.read {
+            return Some(Code::ProtectionFailure);
+        }
+        if let Some(code) = self.maps.judge(target, &enter(to, bytes)) {
+            return Some(code);
+        }
+        if is_copy_full(&self.chains, ids, entry.region) {
             return Some(Code::TableFull);
         }
         None

@@ -28,6 +28,13 @@ impl Parts {
         match command {
             Command::Task { task, .. } => self.make_task(ids, *task, log),
             Command::Fork { task, child } => self.fork(ids, *task, *child, log),
+            Command::Copy {
+                task,
+                address,
+                bytes,
+                target,
+                to,
+            } => self.copy(ids, *task, *address, *bytes, *target, *to, log),
             Command::Exit { task } => self.exit(ids, *task, log),
             Command::Allocate { .. }
             | Command::Deallocate { .. }

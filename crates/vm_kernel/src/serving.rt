@@ -1,5 +1,5 @@
 // Accesses that wait are run again, and the frame queue is served.
-ghost use Rattle.std.specs.Prelude.{◌≡◌, ◌+◌, ◌++◌, true, false, IfOk, OnOk, Some};
+ghost use Rattle.std.specs.Prelude.{◌≡◌, ◌+◌, ◌++◌, true, false, IfOk, IfSome, OnOk, Some};
 ghost use Rattle.vm_frames.specs.Frames.{claimed, free};
 ghost use Rattle.vm_legal.specs.Accesses.{FindsPage, Wants};
 ghost use Rattle.vm_legal.specs.Follows.{EndsNext};
@@ -9,62 +9,77 @@ ghost use Rattle.vm_supply.specs.declared.woken.Woken.TheVariants as woken;
 ghost use Rattle.vm_waits.specs.Waits.{entry};
 ghost use Rattle.vm_kernel.specs.Begun.{Doing, LegalEvents};
 ghost use Rattle.vm_kernel.specs.Matches.{Rests, Works};
-ghost use Rattle.vm_kernel.specs.Serving.{Attempts, HasQueue, QueueIsServed, RunsFirst};
+ghost use Rattle.vm_kernel.specs.Serving.{Attempts, HasQueue, IsHere, IsToCopy, QueueIsServed, RunsFirst, runs_now, wants_frame};
 ghost use Rattle.vm_kernel.specs.Plays.{Plays, paging};
 ghost use Rattle.vm_kernel.specs.Taking.{EachGone};
 ghost use Rattle.vm_kernel.specs.Turns.{KeepsOthers, LeavesInTurn, Restarted, RunsNone, RunsOnce};
 
+use crate::attempt::Attempt;
 use crate::parts::Parts;
-use crate::steps::FaultStep;
-use vm_base::NoMemory;
+use vm_base::{NoMemory, PageKey};
+use vm_fault::{FaultStep, fault};
 use vm_model::Events;
 use vm_pageout::Reclaim;
 use vm_shadow::Ids;
 use vm_waits::{On, Waiting};
 
 impl Parts {
-    // Runs an access once; true where it wants a frame and has none.
+    // Runs an access once.
     fn attempt(
         &mut self,
-        ids: &Ids,
+        ids: &mut Ids,
         waiting: Waiting,
         may_claim: bool,
         log: &mut Events,
-    ) -> Result<bool, NoMemory>
+    ) -> Result<Attempt, NoMemory>
         ghost given: { Doing }
-        requires works { Works given.header given.host self.old ids.now woken.Nobody (log.old.items ++ given.past) }
+        requires works { Works given.header given.host self.old ids.old woken.Nobody (log.old.items ++ given.past) }
         requires waits { entry self.old.waits.rows waiting.task.0 ≡ Some waiting }
-        ensures works { OnOk result (Works given.header given.host self.new ids.now woken.Nobody (log.new.items ++ given.past)) }
+        requires runs { runs_now waiting.on ≡ true }
+        ensures works { OnOk result (Works given.header given.host self.new ids.new woken.Nobody (log.new.items ++ given.past)) }
         ensures goes { OnOk result (LegalEvents given.header given.host given.outside given.command given.past log.old.items log.new.items) }
         ensures ends { OnOk result (FindsPage given.header waiting.task.0 (log.old.items ++ given.past) → EndsNext waiting.task.0 log.old.items log.new.items) }
-        ensures attempts { IfOk result (λ needs. Attempts given.header given.host waiting may_claim needs self.old self.new (log.old.items ++ given.past) (log.new.items ++ given.past)) }
+        ensures attempts { IfOk result (λ answer. Attempts given.header given.host waiting may_claim answer self.old self.new (log.old.items ++ given.past) (log.new.items ++ given.past)) }
         ensures plays { OnOk result (Plays given.header given.past log.old.items (paging self.old) log.new.items (paging self.new)) }
-        ensures once { IfOk result (λ wants. RunsOnce waiting may_claim wants self.old.waits self.new.waits log.old.items log.new.items) }
+        ensures once { IfOk result (λ answer. RunsOnce waiting may_claim (wants_frame answer) self.old.waits self.new.waits log.old.items log.new.items) }
     {
-        let on = match self.fault(waiting.task, waiting.want, may_claim, log)? {
-            FaultStep::Done => {
+        let step = fault(
+            self.host,
+            waiting.task,
+            waiting.want,
+            may_claim,
+            &mut self.memory,
+            &mut self.chains,
+            &self.maps,
+            ids,
+            log,
+        )?;
+        let on = match step {
+            FaultStep::Done { .. } => {
                 self.waits.remove(waiting.task);
-                return Ok(false);
+                return Ok(Attempt::Ran);
             }
-            FaultStep::NeedFrame => {
+            FaultStep::NeedFrame { source } => {
                 if waiting.on != On::Frame {
                     self.waits.join_queue(waiting.task);
                 }
-                return Ok(true);
+                return Ok(Attempt::Wants { source });
             }
             FaultStep::WaitReady { object } => On::Ready { object },
-            FaultStep::Ask { key } | FaultStep::WaitAnswer { key } => On::Page { key },
+            FaultStep::Ask { key } | FaultStep::Unlock { key } | FaultStep::WaitAnswer { key } => {
+                On::Page { key }
+            }
         };
         self.waits.set_on(waiting.task, on);
-        Ok(false)
+        Ok(Attempt::Ran)
     }
 
     /// Runs each access again that is to be, in the order in which they began.
     #[tactic(auto, using(crate::proofs::Playing::plays_still))]
-    pub fn restart(&mut self, ids: &Ids, log: &mut Events) -> Result<(), NoMemory>
+    pub fn restart(&mut self, ids: &mut Ids, log: &mut Events) -> Result<(), NoMemory>
         ghost given: { Doing }
-        requires works { Works given.header given.host self.old ids.now woken.Nobody (log.old.items ++ given.past) }
-        ensures rests { OnOk result (Rests given.header given.host self.new ids.now (log.new.items ++ given.past)) }
+        requires works { Works given.header given.host self.old ids.old woken.Nobody (log.old.items ++ given.past) }
+        ensures rests { OnOk result (Rests given.header given.host self.new ids.new (log.new.items ++ given.past)) }
         ensures goes { OnOk result (LegalEvents given.header given.host given.outside given.command given.past log.old.items log.new.items) }
         ensures first { OnOk result (RunsFirst given.header self.old.waits.rows given.past log.old.items log.new.items) }
         ensures plays { OnOk result (Plays given.header given.past log.old.items (paging self.old) log.new.items (paging self.new)) }
@@ -79,10 +94,10 @@ impl Parts {
 
     /// Serves the queue of accesses that want a frame, as far as it goes.
     #[tactic(auto, using(crate::proofs::Playing::plays_still))]
-    pub fn serve(&mut self, ids: &Ids, log: &mut Events) -> Result<(), NoMemory>
+    pub fn serve(&mut self, ids: &mut Ids, log: &mut Events) -> Result<(), NoMemory>
         ghost given: { Doing }
-        requires rests { Rests given.header given.host self.old ids.now (log.old.items ++ given.past) }
-        ensures rests { OnOk result (Rests given.header given.host self.new ids.now (log.new.items ++ given.past)) }
+        requires rests { Rests given.header given.host self.old ids.old (log.old.items ++ given.past) }
+        ensures rests { OnOk result (Rests given.header given.host self.new ids.new (log.new.items ++ given.past)) }
         ensures goes { OnOk result (LegalEvents given.header given.host given.outside given.command given.past log.old.items log.new.items) }
         ensures served { OnOk result (QueueIsServed given.header given.host self.new (log.new.items ++ given.past)) }
         ensures plays { OnOk result (Plays given.header given.past log.old.items (paging self.old) log.new.items (paging self.new)) }
@@ -90,20 +105,29 @@ impl Parts {
         ensures others { OnOk result (KeepsOthers self.old.waits.queue self.old.waits.rows self.new.waits.rows) }
     {
         'serve: while let Some(waiting) = self.waits.front() {
-            if self.attempt(ids, waiting, true, log)? && self.stops(ids, log)? {
-                return Ok(());
+            if let Attempt::Wants { source } = self.attempt(ids, waiting, true, log)? {
+                if self.stops(ids, source, log)? {
+                    return Ok(());
+                }
             }
         }
         Ok(())
     }
 
-    // The front wants a frame and none is free: a page is reclaimed, unless a return is on its way. True where the front has to wait.
+    // The front wants a frame and none is free: a page is reclaimed, but not the one that the front is
+    // to copy, unless a return is on its way. True where the front has to wait.
     #[tactic(auto, using(crate::proofs::Playing::plays_still))]
-    fn stops(&mut self, ids: &Ids, log: &mut Events) -> Result<bool, NoMemory>
+    fn stops(
+        &mut self,
+        ids: &Ids,
+        source: Option<PageKey>,
+        log: &mut Events,
+    ) -> Result<bool, NoMemory>
         ghost given: { Doing }
         requires rests { Rests given.header given.host self.old ids.now (log.old.items ++ given.past) }
         requires wants { Wants given.header given.host (log.old.items ++ given.past) }
         requires none { free self.old.memory.frames ≡ 0 }
+        requires source { IsToCopy given.header given.host self.old source (log.old.items ++ given.past) }
         ensures rests { OnOk result (Rests given.header given.host self.new ids.now (log.new.items ++ given.past)) }
         ensures goes { OnOk result (LegalEvents given.header given.host given.outside given.command given.past log.old.items log.new.items) }
         ensures waits { OnOk result (self.new.waits ≡ self.old.waits) }
@@ -111,21 +135,22 @@ impl Parts {
         ensures freed { IfOk result (λ stops. stops ≡ false → claimed self.old.memory.frames ≡ claimed self.new.memory.frames + 1) }
         ensures full { IfOk result (λ stops. stops ≡ true → HostIsFull given.header given.host (log.new.items ++ given.past)) }
         ensures plays { OnOk result (Plays given.header given.past log.old.items (paging self.old) log.new.items (paging self.new)) }
+        ensures spared { OnOk result (IfSome source (λ key. IsHere self.new key)) }
     {
         if !self.laundry.is_empty() {
             return Ok(true);
         }
-        match self.reclaim(ids, log)? {
+        match self.reclaim(ids, source, log)? {
             Reclaim::Freed => Ok(false),
             Reclaim::Returned | Reclaim::Nothing => Ok(true),
         }
     }
 
     /// Serves the frame queue at the end of a step that no command of this host began.
-    pub fn go_on(&mut self, ids: &Ids, log: &mut Events) -> Result<(), NoMemory>
+    pub fn go_on(&mut self, ids: &mut Ids, log: &mut Events) -> Result<(), NoMemory>
         ghost given: { Doing }
-        requires rests { Rests given.header given.host self.old ids.now (log.old.items ++ given.past) }
-        ensures rests { OnOk result (Rests given.header given.host self.new ids.now (log.new.items ++ given.past)) }
+        requires rests { Rests given.header given.host self.old ids.old (log.old.items ++ given.past) }
+        ensures rests { OnOk result (Rests given.header given.host self.new ids.new (log.new.items ++ given.past)) }
         ensures goes { OnOk result (LegalEvents given.header given.host given.outside given.command given.past log.old.items log.new.items) }
         ensures queue { OnOk result (HasQueue given.header given.host self.new (log.new.items ++ given.past)) }
         ensures prompt { OnOk result (PromptAt given.header given.host (log.new.items ++ given.past)) }

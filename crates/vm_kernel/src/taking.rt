@@ -106,18 +106,18 @@ impl Parts {
     // Whom an answer wakes is run again.
     pub fn take(
         &mut self,
-        ids: &Ids,
+        ids: &mut Ids,
         object: ObjectId,
         control: u32,
         message: &Message,
         log: &mut Events,
     ) -> Result<(), NoMemory>
         ghost given: { Passing }
-        requires rests { Rests given.header given.host self.old ids.now given.past }
+        requires rests { Rests given.header given.host self.old ids.old given.past }
         requires front { given.front ≡ event.Taken (Down (host_id given.host) object control) message.now ∷ [] }
         requires answer { IsTempAnswer self.old.size message.now }
         requires nothing { log.old.items ≡ [] }
-        ensures rests { OnOk result (Rests given.header given.host self.new ids.now (log.new.items ++ (given.front ++ given.past))) }
+        ensures rests { OnOk result (Rests given.header given.host self.new ids.new (log.new.items ++ (given.front ++ given.past))) }
         ensures goes { OnOk result (LegalEvents given.header given.host given.outside given.command (given.front ++ given.past) [] log.new.items) }
         ensures failed { OnOk result (IsErrorPaid given.header (log.new.items ++ (given.front ++ given.past))) }
         ensures plays { OnOk result (PlaysAnswer given.header (given.front ++ given.past) object (outcome_of (object_at self.old.memory.objects object.0) control (row_at self.old.memory.resident object.0) message.now) (paging self.old) log.new.items (paging self.new)) }

@@ -5,7 +5,7 @@ use Rattle.vm_kernel.proofs.kernel.Kernel.serve.Goals as goal
 
 pub returns-clause-served : goal.returns-clause-served
 returns-clause-served g c =
-    served_ok c.go_on.result g.given.header g.given.host g.given.outside g.given.command g.given.past c.args.log.now.items c.go_on.new.self c.args.ids.now c.go_on.new.log.items
+    served_ok c.go_on.result g.given.header g.given.host g.given.outside g.given.command g.given.past c.args.log.now.items c.go_on.new.self c.go_on.new.ids c.go_on.new.log.items
     c.go_on.ensures.rests c.go_on.ensures.goes c.go_on.ensures.queue c.go_on.ensures.prompt
 
 pub returns-clause-plays : goal.returns-clause-plays

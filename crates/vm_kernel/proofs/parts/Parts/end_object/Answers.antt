@@ -1,20 +1,17 @@
-use Rattle.vm_kernel.proofs.Common.{Some, Still, not-false, object_at, refl, sym, ◌∙◌, ◌≡◌}
-use Rattle.vm_kernel.proofs.Playing.{plays_told}
 use Rattle.vm_kernel.proofs.Growing.{on_ok}
-use Rattle.vm_kernel.proofs.Terminating.{sweeps_told}
+use Rattle.vm_kernel.proofs.Finishing.{can_finish, on_three, plays_finished, quiet_finished, sweeps_finished}
 use Rattle.vm_kernel.proofs.parts.Parts.end_object.Goals as goal
+
+pub finish-requires : goal.finish-requires
+finish-requires g c = can_finish g.given.header g.given.host g.given.outside g.given.command g.given.past c.args.self.now c.args.ids.now g.given.rest c.args.object.0 c.args.log.now.items c.requires c.stand_once.ensures
 
 pub returns-clause-sweeps : goal.returns-clause-sweeps
 returns-clause-sweeps g c =
-    let k = c.args.self.now in
-    let found : object_at k.memory.objects c.args.object.0 ≡ Some c.in-Some.row = sym c.find.ensures ∙ c.in-Some.is in
-    on_ok c.push.result _ _
-    (λ told. sweeps_told g.given.header g.given.host g.given.outside g.given.command g.given.past k c.args.ids.now g.given.rest c.args.object c.args.log.now.items c.push.new.self.items c.in-Some.row c.end_control.new.self c.requires found (not-false c.in-Some.row.live c.if-not-row.false)
-    (rw found at c.end_control.ensures.object) c.end_control.ensures.marks told)
-    c.push.ensures.ok
+    on_three c.finish.result _ _ _ _ (λ finished fit size. sweeps_finished g.given.header g.given.host g.given.outside g.given.command g.given.past c.args.self.now c.args.ids.now g.given.rest c.args.object c.args.log.now.items c.finish.new.log.items c.finish.new.parts c.finish.new.chains c.finish.new.laundry c.requires finished fit size)
+    c.finish.ensures.finished c.finish.ensures.fit c.finish.ensures.size
 
 pub returns-clause-plays : goal.returns-clause-plays
-returns-clause-plays g c = on_ok c.push.result _ _ (λ told. plays_told told refl) c.push.ensures.ok
+returns-clause-plays g c = on_ok c.finish.result _ _ (λ finished. plays_finished g.given.header g.given.host g.given.outside g.given.command g.given.past c.args.self.now c.args.ids.now g.given.rest c.args.object c.args.log.now.items c.finish.new.log.items c.finish.new.parts c.finish.new.chains c.finish.new.laundry c.requires finished) c.finish.ensures.finished
 
-pub returns-then-not-row-clause-plays : goal.returns-then-not-row-clause-plays
-returns-then-not-row-clause-plays g c = Still
+pub returns-clause-quiet : goal.returns-clause-quiet
+returns-clause-quiet g c = on_ok c.finish.result _ _ (λ finished. quiet_finished g.given.header g.given.host g.given.outside g.given.command g.given.past c.args.self.now c.args.ids.now g.given.rest c.args.object c.args.log.now.items c.finish.new.log.items c.finish.new.parts c.finish.new.chains c.finish.new.laundry c.requires finished) c.finish.ensures.finished

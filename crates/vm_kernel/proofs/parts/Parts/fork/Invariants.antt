@@ -1,4 +1,5 @@
-use Rattle.vm_kernel.proofs.Common.{HasForked, Plays, QueueIsStill, paging, rows_in}
+use Rattle.vm_kernel.proofs.Common.{Plays, QueueIsStill, paging, rows_in}
+use Rattle.vm_kernel.proofs.Shares.{HasForked}
 use Rattle.vm_kernel.proofs.parts.Parts.fork.Given as goal
 
 abbrev pub invariant-all : goal.invariant-all

@@ -6,7 +6,7 @@ use Rattle.vm_kernel.proofs.parts.Parts.go_on.Goals as goal
 
 pub returns-clause-prompt : goal.returns-clause-prompt
 returns-clause-prompt g c =
-    both_ok c.serve.result _ _ _ (prompt_of g.given.header g.given.host c.serve.new.self c.args.ids.now (c.serve.new.log.items ++ g.given.past)) c.serve.ensures.rests c.serve.ensures.served
+    both_ok c.serve.result _ _ _ (prompt_of g.given.header g.given.host c.serve.new.self c.serve.new.ids (c.serve.new.log.items ++ g.given.past)) c.serve.ensures.rests c.serve.ensures.served
 
 pub returns-clause-queue : goal.returns-clause-queue
 returns-clause-queue g c = on_ok c.serve.result _ _ (queue_of g.given.header g.given.host c.serve.new.self (c.serve.new.log.items ++ g.given.past)) c.serve.ensures.served

@@ -18,7 +18,7 @@ returns-clause-ran g c =
     let next =
     begun_next c.args.task (want.Load c.args.address c.args.size) c.reserve.new.self.rows c.begin.new.self.rows (ap count_again c.reserve.ensures.rows ∙ c.requires.1.rests.idle) c.begin.ensures.again c.begin.ensures.entry in
     three_ok c.restart.result _ _ _ _
-    (begun_ran g.given.header g.given.host g.given.outside g.given.command c.args.task (want.Load c.args.address c.args.size) g.given.past c.args.self.now c.restart.new.self c.args.ids.now c.args.log.now.items c.push.new.self.items c.restart.new.log.items
+    (begun_ran g.given.header g.given.host g.given.outside g.given.command c.args.task (want.Load c.args.address c.args.size) g.given.past c.args.self.now c.restart.new.self c.args.ids.now c.restart.new.ids c.args.log.now.items c.push.new.self.items c.restart.new.log.items
     c.begin.new.self.rows c.requires.0 c.requires.1 c.in_ok-push.ensures.ok next)
     c.restart.ensures.rests c.restart.ensures.goes c.restart.ensures.first
 

@@ -1,5 +1,6 @@
 use Rattle.vm_kernel.proofs.Common.{Still, arith, subst, ℕ, ◌≡◌}
-use Rattle.vm_kernel.proofs.Pageout.{Reclaiming, paged_out, ran_out, reclaiming_more, reclaiming_start}
+use Rattle.std.specs.Prelude.{◌++◌}
+use Rattle.vm_kernel.proofs.Pageout.{Reclaiming, paged_out, ran_out, reclaiming_more, reclaiming_start, spares_one}
 use Rattle.vm_kernel.proofs.Playing.{plays_both}
 use Rattle.vm_kernel.proofs.Turning.{quiet_both, quiet_gone, quiet_none}
 use Rattle.vm_kernel.proofs.parts.Parts.pageout.Goals as goal
@@ -7,7 +8,7 @@ use Rattle.vm_kernel.proofs.parts.Parts.pageout.Goals as goal
 pub pages-init : goal.pages-init
 pages-init g c =
     record {
-      reclaiming = reclaiming_start g.given.header g.given.host g.given.outside g.given.command c.args.count g.given.past c.args.self.now c.args.ids.now c.args.log.now.items c.requires.0 c.requires.1;
+      reclaiming = reclaiming_start g.given.header g.given.host g.given.outside g.given.command c.args.count c.source-first.result g.given.past c.args.self.now c.args.ids.now c.args.log.now.items c.requires.0 c.requires.1 c.source-first.ensures;
       plays = Still;
       quiet = quiet_none c.args.self.now.waits.queue c.args.log.now.items;
     }
@@ -18,7 +19,8 @@ returns-in-Nothing g c =
     let all = c.in_ok-reclaim.ensures in
     record {
       ran =
-          ran_out g.given.header g.given.host g.given.outside g.given.command c.args.count c.pages.counter g.given.past c.pages.self c.reclaim.new.self c.args.ids.now c.in_ok-reclaim.field-0 c.pages.log.items c.reclaim.new.log.items was.reclaiming all.rests all.goes all.reclaims all.reclaimed c.in-Nothing.is;
+          ran_out g.given.header g.given.host g.given.outside g.given.command c.args.count c.pages.counter c.source-first.result c.same_page-spared.result g.given.past c.pages.self c.reclaim.new.self c.args.ids.now c.in_ok-reclaim.field-0 c.pages.log.items c.reclaim.new.log.items was.reclaiming all.rests all.goes all.reclaims all.reclaimed c.in-Nothing.is
+          (spares_one g.given.header g.given.host c.pages.self c.source-first.result c.source.result c.same_page-spared.result g.given.past (c.pages.log.items ++ g.given.past) was.reclaiming.was c.source.ensures c.same_page-spared.ensures.same c.same_page-spared.ensures.apart).was;
       plays = plays_both was.plays all.plays;
       quiet =
           quiet_both c.args.self.now.waits.queue c.pages.self.waits.queue c.reclaim.new.self.waits.queue c.args.log.now.items c.pages.log.items c.reclaim.new.log.items was.quiet
@@ -31,7 +33,7 @@ pages-preserved g c =
     let all = c.in_ok-reclaim.ensures in
     record {
       reclaiming =
-          reclaiming_more g.given.header g.given.host g.given.outside g.given.command c.args.count c.pages.counter g.given.past c.pages.self c.reclaim.new.self c.args.ids.now c.in_ok-reclaim.field-0 c.pages.log.items c.reclaim.new.log.items was.reclaiming all.rests all.goes all.reclaims all.reclaimed c.in-Freed.is;
+          reclaiming_more g.given.header g.given.host g.given.outside g.given.command c.args.count c.pages.counter c.source-first.result c.same_page-spared.result g.given.past c.pages.self c.reclaim.new.self c.args.ids.now c.in_ok-reclaim.field-0 c.pages.log.items c.reclaim.new.log.items was.reclaiming all.rests all.goes all.reclaims all.reclaimed c.in-Freed.is;
       plays = plays_both was.plays all.plays;
       quiet =
           quiet_both c.args.self.now.waits.queue c.pages.self.waits.queue c.reclaim.new.self.waits.queue c.args.log.now.items c.pages.log.items c.reclaim.new.log.items was.quiet
@@ -41,8 +43,8 @@ pages-preserved g c =
 pub returns-clause-ran : goal.returns-clause-ran
 returns-clause-ran g c =
     let all : c.pages.counter ≡ c.args.count = omega arith in
-    paged_out g.given.header g.given.host g.given.outside g.given.command c.args.count g.given.past c.pages.self c.args.ids.now c.pages.log.items
-    (subst (λ (n : ℕ). Reclaiming g.given.header g.given.host g.given.outside g.given.command c.args.count n g.given.past c.pages.self c.args.ids.now c.pages.log.items) all c.pages.invariant.reclaiming)
+    paged_out g.given.header g.given.host g.given.outside g.given.command c.args.count c.source-first.result g.given.past c.pages.self c.args.ids.now c.pages.log.items
+    (subst (λ (n : ℕ). Reclaiming g.given.header g.given.host g.given.outside g.given.command c.args.count n c.source-first.result g.given.past c.pages.self c.args.ids.now c.pages.log.items) all c.pages.invariant.reclaiming)
 
 pub returns-clause-quiet : goal.returns-clause-quiet
 returns-clause-quiet g c = c.pages.invariant.quiet

@@ -1,50 +1,13 @@
-use Rattle.vm_kernel.proofs.Common.{KeepsPages, Parts, Queues, ReclaimEffects, [], ap, paging, queued_victim, refl, subst, ◌∙◌}
 use Rattle.std.specs.Prelude.{◌++◌}
-use Rattle.vm_kernel.proofs.Playing.{plays_none, reclaim_plays, searched_none}
-use Rattle.vm_kernel.proofs.Reclaims.{Took, none_queued, reclaimed_touched, rests_touched, room_for, took}
-use Rattle.vm_kernel.proofs.parts.Parts.reclaim.Given.{Over}
+use Rattle.vm_kernel.proofs.Reclaims.{keeps_spared, spares}
 use Rattle.vm_kernel.proofs.parts.Parts.reclaim.Goals as goal
 
-pub returns-in_default-clause-reclaimed : goal.returns-in_default-clause-reclaimed
-returns-in_default-clause-reclaimed g c = none_queued g.given.header g.given.host c.args.self.now c.victim.new.self c.args.ids.now (c.args.log.now.items ++ g.given.past) c.requires.0 c.in_default.ensures.none
+pub returns-in-Some-clause-reclaimed : goal.returns-in-Some-clause-reclaimed
+returns-in-Some-clause-reclaimed g c =
+    spares c.reclaim_but.result g.given.header g.given.host c.args.self.now c.reclaim_but.new.self c.args.ids.now c.args.spared c.in-Some.key c.frame_of-frame.result (c.args.log.now.items ++ g.given.past) (c.reclaim_but.new.log.items ++ g.given.past)
+    c.in-Some.is c.requires.1.1 c.frame_of-frame.ensures c.reclaim_but.ensures.rests c.reclaim_but.ensures.reclaimed
 
-pub reclaim-requires-clause-room : goal.reclaim-requires-clause-room
-reclaim-requires-clause-room g c = room_for g.given.header g.given.host c.args.self.now c.args.ids.now (c.args.log.now.items ++ g.given.past) c.in-Some.field-0.0 c.requires.0 c.in-Some.ensures.none.0
-
--- the kernel, once a victim was looked for
-abbrev looked_on : Parts → Queues → Parts
-looked_on k queues = record k { memory = record k.memory { queues = queues } }
-
-took_it : (g : Over) (c : goal.In_ok-answer g)
-    → Took g.given.header g.given.host g.given.outside g.given.command g.given.past c.args.ids.now c.in_ok-answer.answer (looked_on c.args.self.now c.victim.new.self) (record c.args.self.now { memory = c.reclaim.new.parts; laundry = c.reclaim.new.laundry })
-    c.args.log.now.items c.reclaim.new.log.items
-took_it g c =
-    took g.given.header g.given.host g.given.outside g.given.command g.given.past c.args.ids.now c.in_ok-answer.answer _ _ c.args.log.now.items c.reclaim.new.log.items
-    (rests_touched g.given.header g.given.host c.args.ids.now c.args.self.now c.victim.new.self (c.args.log.now.items ++ g.given.past) c.requires.0 c.victim.ensures.pages (ap (λ z. z.frames) c.victim.ensures.queues))
-    (record { host = refl; size = refl; maps = refl; chains = refl; waits = refl; buffers = c.in_ok-answer.ensures.size; fit = c.in_ok-answer.ensures.fit; live = c.in_ok-answer.ensures.live })
-    (queued_victim c.victim.new.self _ refl) c.requires.1 c.in_ok-answer.ensures.ok
-
-pub returns-clause-rests : goal.returns-clause-rests
-returns-clause-rests g c = (took_it g c).rests
-
-pub returns-clause-goes : goal.returns-clause-goes
-returns-clause-goes g c = (took_it g c).goes
-
-pub returns-clause-reclaims : goal.returns-clause-reclaims
-returns-clause-reclaims g c = (took_it g c).gone
-
-pub returns-clause-reclaimed : goal.returns-clause-reclaimed
-returns-clause-reclaimed g c = reclaimed_touched g.given.host c.in_ok-answer.answer c.args.self.now _ c.victim.new.self _ _ (took_it g c).reclaimed
-
-pub returns-in_default-clause-plays : goal.returns-in_default-clause-plays
-returns-in_default-clause-plays g c =
-    plays_none g.given.header g.given.past c.args.log.now.items c.args.log.now.items (paging c.args.self.now) (paging (looked_on c.args.self.now c.victim.new.self)) refl
-    (ap (λ z. paging (looked_on c.args.self.now z)) (c.victim.ensures.queues ∙ searched_none c.args.self.now.memory.queues c.in_default.ensures.none))
-
-pub returns-clause-plays : goal.returns-clause-plays
-returns-clause-plays g c =
-    let k = c.args.self.now in
-    let k2 = record k { memory = c.reclaim.new.parts; laundry = c.reclaim.new.laundry } in
-    reclaim_plays g.given.header g.given.host g.given.past c.args.ids.now c.in_ok-answer.answer k k2 c.args.log.now.items c.reclaim.new.log.items c.requires.0
-    (subst (λ (z : Queues). KeepsPages k.memory.queues z) c.victim.ensures.queues c.victim.ensures.pages)
-    (subst (λ (z : Queues). ReclaimEffects c.in_ok-answer.answer k.host [] (record k.memory { queues = z }) k2.memory k.laundry k2.laundry c.args.log.now.items c.reclaim.new.log.items) c.victim.ensures.queues c.in_ok-answer.ensures.ok)
+pub returns-in-Some-clause-spared : goal.returns-in-Some-clause-spared
+returns-in-Some-clause-spared g c =
+    keeps_spared c.reclaim_but.result g.given.header g.given.host c.args.self.now c.reclaim_but.new.self c.args.spared c.in-Some.key c.frame_of-frame.result (c.args.log.now.items ++ g.given.past) (c.reclaim_but.new.log.items ++ g.given.past)
+    c.in-Some.is c.requires.1.1 c.frame_of-frame.ensures c.reclaim_but.ensures.reclaimed

@@ -3,6 +3,7 @@ use Rattle.vm_kernel.proofs.Finding.{first_done, first_more}
 use Rattle.vm_kernel.proofs.Growing.{goes_both, goes_none}
 use Rattle.vm_kernel.proofs.Playing.{plays_both}
 use Rattle.vm_kernel.proofs.Turning.{restarts_more, restarts_none, wanting_of}
+use Rattle.vm_kernel.specs.Serving.{wants_frame}
 use Rattle.vm_kernel.proofs.parts.Parts.restart.Goals as goal
 
 pub again-init : goal.again-init
@@ -24,9 +25,9 @@ again-preserved g c =
       goes = goes_both g.given.header g.given.host g.given.outside g.given.command g.given.past c.args.log.now.items c.again.log.items c.attempt.new.log.items was.goes run.goes;
       plays = plays_both was.plays run.plays;
       restarts = λ none.
-          restarts_more g.given.header g.given.host g.given.past c.args.self.now.waits.queue c.in-Some.waiting _ c.in_ok-attempt.field-0 c.again.self.waits c.attempt.new.self.waits c.again.log.items c.attempt.new.log.items (was.restarts none)
+          restarts_more g.given.header g.given.host g.given.past c.args.self.now.waits.queue c.in-Some.waiting _ (wants_frame c.in_ok-attempt.field-0) c.again.self.waits c.attempt.new.self.waits c.again.log.items c.attempt.new.log.items (was.restarts none)
           (record { order = was.works.order; oldest = sym c.in-Some.ensures.oldest; line = c.next_again.ensures.line; row = c.in-Some.ensures.row.0; again = c.in-Some.ensures.row.1; may = ap not c.has_queue-may_claim.ensures.queued }) run.once
-          (wanting_of g.given.header g.given.host c.in-Some.waiting _ c.in_ok-attempt.field-0 c.again.self c.attempt.new.self c.args.ids.now (c.again.log.items ++ g.given.past) (c.attempt.new.log.items ++ g.given.past) run.works run.attempts);
+          (wanting_of g.given.header g.given.host c.in-Some.waiting _ c.in_ok-attempt.field-0 c.again.self c.attempt.new.self c.attempt.new.ids (c.again.log.items ++ g.given.past) (c.attempt.new.log.items ++ g.given.past) run.works run.attempts);
       first = λ task next finds.
           first_more g.given.header g.given.host g.given.outside g.given.command g.given.past task c.args.self.now.waits.rows c.again.self.waits.rows c.attempt.new.self.waits.rows c.in-Some.waiting c.args.log.now.items c.again.log.items c.attempt.new.log.items
           (was.first task next finds) next finds c.in-Some.ensures.row.0 c.in-Some.ensures.row.1 run.goes run.ends;

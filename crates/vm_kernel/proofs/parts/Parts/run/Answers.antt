@@ -16,6 +16,7 @@ returns-in_default-clause-ran g c =
       inherit = c.in_default.not-Inherit;
       load = c.in_default.not-Load;
       store = c.in_default.not-Store;
+      copy = c.in_default.not-Copy;
       pageout = c.in_default.not-Pageout;
       wire = c.in_default.not-Wire;
       unwire = c.in_default.not-Unwire;
@@ -31,6 +32,9 @@ returns-in-Task-clause-restarts g c = on_ok c.make_task.result _ _ (restarts_qui
 
 pub returns-in-Fork-clause-restarts : goal.returns-in-Fork-clause-restarts
 returns-in-Fork-clause-restarts g c = on_ok c.fork.result _ _ (restarts_quiet g.given.header g.given.host c.fork.new.self.waits.rows g.given.past c.args.self.now.waits.queue c.fork.new.self.waits.queue c.args.log.now.items c.fork.new.log.items c.requires.0.nothing) c.fork.ensures.quiet
+
+pub returns-in-Copy-clause-restarts : goal.returns-in-Copy-clause-restarts
+returns-in-Copy-clause-restarts g c = on_ok c.copy.result _ _ (restarts_quiet g.given.header g.given.host c.copy.new.self.waits.rows g.given.past c.args.self.now.waits.queue c.copy.new.self.waits.queue c.args.log.now.items c.copy.new.log.items c.requires.0.nothing) c.copy.ensures.quiet
 
 pub returns-in-Exit-clause-restarts : goal.returns-in-Exit-clause-restarts
 returns-in-Exit-clause-restarts g c = on_ok c.exit.result _ _ (restarts_quiet g.given.header g.given.host c.exit.new.self.waits.rows g.given.past c.args.self.now.waits.queue c.exit.new.self.waits.queue c.args.log.now.items c.exit.new.log.items c.requires.0.nothing) c.exit.ensures.quiet

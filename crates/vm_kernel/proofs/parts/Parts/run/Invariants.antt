@@ -8,6 +8,9 @@ ghost-make_task g a = g.given
 abbrev pub ghost-fork : goal.ghost-fork
 ghost-fork g a = g.given
 
+abbrev pub ghost-copy : goal.ghost-copy
+ghost-copy g a = g.given
+
 abbrev pub ghost-wire : goal.ghost-wire
 ghost-wire g a = g.given
 

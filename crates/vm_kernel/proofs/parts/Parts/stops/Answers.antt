@@ -13,7 +13,10 @@ returns-in-Returned g c =
       plays = all.plays;
       reclaims = all.reclaims;
       freed = λ bad. absurd (let clash : true ≡ false = bad in cc);
-      full = λ same. full_after g.given.header g.given.host c.args.self.now c.reclaim.new.self c.args.ids.now c.in_ok-reclaim.field-0 (c.args.log.now.items ++ g.given.past) (c.reclaim.new.log.items ++ g.given.past) all.rests c.requires.1.1 all.reclaimed c.in-Returned.is;
+      full = λ same.
+          full_after g.given.header g.given.host c.args.self.now c.reclaim.new.self c.args.ids.now c.args.source c.in_ok-reclaim.field-0 (c.args.log.now.items ++ g.given.past) (c.reclaim.new.log.items ++ g.given.past) all.rests c.requires.1.1.0 c.requires.1.1.1 all.reclaimed
+          c.in-Returned.is;
+      spared = all.spared;
     }
 
 pub returns-then-not-is_empty-clause-plays : goal.returns-then-not-is_empty-clause-plays

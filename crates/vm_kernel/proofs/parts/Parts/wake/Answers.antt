@@ -7,7 +7,7 @@ returns-in-ReadyOf-clause-works g c =
     record {
       matches = search rules;
       used = search rules;
-      reached = search rules;
+      referred = search rules;
       waits = search rules;
       order = (woken_keeps (woken_ready c.in-ReadyOf.object.0) c.args.self.now.waits.rows c.wake_ready.new.self.rows c.wake_ready.ensures.rows).keeps _ 0 c.requires.0.order;
     }
@@ -17,7 +17,7 @@ returns-in-Page-clause-works g c =
     record {
       matches = search rules;
       used = search rules;
-      reached = search rules;
+      referred = search rules;
       waits = search rules;
       order = (woken_keeps (woken_page c.in-Page.key) c.args.self.now.waits.rows c.wake_page.new.self.rows c.wake_page.ensures.rows).keeps _ 0 c.requires.0.order;
     }

@@ -1,0 +1,813 @@
+-- A task gets an entry on a symmetric copy of a region.
+use Rattle.vm_kernel.proofs.Common.{Access, AllReferred, AllRows, AllUsed, ArePlain, Bool, ChainTable, ChangesOnly, Code, Command, Enters, Entry, Event, Fit, HasControls, HasEntries, HasRegions, HasWaiters, Header, HostParts, Ids, Inside, IsAllowed, IsInside, IsPlain, List, Mapped, None, ObjectRow, ObjectTable, Option, Outside, Parts, Place, PutsEntries, PutsObject, Ran, RegionRow, ResidentTable, Rests, Some, Starts, TaskId, Temp, Waiting, [], all_tasks, allows, ap, arith, backing_of, code_of, code_where, count_again, count_by, count_on, entered, entering, entries_in, entries_of, entry, entry_at, eqb_tells, false, fit_objects, found_row, got, has_entry, has_region, head, holds, home_entered, home_of, home_stays, homes_next, host_of, if◌then◌else◌, in_use, inl, inr, is_none, is_on, is_range, is_ready, is_some, last_control, last_in, length, length_entered, live_control, live_in, lives_on, local_of_row, marked_below, marked_regions, meets_range, most_entries, named, nat_le, nat_tests, next_object, next_region, object_at, one_case, page_at, page_below, pages_in, pages_of_row, place_at, ready_in, refl, refusal, region_at, region_entries, region_of, region_pages, row_at, rows_entered, rows_in, rows_map, same_pages, some_is, subst, suc, sym, tasks, true, waiting, waiting_in, whole_entry, zero, ℕ, ◌%◌, ◌&&◌, ◌++◌, ◌+◌, ◌-◌, ◌/◌, ◌<◌, ◌==◌, ◌^◌, ◌||◌, ◌∙◌, ◌∷◌, ◌≡◌, ◌≤◌, ◌⊎◌}
+use Rattle.std.proofs.Common.{nat_lt, not}
+use Rattle.std.specs.Prelude.{IsSome}
+use Rattle.vm_base.specs.declared.code.Code.TheVariants as code
+use Rattle.vm_base.specs.declared.ids.RegionId.{RegionId}
+use Rattle.vm_base.specs.Limits.{most_objects, most_pages, most_regions}
+use Rattle.vm_base.specs.declared.ids.Access.TheVariants as need
+use Rattle.vm_maps.specs.Judge.{judged}
+use Rattle.vm_model.specs.Named.{declared}
+use Rattle.vm_model.specs.Rows.{div_grows, div_sum}
+use Rattle.vm_model.specs.declared.command.Command.TheVariants as command
+use Rattle.vm_model.specs.declared.event.Event.TheVariants as event
+use Rattle.vm_parts.specs.Changes.{one}
+use Rattle.vm_shadow.specs.Chains.{CopiesRegion, copy_of, shadow_at}
+use Rattle.vm_state.proofs.Changing.{SameButEntries, regions_recounted}
+use Rattle.vm_state.proofs.Copying.{regions_copied}
+use Rattle.vm_state.proofs.Counting.{elsewhere}
+use Rattle.vm_state.proofs.Marks.{marked_copied}
+use Rattle.vm_state.proofs.Places.{keeps_copied}
+use Rattle.vm_state.proofs.Referred.{referred_copied, referred_recounted}
+use Rattle.vm_state.proofs.Waited.{KeepsPlaces, waits_changed, told_changed}
+use Rattle.vm_state.specs.Places.{with_entries}
+use Rattle.vm_state.specs.References.{is_backing, is_over, tally}
+use Rattle.vm_kernel.specs.Forking.{CanCopy, EntersCopy, entry_on}
+use Rattle.vm_abroad.proofs.Home.{object_stays}
+use Rattle.vm_legal.specs.Accesses.{At}
+use Rattle.vm_legal.specs.Follows.{copy_head}
+use Rattle.vm_legal.specs.Licences as cause
+use Rattle.vm_legal.specs.Outside.{is_wild_kind, kind_in, kind_of}
+use Rattle.vm_legal.specs.Refusal as refusing
+use Rattle.vm_legal.specs.Refusal.{is_uncopied}
+use Rattle.vm_state.proofs.Referring.{row_of, small_region}
+use Rattle.vm_state.proofs.Told.{waits_referred}
+use Rattle.vm_supply.specs.declared.woken.Woken.TheVariants as woken
+use Rattle.vm_kernel.proofs.Counts.{by_none, on_entered}
+use Rattle.vm_kernel.proofs.Growing.{licensed, suffices}
+use Rattle.vm_kernel.proofs.Heads.{Heads, IsOne, passed, ran_head}
+use Rattle.vm_kernel.proofs.Mine.{mine_of, own_task}
+use Rattle.vm_kernel.proofs.Own.{lives_here, lives_in, on_is, own_host, rows_here}
+use Rattle.vm_kernel.specs.Refusing.{is_copy_full, is_marked, source_code}
+use Rattle.vm_kernel.proofs.Recounts.{recounts_put}
+use Rattle.vm_kernel.proofs.Regions.{region_row}
+use Rattle.vm_kernel.proofs.Tasks.{Keeps, entries_changed, inside_kept, tasks_entered}
+use Rattle.vm_kernel.proofs.Uses.{holds_rows, unfilled, uses_entered}
+
+-- how many regions are marked, where the marks of all are the same
+pub marked_as : (header : Header) (n : ℕ) (past past2 : List Event) → ((r : ℕ) → (region_of header r past2).mark ≡ (region_of header r past).mark) → marked_below header n past2 ≡ marked_below header n past
+marked_as header zero past past2 same = refl
+marked_as header (suc n) past past2 same =
+    ap (λ b. if b then marked_below header n past2 + 1 else marked_below header n past2) (same n)
+    ∙ ap (λ z. if (region_of header n past).mark then z + 1 else z) (marked_as header n past past2 same)
+
+-- an entry marks none
+pub marked_entered : (header : Header) (task : TaskId) (row : Entry) (past : List Event) → marked_regions header (got task row ∷ past) ≡ marked_regions header past
+marked_entered header task row past = marked_as header (next_region header past) past (got task row ∷ past) (λ r. refl)
+
+pub regions_entered : (header : Header) (task : TaskId) (row : Entry) (past : List Event) (cs : ChainTable) (os : ObjectTable) (ids : Ids)
+    → HasRegions cs os ids (λ r. region_of header r past) (λ o. backing_of header o past) (next_region header past) (next_object header past) (marked_regions header past)
+    → HasRegions cs os ids (λ r. region_of header r (got task row ∷ past)) (λ o. backing_of header o (got task row ∷ past)) (next_region header (got task row ∷ past)) (next_object header (got task row ∷ past)) (marked_regions header (got task row ∷ past))
+regions_entered header task row past cs os ids has =
+    subst (λ (z : ℕ). HasRegions cs os ids (λ r. region_of header r past) (λ o. backing_of header o past) (next_region header past) (next_object header past) z) (sym (marked_entered header task row past)) has
+
+-- regions that count other entries
+
+pub same_put : (r n : ℕ) (old new : ChainTable) → PutsEntries r n old new → SameButEntries old new
+same_put r n old new put =
+    record {
+      count = λ q. if r == q then n else region_entries old q;
+      at = (recounts_put r n old new put).at;
+      shadows = λ o. ap (λ f. f o) put.shadows;
+    }
+
+pub keeps_recounted : (old new : ChainTable) → SameButEntries old new → KeepsPlaces old new
+keeps_recounted old new same =
+    record {
+      tops = λ r row found. record { row_now = record row { entries = same.count r }; found = same.at r ∙ ap (with_entries (same.count r)) found; top = refl; shift = refl };
+      shadows = λ o row found. same.shadows o ∙ found;
+    }
+
+pub keeps_both : (one two three : ChainTable) → KeepsPlaces one two → KeepsPlaces two three → KeepsPlaces one three
+keeps_both one two three a b =
+    record {
+      tops = λ r row found.
+          let first = a.tops r row found in
+          let second = b.tops r first.row_now first.found in
+          record { row_now = second.row_now; found = second.found; top = second.top ∙ first.top; shift = second.shift ∙ first.shift };
+      shadows = λ o row found. b.shadows o row (a.shadows o row found);
+    }
+
+-- The rows of regions, where one is copied and the copy has its first entry.
+
+data RowNow (source copy offset pages : ℕ) (region : RegionRow) (old : ChainTable) (r : ℕ) (row : RegionRow) : Type 0 where
+  OfCopy : copy ≡ r → row ≡ record (copy_of region offset pages) { entries = 1 } → RowNow source copy offset pages region old r row
+  OfSource : source ≡ r → row ≡ record region { marked = true } → RowNow source copy offset pages region old r row
+  OfOther : (copy ≡ r → ⊥) → region_at old r ≡ Some row → RowNow source copy offset pages region old r row
+
+-- a copy was made, and has one entry
+record CopiesOnce (source copy offset pages : ℕ) (region : RegionRow) (old mid new : ChainTable) : Type 0 where
+  free : region_at old copy ≡ None
+  there : region_at old source ≡ Some region
+  copies : CopiesRegion source copy offset pages region old mid
+  counts : PutsEntries copy 1 mid new
+
+copied_mid : (source copy offset pages : ℕ) (region : RegionRow) (old mid new : ChainTable) → CopiesOnce source copy offset pages region old mid new → region_at mid copy ≡ Some (copy_of region offset pages)
+copied_mid source copy offset pages region old mid new c = elim (one_case copy copy (Some (copy_of region offset pages)) (if source == copy then Some (record region { marked = true }) else region_at old copy) (region_at mid copy) (c.copies.at copy)) [
+  | inl this ↦ this.1
+  | inr other ↦ absurd (other.0 refl)
+]
+
+copied_now : (source copy offset pages : ℕ) (region : RegionRow) (old mid new : ChainTable) → CopiesOnce source copy offset pages region old mid new → region_at new copy ≡ Some (record (copy_of region offset pages) { entries = 1 })
+copied_now source copy offset pages region old mid new c = elim (one_case copy copy (with_entries 1 (region_at mid copy)) (region_at mid copy) (region_at new copy) (c.counts.at copy)) [
+  | inl this ↦ this.1 ∙ ap (with_entries 1) (copied_mid source copy offset pages region old mid new c)
+  | inr other ↦ absurd (other.0 refl)
+]
+
+other_now : (source copy offset pages : ℕ) (region : RegionRow) (old mid new : ChainTable) → CopiesOnce source copy offset pages region old mid new → (r : ℕ) → (copy ≡ r → ⊥)
+    → ((source ≡ r) × (region_at new r ≡ Some (record region { marked = true }))) ⊎ ((source ≡ r → ⊥) × (region_at new r ≡ region_at old r))
+other_now source copy offset pages region old mid new c r apart =
+    one_case source r (Some (record region { marked = true })) (region_at old r) (region_at new r)
+    (elsewhere copy r (with_entries 1 (region_at mid copy)) (region_at mid r) (region_at new r) (c.counts.at r) apart
+    ∙ elsewhere copy r (Some (copy_of region offset pages)) (if source == r then Some (record region { marked = true }) else region_at old r) (region_at mid r) (c.copies.at r) apart)
+
+row_now : (source copy offset pages : ℕ) (region : RegionRow) (old mid new : ChainTable) → CopiesOnce source copy offset pages region old mid new → (r : ℕ) (row : RegionRow) → region_at new r ≡ Some row → RowNow source copy offset pages region old r row
+row_now source copy offset pages region old mid new c r row found = elim (eqb_tells copy r) [
+  | inl same ↦ OfCopy same.1 (some_is row (record (copy_of region offset pages) { entries = 1 }) (sym found ∙ (ap (region_at new) (sym same.1) ∙ copied_now source copy offset pages region old mid new c)))
+  | inr apart ↦ elim (other_now source copy offset pages region old mid new c r apart.1) [
+    | inl this ↦ OfSource this.0 (some_is row (record region { marked = true }) (sym found ∙ this.1))
+    | inr other ↦ OfOther apart.1 (sym other.1 ∙ found)
+  ]
+]
+
+-- the regions that were there stay
+apart_there : (chains : ChainTable) (n r : ℕ) → region_at chains n ≡ None → has_region chains r ≡ true → n ≡ r → ⊥
+apart_there chains n r none there same = let bad : false ≡ true = sym (ap is_some none) ∙ (ap (has_region chains) same ∙ there) in cc
+
+keeps_copy : (source copy offset pages : ℕ) (region : RegionRow) (old mid new : ChainTable) → CopiesOnce source copy offset pages region old mid new → Keeps old new
+keeps_copy source copy offset pages region old mid new c =
+    record {
+      there = λ r is. elim (other_now source copy offset pages region old mid new c r (apart_there old copy r c.free is)) [
+        | inl this ↦ ap is_some this.1
+        | inr other ↦ ap is_some other.1 ∙ is
+      ];
+      pages = λ r is. elim (other_now source copy offset pages region old mid new c r (apart_there old copy r c.free is)) [
+        | inl this ↦ ap pages_in this.1 ∙ sym (ap pages_in (ap (region_at old) (sym this.0) ∙ c.there))
+        | inr other ↦ ap pages_in other.1
+      ];
+    }
+
+places_copy : (source copy offset pages : ℕ) (region : RegionRow) (old mid new : ChainTable) → CopiesOnce source copy offset pages region old mid new → KeepsPlaces old new
+places_copy source copy offset pages region old mid new c =
+    keeps_both old mid new (keeps_copied old mid source copy offset pages region c.free c.there c.copies) (keeps_recounted mid new (same_put copy 1 mid new c.counts))
+
+used_copy : (source copy offset pages : ℕ) (region : RegionRow) (old mid new : ChainTable) → CopiesOnce source copy offset pages region old mid new → AllUsed old → AllUsed new
+used_copy source copy offset pages region old mid new c used r row found = by (row_now source copy offset pages region old mid new c r row found)
+  where
+    by : RowNow source copy offset pages region old r row → 0 < row.entries
+    by (OfCopy same is) = let one = ap (λ z. z.entries) is in omega (arith, one)
+    by (OfSource same is) = let count = ap (λ z. z.entries) is in let some = used source region c.there in omega (arith, count, some)
+    by (OfOther apart was) = used r row was
+
+-- nothing leads to a region that isn't there
+none_leads : (size : ℕ) (chains : ChainTable) (n : ℕ) (rows : List Entry) → region_at chains n ≡ None → AllRows (IsInside size chains) rows → has_entry n rows ≡ false
+none_leads size chains n [] none all = refl
+none_leads size chains n (row ∷ rows) none all = elim (eqb_tells row.region.0 n) [
+  | inl same ↦ absurd (apart_there chains n row.region.0 none all.0.region (sym same.1))
+  | inr apart ↦ rw apart.0 (none_leads size chains n rows none all.1)
+]
+
+pub one_on : (n r : ℕ) → n ≡ r → ◌≡◌ {A = ℕ} (if n == r then 1 else 0) 1
+one_on n r same = elim (eqb_tells n r) [ inl is ↦ ap (λ b. if b then 1 else 0) is.0 | inr apart ↦ absurd (apart.1 same) ]
+
+pub none_on : (n r : ℕ) → (n ≡ r → ⊥) → ◌≡◌ {A = ℕ} (if n == r then 1 else 0) 0
+none_on n r apart = elim (eqb_tells n r) [ inl is ↦ absurd (apart is.1) | inr other ↦ ap (λ b. if b then 1 else 0) other.0 ]
+
+-- an entry that holds an address
+pub entry_within : (address : ℕ) (rows : List Entry) (row : Entry) → entry_at address rows ≡ Some row → (row.address ≤ address) × (address < row.address + row.bytes)
+entry_within address rows row found = let is = found_row (λ other. Unit {0}) address rows row (any rows) found in (is.from, is.below)
+  where
+    any : (rows : List Entry) → AllRows (λ other. Unit {0}) rows
+    any [] = tt
+    any (row ∷ rows) = (tt, any rows)
+
+-- an entry that a task can get, as far as its numbers and the task's others go
+pub record IsFree (size : ℕ) (row : Entry) (rows : List Entry) : Type 0 where
+  pub whole : row.bytes % size ≡ 0
+  pub some : 0 < row.bytes
+  pub below : row.address + row.bytes ≤ 2 ^ 32
+  pub room : length rows < most_entries
+
+entries_copy : (size : ℕ) (maps new : Mapped) (source offset : ℕ) (region : RegionRow) (cs mid cs2 : ChainTable) (task : ℕ) (copy : RegionId) (row : Entry) → HasEntries size maps cs []
+    → CopiesOnce source copy.0 offset (row.bytes / size) region cs mid cs2 → ChangesOnly maps new task (Some (entered (entry_on row copy) (rows_in task maps))) → task < all_tasks → IsFree size row (rows_in task maps) → HasEntries size new cs2 []
+entries_copy size maps new source offset region cs mid cs2 task copy row has c changes below free =
+    entries_changed size maps new cs cs2 task (entered (entry_on row copy) (rows_in task maps)) has keeps changes below
+    (rows_entered (IsInside size cs2) (entry_on row copy) (rows_in task maps) one (rows_map (IsInside size cs) (IsInside size cs2) (λ other is. inside_kept size cs cs2 other keeps is) (rows_in task maps) (has.inside task)))
+    (omega (arith, length_entered (entry_on row copy) (rows_in task maps), free.room))
+    (λ r now found. by r now (row_now source copy.0 offset (row.bytes / size) region cs mid cs2 c r now found))
+  where
+    keeps : Keeps cs cs2
+    keeps = keeps_copy source copy.0 offset (row.bytes / size) region cs mid cs2 c
+
+    made : region_at cs2 copy.0 ≡ Some (record (copy_of region offset (row.bytes / size)) { entries = 1 })
+    made = copied_now source copy.0 offset (row.bytes / size) region cs mid cs2 c
+
+    sized : region_pages cs2 copy.0 ≡ row.bytes / size
+    sized = ap pages_in made
+
+    one : IsInside size cs2 (entry_on row copy)
+    one =
+        record {
+          region = ap is_some made;
+          some = free.some;
+          below = free.below;
+          inside = subst (λ (z : ℕ). Inside size z (entry_on row copy)) (sym sized) (record { whole = omega arith; each = λ a low high. let less = page_below size (a - row.address) row.bytes (omega (arith, low, high)) free.whole in omega (arith, less) });
+        }
+
+    by : (r : ℕ) (now : RegionRow) → RowNow source copy.0 offset (row.bytes / size) region cs r now
+        → now.entries + count_on r (rows_in task maps) ≡ count_by all_tasks r maps + count_on r (entered (entry_on row copy) (rows_in task maps))
+    by r now (OfCopy same is) =
+        let count = ap (λ z. z.entries) is in
+        let nothing : count_by all_tasks r maps ≡ 0 = by_none all_tasks r maps (λ t. subst (λ (z : ℕ). has_entry z (rows_in t maps) ≡ false) same (none_leads size cs copy.0 (rows_in t maps) c.free (has.inside t))) in
+        omega (arith, count, nothing, one_on copy.0 r same, on_entered r (entry_on row copy) (rows_in task maps))
+    by r now (OfSource same is) =
+        let count = ap (λ z. z.entries) is in
+        let was = subst (λ (z : ℕ). region.entries ≡ count_by all_tasks z maps + 0) same (has.counts source region c.there) in
+        let other = none_on copy.0 r (λ e. apart_there cs copy.0 source c.free (ap is_some c.there) (e ∙ sym same)) in
+        omega (arith, count, was, other, on_entered r (entry_on row copy) (rows_in task maps))
+    by r now (OfOther apart found) = omega (arith, has.counts r now found, none_on copy.0 r apart, on_entered r (entry_on row copy) (rows_in task maps))
+
+-- an object has another number of references
+
+record Referred (row : ObjectRow) (before : Option ObjectRow) : Type 0 where
+  left : ℕ
+  was : ObjectRow
+  found : before ≡ Some was
+  is : row ≡ record was { references = left }
+
+referred_at : (r left : ℕ) (was : ObjectRow) (os os2 : ObjectTable) → object_at os r ≡ Some was → PutsObject r (Some (record was { references = left })) os os2 → (o : ℕ) (row : ObjectRow) → object_at os2 o ≡ Some row → Referred row (object_at os o)
+referred_at r left was os os2 found put o row is = elim (one_case r o (Some (record was { references = left })) (object_at os o) (object_at os2 o) (put.at o)) [
+  | inl this ↦ record { left = left; was = was; found = subst (λ (z : ℕ). object_at os z ≡ Some was) this.0 found; is = some_is row (record was { references = left }) (sym is ∙ this.1) }
+  | inr other ↦ record { left = row.references; was = row; found = sym other.1 ∙ is; is = refl }
+]
+
+same_but : {A : Type 0} (f : Option ObjectRow → A) → ((row : ObjectRow) (n : ℕ) → f (Some (record row { references = n })) ≡ f (Some row)) → (r left : ℕ) (was : ObjectRow) (os os2 : ObjectTable)
+    → object_at os r ≡ Some was → PutsObject r (Some (record was { references = left })) os os2 → (o : ℕ) → f (object_at os o) ≡ f (object_at os2 o)
+same_but f same r left was os os2 found put o = elim (one_case r o (Some (record was { references = left })) (object_at os o) (object_at os2 o) (put.at o)) [
+  | inl this ↦ ap f (subst (λ (z : ℕ). object_at os z ≡ Some was) this.0 found) ∙ (sym (same was left) ∙ sym (ap f this.1))
+  | inr other ↦ sym (ap f other.1)
+]
+
+-- its controls are what they were, and objects that have a home keep it
+pub controls_counted : {h : ℕ} {home_at home2 : ℕ → Option ℕ} (r left : ℕ) (was : ObjectRow) (os os2 : ObjectTable) (last_at : ℕ → ℕ) (live_at : ℕ → Option ℕ) (ready_at : ℕ → Bool) → object_at os r ≡ Some was → PutsObject r (Some (record was { references = left })) os os2
+    → ((o : ℕ) → home_at o ≡ Some h → home2 o ≡ Some h) → HasControls h os last_at live_at ready_at home_at → HasControls h os2 last_at live_at ready_at home2
+controls_counted r left was os os2 last_at live_at ready_at found put stay has =
+    record {
+      last = λ o. has.last o ∙ same_but last_in (λ row n. refl) r left was os os2 found put o;
+      live = λ o. has.live o ∙ same_but live_in (λ row n. refl) r left was os os2 found put o;
+      ready = λ o control is. has.ready o control is ∙ same_but ready_in (λ row n. refl) r left was os os2 found put o;
+      all_live = record { at = λ o row is told. let b = before o row is in ap (λ z. z.live) b.is ∙ has.all_live.at o b.was b.found (λ none. told (ap (λ z. z.state) b.is ∙ none)) };
+      numbers = record { at = λ o row is. let b = before o row is in subst (λ (z : ℕ). z < 2 ^ 32 - 1) (sym (ap (λ z. z.control) b.is)) (has.numbers.at o b.was b.found) };
+      home = λ o row is. let b = before o row is in stay o (has.home o b.was b.found);
+      ended = λ o row is live none. let b = before o row is in has.ended o b.was b.found (sym (ap (λ z. z.live) b.is) ∙ live) (sym (ap (λ z. z.state) b.is) ∙ none);
+    }
+  where
+    before : (o : ℕ) (row : ObjectRow) → object_at os2 o ≡ Some row → Referred row (object_at os o)
+    before o row is = referred_at r left was os os2 found put o row is
+
+-- the pages of the region are among those of an entry
+pub record IsFrom (header : Header) (source offset pages : ℕ) (past : List Event) : Type 0 where
+  pub task : ℕ
+  pub address : ℕ
+  pub at : At header task address past
+  pub source_is : source ≡ at.entry.region.0
+  pub inside : offset + pages ≤ at.entry.offset + at.entry.bytes / header.size
+
+-- What a copy that may be made has: its task lives here and doesn't wait, the range is free, the source has the pages, and numbers are left.
+
+pub record MayCopy (header : Header) (task : ℕ) (source : RegionId) (offset : ℕ) (row : Entry) (past : List Event) (k : Parts) : Type 0 where
+  pub lives : entries_in task k.maps ≡ Some (rows_in task k.maps)
+  pub idle : waiting task past ≡ None
+  pub free : judged k.maps.size (entering row) (rows_in task k.maps) ≡ None
+  pub pages : row.bytes / header.size < 2 ^ 32
+  pub region : RegionRow
+  pub there : region_at k.chains source.0 ≡ Some region
+  pub inside : offset + row.bytes / header.size ≤ region.pages
+  pub regions : next_region header past + 1 ≤ most_regions
+  pub objects : next_object header past + (marked_regions header past + (if (region_of header source.0 past).mark then 1 else 2)) ≤ most_objects
+  pub from : IsFrom header source.0 offset (row.bytes / header.size) past
+
+-- of a list of tests that finds nothing, each found nothing
+pub free_of : (size : ℕ) (row : Entry) (rows : List Entry) → judged size (entering row) rows ≡ None → IsFree size row rows
+free_of size row rows fine = by (is_range size row.address row.bytes) (meets_range row.address row.bytes rows) (nat_lt most_entries (length rows + 1)) refl refl fine
+  where
+    by : (a b c : Bool) → is_range size row.address row.bytes ≡ a → nat_lt most_entries (length rows + 1) ≡ c
+        → (if not a then Some code.InvalidArgument else (if false then Some code.InvalidAddress else (if b then Some code.NoSpace else (if c then Some code.TableFull else None)))) ≡ None → IsFree size row rows
+    by false b c range few none = absurd (let bad : Some code.InvalidArgument ≡ None = none in cc)
+    by true true c range few none = absurd (let bad : Some code.NoSpace ≡ None = none in cc)
+    by true false true range few none = absurd (let bad : Some code.TableFull ≡ None = none in cc)
+    by true false false range few none =
+        record {
+          whole = grind (arith, nat_tests);
+          some = grind (arith, nat_tests);
+          below = grind (arith, nat_tests);
+          room = grind (arith, nat_tests);
+        }
+
+-- as many references as regions and objects at most
+tally_few : (test : ℕ → Bool) (n : ℕ) → tally test n ≤ n
+tally_few test zero = omega arith
+tally_few test (suc n) = by (test n) (tally_few test n)
+  where
+    by : (b : Bool) → tally test n ≤ n → one b + tally test n ≤ suc n
+    by true le = omega arith
+    by false le = omega arith
+
+pub can_copy : (header : Header) (h : ℕ) (task : ℕ) (source : RegionId) (offset : ℕ) (row : Entry) (past : List Event) (k : Parts) (ids : Ids) → Rests header h k ids past → MayCopy header task source offset row past k → CanCopy task source offset row k ids
+can_copy header h task source offset row past k ids rests may =
+    let m = rests.matches in
+    let known = row_of (object_at k.memory.objects may.region.top.0) (m.regions.tops source.0 may.region may.there) in
+    let few = m.regions.few in
+    let more = may.regions in
+    let next = m.regions.region in
+    let marks = m.regions.marks in
+    let count = m.regions.counts may.region.top.0 known.0 known.1 in
+    let overs = tally_few (λ r. is_over may.region.top.0 (region_at k.chains r)) (next_region header past) in
+    let unders = tally_few (λ s. is_backing may.region.top.0 (shadow_at k.chains s)) (next_object header past) in
+    let over = m.regions.fits.tops source.0 may.region may.there in
+    let sized = ap pages_of_row known.1 in
+    record {
+      lives = subst (λ (z : Option (List Entry)). IsSome z) (sym may.lives) refl;
+      free = may.free;
+      sized = m.tasks.sized ∙ sym m.size;
+      pages = subst (λ (z : ℕ). row.bytes / z < 2 ^ 32) (sym m.size) may.pages;
+      region = may.region;
+      there = may.there;
+      inside = subst (λ (z : ℕ). offset + row.bytes / z ≤ may.region.pages) (sym m.size) may.inside;
+      known = known.0;
+      object = known.1;
+      over = omega (arith, over, sized);
+      references = omega (arith, count, overs, unders, few, more);
+      below = λ r high. m.regions.unmade r (omega (arith, high, next));
+      regions = omega (arith, next, more);
+      marks = omega (arith, marks, few);
+    }
+
+-- that a region was copied
+abbrev pub copied : RegionId → RegionId → ℕ → ℕ → Event
+copied copy source offset pages = event.RegionCopied copy source offset pages
+
+-- a copy is in use where its source is, and each other region where it was
+
+copy_use : (header : Header) (h : ℕ) (copy source : RegionId) (offset pages : ℕ) (past : List Event) → in_use header h copy.0 (copied copy source offset pages ∷ past) ≡ in_use header h source.0 past
+copy_use header h copy source offset pages past = elim (eqb_tells copy.0 copy.0) [ inl same ↦ ap (λ b. if b then in_use header h source.0 past else in_use header h copy.0 past) same.0 | inr apart ↦ absurd (apart.1 refl) ]
+
+others_use : (header : Header) (h : ℕ) (copy source : RegionId) (offset pages : ℕ) (past : List Event) (r : ℕ) → (r ≡ copy.0 → ⊥) → in_use header h r (copied copy source offset pages ∷ past) ≡ in_use header h r past
+others_use header h copy source offset pages past r apart = elim (eqb_tells r copy.0) [ inl same ↦ absurd (apart same.1) | inr other ↦ ap (λ b. if b then in_use header h source.0 past else in_use header h r past) other.0 ]
+
+copy_pages : (header : Header) (copy source : RegionId) (offset pages : ℕ) (past : List Event) → (region_of header copy.0 (copied copy source offset pages ∷ past)).pages ≡ pages
+copy_pages header copy source offset pages past = elim (eqb_tells copy.0 copy.0) [ inl same ↦ ap (λ (b : Bool). if b then pages else (region_of header copy.0 past).pages) same.0 | inr apart ↦ absurd (apart.1 refl) ]
+
+some_use : (n : ℕ) → 0 < n → nat_lt 0 n ≡ true
+some_use n some = grind (arith, nat_tests)
+
+-- a region that is there is in use
+pub used_there : (header : Header) (h : ℕ) (k : Parts) (ids : Ids) (past : List Event) (r : ℕ) (row : RegionRow) → Rests header h k ids past → region_at k.chains r ≡ Some row → in_use header h r past ≡ true
+used_there header h k ids past r row rests there =
+    rests.matches.uses.used r ∙ some_use (count_by all_tasks r k.maps) (let counts = rests.matches.entries.counts r row there in let some = rests.used r row there in omega (arith, counts, some))
+
+-- the entry on the copy has its cause
+pub copy_enters : (header : Header) (h : ℕ) (task : TaskId) (copy source : RegionId) (offset : ℕ) (row : Entry) (past : List Event) (k : Parts) (ids : Ids) → Rests header h k ids past → MayCopy header task.0 source offset row past k → copy.0 ≡ next_region header past
+    → Enters header task.0 row.bytes copy.0 0 (copied copy source offset (row.bytes / header.size) ∷ past)
+copy_enters header h task copy source offset row past k ids rests may number =
+    let m = rests.matches in
+    let used : in_use header h copy.0 (copied copy source offset (row.bytes / header.size) ∷ past) ≡ true = copy_use header h copy source offset (row.bytes / header.size) past ∙ used_there header h k ids past source.0 may.region rests may.there in
+    record {
+      idle = may.idle;
+      host = h;
+      lives = lives_here m.tasks may.lives;
+      whole = subst (λ (z : ℕ). row.bytes % z ≡ 0) m.tasks.sized (free_of k.maps.size row (rows_in task.0 k.maps) may.free).whole;
+      inside = let pages = copy_pages header copy source offset (row.bytes / header.size) past in omega (arith, pages);
+      made = omega (arith, number);
+      used = λ temporary. used;
+      file = λ is. used;
+      unfilled = unfilled header.size copy.0 (tasks past) k.maps k.waits.rows (copied copy source offset (row.bytes / header.size) ∷ past) (record { is = rests.waits.is }) (λ t none. m.uses.apart t copy.0 none (inr (omega (arith, number))));
+    }
+
+-- the copy has its cause
+pub copy_cause : (header : Header) (copy source : RegionId) (offset pages : ℕ) (past : List Event) → IsPlain header → IsFrom header source.0 offset pages past → copy.0 ≡ next_region header past → cause.CopiesRegion header copy.0 source.0 offset pages past
+copy_cause header copy source offset pages past plain from number =
+    let none : named header ≡ 0 = ap length plain.objects in
+    record { next = number; temporary = omega (arith, none); task = from.task; address = from.address; at = from.at; source_is = from.source_is; inside = from.inside }
+
+pub task_below : (size task : ℕ) (maps : Mapped) (cs : ChainTable) (lost : List Entry) → HasEntries size maps cs lost → entries_in task maps ≡ Some (rows_in task maps) → task < all_tasks
+task_below size task maps cs lost has lives = by (nat_lt task all_tasks) refl
+  where
+    by : (b : Bool) → nat_lt task all_tasks ≡ b → task < all_tasks
+    by true less = grind (arith, nat_tests)
+    by false less =
+        let le : all_tasks ≤ task = grind (arith, nat_tests) in
+        absurd (let bad : None ≡ Some (rows_in task maps) = sym (has.most task le) ∙ lives in cc)
+
+-- who doesn't wait in the history has no row
+pub no_row : (x : Option Waiting) (w : Option Access) → w ≡ waiting_in x → w ≡ None → x ≡ None
+no_row None w is none = refl
+no_row (Some row) w is none = absurd (let bad : waiting_in (Some row) ≡ None = sym is ∙ none in cc)
+
+-- the next region in use elsewhere, or not made, was so before the copy
+use_before : (header : Header) (h : ℕ) (copy source : RegionId) (offset pages : ℕ) (past : List Event) (r : ℕ) → copy.0 ≡ next_region header past
+    → (in_use header h r (copied copy source offset pages ∷ past) ≡ true) ⊎ (next_region header past + 1 ≤ r) → (in_use header h r past ≡ true) ⊎ (next_region header past ≤ r)
+use_before header h copy source offset pages past r number (inl used) = elim (eqb_tells r copy.0) [
+  | inl same ↦ inr (let is = same.1 in omega (arith, is, number))
+  | inr apart ↦ inl (sym (others_use header h copy source offset pages past r apart.1) ∙ used)
+]
+use_before header h copy source offset pages past r number (inr high) = inr (omega (arith, high))
+
+-- the kernel behind a copy and its entry
+pub rests_copied : (header : Header) (h : ℕ) (outside : Outside) (doing : Command) (task : TaskId) (source : RegionId) (offset : ℕ) (row : Entry) (past : List Event) (k k2 : Parts) (ids ids2 : Ids) (before after : List Event) → Rests header h k ids past
+    → MayCopy header task.0 source offset row past k → (s : EntersCopy task source offset row k k2 ids ids2 before after) → Rests header h k2 ids2 (got task (entry_on row s.copy) ∷ copied s.copy source offset (row.bytes / header.size) ∷ past)
+rests_copied header h outside doing task source offset row past k k2 ids ids2 before after rests may s =
+    let m = rests.matches in
+    let size = header.size in
+    let pages = row.bytes / size in
+    let now : Event = copied s.copy source offset pages in
+    let new : Entry = entry_on row s.copy in
+    let e = got task new in
+    let top = s.region.top.0 in
+    let number : s.copy.0 ≡ next_region header past = s.number ∙ m.regions.region in
+    let same : may.region ≡ s.region = some_is may.region s.region (sym may.there ∙ s.there) in
+    let copies : CopiesRegion source.0 s.copy.0 offset pages s.region k.chains s.mid = subst (λ (z : ℕ). CopiesRegion source.0 s.copy.0 offset (row.bytes / z) s.region k.chains s.mid) m.size s.copies in
+    let once : CopiesOnce source.0 s.copy.0 offset pages s.region k.chains s.mid k2.chains = record { free = m.regions.unmade s.copy.0 (omega (arith, number)); there = s.there; copies = copies; counts = s.counts } in
+    let free : IsFree size row (rows_in task.0 k.maps) = subst (λ (z : ℕ). IsFree z row (rows_in task.0 k.maps)) m.tasks.sized (free_of k.maps.size row (rows_in task.0 k.maps) may.free) in
+    let lives = may.lives in
+    let below = task_below size task.0 k.maps k.chains [] m.entries lives in
+    let enters = copy_enters header h task s.copy source offset row past k ids rests may number in
+    let recount = same_put s.copy.0 1 s.mid k2.chains s.counts in
+    let small = small_region m.regions source.0 s.region s.there in
+    let marked = marked_copied header past s.copy source offset pages number small in
+    let mark : (region_of header source.0 past).mark ≡ s.region.marked = ap (λ z. z.mark) (m.regions.rows source.0 s.region s.there) in
+    let marks : ids2.marks ≡ marked_regions header (now ∷ past) =
+    ap (λ z. z.marks) s.ids ∙ (ap (λ z. z + (if s.region.marked then 1 else 2)) m.regions.marks ∙ (ap (λ (b : Bool). marked_regions header past + (if b then 1 else 2)) (sym mark) ∙ sym marked)) in
+    let few : next_object header past + marked_regions header (now ∷ past) ≤ most_objects = subst (λ (z : ℕ). next_object header past + z ≤ most_objects) (sym marked) may.objects in
+    let within : offset + pages ≤ s.region.pages = subst (λ (z : RegionRow). offset + pages ≤ z.pages) same may.inside in
+    let frames_are : k2.memory.frames ≡ k.memory.frames = ap (λ (z : HostParts). z.frames) s.memory in
+    let rows_are : k2.memory.resident ≡ k.memory.resident = ap (λ (z : HostParts). z.resident) s.memory in
+    let waits_at = λ (t : ℕ). waiting t past in
+    let none = no_row (entry k.waits.rows task.0) (waiting task.0 past) (rests.waits.is task.0 (ap is_some lives)) may.idle in
+    let now_waits : HasWaiters k2.maps k2.chains k.memory.resident k2.memory.objects k.waits.rows woken.Nobody waits_at =
+    waits_referred k2.maps k2.chains k.memory.resident k.memory.objects k2.memory.objects k.waits.rows woken.Nobody waits_at top (s.known.references + 1) s.known
+    (waits_changed k.maps k2.maps k.chains k2.chains k.memory.resident k.memory.objects k.waits.rows woken.Nobody waits_at task.0 (Some (entered new (rows_in task.0 k.maps))) rests.waits s.maps none
+    (places_copy source.0 s.copy.0 offset pages s.region k.chains s.mid k2.chains once) (told_changed k.maps k2.maps k.waits.rows waits_at task.0 (rows_in task.0 k.maps) (Some (entered new (rows_in task.0 k.maps))) rests.waits.is s.maps lives))
+    s.object s.refers in
+    let referred : AllReferred k2.chains k2.memory.objects k.memory.resident =
+    referred_recounted s.mid k2.chains k2.memory.objects k.memory.resident recount
+    (referred_copied top (record s.known { references = s.known.references + 1 }) source.0 s.copy.0 offset pages s.region k.chains s.mid k.memory.objects k2.memory.objects k.memory.resident copies s.refers (omega arith) rests.referred) in
+    record {
+      matches =
+          record {
+            plain = m.plain;
+            known = m.known;
+            size = s.size ∙ m.size;
+            host = rw s.host m.host;
+            fits =
+                record {
+                  parts = subst Fit (sym s.memory) (fit_objects k.memory k2.memory.objects m.fits.parts (same_pages k.memory.objects k2.memory.objects top s.known (record s.known { references = s.known.references + 1 }) s.object refl s.refers));
+                  plain = subst ArePlain (sym rows_are) m.fits.plain;
+                  buffers = ap (λ (z : HostParts). z.buffers.size) s.memory ∙ (m.fits.buffers ∙ sym s.size);
+                };
+            tasks = tasks_entered h size k.maps k2.maps (now ∷ past) task new m.tasks s.maps lives;
+            regions =
+                regions_entered header task new (now ∷ past) k2.chains k2.memory.objects ids2
+                (regions_recounted s.mid k2.chains k2.memory.objects ids2 _ _ _ _ _ recount
+                (regions_copied header past s.copy source offset pages s.region s.known k.chains s.mid k.memory.objects k2.memory.objects ids ids2 (next_region header past) (next_object header past) (marked_regions header past) (marked_regions header (now ∷ past)) s.there number within copies s.object s.refers
+                (ap (λ z. z.next_region) s.ids) (ap (λ z. z.next_object) s.ids) marks few m.regions));
+            homes = λ r found_row found. by_row number r found_row (row_now source.0 s.copy.0 offset pages s.region k.chains s.mid k2.chains once r found_row found);
+            entries = entries_copy size k.maps k2.maps source.0 offset s.region k.chains s.mid k2.chains task.0 s.copy row m.entries once s.maps below free;
+            pages = record { shown = λ o p. rw (frames_are, rows_are) (m.pages.shown o p ∙ ap (local_of_row k.memory.frames (row_at k.memory.resident o p)) (sym (s.absent.at o p))) };
+            uses = uses_entered k.maps k2.maps (λ r. in_use header h r (now ∷ past)) (tasks past) (λ t r. holds header.size t r (e ∷ now ∷ past)) (next_region header past + 1) task.0 new (lives_on h task.0 (now ∷ past))
+                (λ r apart. others_use header h s.copy source offset pages past r apart ∙ m.uses.used r)
+                (copy_use header h s.copy source offset pages past ∙ used_there header h k ids past source.0 s.region rests s.there) m.uses.among s.maps lives below
+                (m.tasks.hosts task.0 ∙ ap is_some lives)
+                (λ t r away why. holds_rows header.size task.0 t r k.maps (rows_in task.0 k.maps) _ (now ∷ past) lives away ∙ m.uses.apart t r away (use_before header h s.copy source offset pages past r number why));
+            controls = controls_counted top (s.known.references + 1) s.known k.memory.objects k2.memory.objects (λ o. last_control h o past) (λ o. live_control h o past) (λ o. is_ready h o past) s.object s.refers
+                (λ o home. object_stays o h e (now ∷ past) (object_stays o h now past home)) m.controls;
+            homeless = homes_next header outside e (now ∷ past) (doing, enters) (homes_next header outside now past (doing, copy_cause header s.copy source offset pages past m.plain may.from number) m.homeless);
+            settled = record { returned = refl; shut = λ region. refl };
+            laundry = rw (frames_are, rows_are, s.laundry) m.laundry;
+            frames = rw frames_are m.frames;
+          };
+      used = used_copy source.0 s.copy.0 offset pages s.region k.chains s.mid k2.chains once rests.used;
+      referred = subst (λ (z : ResidentTable). AllReferred k2.chains k2.memory.objects z) (sym rows_are) referred;
+      waits = rw (rows_are, s.waits) now_waits;
+      order = rw s.waits rests.order;
+      idle = ap (λ z. count_again z.rows) s.waits ∙ rests.idle;
+    }
+  where
+    by_row : s.copy.0 ≡ next_region header past → (r : ℕ) (found_row : RegionRow) → RowNow source.0 s.copy.0 offset (row.bytes / header.size) s.region k.chains r found_row
+        → home_of r (got task (entry_on row s.copy) ∷ copied s.copy source offset (row.bytes / header.size) ∷ past) ≡ Some h
+    by_row number r found_row (OfCopy same is) =
+        let m = rests.matches in
+        let now : Event = copied s.copy source offset (row.bytes / header.size) in
+        subst (λ (z : ℕ). home_of z (got task (entry_on row s.copy) ∷ now ∷ past) ≡ Some h) same
+        (home_entered h task row.address row.bytes s.copy 0 row.prot row.inherit (now ∷ past) (m.homeless.regions s.copy.0 (omega (arith, number))) (lives_here m.tasks may.lives))
+    by_row number r found_row (OfSource same is) =
+        home_stays r h (got task (entry_on row s.copy)) (copied s.copy source offset (row.bytes / header.size) ∷ past) (subst (λ (z : ℕ). home_of z past ≡ Some h) same (rests.matches.homes source.0 s.region s.there))
+    by_row number r found_row (OfOther apart was) =
+        home_stays r h (got task (entry_on row s.copy)) (copied s.copy source offset (row.bytes / header.size) ∷ past) (rests.matches.homes r found_row was)
+
+-- the head of a command with an event more
+pub heads_more : (header : Header) (h : ℕ) (outside : Outside) (doing : Command) (past events : List Event) (e : Event) → Heads header h outside doing past events → IsOne header h outside doing (events ++ past) e → Heads header h outside doing past (e ∷ events)
+heads_more header h outside doing past events e heads is =
+    record {
+      licensed = (licensed header outside doing e (events ++ past) is.settled.returned is.cause, heads.licensed);
+      own_bytes = (is.own_bytes, heads.own_bytes);
+      frames = (is.frames, heads.frames);
+      inner = (is.inner, heads.inner);
+      said = (is.said, heads.said);
+      mine = (mine_of header h e (events ++ past) is.settled.shut is.own is.creates, heads.mine);
+    }
+
+-- both events are the host's
+pub heads_copied : (header : Header) (h : ℕ) (outside : Outside) (doing : Command) (task : TaskId) (copy source : RegionId) (offset : ℕ) (row : Entry) (past events : List Event) (k : Parts) (ids : Ids) → Rests header h k ids (events ++ past)
+    → MayCopy header task.0 source offset row (events ++ past) k → copy.0 ≡ next_region header (events ++ past) → Heads header h outside doing past events → Heads header h outside doing past (got task (entry_on row copy) ∷ copied copy source offset (row.bytes / header.size) ∷ events)
+heads_copied header h outside doing task copy source offset row past events k ids rests may number heads =
+    let m = rests.matches in
+    let now : Event = copied copy source offset (row.bytes / header.size) in
+    let none : named header ≡ 0 = ap length m.plain.objects in
+    let fine = suffices header h k.memory.frames (events ++ past) m.frames in
+    heads_more header h outside doing past (now ∷ events) (got task (entry_on row copy))
+    (heads_more header h outside doing past events now heads
+    (record {
+      settled = m.settled;
+      cause = copy_cause header copy source offset (row.bytes / header.size) (events ++ past) m.plain may.from number;
+      own_bytes = tt;
+      frames = fine;
+      inner = tt;
+      said = tt;
+      own = λ g used. m.homeless.stay g h source.0 (omega (arith, none)) used (m.homes source.0 may.region may.there);
+      creates = tt;
+    }))
+    (record {
+      settled = record { returned = refl; shut = λ region. refl };
+      cause = copy_enters header h task copy source offset row (events ++ past) k ids rests may number;
+      own_bytes = tt;
+      frames = fine;
+      inner = tt;
+      said = tt;
+      own = own_task h task.0 (now ∷ (events ++ past)) (m.tasks.hosts task.0 ∙ ap is_some may.lives);
+      creates = tt;
+    })
+
+-- the log behind them
+pub told_copied : (header : Header) (h : ℕ) (task : TaskId) (source : RegionId) (offset : ℕ) (row : Entry) (past : List Event) (k k2 : Parts) (ids ids2 : Ids) (before after : List Event) → Rests header h k ids past → (s : EntersCopy task source offset row k k2 ids ids2 before after)
+    → after ≡ got task (entry_on row s.copy) ∷ copied s.copy source offset (row.bytes / header.size) ∷ before
+told_copied header h task source offset row past k k2 ids ids2 before after rests s = s.told ∙ ap (λ (z : ℕ). got task (entry_on row s.copy) ∷ copied s.copy source offset (row.bytes / z) ∷ before) rests.matches.size
+
+-- The copy of a range that isn't refused.
+
+-- no object is declared
+
+none_named : (header : Header) (r : ℕ) → IsPlain header → nat_lt r (named header) ≡ false
+none_named header r plain = let none : named header ≡ 0 = ap length plain.objects in grind (arith, nat_tests)
+
+temporary_kind : (header : Header) (r : ℕ) → IsPlain header → kind_of header r ≡ Temp
+temporary_kind header r plain = ap (λ b. if b then kind_in (declared header r) else Temp) (none_named header r plain)
+
+none_uncopied : (header : Header) (own : Bool) (x : Option Entry) → IsPlain header → is_uncopied header own x ≡ false
+none_uncopied header own None plain = refl
+none_uncopied header own (Some row) plain =
+    ap (λ z. is_wild_kind z || (nat_lt row.region.0 (named header) && not own)) (temporary_kind header row.region.0 plain) ∙ ap (λ b. b && not own) (none_named header row.region.0 plain)
+
+-- the copy costs its mark, and one for its source where that had none
+is_full_copy : (header : Header) (source : ℕ) (past : List Event) (b : Bool) → IsPlain header → (region_of header source past).mark ≡ b
+    → refusing.is_copy_full header source past ≡ (nat_le most_regions (next_region header past) || nat_lt most_objects (next_object header past + marked_regions header past + (if b then 1 else 2)))
+is_full_copy header source past true plain mark = rw (none_named header source plain, mark) refl
+is_full_copy header source past false plain mark = rw (none_named header source plain, mark) refl
+
+either_none : (a b : Bool) → (a || b) ≡ false → (a ≡ false) × (b ≡ false)
+either_none true b e = absurd (let bad : true ≡ false = e in cc)
+either_none false b e = (refl, e)
+
+both_true : (a b : Bool) → not (a && b) ≡ false → (a ≡ true) × (b ≡ true)
+both_true true true e = (refl, refl)
+both_true true false e = absurd (let bad : true ≡ false = e in cc)
+both_true false b e = absurd (let bad : true ≡ false = e in cc)
+
+is_not : (b : Bool) → not b ≡ false → b ≡ true
+is_not true e = refl
+is_not false e = absurd (let bad : true ≡ false = e in cc)
+
+-- the numbers of a range
+
+range_of : (size address bytes : ℕ) → is_range size address bytes ≡ true → (bytes % size ≡ 0) × (0 < bytes)
+range_of size address bytes is = (grind (arith, nat_tests), grind (arith, nat_tests))
+
+-- an entry from which a range can be copied, to a task with these entries
+record IsSource (header : Header) (address bytes to : ℕ) (rows : List Entry) (past : List Event) (x : Option Entry) : Type 0 where
+  entry : Entry
+  is : x ≡ Some entry
+  ends : address + bytes ≤ entry.address + entry.bytes
+  allowed : allows need.Load entry.prot ≡ true
+  free : meets_range to bytes rows ≡ false
+  few : nat_lt most_entries (length rows + 1) ≡ false
+  full : refusing.is_copy_full header entry.region.0 past ≡ false
+
+source_of : (header : Header) (address bytes target to : ℕ) (past : List Event) (x : Option Entry) → refusing.copy_refusal header address bytes target to past x ≡ None → IsSource header address bytes to (entries_of header.size target past) past x
+source_of header address bytes target to past None fine = absurd (let bad : Some code.InvalidAddress ≡ None = fine in cc)
+source_of header address bytes target to past (Some entry) fine =
+    let rows = entries_of header.size target past in
+    let last = code_where (nat_lt most_entries (length rows + 1) || refusing.is_copy_full header entry.region.0 past) code.TableFull None in
+    let next = code_where (meets_range to bytes rows) code.NoSpace last in
+    let more = code_where (not (allows need.Load entry.prot)) code.ProtectionFailure next in
+    let one = passed (nat_lt (entry.address + entry.bytes) (address + bytes)) code.InvalidAddress more fine in
+    let two = passed (not (allows need.Load entry.prot)) code.ProtectionFailure next one.1 in
+    let three = passed (meets_range to bytes rows) code.NoSpace last two.1 in
+    let four = passed (nat_lt most_entries (length rows + 1) || refusing.is_copy_full header entry.region.0 past) code.TableFull None three.1 in
+    let both = either_none (nat_lt most_entries (length rows + 1)) (refusing.is_copy_full header entry.region.0 past) four.0 in
+    let behind = one.0 in
+    record {
+      entry = entry;
+      is = refl;
+      ends = grind (arith, nat_tests);
+      allowed = is_not (allows need.Load entry.prot) two.0;
+      free = three.0;
+      few = both.0;
+      full = both.1;
+    }
+
+-- what a copy that may be run has
+pub record MayPlace (header : Header) (task address bytes : ℕ) (target : ℕ) (to : ℕ) (past : List Event) (k : Parts) : Type 0 where
+  pub entry : Entry
+  pub lives : entries_in task k.maps ≡ Some (rows_in task k.maps)
+  pub found : entry_at address (rows_in task k.maps) ≡ Some entry
+  pub allowed : IsAllowed k.maps task address need.Load
+  pub may : MayCopy header target entry.region (page_at k.maps.size address entry) (whole_entry to bytes entry.region) past k
+
+pub may_place : (header : Header) (h : ℕ) (task : TaskId) (address bytes : ℕ) (target : TaskId) (to : ℕ) (past : List Event) (k : Parts) (ids : Ids) (events : List Event) → Starts header h (command.Copy task address bytes target to) past k ids events
+    → MayPlace header task.0 address bytes target.0 to past k
+may_place header h task address bytes target to past k ids events s =
+    let m = s.rests.matches in
+    let size = header.size in
+    let own = entries_of size task.0 past in
+    let rows = entries_of size target.0 past in
+    let last = refusing.copy_refusal header address bytes target.0 to past (entry_at address own) in
+    let numbers = not (is_range size address bytes && is_range size to bytes) || (nat_lt most_pages (bytes / size) || (not (refusing.same_host (host_of task.0 past) (host_of target.0 past)) || is_uncopied header (task.0 == target.0) (entry_at address own))) in
+    let next = code_where numbers code.InvalidArgument last in
+    let waits = is_some (waiting task.0 past) || is_some (waiting target.0 past) in
+    let one = passed (is_none (host_of task.0 past) || is_none (host_of target.0 past)) code.NoSuchName (code_where waits code.Blocked next) s.accepted in
+    let two = passed waits code.Blocked next one.1 in
+    let three = passed numbers code.InvalidArgument last two.1 in
+    let tests = either_none (not (is_range size address bytes && is_range size to bytes)) (nat_lt most_pages (bytes / size) || (not (refusing.same_host (host_of task.0 past) (host_of target.0 past)) || is_uncopied header (task.0 == target.0) (entry_at address own))) three.0 in
+    let ranges = both_true (is_range size address bytes) (is_range size to bytes) tests.0 in
+    let sized = either_none (nat_lt most_pages (bytes / size)) (not (refusing.same_host (host_of task.0 past) (host_of target.0 past)) || is_uncopied header (task.0 == target.0) (entry_at address own)) tests.1 in
+    let hosts = either_none (not (refusing.same_host (host_of task.0 past) (host_of target.0 past))) (is_uncopied header (task.0 == target.0) (entry_at address own)) sized.1 in
+    let source = source_of header address bytes target.0 to past (entry_at address own) three.1 in
+    let lives = lives_in task.0 m.tasks s.acts in
+    let home : is_on h (host_of target.0 past) ≡ true = subst (λ (z : Option ℕ). refusing.same_host z (host_of target.0 past) ≡ true) (lives_here m.tasks lives) (is_not (refusing.same_host (host_of task.0 past) (host_of target.0 past)) hosts.0) in
+    let there = lives_in target.0 m.tasks home in
+    let entry = source.entry in
+    let found : entry_at address (rows_in task.0 k.maps) ≡ Some entry = ap (entry_at address) (sym (rows_here m.tasks lives)) ∙ source.is in
+    let is_inside = found_row (IsInside size k.chains) address (rows_in task.0 k.maps) entry (m.entries.inside task.0) found in
+    let inside = is_inside.is.inside.whole in
+    let region = region_row k.chains entry.region.0 is_inside.is.region in
+    let pages : region_pages k.chains entry.region.0 ≡ region.0.pages = ap pages_in region.1 in
+    let free : meets_range to bytes (rows_in target.0 k.maps) ≡ false = ap (meets_range to bytes) (sym (rows_here m.tasks there)) ∙ source.free in
+    let few : nat_lt most_entries (length (rows_in target.0 k.maps) + 1) ≡ false = ap (λ (z : List Entry). nat_lt most_entries (length z + 1)) (sym (rows_here m.tasks there)) ∙ source.few in
+    let full = sym (is_full_copy header entry.region.0 past (region_of header entry.region.0 past).mark m.plain refl) ∙ source.full in
+    let counts = either_none (nat_le most_regions (next_region header past)) (nat_lt most_objects (next_object header past + marked_regions header past + (if (region_of header entry.region.0 past).mark then 1 else 2))) full in
+    let regions : nat_le most_regions (next_region header past) ≡ false = counts.0 in
+    let objects = counts.1 in
+    let short : nat_lt most_pages (bytes / size) ≡ false = sized.0 in
+    let some = range_of size to bytes ranges.1 in
+    let sum = div_sum size (address - entry.address) bytes in
+    let start = is_inside.from in
+    let ends = source.ends in
+    let grows = div_grows size (address - entry.address + bytes) entry.bytes (omega (arith, start, ends)) in
+    let within : page_at size address entry + bytes / size ≤ entry.offset + entry.bytes / size = omega (arith, sum, grows) in
+    record {
+      entry = entry;
+      lives = lives;
+      found = found;
+      allowed = record { entry = entry; lives = lives; found = found; allowed = source.allowed };
+      may =
+          record {
+            lives = there;
+            idle = idle_both (waiting task.0 past) (waiting target.0 past) two.0;
+            free = rw (m.tasks.sized, ranges.1, free, few) refl;
+            pages = let most : bytes / size ≤ most_pages = grind (arith, nat_tests) in omega (arith, most);
+            region = region.0;
+            there = region.1;
+            inside = subst (λ (z : ℕ). page_at z address entry + bytes / size ≤ region.0.pages) (sym m.tasks.sized) (omega (arith, within, inside, pages));
+            regions = grind (arith, nat_tests);
+            objects = few_objects (if (region_of header entry.region.0 past).mark then 1 else 2) objects;
+            from =
+                record {
+                  task = task.0;
+                  address = address;
+                  at = record { host = h; entry = entry; lives = lives_here m.tasks lives; found = source.is };
+                  source_is = refl;
+                  inside = subst (λ (z : ℕ). page_at z address entry + bytes / size ≤ entry.offset + entry.bytes / size) (sym m.tasks.sized) within;
+                };
+          };
+    }
+  where
+    few_objects : (n : ℕ) → nat_lt most_objects (next_object header past + marked_regions header past + n) ≡ false → next_object header past + (marked_regions header past + n) ≤ most_objects
+    few_objects n not_more = grind (arith, nat_tests)
+
+    idle_both : (x y : Option Access) → (is_some x || is_some y) ≡ false → y ≡ None
+    idle_both (Some x) y e = absurd (let bad : true ≡ false = e in cc)
+    idle_both None None e = refl
+    idle_both None (Some y) e = absurd (let bad : true ≡ false = e in cc)
+
+-- both are in place
+pub can_place : (header : Header) (h : ℕ) (task : TaskId) (address bytes : ℕ) (target : TaskId) (to : ℕ) (past : List Event) (k : Parts) (ids : Ids) (events : List Event) (place : Place) (range : Entry) → Starts header h (command.Copy task address bytes target to) past k ids events
+    → ((entry : Entry) → entry_at address (rows_in task.0 k.maps) ≡ Some entry → place ≡ place_at k.maps.size address entry) → range ≡ whole_entry to bytes place.region → CanCopy target.0 place.region place.page.0 range k ids
+can_place header h task address bytes target to past k ids events place range s is made =
+    let p = may_place header h task address bytes target to past k ids events s in
+    subst (λ (z : Entry). CanCopy target.0 place.region place.page.0 z k ids) (sym made)
+    (subst (λ (z : Place). CanCopy target.0 z.region z.page.0 (whole_entry to bytes z.region) k ids) (sym (is p.entry p.found))
+    (can_copy header h target.0 p.entry.region (page_at k.maps.size address p.entry) (whole_entry to bytes p.entry.region) past k ids s.rests p.may))
+
+pub ran_copy : (header : Header) (h : ℕ) (outside : Outside) (task : TaskId) (address bytes : ℕ) (target : TaskId) (to : ℕ) (past : List Event) (k k2 : Parts) (ids ids2 : Ids) (before after : List Event) (place : Place) (range : Entry)
+    → Starts header h (command.Copy task address bytes target to) past k ids before → ((entry : Entry) → entry_at address (rows_in task.0 k.maps) ≡ Some entry → place ≡ place_at k.maps.size address entry) → range ≡ whole_entry to bytes place.region
+    → EntersCopy target place.region place.page.0 range k k2 ids ids2 before after → Ran header h outside (command.Copy task address bytes target to) past k2 ids2 after
+ran_copy header h outside task address bytes target to past k k2 ids ids2 before after place range s is made entered_copy =
+    let m = s.rests.matches in
+    let doing = command.Copy task address bytes target to in
+    let p = may_place header h task address bytes target to past k ids before s in
+    let source = p.entry.region in
+    let page = page_at k.maps.size address p.entry in
+    let row = whole_entry to bytes source in
+    let c : EntersCopy target source page row k k2 ids ids2 before after =
+    subst (λ (z : Place). EntersCopy target z.region z.page.0 (whole_entry to bytes z.region) k k2 ids ids2 before after) (is p.entry p.found)
+    (subst (λ (z : Entry). EntersCopy target place.region place.page.0 z k k2 ids ids2 before after) made entered_copy) in
+    let number : c.copy.0 ≡ next_region header past = c.number ∙ m.regions.region in
+    let named_copy : c.copy ≡ record { 0 = next_region header past } = λ i. record { 0 = number i } in
+    let events : List Event = got target (entry_on row c.copy) ∷ copied c.copy source page (bytes / header.size) ∷ [] in
+    let first : List Event = copied c.copy source page (bytes / header.size) ∷ got target (entry_on row c.copy) ∷ [] in
+    let told : after ≡ events = told_copied header h target source page row past k k2 ids ids2 before after s.rests c ∙ ap (λ z. got target (entry_on row c.copy) ∷ copied c.copy source page (bytes / header.size) ∷ z) s.nothing in
+    let same : entry_at address (entries_of header.size task.0 past) ≡ Some p.entry = ap (entry_at address) (rows_here m.tasks p.lives) ∙ p.found in
+    let written : head header past doing ≡ Some first =
+    ap (copy_head (named header) header.size (next_region header past) address bytes target to) same
+    ∙ (ap (λ b. if b then None else Some (copied (record { 0 = next_region header past }) source (page_at header.size address p.entry) (bytes / header.size) ∷ got target (entry_on row (record { 0 = next_region header past })) ∷ [])) (none_named header source.0 m.plain)
+    ∙ (ap (λ (z : ℕ). Some (copied (record { 0 = next_region header past }) source (page_at z address p.entry) (bytes / header.size) ∷ got target (entry_on row (record { 0 = next_region header past })) ∷ [])) (sym m.tasks.sized)
+    ∙ ap (λ (z : RegionId). Some (copied z source page (bytes / header.size) ∷ got target (entry_on row z) ∷ [])) (sym named_copy))) in
+    subst (λ (z : List Event). Ran header h outside doing past k2 ids2 z) (sym told)
+    (ran_head header h outside doing past k2 ids2 events first written refl
+    (heads_copied header h outside doing target c.copy source page row past [] k ids s.rests p.may number (record { licensed = tt; own_bytes = tt; frames = tt; inner = tt; said = tt; mine = tt })) tt
+    (rests_copied header h outside doing target source page row past k k2 ids ids2 before after s.rests p.may c))
+
+-- The refusal of a copy is that of its history.
+
+-- a list of tests with two in one
+code_both : (a b : Bool) (why : Code) (later : Option Code) → code_where (a || b) why later ≡ code_where a why (code_where b why later)
+code_both true b why later = refl
+code_both false b why later = refl
+
+tests_are : (a b c : Bool) → c ≡ false → (a || (b || (false || c))) ≡ (a || b)
+tests_are true b c none = refl
+tests_are false true c none = refl
+tests_are false false c none = none
+
+marked_is : (k : Parts) (r : ℕ) (row : RegionRow) (b : Bool) → region_at k.chains r ≡ Some row → row.marked ≡ b → is_marked k.chains r ≡ b
+marked_is k r row b there is = rw there is
+
+full_same : (header : Header) (h : ℕ) (k : Parts) (ids : Ids) (past : List Event) (r : ℕ) → Rests header h k ids past → has_region k.chains r ≡ true → refusing.is_copy_full header r past ≡ is_copy_full k.chains ids r
+full_same header h k ids past r rests there =
+    let m = rests.matches in
+    let row = region_row k.chains r there in
+    let mark : (region_of header r past).mark ≡ row.0.marked = ap (λ z. z.mark) (m.regions.rows r row.0 row.1) in
+    is_full_copy header r past row.0.marked m.plain mark
+    ∙ (ap (λ (z : ℕ). nat_le most_regions z || nat_lt most_objects (next_object header past + marked_regions header past + (if row.0.marked then 1 else 2))) (sym m.regions.region)
+    ∙ (ap (λ (z : ℕ). nat_le most_regions ids.next_region || nat_lt most_objects (z + marked_regions header past + (if row.0.marked then 1 else 2))) (sym m.regions.object)
+    ∙ (ap (λ (z : ℕ). nat_le most_regions ids.next_region || nat_lt most_objects (ids.next_object + z + (if row.0.marked then 1 else 2))) (sym m.regions.marks)
+    ∙ ap (λ (b : Bool). nat_le most_regions ids.next_region || nat_lt most_objects (ids.next_object + ids.marks + (if b then 1 else 2))) (sym (marked_is k r row.0 row.0.marked row.1 refl)))))
+
+source_same : (header : Header) (h : ℕ) (k : Parts) (ids : Ids) (past : List Event) (task target address bytes to : ℕ) (x : Option Entry) → Rests header h k ids past → entries_of header.size target past ≡ rows_in target k.maps → entry_at address (rows_in task k.maps) ≡ x
+    → refusing.copy_refusal header address bytes target to past x ≡ source_code k.chains ids (rows_in target k.maps) address bytes to x
+source_same header h k ids past task target address bytes to None rests same found = refl
+source_same header h k ids past task target address bytes to (Some row) rests same found =
+    let is = found_row (IsInside header.size k.chains) address (rows_in task k.maps) row (rests.matches.entries.inside task) found in
+    let full = full_same header h k ids past row.region.0 rests is.is.region in
+    ap (λ (z : List Entry). code_where (nat_lt (row.address + row.bytes) (address + bytes)) code.InvalidAddress
+    (code_where (not (allows need.Load row.prot)) code.ProtectionFailure
+    (code_where (meets_range to bytes z) code.NoSpace
+    (code_where (nat_lt most_entries (length z + 1) || refusing.is_copy_full header row.region.0 past) code.TableFull None)))) same
+    ∙ ap (λ (b : Bool). code_where (nat_lt (row.address + row.bytes) (address + bytes)) code.InvalidAddress
+    (code_where (not (allows need.Load row.prot)) code.ProtectionFailure
+    (code_where (meets_range to bytes (rows_in target k.maps)) code.NoSpace
+    (code_where (nat_lt most_entries (length (rows_in target k.maps) + 1) || b) code.TableFull None)))) full
+
+some_waits : (o : Option Waiting) → is_some (waiting_in o) ≡ is_some o
+some_waits None = refl
+some_waits (Some w) = refl
+
+waits_are : (header : Header) (h : ℕ) (k : Parts) (ids : Ids) (past : List Event) (task : ℕ) → Rests header h k ids past → lives_on h task past ≡ true → is_some (waiting task past) ≡ is_some (entry k.waits.rows task)
+waits_are header h k ids past task rests acts = ap (λ z. is_some z) (rests.waits.is task (ap (λ z. is_some z) (lives_in task rests.matches.tasks acts))) ∙ some_waits (entry k.waits.rows task)
+
+pub copy_refused : (header : Header) (h : ℕ) (k : Parts) (ids : Ids) (past : List Event) (task : TaskId) (address bytes : ℕ) (target : TaskId) (to : ℕ) → Rests header h k ids past → lives_on h task.0 past ≡ true → lives_on h target.0 past ≡ true
+    → refusal header past (command.Copy task address bytes target to) ≡ code_of k ids (command.Copy task address bytes target to)
+copy_refused header h k ids past task address bytes target to rests acts there =
+    let m = rests.matches in
+    let size = header.size in
+    let own : entries_of size task.0 past ≡ rows_in task.0 k.maps = rows_here m.tasks (lives_in task.0 m.tasks acts) in
+    let rows : entries_of size target.0 past ≡ rows_in target.0 k.maps = rows_here m.tasks (lives_in target.0 m.tasks there) in
+    let found = source_same header h k ids past task.0 target.0 address bytes to (entry_at address (rows_in task.0 k.maps)) rests rows refl in
+    let none = none_uncopied header (task.0 == target.0) (entry_at address (rows_in task.0 k.maps)) m.plain in
+    let ranges = not (is_range size address bytes && is_range size to bytes) in
+    let large = nat_lt most_pages (bytes / size) in
+    let later = source_code k.chains ids (rows_in target.0 k.maps) address bytes to (entry_at address (rows_in task.0 k.maps)) in
+    rw (on_is h (host_of task.0 past) acts, on_is h (host_of target.0 past) there, own_host h, waits_are header h k ids past task.0 rests acts, waits_are header h k ids past target.0 rests there, own, found, m.tasks.sized)
+    (code_both (is_some (entry k.waits.rows task.0)) (is_some (entry k.waits.rows target.0)) code.Blocked _
+    ∙ ap (λ (b : Bool). code_where (is_some (entry k.waits.rows task.0)) code.Blocked (code_where (is_some (entry k.waits.rows target.0)) code.Blocked (code_where b code.InvalidArgument later)))
+    (tests_are ranges large (is_uncopied header (task.0 == target.0) (entry_at address (rows_in task.0 k.maps))) none))

@@ -1,0 +1,110 @@
+-- The page that an access in the frame queue is to copy.
+use Rattle.vm_kernel.proofs.Common.{Bool, Entry, Event, HasWaits, Header, Ids, IsAllowed, IsInside, List, Matches, None, Option, PageKey, PageRow, Parts, RegionRow, Some, Waiting, Want, Woken, [], access_in, address_in, address_of, ap, arith, entries_of, entry, entry_at, false, found_row, is_some, is_store, length, need_in, next_page, page_at, page_of, pages_in, refl, region_at, region_pages, rows_in, subst, suc, sym, true, waiting_in, zero, if◌then◌else◌, nat_lt, ℕ, ◌&&◌, ◌<◌, ◌∙◌, ◌≡◌}
+use Rattle.vm_fault.specs.Sources.{CanWalk, Reads, source_at}
+use Rattle.vm_fault.specs.Stops.{Stops}
+use Rattle.vm_fault.specs.Walks.{Finds, WalksTo, is_storing, top_place}
+use Rattle.vm_fault.specs.declared.walking.Stop.{Stop}
+use Rattle.vm_fault.specs.declared.walking.Stop.TheVariants as stop
+use Rattle.vm_legal.specs.Accesses.{Comes, Raises}
+use Rattle.vm_legal.specs.Prompt.{IsSource}
+use Rattle.vm_kernel.specs.Serving.{IsToCopy}
+use Rattle.vm_kernel.proofs.Own.{lives_here, rows_here}
+use Rattle.vm_state.proofs.Referring.{refers_region, refers_shadow}
+use Rattle.vm_state.proofs.Shown.{IsShown, shows_row}
+use Rattle.vm_state.proofs.Walks.{comes_of}
+use Rattle.vm_waits.specs.declared.waiting.Want.TheVariants as want
+
+-- a history says of a host's pages, controls and chains what its kernel has of them
+pub shown_of : (header : Header) (h : ℕ) (k : Parts) (ids : Ids) (past : List Event) (lost : List Entry) → Matches header h k ids lost past → IsShown header h k.memory k.chains past
+shown_of header h k ids past lost m =
+    record {
+      declared = ap length m.plain.objects;
+      pages = m.pages;
+      live = m.controls.live;
+      ready = m.controls.ready;
+      temporary = m.regions.temporary;
+      rows = m.regions.rows;
+      shadows = m.regions.shadows;
+      bottoms = m.regions.bottoms;
+      under_referred = λ o row found. refers_shadow m.regions o row found;
+      top_referred = λ r row found. refers_region m.regions r row found;
+    }
+
+-- the address of an access is its own, since none is a slow copy
+pub address_of_want : (size next : ℕ) (what : Want) → address_of size next (access_in what) ≡ address_in what
+address_of_want size next (want.Load address n) = refl
+address_of_want size next (want.Store address n value) = refl
+
+-- so it is about the same page of its entry's region
+pub page_of_want : (header : Header) (h : ℕ) (k : Parts) (ids : Ids) (past : List Event) (lost : List Entry) (task : ℕ) (what : Want) (entry : Entry) → Matches header h k ids lost past
+    → page_at k.maps.size (address_in what) entry ≡ page_of header task (access_in what) past entry
+page_of_want header h k ids past lost task what entry m =
+    ap (λ z. page_at z (address_in what) entry) m.tasks.sized ∙ ap (λ z. page_at header.size z entry) (sym (address_of_want header.size (next_page task past) what))
+
+region_there : (x : Option RegionRow) → is_some x ≡ true → (row : RegionRow) × (x ≡ Some row)
+region_there None some = absurd (let bad : false ≡ true = some in cc)
+region_there (Some row) some = (row, refl)
+
+-- an access that an entry allows can be followed down its chain
+pub walks_down : (header : Header) (h : ℕ) (k : Parts) (ids : Ids) (past : List Event) (lost : List Entry) (task : ℕ) (what : Want) → Matches header h k ids lost past → IsAllowed k.maps task (address_in what) (need_in what) → CanWalk k.maps k.memory k.chains task what
+walks_down header h k ids past lost task what m allowed =
+    let address = address_in what in
+    let e = allowed.entry in
+    let found = found_row (IsInside header.size k.chains) address (rows_in task k.maps) e (m.entries.inside task) allowed.found in
+    let region = region_there (region_at k.chains e.region.0) found.is.region in
+    let below : page_at header.size address e < region_pages k.chains e.region.0 = found.is.inside.each address found.from found.below in
+    let pages : region_pages k.chains e.region.0 ≡ region.0.pages = ap pages_in region.1 in
+    let sized : page_at k.maps.size address e ≡ page_at header.size address e = ap (λ z. page_at z address e) m.tasks.sized in
+    record { allowed = allowed; entry = e; found = allowed.found; row = region.0; region = region.1; inside = omega (arith, below, pages, sized); fits = m.regions.fits }
+
+stores : (what : Want) → is_storing what ≡ true → is_store (access_in what) ≡ true
+stores (want.Load address n) is = is
+stores (want.Store address n value) is = is
+
+-- where the walk of a store ends below its top place, it wants a frame for a copy
+source_is : (header : Header) (h : ℕ) (k : Parts) (ids : Ids) (past : List Event) (who : Woken) (task : ℕ) (w : Waiting) (source : Option PageKey) (key : PageKey) (row : PageRow) (n : ℕ) → Matches header h k ids [] past → HasWaits k who past → entry k.waits.rows task ≡ Some w
+    → (reads : Reads k.maps k.memory k.chains task w.want source) → Finds k.memory k.chains (suc n) reads.top key row → is_storing w.want ≡ true → IsSource header h key.object.0 key.page.0 past
+source_is header h k ids past who task w source key row n m waits found reads finds storing =
+    let s = shown_of header h k ids past [] m in
+    let what = w.want in
+    let at = reads.at in
+    let e = at.entry in
+    let lives = (waits.allowed task w found).lives in
+    let index = page_of header task (access_in what) past e in
+    let place = at.is ∙ ap (top_place at.row) (page_of_want header h k ids past [] task what e m) in
+    let walks : WalksTo k.memory k.chains (suc n) (top_place at.row index) key = subst (λ (z : PageKey). WalksTo k.memory k.chains (suc n) z key) place finds.walks in
+    let comes : Comes header h e.region.0 index key.object.0 key.page.0 past = comes_of s e.region.0 at.row at.region index (suc n) key walks in
+    let here = (shows_row s key.object.0 key.page.0 row finds.found finds.here).here in
+    record {
+      task = task;
+      access = access_in what;
+      waits = record {
+        waits = waits.is task (ap is_some lives) ∙ ap waiting_in found;
+        at = record {
+          host = h;
+          entry = e;
+          lives = lives_here m.tasks lives;
+          found = ap (λ z. entry_at z (entries_of header.size task past)) (address_of_want header.size (next_page task past) what) ∙ (ap (entry_at (address_in what)) (rows_here m.tasks lives) ∙ at.found);
+        };
+      };
+      on_host = refl;
+      comes = comes;
+      wants = Raises comes.top comes.top_page n key.object.0 key.page.0 comes.is_top comes.walks here (stores what storing);
+    }
+
+-- what an access would copy that waits
+pub to_copy : (header : Header) (h : ℕ) (k : Parts) (ids : Ids) (past : List Event) (who : Woken) (task : ℕ) (w : Waiting) (source : Option PageKey) → Matches header h k ids [] past → HasWaits k who past → entry k.waits.rows task ≡ Some w
+    → Reads k.maps k.memory k.chains task w.want source → IsToCopy header h k source past
+to_copy header h k ids past who task w source m waits found reads = subst (λ (z : Option PageKey). IsToCopy header h k z past) (sym reads.is) (go reads.stop reads.stops)
+  where
+    below : (b less : Bool) (n : ℕ) (key : PageKey) (row : PageRow) → is_storing w.want ≡ b → nat_lt 0 n ≡ less → Finds k.memory k.chains n reads.top key row → IsToCopy header h k (if b && less then Some key else None) past
+    below false less n key row is more finds = tt
+    below true false n key row is more finds = tt
+    below true true zero key row is more finds = absurd (let bad : false ≡ true = more in cc)
+    below true true (suc n) key row is more finds = (source_is header h k ids past who task w source key row n m waits found reads finds is, (row, finds.found, finds.here))
+
+    go : (s : Stop) → Stops k.memory k.chains reads.top s → IsToCopy header h k (source_at w.want s) past
+    go (stop.Found key row steps) finds = below (is_storing w.want) (nat_lt 0 steps) steps key row refl refl finds
+    go (stop.Asked key) stops = tt
+    go (stop.MayCome key object steps) stops = tt
+    go stop.Nowhere stops = tt
