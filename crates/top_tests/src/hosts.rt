@@ -113,7 +113,7 @@ fn run<F: Backing, P: Backing>(
 {
     'commands: for i in 0..script.commands.len() {
         let numbered = script.commands.at(i);
-        if is_run(&numbered.command) && !system.is_held_up(&numbered.command) {
+        if is_run(&numbered.command) {
             system.step(numbered.line, &numbered.command, files, paging)?;
         }
     }

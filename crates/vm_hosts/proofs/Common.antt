@@ -7,7 +7,6 @@ pub use Rattle.std.proofs.lemmas.Option.{same_Some, slice_get_read, slice_get_wi
 pub use Rattle.std.specs.Prelude.{IfSome, MatchOption, if◌then◌else◌, is_some, nat_lt, not, reverse, slice_get, ◌⊎◌}
 pub use Rattle.vm_abroad.proofs.Sounds.{sound_start}
 pub use Rattle.vm_abroad.proofs.Whose.{abroad_of_own, own_of_home}
-pub use Rattle.vm_abroad.specs.Home.{home_of}
 pub use Rattle.vm_abroad.specs.Sound.{IsAbroad}
 pub use Rattle.vm_abroad.specs.Whose.{IsNewTask, IsOfHost}
 pub use Rattle.vm_base.specs.declared.code.Code.{Code}
@@ -15,14 +14,14 @@ pub use Rattle.vm_base.specs.declared.ids.HostId.{HostId}
 pub use Rattle.vm_base.specs.declared.ids.ObjectId.{ObjectId}
 pub use Rattle.vm_base.specs.declared.ids.ObjectKind.{ObjectKind}
 pub use Rattle.vm_base.specs.declared.ids.ObjectKind.TheVariants.{Temp}
-pub use Rattle.vm_kernel.proofs.Abroad.{common_of, frames_abroad, nobodys_abroad, nobodys_shut, of_host, prompt_abroad, queue_abroad, rests_abroad, sound_caused, sound_more}
+pub use Rattle.vm_kernel.proofs.Abroad.{common_of, frames_abroad, nobodys_abroad, nobodys_shut, of_host, prompt_abroad, queue_abroad, rests_abroad, sound_caused, sound_more, waits_here}
 pub use Rattle.vm_kernel.proofs.Done.{done_more}
 pub use Rattle.vm_kernel.proofs.Failing.{paid_more}
 pub use Rattle.vm_kernel.proofs.Growing.{paid_of, suffices}
 pub use Rattle.vm_kernel.specs.Abroad.{IsCommon, IsNobodys}
 pub use Rattle.vm_kernel.specs.Begun.{CreatesHere, IsLaundered, IsLined, IsMine, KernelSays, LegalEvents, Passed, Ran, Served, SomeKernelSays, Starts, acts_on}
-pub use Rattle.vm_kernel.specs.Built.{copies_entries, kernel_runs}
-pub use Rattle.vm_kernel.specs.Matches.{IsOverOwn, IsPlain, Rests, first_ids, host_id}
+pub use Rattle.vm_kernel.specs.Built.{kernel_runs}
+pub use Rattle.vm_kernel.specs.Matches.{IsPlain, Rests, first_ids, host_id}
 pub use Rattle.vm_kernel.specs.Serving.{HasQueue}
 pub use Rattle.vm_kernel.specs.Taking.{EndsAll, IsErrorPaid}
 pub use Rattle.vm_kernel.specs.declared.parts.Parts.{Parts}

@@ -4,6 +4,7 @@ pub mod Behind
 pub mod Homes
 pub mod Newest
 pub mod Nobodys
+pub mod Pairs
 pub mod Serving
 pub mod Starting
 pub mod Stretches

@@ -1,8 +1,12 @@
 -- What is no host's leaves all kernels what they stand for.
-use Rattle.vm_hosts.proofs.Common.{AllLicensed, AllQueued, AllRest, Channel, Code, Command, Down, EachIn, EachOf, EntersNext, Event, HasCause, Header, HostTable, Ids, IsAbroad, IsBehind, IsCommon, IsNobodys, IsOverOwn, IsPlain, Licensed, List, MatchOption, MaySendDown, Message, None, ObjectKind, Option, Outside, PagerSends, ReturnsOn, Temp, Up, [], ap, arith, backing_of, created, false, home_of, kind_of, length, named, nat_lt, nat_tests, next_object, next_region, nobodys_abroad, nobodys_shut, queue_abroad, refl, region_of, rests_abroad, sound_caused, subst, sym, ℕ, ◌++◌, ◌∙◌, ◌∷◌, ◌≡◌, ◌≤◌}
+use Rattle.vm_hosts.proofs.Common.{AllLicensed, AllQueued, AllRest, Channel, Code, Command, Down, EachIn, EachOf, EntersNext, Event, HasCause, Header, HostTable, Ids, IsAbroad, IsBehind, IsCommon, IsNobodys, IsPlain, Licensed, List, MatchOption, MaySendDown, Message, None, ObjectKind, Option, Outside, PagerSends, ReturnsOn, Temp, Up, [], ap, arith, created, false, kind_of, length, named, nat_lt, nat_tests, next_object, next_region, nobodys_abroad, nobodys_shut, queue_abroad, refl, region_of, rests_abroad, sound_caused, subst, sym, ℕ, ◌++◌, ◌∙◌, ◌∷◌, ◌≡◌, ◌≤◌}
 use Rattle.vm_model.specs.declared.event.Event.TheVariants as event
 use Rattle.vm_model.specs.declared.message.Message.TheVariants as message
 use Rattle.vm_hosts.proofs.Acting.{MakesOn, tasks_more}
+use Rattle.std.proofs.Common.{suc, zero, ◌+◌}
+use Rattle.vm_abroad.proofs.Home.{homes_next}
+use Rattle.vm_base.specs.Limits.{most_objects}
+use Rattle.vm_model.specs.Regions.{marked_below, marked_regions}
 use Rattle.vm_hosts.proofs.Tables.{common_all}
 
 makes_nothing : (n : ℕ) (events : List Event) → EachOf IsNobodys events → EachOf (MakesOn n) events
@@ -31,34 +35,39 @@ none_created header outside doing (event.Sent (Down host object control) m) past
 none_created header outside doing (event.Sent (Up host object) m) past plain nobodys licensed = absurd nobodys
 none_created header outside doing other past plain nobodys licensed = refl
 
--- numbers, regions, and objects with their homes
+-- the next numbers of regions and objects, and the regions
 pub record SameTables (header : Header) (past new : List Event) : Type 0 where
   pub region : next_region header new ≡ next_region header past
   pub object : next_object header new ≡ next_object header past
   pub regions : (r : ℕ) → region_of header r new ≡ region_of header r past
-  pub backings : (o : ℕ) → backing_of header o new ≡ backing_of header o past
-  pub homes : (r : ℕ) → home_of r new ≡ home_of r past
 
 same_tables : (header : Header) (e : Event) (past : List Event) → IsNobodys e → SameTables header past (e ∷ past)
 same_tables header (event.RegionMade region object pages) past nobodys = absurd nobodys
 same_tables header (event.RegionCopied region source offset pages) past nobodys = absurd nobodys
 same_tables header (event.Shadowed region new old) past nobodys = absurd nobodys
 same_tables header (event.Entered task address bytes region offset prot inherit) past nobodys = absurd nobodys
-same_tables header other past nobodys = record { region = refl; object = refl; regions = λ r. refl; backings = λ o. refl; homes = λ r. refl }
+same_tables header other past nobodys = record { region = refl; object = refl; regions = λ r. refl }
+
+-- so as many regions are marked
+marks_same : (header : Header) (past new : List Event) → ((r : ℕ) → region_of header r new ≡ region_of header r past) → (n : ℕ) → marked_below header n new ≡ marked_below header n past
+marks_same header past new same zero = refl
+marks_same header past new same (suc n) = rw (ap (λ z. z.mark) (same n), marks_same header past new same n) refl
+
+marked_same : (header : Header) (past new : List Event) → SameTables header past new → marked_regions header new ≡ marked_regions header past
+marked_same header past new same = subst (λ (z : ℕ). marked_below header z new ≡ marked_regions header past) (sym same.region) (marks_same header past new same.regions (next_region header past))
 
 common_more : (header : Header) (outside : Outside) (doing : Command) (ids : Ids) (events past : List Event) → IsPlain header → EachOf IsNobodys events → AllLicensed header outside doing events past → IsCommon header ids past → IsCommon header ids (events ++ past)
 common_more header outside doing ids [] past plain nobodys licensed common = common
 common_more header outside doing ids (e ∷ events) past plain nobodys licensed common =
     let before = common_more header outside doing ids events past plain nobodys.1 licensed.1 common in
     let same = same_tables header e (events ++ past) nobodys.0 in
+    let marks = marked_same header (events ++ past) (e ∷ events ++ past) same in
     record {
       region = before.region ∙ sym same.region;
       object = before.object ∙ sym same.object;
-      equal = same.object ∙ (before.equal ∙ sym same.region);
-      marks = before.marks;
-      tops = λ r. subst (λ z. IsOverOwn z r) (sym (same.regions r)) (before.tops r);
-      unbacked = λ o. ap (λ z. z.backed) (same.backings o) ∙ before.unbacked o;
-      homeless = λ r high. same.homes r ∙ before.homeless r (subst (λ (z : ℕ). z ≤ r) same.region high);
+      marks = before.marks ∙ sym marks;
+      few = subst (λ (z : ℕ). z + marked_regions header (e ∷ events ++ past) ≤ most_objects) (sym same.object) (subst (λ (z : ℕ). next_object header (events ++ past) + z ≤ most_objects) (sym marks) before.few);
+      homeless = homes_next header outside e (events ++ past) (doing, licensed.0.0) before.homeless;
       settled = record { returned = none_created header outside doing e (events ++ past) plain nobodys.0 licensed.0; shut = nobodys_shut (e ∷ events) past nobodys common.settled.shut };
     }
 

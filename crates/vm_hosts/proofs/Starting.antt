@@ -1,5 +1,5 @@
 -- A command's step.
-use Rattle.vm_hosts.proofs.Common.{AllRest, Began, Command, Event, Header, Heads, HostTable, Ids, InRange, IsDone, IsLined, List, None, Outside, Parts, Ran, Starts, Went, [], acts_on, ap, copies_entries, done_more, false, kernel_runs, length, paid_of, refl, refusal, subst, sym, true, ℕ, ◌++◌, ◌<◌, ◌∙◌, ◌≡◌}
+use Rattle.vm_hosts.proofs.Common.{AllRest, Began, Command, Event, Header, Heads, HostTable, Ids, InRange, IsDone, IsLined, List, None, Outside, Parts, Ran, Starts, Went, [], acts_on, ap, done_more, kernel_runs, length, paid_of, refl, refusal, subst, sym, true, ℕ, ◌++◌, ◌<◌, ◌∙◌, ◌≡◌}
 use Rattle.vm_hosts.proofs.Acting.{Acts, acting_rests, acting_stretch, makes_all}
 use Rattle.vm_hosts.proofs.Stretches.{heads_more}
 use Rattle.vm_hosts.proofs.Tables.{Found, all_suffice, common_all, put}
@@ -24,9 +24,9 @@ module _ (header : Header) (outside : Outside) (doing : Command) (past events : 
       }
 
 pub starts_of : (header : Header) (doing : Command) (past : List Event) (hosts : HostTable) (h : ℕ) (k : Parts) → Found header hosts past h k → acts_on h doing past ≡ true → InRange header doing → refusal header past doing ≡ None
-    → copies_entries header past doing ≡ false → IsLined past → Starts header k.host.0 doing past k hosts.ids []
-starts_of header doing past hosts h k found acts range accepted enough begins =
-    record { rests = found.rests; acts = ap (λ (z : ℕ). acts_on z doing past) found.number ∙ acts; range = range; accepted = accepted; enough = enough; begins = begins; nothing = refl }
+    → IsLined past → Starts header k.host.0 doing past k hosts.ids []
+starts_of header doing past hosts h k found acts range accepted begins =
+    record { rests = found.rests; acts = ap (λ (z : ℕ). acts_on z doing past) found.number ∙ acts; range = range; accepted = accepted; begins = begins; nothing = refl }
 
 -- the same where the kernel goes by its own number
 pub rests_ran : (header : Header) (outside : Outside) (doing : Command) (past events : List Event) (hosts : HostTable) (h g : ℕ) (k : Parts) (ids : Ids) → g ≡ h → h < length header.frames.items → AllRest header hosts past → Ran header g outside doing past k ids events

@@ -1,5 +1,5 @@
 -- A step that began with a taking.
-use Rattle.vm_hosts.proofs.Common.{AllInner, AllRest, Command, Down, EndsAll, Event, EventsFollow, Header, HostId, HostTable, Ids, IsErrorPaid, LegalEvents, Licensed, List, Message, MomentsIn, ObjectId, Outside, Parts, Passed, Rests, Suffice, WaitsAt, Went, [], ap, append-nil, append_assoc, before_more, before_step, error_more, fails_access, fails_task, frames_abroad, frames_free, length, paid_more, since_more, subst, sym, ℕ, ◌++◌, ◌<◌, ◌∙◌, ◌∷◌, ◌≡◌, ◌≢◌}
+use Rattle.vm_hosts.proofs.Common.{AllInner, AllRest, Command, Down, EndsAll, Event, EventsFollow, Header, HostId, HostTable, Ids, IsErrorPaid, LegalEvents, Licensed, List, Message, MomentsIn, ObjectId, Outside, Parts, Passed, Rests, Suffice, WaitsAt, Went, [], ap, append-nil, append_assoc, before_more, before_step, error_more, fails_task, frames_abroad, frames_free, length, paid_more, since_more, subst, sym, ℕ, ◌++◌, ◌<◌, ◌∙◌, ◌∷◌, ◌≡◌, ◌≢◌}
 use Rattle.vm_model.specs.declared.event.Event.TheVariants as event
 use Rattle.vm_hosts.specs.Steps as steps
 use Rattle.vm_hosts.proofs.Acting.{Acts, acting_rests, acts_both, acts_one, others}

@@ -1,15 +1,16 @@
 // The kernels of all hosts.
-ghost use Rattle.std.specs.Prelude.{◌≡◌, ◌<◌, ◌∷◌, ◌++◌, [], length, true, false, None, Some, IfOk, OnOk, MatchOption, option_map};
+ghost use Rattle.std.specs.Prelude.{◌≡◌, ◌<◌, ◌∷◌, ◌++◌, [], length, true, false, None, Some, IfOk, OnOk, MatchOption, is_some, option_map};
 ghost use Rattle.vm_base.specs.declared.code.Code.TheVariants as code;
 ghost use Rattle.vm_base.specs.declared.ids.HostId.{HostId};
 ghost use Rattle.vm_model.specs.declared.event.Event.TheVariants as event;
 ghost use Rattle.vm_model.specs.declared.message.Channel.TheVariants as channels;
 ghost use Rattle.vm_model.specs.Ranges.{InRange};
 ghost use Rattle.vm_model.specs.Tasks.{host_of};
+ghost use Rattle.vm_model.specs.Waiting.{waiting};
 ghost use Rattle.vm_legal.specs.Licences.{Licensed};
 ghost use Rattle.vm_legal.specs.Refusal.{refusal};
-ghost use Rattle.vm_kernel.specs.Begun.{IsLined};
-ghost use Rattle.vm_kernel.specs.Built.{copies_entries, kernel_runs};
+ghost use Rattle.vm_kernel.specs.Begun.{IsLined, targets_here};
+ghost use Rattle.vm_kernel.specs.Built.{kernel_runs};
 ghost use Rattle.vm_kernel.specs.Matches.{IsPlain};
 ghost use Rattle.vm_kernel.specs.Taking.{EndsAll, IsErrorPaid, IsTempAnswer};
 ghost use Rattle.vm_kernel.specs.Refusing.{takes_name};
@@ -70,7 +71,6 @@ impl Hosts {
         requires range { InRange given.header command.now }
         requires built { kernel_runs command.now ≡ true }
         requires accepted { refusal given.header given.past command.now ≡ None }
-        requires enough { copies_entries given.header given.past command.now ≡ false }
         requires begins { IsLined given.past }
         ensures began { IfOk result (λ events. Began given.header given.outside command.now given.past self.new events.items) }
     {
@@ -196,22 +196,43 @@ impl Hosts {
         if self.takes_name(command) {
             return Some(Code::NameTaken);
         }
+        if let Some(code) = self.pair_refusal(host, command) {
+            return Some(code);
+        }
         self.kernels[host.0 as usize].refusal(command, &self.ids)
     }
 
-    /// Whether a fork that isn't refused would copy an entry of its task.
-    pub fn copies_entries(&self, command: &Command) -> bool
+    // Why a copy from a task of the host is refused before its kernel judges it: its target doesn't live, an
+    // access of either task waits, or they live on different hosts.
+    fn pair_refusal(&self, host: HostId, command: &Command) -> Option<Code>
         ghost given: { Step }
         requires rests { AllRest given.header self.now given.past }
-        requires range { InRange given.header command.now }
-        requires built { kernel_runs command.now ≡ true }
-        requires accepted { refusal given.header given.past command.now ≡ None }
-        ensures { result ≡ copies_entries given.header given.past command.now }
+        requires acts { ActsOn given.header host.0 command.now given.past }
+        ensures { MatchOption result (targets_here host.0 command.now given.past ≡ true) (λ code. refusal given.header given.past command.now ≡ Some code) }
     {
-        let Some(host) = self.host_for(command) else {
-            return false;
+        let Command::Copy { task, target, .. } = command else {
+            return None;
         };
-        self.kernels[host.0 as usize].copies_entries(command)
+        let Some(other) = self.home(*target) else {
+            return Some(Code::NoSuchName);
+        };
+        if self.waits(host, *task) || self.waits(other, *target) {
+            return Some(Code::Blocked);
+        }
+        if other != host {
+            return Some(Code::InvalidArgument);
+        }
+        None
+    }
+
+    // Whether a task of the host waits.
+    fn waits(&self, host: HostId, task: TaskId) -> bool
+        ghost given: { Step }
+        requires rests { AllRest given.header self.now given.past }
+        requires lives { host_of task.0 given.past ≡ Some host.0 }
+        ensures { result ≡ is_some (waiting task.0 given.past) }
+    {
+        self.kernels[host.0 as usize].waits(task)
     }
 
     // The host on which a command acts; None where its task doesn't live.
@@ -235,6 +256,7 @@ impl Hosts {
             | Command::Inherit { task, .. }
             | Command::Load { task, .. }
             | Command::Store { task, .. } => self.home(*task),
+            Command::Copy { task, .. } => self.home(*task),
             _ => None,
         }
     }

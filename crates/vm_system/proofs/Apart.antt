@@ -1,5 +1,5 @@
 -- What the pager of one host does leaves those of the others.
-use Rattle.vm_system.proofs.Common.{Bool, Content, Down, EachOf, Event, Header, Held, IsApart, IsAreaTold, IsOrderly, IsOther, IsSome, LeavesAreas, List, Listed, Message, None, ObjectId, Ok, Option, PageNo, PagerAnswer, PagerStands, Put, PutEffects, PutTold, RequestAnswer, SlotTable, SlotsFit, Some, Told, Up, [], ap, area_name, arith, became, content_of, false, false≢true, held_at, held_slot, home_of, if◌then◌else◌, inl, inr, is_heard_elsewhere, last_return, length, nat_tests, not, others, others_carry, refl, same_Some, set, slice_get, slot_in_table, subst, suc, sym, told_of, true, zero, ℕ, ◌++◌, ◌<◌, ◌∙◌, ◌∷◌, ◌≡◌, ◌⊎◌}
+use Rattle.vm_system.proofs.Common.{Bool, Content, Down, EachOf, Event, Header, Held, IsApart, IsAreaTold, IsOrderly, IsOther, IsSome, LeavesAreas, List, Listed, Message, None, ObjectId, Ok, Option, PageNo, PagerAnswer, PagerStands, Put, PutEffects, PutTold, RequestAnswer, SlotTable, SlotsFit, Some, Told, Up, [], ap, area_name, arith, became, content_of, false, false≢true, held_at, held_slot, object_home, if◌then◌else◌, inl, inr, is_heard_elsewhere, last_return, length, nat_tests, not, others, others_carry, refl, same_Some, set, slice_get, slot_in_table, subst, suc, sym, told_of, true, zero, ℕ, ◌++◌, ◌<◌, ◌∙◌, ◌∷◌, ◌≡◌, ◌⊎◌}
 use Rattle.std.proofs.Common.{◌≢◌, ◌==◌, ◌&&◌, ◌||◌}
 use Rattle.pg_slots.specs.declared.answers.Put.TheVariants as put
 use Rattle.pg_slots.specs.declared.slot_row.Held.TheVariants as held
@@ -32,12 +32,12 @@ unheard h g o p (event.Taken (Up at object) m ∷ past) other is =
 unheard h g o p (e ∷ past) other is = unheard h g o p past other is
 
 pub apart_of : (header : Header) (past : List Event) → IsOrderly header past → (h : ℕ) → IsApart header h past
-apart_of header past orderly h o p named away = by (home_of o past) refl
+apart_of header past orderly h o p named away = by (object_home o past) refl
   where
-    mine : (home_of o past ≡ None) ⊎ (home_of o past ≡ Some h) → last_return h o p past ≡ None
+    mine : (object_home o past ≡ None) ⊎ (object_home o past ≡ Some h) → last_return h o p past ≡ None
     mine home = absurd (false≢true (sym ((orderly.home h o).own home) ∙ away))
 
-    by : (x : Option ℕ) → home_of o past ≡ x → last_return h o p past ≡ None
+    by : (x : Option ℕ) → object_home o past ≡ x → last_return h o p past ≡ None
     by None is = mine (inl is)
     by (Some g) is = at (h == g) refl
       where

@@ -19,8 +19,8 @@ pub use Rattle.pg_slots.specs.Contents.{CarriesContent, Content, IsAreaTold, Put
 pub use Rattle.pg_slots.specs.Slots.{KeepsShape, PutEffects, SlotTable, held_at, held_slot, slot_in_table}
 pub use Rattle.pg_slots.specs.declared.answers.Put.{Put}
 pub use Rattle.pg_slots.specs.declared.slot_row.Held.{Held}
-pub use Rattle.vm_abroad.proofs.Home.{home_stays}
-pub use Rattle.vm_abroad.specs.Home.{home_of}
+pub use Rattle.vm_abroad.proofs.Home.{object_stays}
+pub use Rattle.vm_abroad.specs.Home.{object_home}
 pub use Rattle.vm_base.specs.Buffers.{BufferStore}
 pub use Rattle.vm_base.specs.Entries.{entry_at, is_range, meets_range, most_entries}
 pub use Rattle.vm_base.specs.Listing.{Listed}
@@ -39,7 +39,6 @@ pub use Rattle.vm_hosts.specs.Steps.{Began, Going, HostsPart, Step, Stretch}
 pub use Rattle.vm_kernel.proofs.Growing.{paid_of}
 pub use Rattle.vm_kernel.specs.Abroad.{IsNobodys}
 pub use Rattle.vm_kernel.specs.Begun.{CreatesHere, IsLined, KernelSays, SomeKernelSays}
-pub use Rattle.vm_kernel.specs.Built.{copies_entries}
 pub use Rattle.vm_kernel.specs.Matches.{IsPlain, host_id}
 pub use Rattle.vm_kernel.specs.Taking.{EndsAll, IsErrorPaid, IsTempAnswer}
 pub use Rattle.vm_legal.proofs.Groups.{cut_of, open_of, so_far}

@@ -1,5 +1,5 @@
 -- The history stays legal with the step of each command.
-use Rattle.vm_system.proofs.Common.{AllInner, Began, Bool, Code, Command, EachEvent, EachIn, Entry, Event, FlatBytes, FollowsSoFar, FramesSuffice, Header, Holds, HostTable, HostsPart, IfNone, IsAtRest, IsDone, IsDoneSoFar, IsGroup, IsPaid, IsPlain, IsRun, IsWholeGroup, IsWholeSoFar, KeepsLegal, List, MomentsIn, None, Numbered, Option, Outside, OwnBytes, Prompt, Some, [], acting, answers, ap, code_where, copies, copies_entries, copies_from, copy_refusal, each_whole, entries_of, entry_at, false, has_copy_mark, head, host_of, if◌then◌else◌, inl, is_copied, is_copy_full, is_elsewhere, is_fork_full, is_full, is_idle, is_none, is_range, is_some, length, marked_below, marked_regions, meets_range, moment_last, moments_whole, most_entries, nat_le, new_marks, next_object, next_region, not, refl, refusal, region_of, settles, so_far, steps_whole, suc, sym, takings_more, true, waiting, zero, ℕ, ◌++◌, ◌+◌, ◌/◌, ◌∙◌, ◌∷◌, ◌≡◌}
+use Rattle.vm_system.proofs.Common.{AllInner, Began, Bool, Code, Command, EachEvent, EachIn, Entry, Event, FlatBytes, FollowsSoFar, FramesSuffice, Header, Holds, HostTable, HostsPart, IfNone, IsAtRest, IsDone, IsDoneSoFar, IsGroup, IsPaid, IsPlain, IsRun, IsWholeGroup, IsWholeSoFar, KeepsLegal, List, MomentsIn, None, Numbered, Option, Outside, OwnBytes, Prompt, Some, [], acting, answers, ap, code_where, copies, copies_from, copy_refusal, each_whole, entries_of, entry_at, false, has_copy_mark, head, host_of, if◌then◌else◌, inl, is_copied, is_copy_full, is_elsewhere, is_fork_full, is_full, is_idle, is_none, is_range, is_some, length, marked_below, marked_regions, meets_range, moment_last, moments_whole, most_entries, nat_le, new_marks, next_object, next_region, not, refl, refusal, region_of, settles, so_far, steps_whole, suc, sym, takings_more, true, waiting, zero, ℕ, ◌++◌, ◌+◌, ◌/◌, ◌∙◌, ◌∷◌, ◌≡◌}
 use Rattle.std.proofs.Common.{◌||◌, ◌&&◌, nat_lt, append-nil}
 use Rattle.vm_base.specs.declared.code.Code.TheVariants as code
 use Rattle.vm_model.specs.declared.event.Event.TheVariants as event
@@ -41,10 +41,6 @@ copied_line header line address bytes target to h (Some entry) = rw (copy_line h
 elsewhere_line : (header : Header) (line object : ℕ) (host : Option ℕ) (h : List Event) → is_elsewhere header object host (event.Line line ∷ h) ≡ is_elsewhere header object host h
 elsewhere_line header line object None h = refl
 elsewhere_line header line object (Some host) h = refl
-
-pub enough_line : (header : Header) (line : ℕ) (h : List Event) (c : Command) → copies_entries header (event.Line line ∷ h) c ≡ copies_entries header h c
-enough_line header line h (command.Fork task child) = refl
-enough_line header line h other = refl
 
 pub refusal_line : (header : Header) (line : ℕ) (h : List Event) (c : Command) → refusal header (event.Line line ∷ h) c ≡ refusal header h c
 refusal_line header line h (command.Task task host) = refl

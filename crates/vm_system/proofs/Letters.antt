@@ -1,5 +1,5 @@
 -- The letters on their way under events that begin a step, and the first of a channel.
-use Rattle.vm_system.proofs.Common.{AllLetters, Bool, Channel, Down, Ending, Event, Header, HostId, IsHostLetter, IsOrderly, IsTempAnswer, IsWordUp, Letter, List, Message, None, ObjectId, Some, Up, [], false, first, first_is, gives_frame, home_of, host_id, if◌then◌else◌, inr, is_channel, is_ended, is_heard_elsewhere, is_made, live_control, lock_taken, messages_on, never, queue, queue_is, refl, rest, returns_out, same_channel, subst, sym, true, undelivered, up, without_first, ℕ, ◌&&◌, ◌++◌, ◌==◌, ◌∷◌, ◌≡◌, ◌≢◌}
+use Rattle.vm_system.proofs.Common.{AllLetters, Bool, Channel, Down, Ending, Event, Header, HostId, IsHostLetter, IsOrderly, IsTempAnswer, IsWordUp, Letter, List, Message, None, ObjectId, Some, Up, [], false, first, first_is, gives_frame, object_home, host_id, if◌then◌else◌, inr, is_channel, is_ended, is_heard_elsewhere, is_made, live_control, lock_taken, messages_on, never, queue, queue_is, refl, rest, returns_out, same_channel, subst, sym, true, undelivered, up, without_first, ℕ, ◌&&◌, ◌++◌, ◌==◌, ◌∷◌, ◌≡◌, ◌≢◌}
 use Rattle.std.specs.Prelude.{◌<◌}
 use Rattle.vm_model.specs.declared.event.Event.TheVariants as event
 use Rattle.vm_model.specs.declared.message.Message.TheVariants as message
@@ -75,7 +75,7 @@ unended_first header h object m past orderly head = one (is_ended h object.0 pas
     one false is = is
 
 -- a message is on the way up from the host of its object's region
-at_home : (header : Header) (host : HostId) (object : ObjectId) (m : Message) (past : List Event) → IsOrderly header past → first (queue (Up host object) past) ≡ Some m → home_of object.0 past ≡ Some host.0
+at_home : (header : Header) (host : HostId) (object : ObjectId) (m : Message) (past : List Event) → IsOrderly header past → first (queue (Up host object) past) ≡ Some m → object_home object.0 past ≡ Some host.0
 at_home header host object m past orderly head = (orderly.home host.0 object.0).made (is_open host.0 object.0 m past (orderly.made host.0 object.0) head)
 
 pub home_first : (header : Header) (h : ℕ) (object : ObjectId) (m : Message) (past : List Event) → IsOrderly header past → first (queue (Up (host_id h) object) past) ≡ Some m → is_heard_elsewhere h object.0 past ≡ false
@@ -151,7 +151,7 @@ orderly_taken header (Up host object) m past old head = record {
 orderly_taken header (Down host object control) m past old head = record {
   letters = letters_taken header (Down host object control) m past old;
   washed = λ h. washed_taken h (Down host object control) m past head (old.washed h);
-  home = λ h o. let was = old.home h o in record { made = was.made; own = was.own };
+  home = λ h o. home_kept h o (event.Taken (Down host object control) m) past (old.home h o) (old.home h o).made refl;
   ending = λ h o. lettered h o (event.Taken (Down host object control) m ∷ past) (queued header h o past old);
   made = λ h o. let was = old.made h o in record { live = was.live; never = was.never; ended = was.ended; quiet = was.quiet };
   unlocked = unlocked m (letter_first header (Down host object control) m past old head).1;

@@ -1,5 +1,5 @@
 -- The letters on their way under what a kernel says, and under what the default pager answers.
-use Rattle.vm_system.proofs.Common.{AllInner, AllLetters, AllLicensed, Bool, CanSend, CanTell, CanTellAll, Channel, Command, CreatesHere, Down, EachIn, Ending, Event, HasMade, HasPageOf, Header, Held, HostId, IsHostLetter, IsInner, IsOrderly, IsPlain, IsTempAnswer, KernelSays, Licensed, List, MaySendUp, Message, None, ObjectId, Option, Outside, PageNo, PagerAnswer, Put, Read, RequestAnswer, SlotTable, Some, SomeKernelSays, Up, Write, [], arith, became, device_failed, error, false, held_at, home_of, host_id, inl, inr, is_ended, is_made, last_control, length, live_control, makes, nat_tests, never, queue, refl, sent_to, subst, supply, sym, taking, told_of, true, undelivered, up, ℕ, ◌&&◌, ◌++◌, ◌==◌, ◌||◌, ◌∙◌, ◌∷◌, ◌≡◌}
+use Rattle.vm_system.proofs.Common.{AllInner, AllLetters, AllLicensed, Bool, CanSend, CanTell, CanTellAll, Channel, Command, CreatesHere, Down, EachIn, Ending, Event, HasMade, HasPageOf, Header, Held, HostId, IsHostLetter, IsInner, IsOrderly, IsPlain, IsTempAnswer, KernelSays, Licensed, List, MaySendUp, Message, None, ObjectId, Option, Outside, PageNo, PagerAnswer, Put, Read, RequestAnswer, SlotTable, Some, SomeKernelSays, Up, Write, [], arith, became, device_failed, error, false, held_at, object_home, host_id, inl, inr, is_ended, is_made, last_control, length, live_control, makes, nat_tests, never, queue, refl, sent_to, subst, supply, sym, taking, told_of, true, undelivered, up, ℕ, ◌&&◌, ◌++◌, ◌==◌, ◌||◌, ◌∙◌, ◌∷◌, ◌≡◌}
 use Rattle.std.specs.Prelude.{◌<◌}
 use Rattle.vm_model.specs.declared.event.Event.TheVariants as event
 use Rattle.vm_model.specs.declared.message.Message.TheVariants as message
@@ -27,7 +27,7 @@ letters_sent header c m past old letter =
 
 -- a message up is sent: what is left to show is of its object
 sent_up : (header : Header) (host : HostId) (object : ObjectId) (m : Message) (past : List Event) → IsOrderly header past → IsHostLetter header (event.Sent (Up host object) m ∷ past) (record { channel = Up host object; message = m })
-    → ((h o : ℕ) → is_made (up h o) (event.Sent (Up host object) m ∷ past) ≡ true → home_of o past ≡ Some h)
+    → ((h o : ℕ) → is_made (up h o) (event.Sent (Up host object) m ∷ past) ≡ true → object_home o past ≡ Some h)
     → ((h o : ℕ) → Ending (live_control h o (event.Sent (Up host object) m ∷ past)) (is_ended h o past) (queue (up h o) (event.Sent (Up host object) m ∷ past)))
     → ((h o : ℕ) → HasMade h o (event.Sent (Up host object) m ∷ past)) → IsOrderly header (event.Sent (Up host object) m ∷ past)
 sent_up header host object m past old letter home ending made = record {
@@ -48,7 +48,7 @@ pub record Sends (header : Header) (c : Channel) (m : Message) (past : List Even
   pub page : HasPageOf header.size m
   pub can : CanSend c m past
 
-created : (header : Header) (host : HostId) (object : ObjectId) (control size : ℕ) (past : List Event) → IsOrderly header past → host.0 < length header.frames.items → home_of object.0 past ≡ Some host.0 → control ≡ 1
+created : (header : Header) (host : HostId) (object : ObjectId) (control size : ℕ) (past : List Event) → IsOrderly header past → host.0 < length header.frames.items → object_home object.0 past ≡ Some host.0 → control ≡ 1
     → last_control host.0 object.0 past ≡ 0 → Sends header (Up host object) (message.Create control size) past
 created header host object control size past old known here one zero = record {
   orderly = sent_up header host object (message.Create control size) past old (known, opened) (λ h o is. home h o (h == host.0) (o == object.0) refl refl is)
@@ -73,8 +73,8 @@ created header host object control size past old known here one zero = record {
     opened : is_made (Down host object control) (event.Sent (Up host object) (message.Create control size) ∷ past) ≡ true
     opened = all (host.0 == host.0) (object.0 == object.0) (control == control) (is_made (Down host object control) past) (own host.0) (own object.0) (own control)
 
-    home : (h o : ℕ) (b c : Bool) → h == host.0 ≡ b → o == object.0 ≡ c → (b && c) || is_made (up h o) past ≡ true → home_of o past ≡ Some h
-    home h o true true is at made = at_place (λ a n. home_of n past ≡ Some a) host.0 object.0 h o (flipped host.0 h object.0 o is at) here
+    home : (h o : ℕ) (b c : Bool) → h == host.0 ≡ b → o == object.0 ≡ c → (b && c) || is_made (up h o) past ≡ true → object_home o past ≡ Some h
+    home h o true true is at made = at_place (λ a n. object_home n past ≡ Some a) host.0 object.0 h o (flipped host.0 h object.0 o is at) here
     home h o true false is at made = (old.home h o).made made
     home h o false c is at made = (old.home h o).made made
 

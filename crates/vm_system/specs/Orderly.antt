@@ -15,7 +15,7 @@ use Rattle.vm_legal.specs.Steps.{Letter}
 use Rattle.vm_legal.specs.Undelivered.{is_made, undelivered}
 use Rattle.vm_quiet.specs.Letters.{messages_on}
 use Rattle.pg_default.specs.Stands.{is_ended, is_heard_elsewhere}
-use Rattle.vm_abroad.specs.Home.{home_of}
+use Rattle.vm_abroad.specs.Home.{object_home}
 use Rattle.vm_kernel.specs.Matches.{host_id}
 use Rattle.vm_kernel.specs.Taking.{IsTempAnswer}
 
@@ -79,8 +79,8 @@ pub record HasMade (h o : ℕ) (past : List Event) : Type 0 where
 
 -- only the pager of the host of an object's region hears of the object
 pub record IsHome (h o : ℕ) (past : List Event) : Type 0 where
-  pub made : is_made (up h o) past ≡ true → home_of o past ≡ Some h
-  pub own : (home_of o past ≡ None) ⊎ (home_of o past ≡ Some h) → is_heard_elsewhere h o past ≡ false
+  pub made : is_made (up h o) past ≡ true → object_home o past ≡ Some h
+  pub own : (object_home o past ≡ None) ⊎ (object_home o past ≡ Some h) → is_heard_elsewhere h o past ≡ false
 
 pub record IsOrderly (header : Header) (past : List Event) : Type 0 where
   pub letters : AllLetters header past (undelivered past)

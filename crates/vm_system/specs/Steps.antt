@@ -1,5 +1,5 @@
 -- What a system's steps make of its history, and of the backings.
-use Rattle.std.specs.Prelude.{ℕ, ◌+◌, ◌<◌, ◌≤◌, ◌≡◌, ◌⊎◌, Bool, true, false, List, [], ◌∷◌, ◌++◌, length, Option, Some, None, is_none, ◌&&◌}
+use Rattle.std.specs.Prelude.{ℕ, ◌+◌, ◌<◌, ◌≤◌, ◌≡◌, ◌⊎◌, Bool, true, false, List, [], ◌∷◌, ◌++◌, length, Option, Some, None}
 use Rattle.vm_model.specs.declared.event.Event.{Event}
 use Rattle.vm_model.specs.declared.event.Event.TheVariants as event
 use Rattle.vm_model.specs.declared.command.Command.{Command}
@@ -10,8 +10,6 @@ use Rattle.vm_model.specs.declared.script.Header.{Header}
 use Rattle.vm_model.specs.Limits.{most_events}
 use Rattle.vm_model.specs.Moments.{BeforeSteps}
 use Rattle.vm_legal.specs.Follows.{FollowsCut, FollowsSoFar}
-use Rattle.vm_legal.specs.Refusal.{refusal}
-use Rattle.vm_kernel.specs.Built.{copies_entries}
 use Rattle.vm_legal.specs.Legal.{Holds, IsAtRest, LegalFor}
 use Rattle.vm_legal.specs.Outside.{Outside}
 use Rattle.vm_legal.specs.Steps.{takings}
@@ -150,7 +148,3 @@ system_runs (command.Settle count) = true
 system_runs (command.FailFiles count) = true
 system_runs (command.FailPaging count) = true
 system_runs other = is_run other
-
--- a fork that isn't refused, and would copy an entry
-abbrev pub is_held_up : Header → List Event → Command → Bool
-is_held_up header past doing = is_none (refusal header past doing) && copies_entries header past doing

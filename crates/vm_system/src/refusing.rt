@@ -2,7 +2,6 @@
 ghost use Rattle.std.specs.Prelude.{◌≡◌, true, length, None};
 ghost use Rattle.vm_model.specs.Ranges.{InRange};
 ghost use Rattle.vm_legal.specs.Refusal.{refusal};
-ghost use Rattle.vm_kernel.specs.Built.{copies_entries};
 ghost use Rattle.vm_system.specs.Refusing.{channel_code};
 ghost use Rattle.vm_system.specs.Stands.{SystemStands};
 ghost use Rattle.vm_hosts.specs.Steps.{Step};
@@ -26,22 +25,6 @@ impl State {
             Command::Take { channel } => self.take_refusal(*channel),
             Command::Settle { .. } | Command::FailFiles { .. } | Command::FailPaging { .. } => None,
             _ => self.hosts.refusal(command),
-        }
-    }
-
-    /// Whether a fork that isn't refused would copy an entry of its task.
-    pub fn copies_entries(&self, command: &Command) -> bool
-        ghost given: { Step }
-        requires stands { SystemStands given.header given.outside self.now }
-        requires past { given.past ≡ self.now.history.items }
-        requires range { InRange given.header command.now }
-        requires built { system_runs command.now ≡ true }
-        requires accepted { refusal given.header self.now.history.items command.now ≡ None }
-        ensures { result ≡ copies_entries given.header self.now.history.items command.now }
-    {
-        match command {
-            Command::Fork { .. } => self.hosts.copies_entries(command),
-            _ => false,
         }
     }
 

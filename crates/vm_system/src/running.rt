@@ -6,7 +6,7 @@ ghost use Rattle.vm_model.specs.declared.event.Event.TheVariants as event;
 ghost use Rattle.vm_model.specs.Ranges.{InRange};
 ghost use Rattle.vm_legal.specs.Refusal.{refusal};
 ghost use Rattle.vm_hosts.specs.Steps.{Step};
-ghost use Rattle.vm_kernel.specs.Built.{copies_entries, kernel_runs as is_run};
+ghost use Rattle.vm_kernel.specs.Built.{kernel_runs as is_run};
 ghost use Rattle.vm_model.specs.declared.command.Command.TheVariants as command;
 ghost use Rattle.vm_system.specs.Posts.{CanTellAll, Posts, SameHosts};
 ghost use Rattle.vm_system.specs.Making.{Makes, Spares};
@@ -25,7 +25,6 @@ impl State {
         requires stands { SystemStands given.header given.outside self.old }
         requires range { InRange given.header command.now }
         requires run { is_run command.now ≡ true }
-        requires enough { copies_entries given.header self.old.history.items command.now ≡ false }
         requires accepted { refusal given.header self.old.history.items command.now ≡ None }
         ensures made { OnOk result (Makes given.header given.outside (record { line = line; command = command.now }) self.old self.new) }
         ensures spares { Spares given.header given.outside self.old self.new }

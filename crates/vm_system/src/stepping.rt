@@ -9,7 +9,7 @@ ghost use Rattle.vm_model.specs.declared.event.Event.TheVariants as event;
 ghost use Rattle.vm_hosts.specs.Steps.{Step};
 ghost use Rattle.vm_system.specs.Making.{Makes};
 ghost use Rattle.vm_system.specs.Stands.{PagingIsKept, SystemStands};
-ghost use Rattle.vm_system.specs.Steps.{DevicesHaveCause, GrowsWithinLimit, IsMemoryStop, LeavesFiles, LeavesPaging, MayCut, Setting, arms_paging, is_held_up, system_runs, takes_up, took_up};
+ghost use Rattle.vm_system.specs.Steps.{DevicesHaveCause, GrowsWithinLimit, IsMemoryStop, LeavesFiles, LeavesPaging, MayCut, Setting, arms_paging, system_runs, takes_up, took_up};
 
 use crate::state::State;
 use vm_base::NoMemory;
@@ -30,7 +30,6 @@ impl State {
         requires kept { PagingIsKept given.header given.outside (P.area paging.old.inner) self.old }
         requires range { InRange given.header command.now }
         requires built { system_runs command.now ≡ true }
-        requires free { is_held_up given.header self.old.history.items command.now ≡ false }
         ensures made { OnOk result (Makes given.header given.outside (record { line = line; command = command.now }) self.old self.new) }
         ensures grew { GrowsWithinLimit self.old.history.items self.new.history.items }
         ensures memory { OnErr result (MayCut given.header given.outside (record { line = line; command = command.now }) self.old.history.items self.new.history.items) }

@@ -16,7 +16,7 @@ ghost use Rattle.vm_model.specs.Moments.{before_last_line};
 ghost use Rattle.vm_kernel.specs.Matches.{IsPlain};
 ghost use Rattle.vm_hosts.specs.Steps.{Step};
 ghost use Rattle.vm_system.specs.Stands.{AllTold, AreEmpty, AreNumbered, PagingIsKept, SystemStands};
-ghost use Rattle.vm_system.specs.Steps.{DevicesHaveCause, GrowsWithinLimit, HasMore, IsMemoryStop, KeepsLegal, KeepsOpen, LeavesFiles, LeavesPaging, MayCut, MayCutOpen, Setting, arms_paging, is_held_up, system_runs, takes_up, took_up};
+ghost use Rattle.vm_system.specs.Steps.{DevicesHaveCause, GrowsWithinLimit, HasMore, IsMemoryStop, KeepsLegal, KeepsOpen, LeavesFiles, LeavesPaging, MayCut, MayCutOpen, Setting, arms_paging, system_runs, takes_up, took_up};
 
 use crate::channels::Channels;
 use crate::state::State;
@@ -83,17 +83,6 @@ impl System {
         self.state.refusal(command)
     }
 
-    /// Whether a command can't be run yet, though it isn't refused: a fork that would copy an entry.
-    pub fn is_held_up(&self, command: &Command) -> bool
-        ghost given: { Setting }
-        requires stands { SystemStands given.header given.outside self.now }
-        requires range { InRange given.header command.now }
-        requires built { system_runs command.now ≡ true }
-        ensures { result ≡ is_held_up given.header self.now.history.items command.now }
-    {
-        self.state.refusal(command).is_none() && self.state.copies_entries(command)
-    }
-
     /// Makes one command's step, and gives the number of events that it added; of a `settle` that
     /// is its line alone.
     ///
@@ -111,7 +100,6 @@ impl System {
         requires kept { PagingIsKept given.header given.outside (P.area paging.old.inner) self.old }
         requires range { InRange given.header command.now }
         requires built { system_runs command.now ≡ true }
-        requires free { is_held_up given.header self.old.history.items command.now ≡ false }
         ensures stands { OnOk result (SystemStands given.header given.outside self.new) }
         ensures legal { OnOk result (KeepsLegal given.header given.outside (record { line = line; command = command.now }) self.old.history.items self.new.history.items) }
         ensures count { IfOk result (λ n. length self.new.history.items ≡ length self.old.history.items + n) }

@@ -1,5 +1,5 @@
 -- What was read is what the source had, and how a run ends tells the status.
-use Rattle.std.proofs.Common.{◌≡◌, ℕ, ◌<◌, ◌≤◌, ◌^◌, ◌⊎◌, inl, inr, List, [], ◌∷◌, ◌++◌, length, true, refl, ap, sym, ◌∙◌, subst, arith, Some, None, Option, Ok, Err, nat_lt}
+use Rattle.std.proofs.Common.{◌≡◌, ℕ, ◌<◌, ◌≤◌, ◌^◌, ◌⊎◌, inl, inr, List, [], ◌++◌, length, true, refl, ap, sym, ◌∙◌, subst, arith, Some, None, Option, Ok, Err, nat_lt}
 use Rattle.std.specs.Prelude.{IfSome, IsErrOf, OnOk, Result}
 use Rattle.vm_base.specs.declared.failure.WriteStop.{WriteStop}
 use Rattle.vm_base.specs.declared.failure.WriteStop.TheVariants as stop

@@ -9,7 +9,7 @@ use Rattle.vm_model.specs.Named.{named}
 use Rattle.vm_legal.specs.Outside.{Outside}
 use Rattle.vm_legal.specs.Pagers.{is_lost, last_return, slot_at}
 use Rattle.vm_outside.specs.Areas.{Told, read_at}
-use Rattle.pg_slots.specs.Contents.{IsAreaTold, IsHeldAs, Kept, area_name}
+use Rattle.pg_slots.specs.Contents.{IsHeldAs, Kept, area_name}
 use Rattle.pg_slots.specs.Slots.{SlotTable, held_at, held_slot}
 use Rattle.pg_slots.specs.declared.slot_row.Held.{Held}
 use Rattle.pg_slots.specs.declared.slot_row.Held.TheVariants as held

@@ -20,7 +20,7 @@ use Rattle.vm_legal.specs.Steps.{takings}
 use Rattle.vm_legal.proofs.Groups.{cut_of as follows_cut, open_of}
 use Rattle.vm_outside.specs.Arming.{Arming, ArmedLater}
 use Rattle.vm_system.proofs.Settled.{may_be_cut}
-use Rattle.vm_system.specs.Steps.{DevicesHaveCause, GrowsWithinLimit, IsNextLegal, KeepsLegal, LeavesFiles, LeavesPaging, LegalCut, LegalOpen, MayCut, IsBelowLimit, IsMemoryStop, arms_paging, system_runs, is_held_up, settles, takes_up, took_up}
+use Rattle.vm_system.specs.Steps.{DevicesHaveCause, GrowsWithinLimit, IsNextLegal, KeepsLegal, LeavesFiles, LeavesPaging, LegalCut, LegalOpen, MayCut, IsBelowLimit, IsMemoryStop, arms_paging, system_runs, settles, takes_up, took_up}
 use Rattle.vm_system.specs.declared.stop.SystemStop.{SystemStop}
 use Rattle.vm_system.specs.declared.stop.SystemStop.TheVariants as stops
 use Rattle.vm_top.specs.Arming.{FailuresCounted, is_untouched, ran_of}
@@ -254,26 +254,7 @@ unbuilt_stops report given n h now f p e runs follows unbuilt = record {
       next = n;
       run = ran_of given.script h;
       part = part_of report given n h now f p e runs follows;
-      unbuilt = inl (next_unbuilt n (ran_of given.script h) runs.keeps.built unbuilt);
-    },
-    runs.keeps.written,
-  );
-  below = runs.keeps.below;
-  arms = runs.keeps.arms;
-  failed = runs.keeps.failed;
-}
-
--- it is held up
-pub held_up_stops : {F P : Type 0} (report : Report) (given : Running F P) (n : Numbered) (h : List Event) (now : Option (List ℕ)) (f : Arming F) (p : Arming P) (e : ℕ) → IsBetweenCommands report given h now f p e → IsNextOf given.script n h
-    → system_runs n.command ≡ true → length h < most_events → is_held_up given.script.header h n.command ≡ true → RunStops report given h now f p e (ends.NotBuilt n.line)
-held_up_stops report given n h now f p e runs follows built below held = record {
-  ran = (
-    record {
-      later = left_of given h;
-      next = n;
-      run = ran_of given.script h;
-      part = part_of report given n h now f p e runs follows;
-      unbuilt = inr (record { built = next_built n (ran_of given.script h) runs.keeps.built built; below = below; here = refl; held = held });
+      unbuilt = next_unbuilt n (ran_of given.script h) runs.keeps.built unbuilt;
     },
     runs.keeps.written,
   );

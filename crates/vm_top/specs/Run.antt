@@ -1,5 +1,5 @@
 -- What running a script gives.
-use Rattle.std.specs.Prelude.{ℕ, ◌≡◌, ◌≢◌, ◌⊎◌, ◌<◌, ◌≤◌, true, if◌then◌else◌, List, [], ◌∷◌, ◌++◌, length, Option, Some, None, is_some}
+use Rattle.std.specs.Prelude.{ℕ, ◌≡◌, ◌≢◌, ◌⊎◌, ◌≤◌, if◌then◌else◌, List, [], ◌∷◌, ◌++◌, length, Option, Some, None, is_some}
 use Rattle.std.specs.Io.KnownBytes.{Appends}
 use Rattle.std.specs.List.{All}
 use Rattle.vm_base.specs.Limits.{most_slots}
@@ -8,7 +8,6 @@ use Rattle.vm_model.specs.declared.event.Event.{Event}
 use Rattle.vm_model.specs.declared.command.Command.{Command}
 use Rattle.vm_model.specs.declared.command.Command.TheVariants as command
 use Rattle.vm_model.specs.declared.command.Numbered.{Numbered}
-use Rattle.vm_model.specs.declared.script.Header.{Header}
 use Rattle.vm_model.specs.declared.script.Script.{Script}
 use Rattle.vm_model.specs.Moments.{before_last_line}
 use Rattle.vm_model.specs.Ranges.{InRange}
@@ -21,7 +20,7 @@ use Rattle.vm_legal.specs.Undelivered.{undelivered}
 use Rattle.vm_outside.specs.Areas.{Told}
 use Rattle.pg_slots.specs.Contents.{area_name}
 use Rattle.vm_kernel.specs.Matches.{IsPlain}
-use Rattle.vm_system.specs.Steps.{HasMore, LegalCut, LegalOpen, is_held_up, system_runs}
+use Rattle.vm_system.specs.Steps.{HasMore, LegalCut, LegalOpen, system_runs}
 use Rattle.vm_top.specs.Writing.{WroteStart, WroteBeyond}
 use Rattle.vm_top.specs.declared.run.RunEnd.{RunEnd}
 use Rattle.vm_top.specs.declared.run.RunEnd.TheVariants as end
@@ -86,20 +85,13 @@ pub record IsOutOfEvents (script : Script) (outside : Outside) (history : List E
   pub full : most_events ≤ length history
   pub left : IsLeft script outside history ⊎ SettlesOn script outside history
 
--- the command behind those that were run is built so far, but can't be run now
-pub record IsHeldUp (header : Header) (line : ℕ) (next : Numbered) (run : List Numbered) (history : List Event) : Type 0 where
-  pub built : unbuilt_line (next ∷ run) ≡ None
-  pub below : length history < most_events
-  pub here : next.line ≡ line
-  pub held : is_held_up header history next.command ≡ true
-
--- all commands in front of the first that isn't built, or can't be run now, were run
+-- all commands in front of the first that isn't built were run
 pub record IsStuck (script : Script) (outside : Outside) (line : ℕ) (history : List Event) : Type 0 where
   pub later : List Numbered
   pub next : Numbered
   pub run : List Numbered
   pub part : IsPart script outside (later ++ next ∷ []) run history
-  pub unbuilt : (unbuilt_line (next ∷ run) ≡ Some line) ⊎ IsHeldUp script.header line next run history
+  pub unbuilt : unbuilt_line (next ∷ run) ≡ Some line
 
 -- the events in front of the last step of a command: the taking of a `take` is one step with its line
 abbrev pub front_of : Command → List Event → List Event

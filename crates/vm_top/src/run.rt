@@ -11,7 +11,7 @@ ghost use Rattle.vm_legal.specs.Undelivered.{undelivered};
 ghost use Rattle.vm_outside.specs.Causes.{CountRises};
 ghost use Rattle.vm_system.specs.Keeping.{PagingKeepsPages};
 ghost use Rattle.vm_system.specs.Stands.{PagingIsKept, SystemStands};
-ghost use Rattle.vm_system.specs.Steps.{HasMore, IsBelowLimit, is_held_up, system_runs};
+ghost use Rattle.vm_system.specs.Steps.{HasMore, IsBelowLimit, system_runs};
 ghost use Rattle.vm_top.specs.Arming.{FailuresBounded, FailuresCounted, FilesLeft, PagingLeft, ran_of};
 ghost use Rattle.vm_top.specs.Run.{IsRunnable, RanAs, only_host, outside_of, text_so_far};
 ghost use Rattle.vm_top.specs.Running.{IsBetweenCommands, IsNextOf, RunStops, RunTaking, Running, Settles, Turned};
@@ -37,7 +37,7 @@ pub enum RunEnd {
     NoMemory,
     /// A step is left, and the history has 200,000 events or more.
     EventLimit,
-    /// The command of this line isn't built, or can't be run now.
+    /// The command of this line isn't built.
     NotBuilt { line: u32 },
 }
 
@@ -55,6 +55,7 @@ fn is_built(command: &Command) -> bool
     match command {
         Command::Task { .. }
         | Command::Fork { .. }
+        | Command::Copy { .. }
         | Command::Exit { .. }
         | Command::Allocate { .. }
         | Command::Deallocate { .. }
@@ -131,7 +132,6 @@ fn turn<K: Sink, F: Backing, P: Backing>(
     requires kept { PagingIsKept given.script.header given.outside (P.area paging.old.inner) system.old }
     requires range { InRange given.script.header numbered.now.command }
     requires built { system_runs numbered.now.command ≡ true }
-    requires free { is_held_up given.script.header system.old.history.items numbered.now.command ≡ false }
     requires below { length system.old.history.items < most_events }
     requires runs { IsBetweenCommands report given system.old.history.items (K.written out.old) files.old paging.old (⟦<Armed<P> as Backing>⟧.faults paging.old) }
     requires next { IsNextOf given.script numbered.now system.old.history.items }
@@ -223,8 +223,7 @@ fn settle<K: Sink, F: Backing, P: Backing>(
 }
 
 /// Runs the script to its end, or to a write that fails, or until memory ends, or until the history
-/// has 200,000 events where a step is left, or to a command that isn't built, or can't be run now: a
-/// fork that would copy an entry.
+/// has 200,000 events where a step is left, or to a command that isn't built.
 pub fn run_script<K: Sink, F: Backing, P: Backing>(
     alloc: Global,
     report: Report,
@@ -324,11 +323,6 @@ fn run_one<K: Sink, F: Backing, P: Backing>(
     }
     if system.history().len() >= MOST_EVENTS {
         return Err(RunEnd::EventLimit);
-    }
-    if system.is_held_up(&numbered.command) {
-        return Err(RunEnd::NotBuilt {
-            line: numbered.line,
-        });
     }
     turn(alloc, report, system, numbered, out, files, paging)?;
     match numbered.command {

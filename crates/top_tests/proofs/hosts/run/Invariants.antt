@@ -1,9 +1,6 @@
 use Rattle.vm_system.specs.Stands.{PagingIsKept, SystemStands}
 use Rattle.top_tests.proofs.hosts.run.Given as goal
 
-abbrev pub ghost-is_held_up : goal.ghost-is_held_up
-ghost-is_held_up g a = g.given
-
 abbrev pub ghost-step : goal.ghost-step
 ghost-step g a = g.given
 

@@ -1,10 +1,10 @@
-use Rattle.std.proofs.Common.{◌≡◌, ◌<◌, ◌≤◌, ◌∙◌, length, refl, subst, sym, ap, Err}
+use Rattle.std.proofs.Common.{◌≡◌, ◌≤◌, ◌∙◌, length, refl, subst, sym, ap, Err}
 use Rattle.vm_outside.specs.Causes.{sum_count}
 use Rattle.vm_model.specs.Limits.{most_events}
 use Rattle.vm_top.specs.Running.{RunStops}
 use Rattle.vm_top.specs.declared.run.RunEnd.TheVariants as ends
 use Rattle.vm_top.proofs.Settling.{turned_none, turned_settles}
-use Rattle.vm_top.proofs.Turns.{full_stops, held_up_stops, same_end, settles_none, turned_runs, unbuilt_stops}
+use Rattle.vm_top.proofs.Turns.{full_stops, same_end, settles_none, turned_runs, unbuilt_stops}
 use Rattle.vm_top.proofs.run.run_one.Goals as goal
 
 pub returns-then-not-is_built-clause-stops : goal.returns-then-not-is_built-clause-stops
@@ -20,14 +20,6 @@ returns-then-len-ge-MOST_EVENTS-clause-stops g c = λ end is.
     let full : most_events ≤ length c.args.system.now.history.items = subst (λ z. most_events ≤ z) size c.if-len-ge-MOST_EVENTS.true in
     subst (RunStops c.args.report g.given c.args.system.now.history.items (g.K.Sink.written c.args.out.now) c.args.files.now c.args.paging.now (sum_count (g.P.Backing.faults c.args.paging.now.inner) c.args.paging.now.reached)) same
     (full_stops c.args.report g.given c.args.numbered.now c.args.system.now.history.items (g.K.Sink.written c.args.out.now) c.args.files.now c.args.paging.now (sum_count (g.P.Backing.faults c.args.paging.now.inner) c.args.paging.now.reached) c.requires.1.1.1.1.1.1.0 c.requires.1.1.1.1.1.1.1 (sym c.is_built.ensures ∙ c.if-not-is_built.false) full)
-
-pub returns-then-is_held_up-clause-stops : goal.returns-then-is_held_up-clause-stops
-returns-then-is_held_up-clause-stops g c = λ end is.
-    let same : ends.NotBuilt c.args.numbered.now.line ≡ end = same_end is in
-    let size : c.len.result ≡ length c.args.system.now.history.items = c.len.ensures ∙ ap (λ z. length z.items) c.history.ensures in
-    let below : length c.args.system.now.history.items < most_events = subst (λ z. z < most_events) size c.if-len-ge-MOST_EVENTS.false in
-    subst (RunStops c.args.report g.given c.args.system.now.history.items (g.K.Sink.written c.args.out.now) c.args.files.now c.args.paging.now (sum_count (g.P.Backing.faults c.args.paging.now.inner) c.args.paging.now.reached)) same
-    (held_up_stops c.args.report g.given c.args.numbered.now c.args.system.now.history.items (g.K.Sink.written c.args.out.now) c.args.files.now c.args.paging.now (sum_count (g.P.Backing.faults c.args.paging.now.inner) c.args.paging.now.reached) c.requires.1.1.1.1.1.1.0 c.requires.1.1.1.1.1.1.1 (sym c.is_built.ensures ∙ c.if-not-is_built.false) below (sym c.is_held_up.ensures ∙ c.if-is_held_up.true))
 
 pub returns-in_err-turn-clause-stops : goal.returns-in_err-turn-clause-stops
 returns-in_err-turn-clause-stops g c = λ end is.

@@ -8,3 +8,6 @@ ghost-takes_name g a = g.given
 
 abbrev pub ghost-refusal : goal.ghost-refusal
 ghost-refusal g a = record { header = g.given.header; host = a.self.now.host.0; outside = g.given.outside; past = g.given.past }
+
+abbrev pub ghost-pair_refusal : goal.ghost-pair_refusal
+ghost-pair_refusal g a = g.given

@@ -1,7 +1,7 @@
-use Rattle.vm_system.proofs.Common.{AllRest, Began, IsLined, None, Step, all_lined, ap, copies_entries, false, refl, refusal, subst, sym, ◌∙◌, ◌≡◌}
+use Rattle.vm_system.proofs.Common.{AllRest, Began, IsLined, None, Step, all_lined, ap, refl, refusal, subst, sym, ◌∙◌, ◌≡◌}
 use Rattle.vm_system.proofs.Beginning.{can_tell, makes_told, on_both, on_either, spares_same, spares_told}
 use Rattle.vm_system.proofs.Following.{same_pagers}
-use Rattle.vm_system.proofs.Legal.{enough_line, legal_began, refusal_line}
+use Rattle.vm_system.proofs.Legal.{legal_began, refusal_line}
 use Rattle.vm_system.proofs.state.State.begin.Goals as goal
 
 pub begin-requires : goal.begin-requires
@@ -19,11 +19,8 @@ begin-requires g c =
           (
             c.requires.1.1.1.0,
             (
-              subst (λ (z : Step). refusal z.header z.past doing ≡ None) is (refusal_line given.header c.args.line h doing ∙ c.requires.1.1.1.1.1),
-              (
-                subst (λ (z : Step). copies_entries z.header z.past doing ≡ false) is (enough_line given.header c.args.line h doing ∙ c.requires.1.1.1.1.0),
-                subst (λ (z : Step). IsLined z.past) is (record { line = c.args.line; before = h; is = refl }),
-              ),
+              subst (λ (z : Step). refusal z.header z.past doing ≡ None) is (refusal_line given.header c.args.line h doing ∙ c.requires.1.1.1.1),
+              subst (λ (z : Step). IsLined z.past) is (record { line = c.args.line; before = h; is = refl }),
             ),
           ),
         ),
@@ -44,7 +41,7 @@ returns-clause-made g c =
     let events = c.in_ok-events.events.items in
     let stands = c.requires.1.0 in
     let began = subst (λ (z : Step). Began z.header z.outside c.args.command.now z.past hosts events) c.requires.0 c.in_ok-events.ensures.began in
-    let legal = legal_began given.header given.outside (record { line = c.args.line; command = c.args.command.now }) s.history.items events hosts stands.rests.plain c.requires.1.1.1.1.1 began in
+    let legal = legal_began given.header given.outside (record { line = c.args.line; command = c.args.command.now }) s.history.items events hosts stands.rests.plain c.requires.1.1.1.1 began in
     on_both c.append.result (λ posts grown. makes_told given.header given.outside (record { line = c.args.line; command = c.args.command.now }) events hosts s c.append.new.self stands
     began.heads.stretch began.ended.rests began.ended.queues legal c.append.ensures.hosts posts grown) c.append.ensures.posts c.append.ensures.history
 
