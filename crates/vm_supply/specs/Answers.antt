@@ -1,9 +1,6 @@
 -- What the answers of a pager come to, and what each does to a host.
-use Rattle.std.specs.Prelude.{ℕ, ◌+◌, ◌||◌, ◌<◌, ◌≡◌, ◌==◌, ◌&&◌, Bool, true, false, List, ◌∷◌, Option, Some, None, if◌then◌else◌, is_some, length, replicate}
-use Rattle.std.proofs.Common.{arith}
-use Rattle.std.proofs.lemmas.Bool.Decides.{nat_tests}
+use Rattle.std.specs.Prelude.{ℕ, ◌<◌, ◌≡◌, ◌==◌, ◌&&◌, Bool, true, false, List, ◌∷◌, Option, Some, None, if◌then◌else◌, is_some, length, replicate}
 use Rattle.vm_base.specs.declared.ids.HostId.{HostId}
-use Rattle.vm_base.specs.declared.ids.Lock.{Lock}
 use Rattle.vm_base.specs.declared.ids.ObjectId.{ObjectId}
 use Rattle.vm_base.specs.declared.ids.ObjectKind.{ObjectKind}
 use Rattle.vm_base.specs.declared.ids.ObjectKind.TheVariants as kind
@@ -20,17 +17,10 @@ use Rattle.vm_objects.specs.declared.row.PagerState.TheVariants as state
 use Rattle.vm_resident.specs.Resident.{row_at}
 use Rattle.vm_resident.specs.declared.page_row.PageRow.{PageRow}
 use Rattle.vm_parts.specs.Changes.{Cancels, FillsPage, asked_row, unlocked}
+use Rattle.vm_parts.specs.Locks.{lock_numbered}
 use Rattle.vm_parts.specs.declared.parts.HostParts.{HostParts}
 use Rattle.vm_supply.specs.declared.woken.Woken.{Woken}
 use Rattle.vm_supply.specs.declared.woken.Woken.TheVariants as woken
-
--- the accesses that a lock's number prohibits: 1 reading, 2 writing, 3 both
-abbrev pub lock_numbered : ℕ → Lock
-lock_numbered number = record { read = number == 1 || number == 3; write = number == 2 || number == 3 }
-
--- the number is made up of what it prohibits
-pub lock_of-prohibits : (number : ℕ) → number < 4 → (if (lock_numbered number).read then 1 else 0) + (if (lock_numbered number).write then 2 else 0) ≡ number
-lock_of-prohibits number few = grind (arith, nat_tests)
 
 -- an answer of a pager, where a page has so many bytes
 abbrev pub IsAnswer : ℕ → Message → Type 0

@@ -1,22 +1,39 @@
 // The answers of a pager.
-ghost use Rattle.std.specs.Prelude.{◌≡◌, ◌≤◌, ◌<◌, List, replicate, Some, IfOk, IfSome, IsOk, IsSome, OnErr, OnOk, length};
+ghost use Rattle.std.specs.Prelude.{◌≡◌, ℕ, ◌≤◌, ◌<◌, false, List, replicate, Some, IfOk, IfSome, IsOk, IsSome, IsSomeAnd, OnErr, OnOk, length};
 ghost use Rattle.vm_base.specs.declared.ids.HostId.{HostId};
 ghost use Rattle.vm_model.specs.declared.event.Event.{Event};
 ghost use Rattle.vm_objects.specs.Objects.{object_at};
 ghost use Rattle.vm_parts.specs.Fits.{Fit};
+ghost use Rattle.vm_parts.specs.Locks.{lock_numbered};
 ghost use Rattle.vm_resident.specs.Resident.{row_at};
-ghost use Rattle.vm_supply.specs.Answers.{AnswerEffects, Failed, IsAnswer, Lacked, Supplied, Zeroed, lock_numbered, outcome_on, ready_outcome, where_asked};
+ghost use Rattle.vm_supply.specs.Answers.{AnswerEffects, Failed, IsAnswer, Lacked, Supplied, Zeroed, outcome_on, ready_outcome};
 
 use crate::Woken;
+use crate::states::{kind_of_supply, state_of};
 use vm_base::{HostId, Lock, NoMemory, ObjectId, ObjectKind, PageBytes, PageKey, PageNo};
 use vm_model::{Event, Events, Message};
 use vm_objects::PagerState;
-use vm_parts::HostParts;
+use vm_parts::{HostParts, lock_of};
+use vm_tables::{Act, MessageKind, message_act};
 
 const UNLOCKED: Lock = Lock {
     read: false,
     write: false,
 };
+
+// What is done with an answer by its row of the table of messages, where the state of its page gives an
+// act that the answer can have.
+macro_rules! by_table {
+    ($known:ident, $control:ident, $parts:ident, $object:ident, $kind:expr, $page:expr; $($act:ident => $done:expr,)+) => {{
+        let page = $page;
+        let row = $parts.resident.get(PageKey { object: $object, page });
+        let state = state_of(&$known, $control, page, row);
+        match message_act($kind, state) {
+            $(Act::$act => $done,)+
+            _ => Ok(Woken::Nobody),
+        }
+    }};
+}
 
 /// Takes one answer of an object's pager, which came for a control of this host: that it is ready,
 /// that it supplies a page, that it has none, or that it can't give it.
@@ -47,24 +64,37 @@ pub fn answer(
     let Some(known) = parts.objects.find(object) else {
         return Ok(Woken::Nobody);
     };
-    if !known.live || known.control != control {
-        return Ok(Woken::Nobody);
-    }
     match message {
-        Message::Ready { .. } => Ok(ready(parts, object, known.state)),
+        Message::Ready { .. } => by_table!(
+            known, control, parts, object, MessageKind::Ready, PageNo(0);
+            MakeReady => Ok(ready(parts, object, known.state)),
+        ),
         Message::Supply {
             page,
             lock,
             precious,
             hex,
-        } => Ok(supply(parts, object, *page, *lock, *precious, hex)),
-        Message::Unavailable { page } => match known.kind {
-            ObjectKind::Temp => Ok(lack(parts, object, *page)),
-            ObjectKind::File | ObjectKind::Shared | ObjectKind::Wild => {
-                Ok(zero(host, parts, object, *page, log)?)
-            },
+        } => {
+            let locked = lock_of(*lock);
+            by_table!(
+                known, control, parts, object, kind_of_supply(locked), *page;
+                PutUnlocked => Ok(supply(parts, object, *page, UNLOCKED, *precious, hex)),
+                PutLocked => Ok(supply(parts, object, *page, locked, *precious, hex)),
+            )
         },
-        Message::Error { page, .. } => Ok(fail(parts, object, *page)),
+        Message::Unavailable { page } => by_table!(
+            known, control, parts, object, MessageKind::Unavailable, *page;
+            NoteAbsent => match known.kind {
+                ObjectKind::Temp => Ok(lack(parts, object, *page)),
+                ObjectKind::File | ObjectKind::Shared | ObjectKind::Wild => {
+                    Ok(zero(host, parts, object, *page, log)?)
+                },
+            },
+        ),
+        Message::Error { page, .. } => by_table!(
+            known, control, parts, object, MessageKind::Error, *page;
+            Fail => Ok(fail(parts, object, *page)),
+        ),
         _ => unreachable!(),
     }
 }
@@ -87,38 +117,26 @@ fn ready(parts: &mut HostParts, object: ObjectId, state: PagerState) -> Woken
     }
 }
 
-// The accesses that a lock's number prohibits.
-fn lock_of(number: u32) -> Lock
-    ensures { result ≡ lock_numbered number }
-{
-    Lock {
-        read: number == 1 || number == 3,
-        write: number == 2 || number == 3,
-    }
-}
-
 // The pager supplies a page.
 fn supply(
     parts: &mut HostParts,
     object: ObjectId,
     page: PageNo,
-    lock: u32,
+    lock: Lock,
     precious: bool,
     bytes: &PageBytes,
 ) -> Woken
     requires fit { Fit parts.old }
+    requires asked { IsSomeAnd (row_at parts.old.resident object.0 page.0) (λ was. was.here ≡ false) }
     requires whole { length bytes.now ≡ parts.old.buffers.size }
     ensures fit { Fit parts.new }
     ensures buffers { parts.new.buffers ≡ parts.old.buffers }
     ensures spare { parts.old.resident.spare ≤ parts.new.resident.spare }
-    ensures answered { (host : HostId) (events : List Event) →
-        AnswerEffects host object (where_asked (row_at parts.old.resident object.0 page.0) (Supplied page lock precious bytes.now)) result parts.old parts.new events events }
+    ensures answered { (host : HostId) (number : ℕ) (events : List Event) → lock ≡ lock_numbered number →
+        AnswerEffects host object (Supplied page number precious bytes.now) result parts.old parts.new events events }
 {
     let key = PageKey { object, page };
-    let Some(_) = parts.asked(key) else {
-        return Woken::Nobody;
-    };
-    parts.fill(key, lock_of(lock), precious, bytes.as_slice());
+    parts.fill(key, lock, precious, bytes.as_slice());
     Woken::Page { key }
 }
 
@@ -131,17 +149,15 @@ fn zero(
     log: &mut Events,
 ) -> Result<Woken, NoMemory>
     requires fit { Fit parts.old }
+    requires asked { IsSomeAnd (row_at parts.old.resident object.0 page.0) (λ was. was.here ≡ false) }
     ensures fit { Fit parts.new }
     ensures buffers { parts.new.buffers ≡ parts.old.buffers }
     ensures spare { parts.old.resident.spare ≤ parts.new.resident.spare }
-    ensures answered { IfOk result (λ woken. AnswerEffects host object (where_asked (row_at parts.old.resident object.0 page.0) (Zeroed page)) woken parts.old parts.new log.old.items log.new.items) }
+    ensures answered { IfOk result (λ woken. AnswerEffects host object (Zeroed page) woken parts.old parts.new log.old.items log.new.items) }
     ensures err { OnErr result ((parts.new ≡ parts.old) × (log.new.items ≡ log.old.items)) }
     ensures succeeds { 0 < log.old.room → IsOk result }
 {
     let key = PageKey { object, page };
-    let Some(_) = parts.asked(key) else {
-        return Ok(Woken::Nobody);
-    };
     log.push(Event::Zeroed { host, object, page })?;
     parts.fill(key, UNLOCKED, false, &[]);
     Ok(Woken::Page { key })
@@ -150,16 +166,14 @@ fn zero(
 // The pager of a temporary object doesn't have a page.
 fn lack(parts: &mut HostParts, object: ObjectId, page: PageNo) -> Woken
     requires fit { Fit parts.old }
+    requires asked { IsSomeAnd (row_at parts.old.resident object.0 page.0) (λ was. was.here ≡ false) }
     ensures fit { Fit parts.new }
     ensures buffers { parts.new.buffers ≡ parts.old.buffers }
     ensures spare { parts.old.resident.spare ≤ parts.new.resident.spare }
     ensures answered { (host : HostId) (events : List Event) →
-        AnswerEffects host object (where_asked (row_at parts.old.resident object.0 page.0) (Lacked page)) result parts.old parts.new events events }
+        AnswerEffects host object (Lacked page) result parts.old parts.new events events }
 {
     let key = PageKey { object, page };
-    let Some(_) = parts.asked(key) else {
-        return Woken::Nobody;
-    };
     parts.cancel(key);
     parts.objects.note_absent(key);
     Woken::Page { key }
@@ -168,16 +182,14 @@ fn lack(parts: &mut HostParts, object: ObjectId, page: PageNo) -> Woken
 // The pager can't give a page.
 fn fail(parts: &mut HostParts, object: ObjectId, page: PageNo) -> Woken
     requires fit { Fit parts.old }
+    requires asked { IsSomeAnd (row_at parts.old.resident object.0 page.0) (λ was. was.here ≡ false) }
     ensures fit { Fit parts.new }
     ensures buffers { parts.new.buffers ≡ parts.old.buffers }
     ensures spare { parts.old.resident.spare ≤ parts.new.resident.spare }
     ensures answered { (host : HostId) (events : List Event) →
-        AnswerEffects host object (where_asked (row_at parts.old.resident object.0 page.0) (Failed page)) result parts.old parts.new events events }
+        AnswerEffects host object (Failed page) result parts.old parts.new events events }
 {
     let key = PageKey { object, page };
-    let Some(_) = parts.asked(key) else {
-        return Woken::Nobody;
-    };
     parts.cancel(key);
     Woken::Fails { key }
 }

@@ -3,6 +3,7 @@
 #![tactic(auto)]
 
 mod answers;
+mod states;
 mod woken;
 
 pub use answers::answer;

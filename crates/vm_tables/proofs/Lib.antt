@@ -1,0 +1,3 @@
+mod Messaging
+mod Once
+mod Shipped
