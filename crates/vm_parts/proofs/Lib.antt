@@ -1,5 +1,6 @@
 pub mod Changing
 pub mod Fitting
+pub mod Lists
 pub mod Numbering
 pub mod Rows
 pub mod Starting

@@ -1,8 +1,8 @@
 -- What an edit of one page, one frame or one object leaves, case by case.
-use Rattle.std.proofs.Common.{◌≡◌, ℕ, zero, suc, ◌<◌, ◌==◌, ◌&&◌, Bool, true, false, List, [], ◌∷◌, length, get_or, set, refl, ap, sym, ◌∙◌, subst, arith, Some, None, Option, inl, inr}
+use Rattle.std.proofs.Common.{◌≡◌, ℕ, ◌<◌, ◌==◌, ◌&&◌, Bool, true, false, List, length, get_or, set, refl, ap, sym, ◌∙◌, subst, Some, None, Option, inl, inr}
 use Rattle.std.proofs.lemmas.Bool.Decides.{eqb_tells}
 use Rattle.std.proofs.lemmas.List.{get_or-set_same, get_or-set_other}
-use Rattle.std.specs.Prelude.{if◌then◌else◌, ◌⊎◌, IfSome, IsSomeAnd}
+use Rattle.std.specs.Prelude.{if◌then◌else◌, ◌⊎◌, IfSome, IsSome, IsSomeAnd}
 use Rattle.vm_resident.specs.Resident.{IsOwned, PutsRow, ResidentTable, owner_of, page_key, row_at}
 use Rattle.vm_resident.specs.declared.page_row.PageRow.{PageRow}
 use Rattle.vm_parts.specs.Changes.{asked_row}
@@ -90,6 +90,11 @@ asked_is (Some row) was is = let both = asked_where row.here row was is in (ap (
 pub row_of : (x : Option PageRow) (P : PageRow → Type 0) → IsSomeAnd x P → (row : PageRow) × (x ≡ Some row) × P row
 row_of None P some = absurd some
 row_of (Some row) P some = (row, refl, some)
+
+-- the row of a page that has one
+pub row_there : (x : Option PageRow) → IsSome x → (row : PageRow) × (x ≡ Some row)
+row_there None some = absurd (let bad : false ≡ true = some in cc)
+row_there (Some row) some = (row, refl)
 
 -- what is said of a row that was found
 pub if_found : (x : Option PageRow) (row : PageRow) (P : PageRow → Type 0) → x ≡ Some row → P row → IfSome x P

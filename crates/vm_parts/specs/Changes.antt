@@ -1,5 +1,5 @@
 -- What becomes of one page of a host, and of its frame.
-use Rattle.std.specs.Prelude.{ℕ, ◌+◌, ◌-◌, ◌<◌, ◌≡◌, ◌==◌, Bool, true, false, List, ◌++◌, Option, Some, None, IfSome, if◌then◌else◌, is_some, length, replicate, set}
+use Rattle.std.specs.Prelude.{ℕ, ◌+◌, ◌-◌, ◌<◌, ◌≡◌, ◌==◌, ◌&&◌, Bool, true, false, List, ◌++◌, Option, Some, None, IfSome, if◌then◌else◌, is_some, length, not, replicate, set}
 use Rattle.vm_base.specs.declared.ids.FrameNo.{FrameNo}
 use Rattle.vm_base.specs.declared.ids.Lock.{Lock}
 use Rattle.vm_base.specs.declared.ids.PageKey.{PageKey}
@@ -7,6 +7,7 @@ use Rattle.vm_frames.specs.Frames.{FrameTable, claimed, frame_count, free, is_cl
 use Rattle.vm_queues.specs.Queues.{Queues, added, is_queued, queues_except}
 use Rattle.vm_resident.specs.Resident.{PutsOwner, PutsRow, owner_of, row_at}
 use Rattle.vm_resident.specs.declared.page_row.PageRow.{PageRow}
+use Rattle.vm_parts.specs.Locks.{lock_after}
 use Rattle.vm_parts.specs.declared.parts.HostParts.{HostParts}
 
 abbrev pub unlocked : Lock
@@ -101,6 +102,14 @@ Writes key row bytes old new = Changes key row.frame (Some row) (Some (record ro
 -- an unlock of a page that is here is outstanding
 abbrev pub NotesUnlock : PageKey → PageRow → HostParts → HostParts → Type 0
 NotesUnlock key row old new = Changes key row.frame (Some row) (Some (record row { unlock_sent = true })) true (page_in old.frames row.frame.0) old.queues old new
+
+-- the row of a page that is given a lock, or keeps its own, and is clean and not precious where its pager has been sent it
+abbrev pub relocked : Option Lock → Bool → PageRow → PageRow
+relocked lock saved row = record row { lock = lock_after lock row.lock; dirty = not saved && row.dirty; precious = not saved && row.precious; unlock_sent = false }
+
+-- a page that is here is locked so, and no unlock of it is outstanding any more
+abbrev pub Relocks : PageKey → PageRow → Option Lock → Bool → HostParts → HostParts → Type 0
+Relocks key row lock saved old new = Changes key row.frame (Some row) (Some (relocked lock saved row)) true (page_in old.frames row.frame.0) old.queues old new
 
 -- a page that was asked is asked no more, and its frame is free
 abbrev pub Cancels : PageKey → PageRow → HostParts → HostParts → Type 0

@@ -1,3 +1,5 @@
 pub mod Changes
 pub mod Controls
 pub mod Fits
+pub mod Listed
+pub mod Locks

@@ -1,19 +1,16 @@
 -- The pages of an object leave, one after another.
-use Rattle.std.proofs.Common.{◌≡◌, ◌∙◌, ℕ, suc, ◌+◌, ◌<◌, ◌≤◌, true, false, Option, Some, None, inl, inr, refl, ap, sym, subst, arith}
-use Rattle.std.specs.Prelude.{IsSome}
+use Rattle.std.proofs.Common.{◌≡◌, ◌∙◌, ℕ, suc, ◌+◌, ◌≤◌, true, Some, None, inl, inr, ap, sym, subst, arith}
 use Rattle.vm_base.specs.declared.ids.HostId.{HostId}
 use Rattle.vm_base.specs.declared.ids.ObjectId.{ObjectId}
 use Rattle.vm_base.specs.declared.ids.PageKey.{PageKey}
 use Rattle.vm_base.specs.declared.ids.PageNo.{PageNo}
 use Rattle.vm_objects.specs.Objects.{SameObjects, object_at}
 use Rattle.vm_objects.specs.declared.row.ObjectRow.{ObjectRow}
+use Rattle.vm_parts.proofs.Lists.{listed_less}
 use Rattle.vm_parts.proofs.Rows.{row_cases}
-use Rattle.vm_parts.specs.Fits.{Fit}
-use Rattle.vm_parts.specs.declared.parts.HostParts.{HostParts}
+use Rattle.vm_parts.specs.Listed.{listed_pages}
 use Rattle.vm_resident.specs.Resident.{IsNextPage, PutsRow, ResidentTable, row_at}
 use Rattle.vm_resident.specs.declared.page_row.PageRow.{PageRow}
-use Rattle.vm_terminate.proofs.Lists.{listed_less, some_listed}
-use Rattle.vm_terminate.specs.Counts.{listed_pages}
 use Rattle.vm_terminate.specs.Finishes.{FinishState, GoesBack, IsDropped, Next, PageLeaves, PagesLeave}
 use Rattle.vm_terminate.specs.Steps.{AllHere}
 
@@ -54,11 +51,3 @@ others_here o p old new put here q page is = elim (row_cases o p None old new pu
   | inl gone ↦ absurd (let bad : None ≡ Some page = sym gone.is ∙ is in cc)
   | inr other ↦ here q page (sym other.is ∙ is)
 ]
-
--- a page that is here is on a list
-pub some_here : (parts : HostParts) (o p : ℕ) (row : PageRow) → Fit parts → row_at parts.resident o p ≡ Some row → row.here ≡ true → 0 < listed_pages parts.queues
-some_here parts o p row fit found here = some_listed row.frame.0 parts.queues (fit.listed o p row found ∙ here)
-
-pub row_there : (x : Option PageRow) → IsSome x → (row : PageRow) × (x ≡ Some row)
-row_there None some = absurd (let bad : false ≡ true = some in cc)
-row_there (Some row) some = (row, refl)

@@ -1,6 +1,5 @@
 mod Found
 mod Leaving
-mod Lists
 mod Rooms
 mod Under
 mod Walking

@@ -5,11 +5,12 @@ use Rattle.vm_base.specs.declared.ids.HostId.{HostId}
 use Rattle.vm_base.specs.declared.ids.ObjectId.{ObjectId}
 use Rattle.vm_objects.specs.Objects.{ObjectTable, object_at}
 use Rattle.vm_objects.specs.declared.row.ObjectRow.{ObjectRow}
+use Rattle.vm_parts.specs.Listed.{listed_pages}
 use Rattle.vm_parts.specs.declared.parts.HostParts.{HostParts}
 use Rattle.vm_shadow.specs.Chains.{ChainTable, shadow_at}
 use Rattle.vm_shadow.specs.declared.shadow_row.ShadowRow.{ShadowRow}
 use Rattle.vm_terminate.proofs.Walking.{GoesOn, HasComeTo, IsBare, queues_are, shadow_stood, under_stood}
-use Rattle.vm_terminate.specs.Counts.{EndsSoMany, NothingUnder, UnderEnds, UnderStays, listed_pages}
+use Rattle.vm_terminate.specs.Counts.{EndsSoMany, NothingUnder, UnderEnds, UnderStays}
 use Rattle.vm_terminate.specs.Finishes.{FinishState}
 
 -- so many objects are to end yet, and there is room for what that tells

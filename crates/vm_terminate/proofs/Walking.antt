@@ -6,11 +6,11 @@ use Rattle.vm_objects.specs.Objects.{object_at}
 use Rattle.vm_objects.specs.declared.row.ObjectRow.{ObjectRow}
 use Rattle.vm_parts.proofs.Rows.{one_case, row_cases}
 use Rattle.vm_parts.specs.Fits.{Fit}
+use Rattle.vm_parts.specs.Listed.{listed_pages}
 use Rattle.vm_resident.specs.Resident.{row_at}
 use Rattle.vm_shadow.specs.Chains.{shadow_at}
 use Rattle.vm_shadow.specs.declared.shadow_row.ShadowRow.{ShadowRow}
 use Rattle.vm_terminate.proofs.Leaving.{HasGone, has_gone}
-use Rattle.vm_terminate.specs.Counts.{listed_pages}
 use Rattle.vm_terminate.specs.Finishes.{CanFinish, ControlEnds, EndsWith, FinishState, Finishes, Further, IsReferred, IsTold, Itself, LosesUnder, Next, NoControl, NoMore, PagesLeave}
 use Rattle.vm_terminate.specs.Finishes.{Alone, Downward, OverOne}
 use Rattle.vm_terminate.specs.Steps.{AllHere, Ends, LeavesUnder, Nothing, Stays}

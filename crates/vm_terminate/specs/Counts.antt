@@ -1,14 +1,9 @@
--- How many events an object's end may tell.
-use Rattle.std.specs.Prelude.{ℕ, suc, ◌+◌, ◌≡◌, ◌≢◌, Some, None, length}
+-- How many objects end with one.
+use Rattle.std.specs.Prelude.{ℕ, suc, ◌≡◌, ◌≢◌, Some, None}
 use Rattle.vm_objects.specs.Objects.{ObjectTable, object_at}
 use Rattle.vm_objects.specs.declared.row.ObjectRow.{ObjectRow}
-use Rattle.vm_queues.specs.Queues.{Queues}
 use Rattle.vm_shadow.specs.Chains.{ChainTable, shadow_at}
 use Rattle.vm_shadow.specs.declared.shadow_row.ShadowRow.{ShadowRow}
-
--- how many pages are here
-abbrev pub listed_pages : Queues → ℕ
-listed_pages queues = length queues.active + length queues.inactive
 
 -- so many objects end with one: itself, and those under it to which nothing else refers
 pub data EndsSoMany (chains : ChainTable) (objects : ObjectTable) : ℕ → ℕ → Type 0 where

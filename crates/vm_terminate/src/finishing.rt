@@ -4,9 +4,10 @@ ghost use Rattle.vm_base.specs.declared.ids.FrameNo.{FrameNo};
 ghost use Rattle.vm_model.specs.declared.event.Event.{Event};
 ghost use Rattle.vm_objects.specs.Objects.{object_at};
 ghost use Rattle.vm_parts.specs.Fits.{Fit};
+ghost use Rattle.vm_parts.specs.Listed.{listed_pages};
 ghost use Rattle.vm_shadow.specs.Chains.{ChainTable, shadow_at};
 ghost use Rattle.vm_shadow.specs.declared.shadow_row.ShadowRow.{ShadowRow};
-ghost use Rattle.vm_terminate.specs.Counts.{EndsSoMany, listed_pages};
+ghost use Rattle.vm_terminate.specs.Counts.{EndsSoMany};
 ghost use Rattle.vm_terminate.specs.Finishes.{CanFinish, ControlEnds, Finishes, IsReferred};
 ghost use Rattle.vm_terminate.specs.Steps.{LeavesUnder, finish_state};
 

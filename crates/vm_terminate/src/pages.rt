@@ -7,9 +7,9 @@ ghost use Rattle.vm_model.specs.declared.message.Message.TheVariants as message;
 ghost use Rattle.vm_objects.specs.Objects.{PutsAbsent, SameObjects, object_at};
 ghost use Rattle.vm_parts.specs.Changes.{Discards, Removes};
 ghost use Rattle.vm_parts.specs.Fits.{Fit};
+ghost use Rattle.vm_parts.specs.Listed.{listed_pages};
 ghost use Rattle.vm_resident.specs.Resident.{row_at};
 ghost use Rattle.vm_shadow.specs.Chains.{ChainTable};
-ghost use Rattle.vm_terminate.specs.Counts.{listed_pages};
 ghost use Rattle.vm_terminate.specs.Finishes.{PageLeaves, PagesLeave};
 ghost use Rattle.vm_terminate.specs.Steps.{AllHere, finish_state};
 

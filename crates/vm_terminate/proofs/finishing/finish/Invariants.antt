@@ -1,7 +1,8 @@
 use Rattle.std.proofs.Common.{◌≡◌, ℕ, ◌+◌, ◌≤◌}
+use Rattle.vm_parts.specs.Listed.{listed_pages}
 use Rattle.vm_terminate.proofs.Rooms.{HasRoom}
 use Rattle.vm_terminate.proofs.Walking.{HasComeTo}
-use Rattle.vm_terminate.specs.Counts.{EndsSoMany, listed_pages}
+use Rattle.vm_terminate.specs.Counts.{EndsSoMany}
 use Rattle.vm_terminate.specs.Finishes.{FinishState, Finishes}
 use Rattle.vm_terminate.specs.Steps.{finish_state}
 use Rattle.vm_terminate.proofs.finishing.finish.Given as goal

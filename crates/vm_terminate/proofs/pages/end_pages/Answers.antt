@@ -1,8 +1,10 @@
 use Rattle.std.proofs.lemmas.Option.{MatchOption-at_some}
 use Rattle.std.proofs.Common.{◌≡◌, ◌∙◌, true, false, [], refl, arith}
 use Rattle.vm_base.specs.declared.ids.PageKey.{PageKey}
+use Rattle.vm_parts.proofs.Lists.{some_here}
+use Rattle.vm_parts.proofs.Rows.{row_there}
 use Rattle.vm_shadow.specs.Chains.{ChainTable}
-use Rattle.vm_terminate.proofs.Leaving.{has_gone, one_more, others_here, row_there, some_here}
+use Rattle.vm_terminate.proofs.Leaving.{has_gone, one_more, others_here}
 use Rattle.vm_terminate.specs.Finishes.{NoMore}
 use Rattle.vm_terminate.specs.Steps.{finish_state}
 use Rattle.vm_terminate.proofs.pages.end_pages.Goals as goal

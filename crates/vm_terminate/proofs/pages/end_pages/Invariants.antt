@@ -1,8 +1,8 @@
 use Rattle.std.proofs.Common.{◌≡◌, ◌+◌, ◌-◌, ◌≤◌, Some}
 use Rattle.vm_objects.specs.Objects.{object_at}
 use Rattle.vm_parts.specs.Fits.{Fit}
+use Rattle.vm_parts.specs.Listed.{listed_pages}
 use Rattle.vm_shadow.specs.Chains.{ChainTable}
-use Rattle.vm_terminate.specs.Counts.{listed_pages}
 use Rattle.vm_terminate.specs.Finishes.{FinishState, PagesLeave}
 use Rattle.vm_terminate.specs.Steps.{AllHere, finish_state}
 use Rattle.vm_terminate.proofs.pages.end_pages.Given as goal

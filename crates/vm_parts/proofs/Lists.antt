@@ -1,7 +1,11 @@
 -- A page leaves the lists.
-use Rattle.std.proofs.Common.{◌≡◌, ◌∙◌, ℕ, ◌+◌, ◌<◌, ◌≤◌, ◌||◌, ◌==◌, Bool, true, false, List, [], ◌∷◌, ◌++◌, length, if◌then◌else◌, sym, refl, ap, arith}
+use Rattle.std.proofs.Common.{◌≡◌, ◌∙◌, ℕ, ◌+◌, ◌<◌, ◌≤◌, ◌||◌, ◌==◌, Bool, true, false, List, [], ◌∷◌, ◌++◌, length, if◌then◌else◌, Some, sym, refl, arith}
 use Rattle.vm_queues.specs.Queues.{Page, Queues, has_page, is_queued, pages_except, queues_except}
-use Rattle.vm_terminate.specs.Counts.{listed_pages}
+use Rattle.vm_resident.specs.Resident.{row_at}
+use Rattle.vm_resident.specs.declared.page_row.PageRow.{PageRow}
+use Rattle.vm_parts.specs.Fits.{Fit}
+use Rattle.vm_parts.specs.Listed.{listed_pages}
+use Rattle.vm_parts.specs.declared.parts.HostParts.{HostParts}
 
 no_more : (f : ℕ) (pages : List Page) → length (pages_except f pages) ≤ length pages
 no_more f [] = omega arith
@@ -45,3 +49,7 @@ listed_less f old new is out = rw out (at (has_page old.inactive f) refl)
 -- where a page is listed there is one
 pub some_listed : (f : ℕ) (queues : Queues) → is_queued queues f ≡ true → 0 < listed_pages queues
 some_listed f queues is = let less = listed_less f queues (queues_except f queues) is refl in omega arith
+
+-- a page that is here is on a list
+pub some_here : (parts : HostParts) (o p : ℕ) (row : PageRow) → Fit parts → row_at parts.resident o p ≡ Some row → row.here ≡ true → 0 < listed_pages parts.queues
+some_here parts o p row fit found here = some_listed row.frame.0 parts.queues (fit.listed o p row found ∙ here)
