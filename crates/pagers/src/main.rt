@@ -4,7 +4,7 @@
 use std::env;
 use std::io::ErrorKind;
 use std::process::ExitCode;
-use vm_outside::{Armed, StdSink, StdSource, SureBacking};
+use vm_outside::{Armed, Folder, StdSink, StdSource, SureBacking};
 use vm_top::{Status, pagers_main};
 
 fn main(rt: HostRuntime) -> ExitCode {
@@ -25,7 +25,7 @@ fn main(rt: HostRuntime) -> ExitCode {
     }
     let mut source = StdSource::new(rt.stdin());
     let mut sink = StdSink::new(rt.stdout());
-    let mut files = Armed::new(SureBacking::new(alloc));
+    let mut files = Armed::new(Folder::new(&rt));
     let mut paging = Armed::new(SureBacking::new(alloc));
     let outcome = pagers_main(
         alloc,

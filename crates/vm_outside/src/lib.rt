@@ -5,6 +5,7 @@
 mod areas;
 mod armed;
 mod backing;
+mod folder;
 mod memory_backing;
 mod memory_sink;
 mod memory_source;
@@ -17,6 +18,7 @@ mod std_source;
 
 pub use armed::Armed;
 pub use backing::Backing;
+pub use folder::Folder;
 pub use memory_backing::SureBacking;
 pub use memory_sink::{MemSink, SureSink};
 pub use memory_source::{MemSource, SureSource};
