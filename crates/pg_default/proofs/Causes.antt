@@ -1,5 +1,5 @@
 -- Each event of an answer has its cause.
-use Rattle.std.proofs.Common.{ℕ, ◌≡◌, ◌≤◌, ◌==◌, ◌&&◌, ◌||◌, nat_lt, Bool, true, false, List, [], ◌∷◌, Option, Some, None, refl, sym, ◌∙◌, ap, subst, arith, if◌then◌else◌, inl, inr}
+use Rattle.std.proofs.Common.{ℕ, ◌≡◌, ◌≤◌, nat_lt, Bool, true, false, List, [], ◌∷◌, Option, Some, None, refl, sym, ◌∙◌, ap, subst, arith, if◌then◌else◌, inl, inr}
 use Rattle.std.proofs.lemmas.Bool.{false≢true}
 use Rattle.std.proofs.lemmas.Bool.Decides.{nat_tests}
 use Rattle.pg_slots.specs.Contents.{Kept, Lost, Stored}
@@ -27,6 +27,7 @@ use Rattle.pg_default.proofs.Rows.{itself}
 use Rattle.pg_default.proofs.Facts.{own_slots, same_taken}
 use Rattle.pg_default.proofs.Standing.{goes_to, no_free}
 use Rattle.vm_legal.proofs.Files.{not_file}
+use Rattle.vm_legal.proofs.Answering.{own_test}
 
 none_is : (was : Option (List ℕ)) (lost : Bool) → IsHeldOf None was lost → (was ≡ None) × (lost ≡ false)
 none_is None false h = (refl, refl)
@@ -136,16 +137,13 @@ supplies header outside doing host past object control page access s bytes f sto
         → pager_has header outside host object.0 page.0 (taking host object (message.Request control page access) past) ≡ Some bytes
     has last e = ap (λ (x : Option (List ℕ)). newer x (if is_file header object.0 then Some (start_page header outside object.0 page.0) else None)) last ∙ ap Some e
 
-own_test : (o p : ℕ) (rest : Bool) → ((o == o && p == p) || rest) ≡ true
-own_test o p rest = rw (itself o, itself p) refl
-
 unread : (header : Header) (outside : Outside) (doing : Command) (host : ℕ) (past : List Event) (object : ObjectId) (control : ℕ) (page : PageNo) (access s : ℕ) → Finds header host past object page (Some (held.Kept s))
     → AllLicensed header outside doing (sent_to host object control (error page) ∷ device_failed Read object page ∷ []) (taking host object (message.Request control page access) past)
 unread header outside doing host past object control page access s f =
     let rows = (same_taken header host object.0 (message.Request control page access) past tt).rows in (
       (
         sends header outside doing host object control (error page) (device_failed Read object page ∷ taking host object (message.Request control page access) past) f.temporary
-            (record { access = access; taken = refl; unanswered = refl }, refl, inr (own_test object.0 page.0 _)),
+            (record { access = access; taken = refl; unanswered = refl }, refl, inr (own_test object.0 page.0 page.0 false (itself page.0))),
         tt,
       ),
       (((f.temporary, (host, record { control = control; access = access; is = refl }, (s, ap (slot_of object.0 page.0) rows ∙ sym f.slot))), tt), tt),

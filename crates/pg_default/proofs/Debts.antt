@@ -1,8 +1,7 @@
 -- What the step owes is paid.
-use Rattle.std.proofs.Common.{ℕ, ◌≡◌, ◌==◌, ◌&&◌, ◌||◌, Bool, true, false, List, [], ◌∷◌, ◌++◌, Option, Some, None, refl, sym, ◌∙◌, ap, subst, arith, inl, inr}
+use Rattle.std.proofs.Common.{ℕ, ◌≡◌, ◌==◌, Bool, true, false, List, [], ◌∷◌, ◌++◌, Option, Some, None, refl, sym, ◌∙◌, ap, subst, arith, inl, inr}
 use Rattle.std.proofs.lemmas.Bool.{false≢true}
 use Rattle.std.proofs.lemmas.Bool.Decides.{nat_tests}
-use Rattle.std.proofs.lemmas.Option.{none-some}
 use Rattle.pg_slots.specs.Slots.{HasNoSlot, SlotTable, held_at}
 use Rattle.pg_slots.specs.declared.answers.Put.{Put as PutAnswer}
 use Rattle.pg_slots.specs.declared.answers.Put.TheVariants as put
@@ -11,79 +10,15 @@ use Rattle.pg_slots.specs.declared.slot_row.Held.TheVariants as held
 use Rattle.vm_base.specs.declared.ids.ObjectId.{ObjectId}
 use Rattle.vm_base.specs.declared.ids.PageNo.{PageNo}
 use Rattle.vm_model.specs.declared.event.Event.{Event}
-use Rattle.vm_model.specs.declared.message.Channel.{Channel}
-use Rattle.vm_model.specs.declared.message.Channel.TheVariants.{Up, Down}
 use Rattle.vm_model.specs.declared.message.Message.{Message}
 use Rattle.vm_model.specs.declared.message.Message.TheVariants as message
 use Rattle.vm_model.specs.declared.script.Header.{Header}
-use Rattle.vm_legal.proofs.Locks.{came_down, no_lock, no_request}
+use Rattle.vm_legal.proofs.Answering.{asks, itself, opens, own_test, paid_of, returns}
 use Rattle.vm_legal.specs.Debts.{IsPaid}
-use Rattle.vm_legal.specs.Licences.{created, up}
 use Rattle.vm_legal.specs.Pagers.{LacksSlot}
-use Rattle.vm_legal.specs.Steps.{Letter, absence_taken, answers, before_step, error_taken, lacks_slot, readies, since, taken_letter}
 use Rattle.pg_default.specs.Answers.{PagerAnswer, RequestAnswer, became, error, sent_to, told_of}
 use Rattle.pg_default.specs.Stands.{PagerServes, PagerStands, taking}
-use Rattle.pg_default.proofs.Rows.{itself}
 use Rattle.pg_default.proofs.Standing.{is_full}
-
-abbrev opens : Message → Bool
-opens (message.Init control size) = true
-opens (message.Create control size) = true
-opens m = false
-
-abbrev asks : ℕ → Message → Bool
-asks p (message.Request control page access) = page.0 == p
-asks p m = false
-
-abbrev returns : ℕ → Message → Bool
-returns p (message.Return control page dirty keep bytes) = page.0 == p
-returns p m = false
-
-abbrev object_in : Channel → ℕ
-object_in (Up host object) = object.0
-object_in (Down host object control) = object.0
-
-abbrev host_in : Channel → ℕ
-host_in (Up host object) = host.0
-host_in (Down host object control) = host.0
-
-abbrev object_of : Option Letter → ℕ
-object_of None = 0
-object_of (Some letter) = object_in letter.channel
-
-abbrev host_of : Option Letter → ℕ
-host_of None = 0
-host_of (Some letter) = host_in letter.channel
-
-abbrev test_of : (Message → Bool) → Option Letter → Bool
-test_of test None = false
-test_of test (Some letter) = test letter.message
-
--- what the step took, and what it did of that
-record Did (header : Header) (host o : ℕ) (m : Message) (now : List Event) : Type 0 where
-  created : created now ≡ None
-  took : taken_letter now ≡ Some (record { channel = up host o; message = m })
-  no_error : error_taken header.size now ≡ None
-  no_absence : absence_taken header.size now ≡ None
-  ready : opens m ≡ true → since (readies o) now ≡ true
-  answered : (p : ℕ) → asks p m ≡ true → since (answers o p) now ≡ true
-  lacking : (p : ℕ) → returns p m ≡ true → LacksSlot header host o p (before_step now) → since (lacks_slot o p) now ≡ true
-
-paid_of : (header : Header) (host o : ℕ) (m : Message) (now : List Event) → Did header host o m now → IsPaid header now
-paid_of header host o m now did = record {
-  returned = did.created;
-  init = λ at object control size paged is. subst (λ (k : ℕ). since (readies k) now ≡ true) (ap object_of (sym did.took ∙ is)) (did.ready (ap (test_of opens) (sym did.took ∙ is)));
-  create = λ at object control size paged is. subst (λ (k : ℕ). since (readies k) now ≡ true) (ap object_of (sym did.took ∙ is)) (did.ready (ap (test_of opens) (sym did.took ∙ is)));
-  request = λ at object control page access paged is. subst (λ (k : ℕ). since (answers k page) now ≡ true) (ap object_of (sym did.took ∙ is)) (did.answered page (ap (test_of (asks page)) (sym did.took ∙ is) ∙ itself page));
-  error = λ at object page is. absurd (none-some _ (sym did.no_error ∙ is));
-  absence = λ at object page declared is. absurd (none-some _ (sym did.no_absence ∙ is));
-  lock = λ request is. no_request request now (no_lock now (ap came_down did.took)) is;
-  slot = λ at object control page dirty keep bytes temporary is lacks.
-      let same = sym did.took ∙ is in
-      subst (λ (k : ℕ). since (lacks_slot k page) now ≡ true) (ap object_of same)
-      (did.lacking page (ap (test_of (returns page)) same ∙ itself page)
-      (subst (λ (k : ℕ). LacksSlot header host k page (before_step now)) (sym (ap object_of same)) (subst (λ (h : ℕ). LacksSlot header h object page (before_step now)) (sym (ap host_of same)) lacks)));
-}
 
 never : {X : Type 0} → false ≡ true → X
 never is = absurd (false≢true is)
@@ -93,17 +28,14 @@ owes_nothing : (header : Header) (host : ℕ) (object : ObjectId) (m : Message) 
 owes_nothing header host object m past events one two three is =
     subst (λ (es : List Event). IsPaid header (es ++ taking host object m past)) (sym is)
     (paid_of header host object.0 m (taking host object m past)
-    (record { created = refl; took = refl; no_error = refl; no_absence = refl; ready = λ e. never (sym one ∙ e); answered = λ p e. never (sym (two p) ∙ e); lacking = λ p e lacks. never (sym (three p) ∙ e) }))
+    (record { created = refl; took = refl; no_error = refl; no_absence = refl; ready = λ e. never (sym one ∙ e); answered = λ p e. never (sym (two p) ∙ e); lacking = λ p high e lacks. never (sym (three p) ∙ e) }))
 
 is_ready : (header : Header) (host at : ℕ) (object : ObjectId) (m : Message) (control strategy : ℕ) (past events : List Event) → ((p : ℕ) → asks p m ≡ false) → ((p : ℕ) → returns p m ≡ false) → events ≡ sent_to at object control (message.Ready false strategy) ∷ []
     → IsPaid header (events ++ taking host object m past)
 is_ready header host at object m control strategy past events two three is =
     subst (λ (es : List Event). IsPaid header (es ++ taking host object m past)) (sym is)
     (paid_of header host object.0 m (sent_to at object control (message.Ready false strategy) ∷ taking host object m past)
-    (record { created = refl; took = refl; no_error = refl; no_absence = refl; ready = λ e. rw (itself object.0) refl; answered = λ p e. never (sym (two p) ∙ e); lacking = λ p e lacks. never (sym (three p) ∙ e) }))
-
-one_test : (o p q : ℕ) (rest : Bool) → (p == q) ≡ true → ((o == o && p == q) || rest) ≡ true
-one_test o p q rest is = rw (itself o, is) refl
+    (record { created = refl; took = refl; no_error = refl; no_absence = refl; ready = λ e. rw (itself object.0) refl; answered = λ p e. never (sym (two p) ∙ e); lacking = λ p high e lacks. never (sym (three p) ∙ e) }))
 
 requested : (header : Header) (host at size : ℕ) (object : ObjectId) (control : ℕ) (page : PageNo) (access : ℕ) (has : Option Held) (past events : List Event) → RequestAnswer size at object control page has events
     → IsPaid header (events ++ taking host object (message.Request control page access) past)
@@ -116,14 +48,14 @@ requested header host at size object control page access has past events is = by
     on es e paid = subst (λ (x : List Event). IsPaid header (x ++ first)) (sym e) paid
 
     error_sent : IsPaid header (sent_to at object control (error page) ∷ first)
-    error_sent = paid_of header host object.0 (message.Request control page access) _ (record { created = refl; took = refl; no_error = refl; no_absence = refl; ready = λ e. never e; answered = λ p e. one_test object.0 page.0 p _ e; lacking = λ p e lacks. never e })
+    error_sent = paid_of header host object.0 (message.Request control page access) _ (record { created = refl; took = refl; no_error = refl; no_absence = refl; ready = λ e. never e; answered = λ p e. own_test object.0 page.0 p _ e; lacking = λ p high e lacks. never e })
 
     by : (has : Option Held) → RequestAnswer size at object control page has events → IsPaid header (events ++ first)
-    by None e = on _ e (paid_of header host object.0 (message.Request control page access) _ (record { created = refl; took = refl; no_error = refl; no_absence = refl; ready = λ e. never e; answered = λ p e. one_test object.0 page.0 p _ e; lacking = λ p e lacks. never e }))
+    by None e = on _ e (paid_of header host object.0 (message.Request control page access) _ (record { created = refl; took = refl; no_error = refl; no_absence = refl; ready = λ e. never e; answered = λ p e. own_test object.0 page.0 p _ e; lacking = λ p high e lacks. never e }))
     by (Some held.Lost) e = on _ e error_sent
     by (Some (held.Torn s)) e = on _ e error_sent
-    by (Some (held.Kept s)) (inl e) = on _ e.2 (paid_of header host object.0 (message.Request control page access) _ (record { created = refl; took = refl; no_error = refl; no_absence = refl; ready = λ e. never e; answered = λ p e. one_test object.0 page.0 p _ e; lacking = λ p e lacks. never e }))
-    by (Some (held.Kept s)) (inr e) = on _ e (paid_of header host object.0 (message.Request control page access) _ (record { created = refl; took = refl; no_error = refl; no_absence = refl; ready = λ e. never e; answered = λ p e. one_test object.0 page.0 p _ e; lacking = λ p e lacks. never e }))
+    by (Some (held.Kept s)) (inl e) = on _ e.2 (paid_of header host object.0 (message.Request control page access) _ (record { created = refl; took = refl; no_error = refl; no_absence = refl; ready = λ e. never e; answered = λ p e. own_test object.0 page.0 p _ e; lacking = λ p high e lacks. never e }))
+    by (Some (held.Kept s)) (inr e) = on _ e (paid_of header host object.0 (message.Request control page access) _ (record { created = refl; took = refl; no_error = refl; no_absence = refl; ready = λ e. never e; answered = λ p e. own_test object.0 page.0 p _ e; lacking = λ p high e lacks. never e }))
 
 abbrev is_no_slot : PutAnswer → Bool
 is_no_slot put.NoSlot = true
@@ -145,9 +77,9 @@ returned header host past object control page dirty keep bytes old is s told = b
         (s.slot object.0 page.0 ∙ l.none, is_full header host old past s l.full)
 
     by : (is : PutAnswer) → (HasNoSlot old object.0 page.0 → is ≡ put.NoSlot) → IsPaid header (told_of is object page ++ taking host object (message.Return control page dirty keep bytes) past)
-    by put.Kept told = paid_of header host object.0 (message.Return control page dirty keep bytes) _ (record { created = refl; took = refl; no_error = refl; no_absence = refl; ready = λ e. never e; answered = λ p e. never e; lacking = λ p e lacks. never (ap is_no_slot (told (lacks_it p e lacks))) })
-    by put.Failed told = paid_of header host object.0 (message.Return control page dirty keep bytes) _ (record { created = refl; took = refl; no_error = refl; no_absence = refl; ready = λ e. never e; answered = λ p e. never e; lacking = λ p e lacks. never (ap is_no_slot (told (lacks_it p e lacks))) })
-    by put.NoSlot told = paid_of header host object.0 (message.Return control page dirty keep bytes) _ (record { created = refl; took = refl; no_error = refl; no_absence = refl; ready = λ e. never e; answered = λ p e. never e; lacking = λ p e lacks. one_test object.0 page.0 p _ e })
+    by put.Kept told = paid_of header host object.0 (message.Return control page dirty keep bytes) _ (record { created = refl; took = refl; no_error = refl; no_absence = refl; ready = λ e. never e; answered = λ p e. never e; lacking = λ p high e lacks. never (ap is_no_slot (told (lacks_it p e lacks))) })
+    by put.Failed told = paid_of header host object.0 (message.Return control page dirty keep bytes) _ (record { created = refl; took = refl; no_error = refl; no_absence = refl; ready = λ e. never e; answered = λ p e. never e; lacking = λ p high e lacks. never (ap is_no_slot (told (lacks_it p e lacks))) })
+    by put.NoSlot told = paid_of header host object.0 (message.Return control page dirty keep bytes) _ (record { created = refl; took = refl; no_error = refl; no_absence = refl; ready = λ e. never e; answered = λ p e. never e; lacking = λ p high e lacks. own_test object.0 page.0 p _ e })
 
 pub paid : (header : Header) (host : ℕ) (past : List Event) (object : ObjectId) (m : Message) (old new : SlotTable) (events : List Event)
     → PagerServes header host past object m old new events → IsPaid header (events ++ taking host object m past)

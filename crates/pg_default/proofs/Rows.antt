@@ -10,10 +10,8 @@ use Rattle.vm_model.specs.declared.message.Message.{Message}
 use Rattle.vm_model.specs.declared.message.Message.TheVariants as message
 use Rattle.vm_model.specs.declared.script.Header.{Header}
 use Rattle.vm_model.specs.Named.{named}
+pub use Rattle.vm_legal.proofs.Answering.{itself}
 use Rattle.vm_legal.specs.Pagers.{Slotted, first_free, is_taken, slot_of, slots, slots_after, slotted, with_slot, without_object}
-
-pub itself : (n : ℕ) → (n == n) ≡ true
-itself n = grind (arith, nat_tests)
 
 pub same_if : {X : Type 0} (t : Bool) (x : X) → (if t then x else x) ≡ x
 same_if true x = refl

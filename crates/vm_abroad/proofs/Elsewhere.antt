@@ -92,7 +92,7 @@ filled_begun : (b : Bool) (r address bytes to : ℕ) (was : Option Access) (targ
 filled_begun true r address bytes to was target is = refl
 filled_begun false r address bytes to was target is = is
 
-filled_other : (r : ℕ) (x : Option Access) (target : Option Target) → is_target r target ≡ false → fills r x target ≡ false
+pub filled_other : (r : ℕ) (x : Option Access) (target : Option Target) → is_target r target ≡ false → fills r x target ≡ false
 filled_other r None target other = refl
 filled_other r (Some (Copying address bytes to)) target other = other
 filled_other r (Some (Loading address bytes)) target other = refl

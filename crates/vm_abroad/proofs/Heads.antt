@@ -1,5 +1,5 @@
 -- Behind each region that the commands make stands its entry.
-use Rattle.std.proofs.Common.{◌≡◌, ℕ, ◌+◌, ◌-◌, ◌/◌, ◌==◌, Bool, true, false, not, List, [], ◌∷◌, ◌++◌, reverse, Option, Some, None, MatchOption, append_assoc, refl, ap, sym, ◌∙◌, subst}
+use Rattle.std.proofs.Common.{length, ◌≡◌, ℕ, ◌+◌, ◌-◌, ◌/◌, ◌==◌, Bool, true, false, not, List, [], ◌∷◌, ◌++◌, reverse, Option, Some, None, MatchOption, append_assoc, refl, ap, sym, ◌∙◌, subst}
 use mathlib.Core.List.{reverse_aux}
 use Rattle.std.specs.Prelude.{if◌then◌else◌, nat_lt}
 use Rattle.vm_base.specs.declared.code.Code.{Code}
@@ -20,13 +20,16 @@ use Rattle.vm_model.specs.declared.message.Channel.TheVariants.{Down}
 use Rattle.vm_model.specs.declared.message.Message.{Message}
 use Rattle.vm_model.specs.declared.script.Header.{Header}
 use Rattle.vm_model.specs.Channels.{queue}
-use Rattle.vm_model.specs.Controls.{live_control}
+use Rattle.vm_model.specs.Controls.{last_control, live_control}
 use Rattle.vm_model.specs.Moments.{EachEvent}
 use Rattle.vm_model.specs.Regions.{next_object, next_region}
 use Rattle.vm_model.specs.Server.{first as oldest}
 use Rattle.vm_model.specs.Named.{named}
 use Rattle.vm_model.specs.Tasks.{entries_of, host_of}
-use Rattle.vm_legal.specs.Follows.{Follows, FollowsSoFar, IsConsequence, IsGroup, IsRun, copy_head, fork_head, head, inherits, inherits_all, next_behind, say_head, take_head}
+use Rattle.vm_base.specs.declared.ids.PageNo.{PageNo}
+use Rattle.vm_legal.specs.Pagers.{Known, known_below}
+use Rattle.vm_model.specs.declared.message.Message.TheVariants as message
+use Rattle.vm_legal.specs.Follows.{Follows, FollowsSoFar, IsConsequence, IsGroup, IsRun, clean_head, map_head, opening, copy_head, fork_head, head, inherits, inherits_all, next_behind, say_head, take_head}
 use Rattle.vm_legal.specs.Frames.{frames_wired}
 use Rattle.vm_legal.specs.Homes.{EntersNext, enters, is_open, starts_copy}
 use Rattle.vm_legal.specs.Outside.{Outside}
@@ -114,6 +117,24 @@ said : (host : HostId) (object : ObjectId) (m : Message) (x : Option ℕ) (first
 said host object m None first past is was = no_head first past is
 said host object m (Some control) first past is was = plain (event.Sent (Down host object control) m ∷ []) first past ((λ r h. refl), tt) is was
 
+opened : (host : ℕ) (object : ObjectId) (next size : ℕ) (x : Option ℕ) → EachOf MakesNone (opening host object next size x)
+opened host object next size None = ((λ r h. refl), tt)
+opened host object next size (Some control) = tt
+
+mapped : (header : Header) (task : TaskId) (address bytes : ℕ) (object : ObjectId) (offset : ℕ) (before : List Event) (x : Option ℕ) (first past : List Event) → map_head header task address bytes object offset before x ≡ Some first → Paired past
+    → Paired (reverse first ++ past)
+mapped header task address bytes object offset before None first past is was = no_head first past is
+mapped header task address bytes object offset before (Some host) first past is was =
+    plain
+    (event.Entered task address bytes (record { 0 = object.0 }) offset (record { read = true; write = true }) Share
+    ∷ opening host object (last_control host object.0 before + 1) header.size (live_control host object.0 before))
+    first past ((λ r h. refl), opened host object (last_control host object.0 before + 1) header.size (live_control host object.0 before)) is was
+
+cleaned : (object : ObjectId) (page : PageNo) (count : ℕ) (flush : Bool) (x : Option Known) (first past : List Event) → Some (clean_head object page count flush x) ≡ Some first → Paired past → Paired (reverse first ++ past)
+cleaned object page count flush None first past is was = plain [] first past tt is was
+cleaned object page count flush (Some known) first past is was =
+    plain (event.Sent (Down (record { 0 = known.host }) object known.control) (message.Lock page count 2 flush 8 true) ∷ []) first past ((λ r h. refl), tt) is was
+
 made_and_entered : (made entered : Event) (first past : List Event) → Some (made ∷ entered ∷ []) ≡ Some first → MakesNone entered → ((region : ℕ) → is_open region (made ∷ past) ≡ true → enters region entered ≡ true)
     → Paired past → Paired (reverse first ++ past)
 made_and_entered made entered first past is none next was =
@@ -144,7 +165,8 @@ head_paired header before past (command.Pageout host count) first is was = plain
 head_paired header before past (command.FailFiles count) first is was = plain [] first past tt is was
 head_paired header before past (command.FailPaging count) first is was = plain [] first past tt is was
 head_paired header before past (command.Say host object m) first is was = said host object m (live_control host.0 object.0 before) first past is was
-head_paired header before past other first is was = no_head first past is
+head_paired header before past (command.Map task address bytes object offset) first is was = mapped header task address bytes object offset before (host_of task.0 before) first past is was
+head_paired header before past (command.Clean object page count flush) first is was = cleaned object page count flush (known_below (length header.frames.items) object.0 before) first past is was
 
 -- a head and what follows from it
 run_paired : (header : Header) (before past : List Event) (doing : Command) (first more : List Event) → head header before doing ≡ Some first → EachOf IsConsequence more → Paired past → Paired (more ++ (reverse first ++ past))

@@ -1,7 +1,7 @@
 -- The home of a region stays what it is, and so does that of an object; what wasn't made has none; and a region is in use on its home alone.
-use Rattle.std.proofs.Common.{◌≡◌, ◌≤◌, ◌&&◌, ◌||◌, not, ℕ, ◌==◌, Bool, true, false, List, [], ◌∷◌, ◌++◌, Option, Some, None, ap, refl, sym, ◌∙◌, arith}
+use Rattle.std.proofs.Common.{◌≡◌, ◌≤◌, ◌<◌, ◌&&◌, ◌||◌, not, ℕ, ◌==◌, Bool, true, false, List, [], ◌∷◌, ◌++◌, Option, Some, None, ap, refl, sym, ◌∙◌, arith}
 use Rattle.std.proofs.lemmas.Bool.Decides.{nat_tests}
-use Rattle.std.specs.Prelude.{if◌then◌else◌}
+use Rattle.std.specs.Prelude.{if◌then◌else◌, unwrap_or}
 use Rattle.vm_base.specs.declared.ids.Inherit.{Inherit}
 use Rattle.vm_base.specs.declared.ids.ObjectId.{ObjectId}
 use Rattle.vm_base.specs.declared.ids.Prot.{Prot}
@@ -11,15 +11,16 @@ use Rattle.vm_model.specs.declared.event.Event.{Event}
 use Rattle.vm_model.specs.declared.event.Event.TheVariants as event
 use Rattle.vm_model.specs.declared.script.Header.{Header}
 use Rattle.vm_model.specs.Local.{is_on}
-use Rattle.vm_model.specs.Named.{named}
-use Rattle.vm_model.specs.Regions.{next_object, next_region}
+use Rattle.vm_model.specs.Named.{declared_pages, named}
+use Rattle.vm_model.specs.Regions.{backing_of, next_object, next_region, region_of}
 use Rattle.vm_model.specs.Tasks.{host_of}
+use Rattle.vm_model.specs.Waiting.{Target, begins_copy, copy_target}
 use Rattle.vm_legal.specs.Licences.{HasCause}
 use Rattle.vm_legal.specs.Living.{lives_on}
 use Rattle.vm_legal.specs.Outside.{Outside}
 use Rattle.vm_legal.specs.Used.{in_use, is_kept, made_here}
 use Rattle.vm_abroad.specs.Home.{HaveHomes, first_of, home_at, home_of, object_home, region_for}
-use Rattle.vm_abroad.proofs.Sounds.{unlike}
+use Rattle.vm_abroad.proofs.Sounds.{objects_rise, regions_rise, unlike}
 
 -- the first host stays
 first_stays : (b : Bool) (h : ℕ) (was later : Option ℕ) → was ≡ Some h → (if b then first_of was later else was) ≡ Some h
@@ -138,20 +139,76 @@ new_homeless header g h r n true here past test number homes used home stays =
     absurd (let bad : None ≡ Some h = sym (homes.regions r (omega (arith, same, number))) ∙ home in cc)
 new_homeless header g h r n false here past test number homes used home stays = stays used
 
-stay_next : (header : Header) (outside : Outside) (e : Event) (past : List Event) → HasCause header outside e past → HaveHomes header past → (g h r : ℕ) → named header ≤ r → in_use header g r (e ∷ past) ≡ true → home_of r (e ∷ past) ≡ Some h → g ≡ h
-stay_next header outside (event.RegionMade new object pages) past cause homes g h r temporary used home =
-    new_homeless header g h r new.0 (r == new.0) (made_here g past) past refl cause.1.0 homes used home (λ now. homes.stay g h r temporary now home)
-stay_next header outside (event.RegionCopied new source offset pages) past cause homes g h r temporary used home =
-    new_homeless header g h r new.0 (r == new.0) (in_use header g source.0 past) past refl cause.1.next homes used home (λ now. homes.stay g h r temporary now home)
-stay_next header outside (event.Entered task address bytes region offset prot inherit) past cause homes g h r temporary used home =
-    home_first header g h r region.0 (lives_on g task.0 past) (region.0 == r) (home_of r past) (host_of task.0 past) past refl used (on_host g (host_of task.0 past)) home (λ was now. homes.stay g h r temporary now was)
-stay_next header outside (event.Removed task address bytes) past cause homes g h r temporary used home =
-    homes.stay g h r temporary (both (is_kept header r (event.Removed task address bytes ∷ past)) (in_use header g r past) used).1 home
-stay_next header outside (event.TaskEnded task) past cause homes g h r temporary used home =
-    homes.stay g h r temporary (both (is_kept header r (event.TaskEnded task ∷ past)) (in_use header g r past) used).1 home
-stay_next header outside (event.Failed task object page) past cause homes g h r temporary used home =
-    homes.stay g h r temporary (both (is_kept header r (event.Failed task object page ∷ past)) (in_use header g r past) used).1 home
-stay_next header outside other past cause homes g h r temporary used home = homes.stay g h r temporary used home
+stay_next : (header : Header) (outside : Outside) (e : Event) (past : List Event) → HasCause header outside e past → HaveHomes header past → (g h r : ℕ) → in_use header g r (e ∷ past) ≡ true → home_of r (e ∷ past) ≡ Some h → g ≡ h
+stay_next header outside (event.RegionMade new object pages) past cause homes g h r used home =
+    new_homeless header g h r new.0 (r == new.0) (made_here g past) past refl cause.1.0 homes used home (λ now. homes.stay g h r now home)
+stay_next header outside (event.RegionCopied new source offset pages) past cause homes g h r used home =
+    new_homeless header g h r new.0 (r == new.0) (in_use header g source.0 past) past refl cause.1.next homes used home (λ now. homes.stay g h r now home)
+stay_next header outside (event.Entered task address bytes region offset prot inherit) past cause homes g h r used home =
+    home_first header g h r region.0 (lives_on g task.0 past) (region.0 == r) (home_of r past) (host_of task.0 past) past refl used (on_host g (host_of task.0 past)) home (λ was now. homes.stay g h r now was)
+stay_next header outside (event.Removed task address bytes) past cause homes g h r used home =
+    homes.stay g h r (both (is_kept header r (event.Removed task address bytes ∷ past)) (in_use header g r past) used).1 home
+stay_next header outside (event.TaskEnded task) past cause homes g h r used home =
+    homes.stay g h r (both (is_kept header r (event.TaskEnded task ∷ past)) (in_use header g r past) used).1 home
+stay_next header outside (event.Failed task object page) past cause homes g h r used home =
+    homes.stay g h r (both (is_kept header r (event.Failed task object page ∷ past)) (in_use header g r past) used).1 home
+stay_next header outside other past cause homes g h r used home = homes.stay g h r used home
+
+-- what is declared stays as it was
+
+pub named_regions : (header : Header) (past : List Event) → named header ≤ next_region header past
+named_regions header [] = omega arith
+named_regions header (e ∷ past) = let rise = regions_rise header e past in let was = named_regions header past in omega (arith, rise, was)
+
+pub named_objects : (header : Header) (past : List Event) → named header ≤ next_object header past
+named_objects header [] = omega arith
+named_objects header (e ∷ past) = let rise = objects_rise header e past in let was = named_objects header past in omega (arith, rise, was)
+
+whole_next : (header : Header) (outside : Outside) (e : Event) (past : List Event) → HasCause header outside e past → HaveHomes header past → (r : ℕ) → r < named header
+    → region_of header r (e ∷ past) ≡ record { mark = false; top = r; shift = 0; pages = declared_pages header r }
+whole_next header outside (event.RegionMade new object pages) past cause homes r declared =
+    let number = cause.1.0 in
+    let more = named_regions header past in
+    let other : (r == new.0) ≡ false = unlike r new.0 (λ same. omega (arith, same, number, more, declared)) in
+    rw other (homes.whole r declared)
+whole_next header outside (event.RegionCopied new source offset pages) past cause homes r declared =
+    let number = cause.1.next in
+    let more = named_regions header past in
+    let temporary = cause.1.temporary in
+    let other : (r == new.0) ≡ false = unlike r new.0 (λ same. omega (arith, same, number, more, declared)) in
+    let apart : (r == source.0) ≡ false = unlike r source.0 (λ same. omega (arith, same, temporary, declared)) in
+    rw (other, apart) (homes.whole r declared)
+whole_next header outside (event.Shadowed changed new old) past cause homes r declared =
+    let marked = cause.1.marked in
+    let other : (r == changed.0) ≡ false = unlike r changed.0 (λ same. absurd (let plain : (region_of header changed.0 past).mark ≡ false = ap (λ z. (region_of header z past).mark) (sym same) ∙ ap (λ z. z.mark) (homes.whole r declared) in let bad : false ≡ true = sym plain ∙ marked in cc)) in
+    rw other (homes.whole r declared)
+whole_next header outside other past cause homes r declared = homes.whole r declared
+
+bare_next : (header : Header) (outside : Outside) (e : Event) (past : List Event) → HasCause header outside e past → HaveHomes header past → (o : ℕ) → o < named header → (backing_of header o (e ∷ past)).backed ≡ false
+bare_next header outside (event.Shadowed changed new old) past cause homes o declared =
+    let number = cause.1.next in
+    let more = named_objects header past in
+    let other : (o == new.0) ≡ false = unlike o new.0 (λ same. omega (arith, same, number, more, declared)) in
+    rw other (homes.bare o declared)
+bare_next header outside other past cause homes o declared = homes.bare o declared
+
+-- a slow copy fills the region that was made for it
+fills_next : (header : Header) (outside : Outside) (e : Event) (past : List Event) → HasCause header outside e past → HaveHomes header past → (task : ℕ) (target : Target) → copy_target task (e ∷ past) ≡ Some target → named header ≤ target.region
+fills_next header outside (event.BegunCopy owner address bytes to) past cause homes task target is = by_test (owner.0 == task) is
+  where
+    by_test : (b : Bool) → (if b then None else copy_target task past) ≡ Some target → named header ≤ target.region
+    by_test true none = absurd (let bad : None ≡ Some target = none in cc)
+    by_test false was = homes.fills task target was
+fills_next header outside (event.RegionMade region object pages) past cause homes task target is = by_test (begins_copy task past) is
+  where
+    by_test : (b : Bool) → (if b then Some (record { region = region.0; object = object.0 }) else copy_target task past) ≡ Some target → named header ≤ target.region
+    by_test true now =
+        let same : region.0 ≡ target.region = ap (λ z. (unwrap_or z target).region) now in
+        let number = cause.1.0 in
+        let more = named_regions header past in
+        omega (arith, same, number, more)
+    by_test false was = homes.fills task target was
+fills_next header outside other past cause homes task target is = homes.fills task target is
 
 -- what has a home was made, whatever is added with its cause
 pub homes_next : (header : Header) (outside : Outside) (e : Event) (past : List Event) → HasCause header outside e past → HaveHomes header past → HaveHomes header (e ∷ past)
@@ -160,4 +217,18 @@ homes_next header outside e past cause homes =
       regions = λ r high. let old = region_later header e past r high in regions_next header outside e past r cause old (homes.regions r old);
       objects = λ o high. objects_next header outside e past o cause high (homes.objects o (object_later header e past o high));
       stay = stay_next header outside e past cause homes;
+      whole = whole_next header outside e past cause homes;
+      bare = bare_next header outside e past cause homes;
+      fills = fills_next header outside e past cause homes;
+    }
+
+pub homes_start : (header : Header) → HaveHomes header []
+homes_start header =
+    record {
+      regions = λ r high. refl;
+      objects = λ o high. refl;
+      stay = λ g h r used home. absurd (let bad : None ≡ Some h = home in cc);
+      whole = λ r declared. refl;
+      bare = λ o declared. refl;
+      fills = λ task target is. absurd (let bad : None ≡ Some target = is in cc);
     }

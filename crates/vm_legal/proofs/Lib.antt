@@ -1,3 +1,4 @@
+pub mod Answering
 pub mod Completing
 pub mod Files
 pub mod Groups

@@ -1,11 +1,12 @@
 -- What the commands make of a history: a group of events for each. Commands too have the newest first.
-use Rattle.std.specs.Prelude.{ℕ, ◌+◌, ◌-◌, ◌/◌, ◌≡◌, ◌⊎◌, true, List, [], ◌∷◌, ◌++◌, reverse, if◌then◌else◌, nat_lt, Option, Some, None, MatchOption, IfNone}
+use Rattle.std.specs.Prelude.{ℕ, ◌+◌, ◌-◌, ◌/◌, ◌≡◌, ◌⊎◌, Bool, true, List, [], ◌∷◌, ◌++◌, length, reverse, if◌then◌else◌, nat_lt, Option, Some, None, MatchOption, IfNone}
 use Rattle.vm_base.specs.declared.entry.Entry.{Entry}
 use Rattle.vm_base.specs.declared.ids.Inherit.{Inherit}
 use Rattle.vm_base.specs.declared.ids.Inherit.TheVariants.{Share, Copy, Never}
 use Rattle.vm_base.specs.Entries.{entry_at, page_at}
 use Rattle.vm_base.specs.declared.ids.HostId.{HostId}
 use Rattle.vm_base.specs.declared.ids.ObjectId.{ObjectId}
+use Rattle.vm_base.specs.declared.ids.PageNo.{PageNo}
 use Rattle.vm_base.specs.declared.ids.TaskId.{TaskId}
 use Rattle.vm_model.specs.declared.event.Event.{Event}
 use Rattle.vm_model.specs.declared.event.Event.TheVariants as event
@@ -13,11 +14,12 @@ use Rattle.vm_model.specs.declared.command.Command.{Command}
 use Rattle.vm_model.specs.declared.command.Command.TheVariants as command
 use Rattle.vm_model.specs.declared.command.Numbered.{Numbered}
 use Rattle.vm_model.specs.declared.message.Channel.{Channel}
-use Rattle.vm_model.specs.declared.message.Channel.TheVariants.{Down}
+use Rattle.vm_model.specs.declared.message.Channel.TheVariants.{Up, Down}
 use Rattle.vm_model.specs.declared.message.Message.{Message}
+use Rattle.vm_model.specs.declared.message.Message.TheVariants as message
 use Rattle.vm_model.specs.declared.script.Header.{Header}
 use Rattle.vm_model.specs.Channels.{queue}
-use Rattle.vm_model.specs.Controls.{live_control}
+use Rattle.vm_model.specs.Controls.{last_control, live_control}
 use Rattle.vm_model.specs.Regions.{next_region, next_object}
 use Rattle.vm_model.specs.Server.{first}
 use Rattle.vm_model.specs.Named.{named}
@@ -26,6 +28,7 @@ use Rattle.vm_legal.specs.Accesses.{FindsPage}
 use Rattle.vm_legal.specs.Frames.{frames_wired}
 use Rattle.vm_legal.specs.Licences.{AllLicensed}
 use Rattle.vm_legal.specs.Outside.{Outside}
+use Rattle.vm_legal.specs.Pagers.{Known, known_below}
 use Rattle.vm_legal.specs.Prompt.{IsExhausted}
 use Rattle.vm_legal.specs.Reclaims.{IsReclaim}
 use Rattle.vm_legal.specs.Refusal.{refusal}
@@ -78,6 +81,25 @@ abbrev pub say_head : HostId → ObjectId → Message → Option ℕ → Option 
 say_head host object m None = None
 say_head host object m (Some control) = Some (event.Sent (Down host object control) m ∷ [])
 
+-- a pager is told of the control of its object that begins on a host, where none lives there
+abbrev pub opening : ℕ → ObjectId → ℕ → ℕ → Option ℕ → List Event
+opening host object next size None = event.Sent (Up (record { 0 = host }) object) (message.Init next size) ∷ []
+opening host object next size (Some control) = []
+
+-- a task of a host gets an entry on the region of a declared object, and the object's pager is told of it
+abbrev pub map_head : Header → TaskId → ℕ → ℕ → ObjectId → ℕ → List Event → Option ℕ → Option (List Event)
+map_head header task address bytes object offset past None = None
+map_head header task address bytes object offset past (Some host) =
+    Some
+    (event.Entered task address bytes (record { 0 = object.0 }) offset (record { read = true; write = true }) Share
+    ∷ opening host object (last_control host object.0 past + 1) header.size (live_control host object.0 past))
+
+-- a file's pager asks for so many pages, which it wants back as they are, where it knows a control
+abbrev pub clean_head : ObjectId → PageNo → ℕ → Bool → Option Known → List Event
+clean_head object page count flush None = []
+clean_head object page count flush (Some known) =
+    event.Sent (Down (record { 0 = known.host }) object known.control) (message.Lock page count 2 flush 8 true) ∷ []
+
 -- the head of a command's group behind its line, in the order of writing; a command without one is never run
 abbrev pub head : Header → List Event → Command → Option (List Event)
 head header past (command.Task task host) = Some (event.TaskMade task host ∷ [])
@@ -100,10 +122,10 @@ head header past (command.Pageout host count) = Some []
 head header past (command.FailFiles count) = Some []
 head header past (command.FailPaging count) = Some []
 head header past (command.Say host object m) = say_head host object m (live_control host.0 object.0 past)
-head header past (command.Map task address bytes object offset) = None
+head header past (command.Map task address bytes object offset) = map_head header task address bytes object offset past (host_of task.0 past)
 head header past (command.Copy task address bytes target to) =
     copy_head (named header) header.size (next_region header past) address bytes target to (entry_at address (entries_of header.size task.0 past))
-head header past (command.Clean object page count flush) = None
+head header past (command.Clean object page count flush) = Some (clean_head object page count flush (known_below (length header.frames.items) object.0 past))
 
 -- the event is no part of a head, nor a line
 abbrev pub IsConsequence : Event → Type 0

@@ -45,6 +45,21 @@ known_control host o [] = None
 known_control host o (event.Taken (Up at object) m ∷ past) = if at.0 == host && object.0 == o then known_after m (known_control host o past) else known_control host o past
 known_control host o (e ∷ past) = known_control host o past
 
+-- a control of an object, and its host
+pub record Known : Type 0 where
+  pub host : ℕ
+  pub control : ℕ
+
+abbrev pub or_known : Option Known → ℕ → Option ℕ → Option Known
+or_known (Some known) host control = Some known
+or_known None host None = None
+or_known None host (Some control) = Some (record { host = host; control = control })
+
+-- the control of the object that its pager knows on the first host, of so many, on which it knows one
+abbrev pub known_below : ℕ → ℕ → List Event → Option Known
+known_below zero o past = None
+known_below (suc host) o past = or_known (known_below host o past) host (known_control host o past)
+
 -- a page of an object in a slot of a host's paging area
 pub record Slotted : Type 0 where
   pub object : ℕ

@@ -1,0 +1,81 @@
+-- What a step owes that took a message from a kernel is paid, once its pager did what the message asks.
+use Rattle.std.proofs.Common.{ℕ, ◌≡◌, ◌≤◌, ◌==◌, ◌&&◌, ◌||◌, Bool, true, false, List, Option, Some, None, refl, sym, ◌∙◌, ap, subst, arith}
+use Rattle.std.proofs.lemmas.Bool.Decides.{nat_tests}
+use Rattle.std.proofs.lemmas.Option.{none-some}
+use Rattle.vm_model.specs.Named.{named}
+use Rattle.vm_model.specs.declared.event.Event.{Event}
+use Rattle.vm_model.specs.declared.message.Channel.{Channel}
+use Rattle.vm_model.specs.declared.message.Channel.TheVariants.{Up, Down}
+use Rattle.vm_model.specs.declared.message.Message.{Message}
+use Rattle.vm_model.specs.declared.message.Message.TheVariants as message
+use Rattle.vm_model.specs.declared.script.Header.{Header}
+use Rattle.vm_legal.proofs.Locks.{came_down, no_lock, no_request}
+use Rattle.vm_legal.specs.Debts.{IsPaid}
+use Rattle.vm_legal.specs.Licences.{created, up}
+use Rattle.vm_legal.specs.Pagers.{LacksSlot}
+use Rattle.vm_legal.specs.Steps.{Letter, absence_taken, answers, before_step, error_taken, lacks_slot, readies, since, taken_letter}
+
+pub itself : (n : ℕ) → (n == n) ≡ true
+itself n = grind (arith, nat_tests)
+
+pub own_test : (o p q : ℕ) (rest : Bool) → (p == q) ≡ true → ((o == o && p == q) || rest) ≡ true
+own_test o p q rest is = rw (itself o, is) refl
+
+abbrev pub opens : Message → Bool
+opens (message.Init control size) = true
+opens (message.Create control size) = true
+opens m = false
+
+abbrev pub asks : ℕ → Message → Bool
+asks p (message.Request control page access) = page.0 == p
+asks p m = false
+
+abbrev pub returns : ℕ → Message → Bool
+returns p (message.Return control page dirty keep bytes) = page.0 == p
+returns p m = false
+
+abbrev object_in : Channel → ℕ
+object_in (Up host object) = object.0
+object_in (Down host object control) = object.0
+
+abbrev host_in : Channel → ℕ
+host_in (Up host object) = host.0
+host_in (Down host object control) = host.0
+
+abbrev object_of : Option Letter → ℕ
+object_of None = 0
+object_of (Some letter) = object_in letter.channel
+
+abbrev host_of : Option Letter → ℕ
+host_of None = 0
+host_of (Some letter) = host_in letter.channel
+
+abbrev test_of : (Message → Bool) → Option Letter → Bool
+test_of test None = false
+test_of test (Some letter) = test letter.message
+
+-- what the step took, and what it did of that
+pub record Did (header : Header) (host o : ℕ) (m : Message) (now : List Event) : Type 0 where
+  pub created : created now ≡ None
+  pub took : taken_letter now ≡ Some (record { channel = up host o; message = m })
+  pub no_error : error_taken header.size now ≡ None
+  pub no_absence : absence_taken header.size now ≡ None
+  pub ready : opens m ≡ true → since (readies o) now ≡ true
+  pub answered : (p : ℕ) → asks p m ≡ true → since (answers o p) now ≡ true
+  pub lacking : (p : ℕ) → named header ≤ o → returns p m ≡ true → LacksSlot header host o p (before_step now) → since (lacks_slot o p) now ≡ true
+
+pub paid_of : (header : Header) (host o : ℕ) (m : Message) (now : List Event) → Did header host o m now → IsPaid header now
+paid_of header host o m now did = record {
+  returned = did.created;
+  init = λ at object control size paged is. subst (λ (k : ℕ). since (readies k) now ≡ true) (ap object_of (sym did.took ∙ is)) (did.ready (ap (test_of opens) (sym did.took ∙ is)));
+  create = λ at object control size paged is. subst (λ (k : ℕ). since (readies k) now ≡ true) (ap object_of (sym did.took ∙ is)) (did.ready (ap (test_of opens) (sym did.took ∙ is)));
+  request = λ at object control page access paged is. subst (λ (k : ℕ). since (answers k page) now ≡ true) (ap object_of (sym did.took ∙ is)) (did.answered page (ap (test_of (asks page)) (sym did.took ∙ is) ∙ itself page));
+  error = λ at object page is. absurd (none-some _ (sym did.no_error ∙ is));
+  absence = λ at object page declared is. absurd (none-some _ (sym did.no_absence ∙ is));
+  lock = λ request is. no_request request now (no_lock now (ap came_down did.took)) is;
+  slot = λ at object control page dirty keep bytes temporary is lacks.
+      let same = sym did.took ∙ is in
+      subst (λ (k : ℕ). since (lacks_slot k page) now ≡ true) (ap object_of same)
+      (did.lacking page (subst (λ (k : ℕ). named header ≤ k) (sym (ap object_of same)) temporary) (ap (test_of (returns page)) same ∙ itself page)
+      (subst (λ (k : ℕ). LacksSlot header host k page (before_step now)) (sym (ap object_of same)) (subst (λ (h : ℕ). LacksSlot header h object page (before_step now)) (sym (ap host_of same)) lacks)));
+}
